@@ -1,0 +1,9 @@
+pub mod Said
+pub mod Schedules
+pub mod Orders
+pub mod Streams
+pub mod Rows
+pub mod Moments
+pub mod Flows
+pub mod Views
+pub mod Takes

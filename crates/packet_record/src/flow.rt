@@ -1,0 +1,131 @@
+// The record of a stream of items.
+ghost use Rattle.std.specs.Prelude.{◌≡◌, ◌≤◌, ◌<◌, ◌-◌, ◌↔◌, IsTrue, IsOk, OnOk, OnErr};
+ghost use Rattle.packet_record.specs.Streams.{no_items, after, MayFollow};
+ghost use Rattle.packet_record.specs.Takes.{spare_after, NeedsRoom, HasRoomFor};
+
+use crate::{FlowEnd, Item, Timed};
+use mm_base::OutOfMemory;
+use std::alloc::Global;
+use std::marker::Model;
+
+#[derive(Drop)]
+pub struct Flow {
+    packets: Vec<Timed>,
+    bound: u64,
+    end: FlowEnd,
+    spare: usize,
+}
+
+impl Model for Flow {
+    ghost use Rattle.packet_record.specs.Flows.{FlowView};
+
+    ghost Value = { FlowView };
+
+    ghost use Rattle.packet_record.specs.Views.{flow_view, HasRoom};
+
+    ghost view = { flow_view };
+
+    ghost invariant = { HasRoom };
+}
+
+impl Flow {
+    pub fn new(alloc: Global) -> Flow
+        ensures { (result.stream ≡ no_items) × (result.spare ≡ 0) }
+    {
+        Flow {
+            packets: Vec::new(alloc),
+            bound: 0,
+            end: FlowEnd::Open,
+            spare: 0,
+        }
+    }
+
+    pub fn packets(&self) -> &[Timed]
+        ensures { result.now ≡ self.now.stream.packets }
+    {
+        self.packets.as_slice()
+    }
+
+    pub fn bound(&self) -> u64
+        ensures { result ≡ self.now.stream.bound }
+    {
+        self.bound
+    }
+
+    pub fn end(&self) -> FlowEnd
+        ensures { result ≡ self.now.stream.end }
+    {
+        self.end
+    }
+
+    pub fn may_follow(&self, item: &Item) -> bool
+        ensures { IsTrue result ↔ MayFollow self.now.stream item.now }
+    {
+        if self.end != FlowEnd::Open {
+            return false;
+        }
+        match *item {
+            Item::Packet(t) => self.bound <= t.moment,
+            Item::Mark(m) => self.bound <= m,
+            Item::End | Item::Broken => true,
+        }
+    }
+
+    /// Makes room for this many packets.
+    pub fn reserve(&mut self, count: usize) -> Result<(), OutOfMemory>
+        ensures same { self.new.stream ≡ self.old.stream }
+        ensures ok { OnOk result (count ≤ self.new.spare) }
+        ensures err { OnErr result (self.new ≡ self.old) }
+    {
+        if self.spare < count {
+            match self.packets.reserve(count) {
+                Ok(()) => self.spare = count,
+                Err(_) => return Err(OutOfMemory),
+            }
+        }
+        Ok(())
+    }
+
+    /// An item that takes no room, or for which there is room.
+    pub fn add(&mut self, item: Item)
+        requires follows { MayFollow self.old.stream item }
+        requires room { HasRoomFor self.old.spare item }
+        ensures stream { self.new.stream ≡ after self.old.stream item }
+        ensures spare { self.new.spare ≡ spare_after self.old.spare item }
+    {
+        match item {
+            Item::Packet(t) => {
+                self.spare -= 1;
+                self.packets.push_reserved(t);
+                self.bound = t.moment;
+            }
+            Item::Mark(m) => self.bound = m,
+            Item::End => self.end = FlowEnd::Ended,
+            Item::Broken => self.end = FlowEnd::Broken,
+        }
+    }
+
+    pub fn push(&mut self, item: Item) -> Result<(), OutOfMemory>
+        requires { MayFollow self.old.stream item }
+        ensures stream { OnOk result ((self.new.stream ≡ after self.old.stream item) × (self.new.spare ≡ spare_after self.old.spare item)) }
+        ensures err { OnErr result ((self.new ≡ self.old) × NeedsRoom self.old.spare item) }
+    {
+        match item {
+            Item::Packet(t) => {
+                if self.spare == 0 {
+                    match self.packets.reserve(1) {
+                        Ok(()) => self.spare = 1,
+                        Err(_) => return Err(OutOfMemory),
+                    }
+                }
+                self.spare -= 1;
+                self.packets.push_reserved(t);
+                self.bound = t.moment;
+            }
+            Item::Mark(m) => self.bound = m,
+            Item::End => self.end = FlowEnd::Ended,
+            Item::Broken => self.end = FlowEnd::Broken,
+        }
+        Ok(())
+    }
+}
