@@ -1,0 +1,28 @@
+// What happened at one direction of a link.
+
+/// One line of a log, at a moment in milliseconds from the start of the run. Sizes are in bytes.
+#[derive(Clone, Copy, Debug, PartialEq, Eq)]
+pub enum Entry {
+    /// A packet of 1 to 1504 bytes came in.
+    Arrival {
+        moment: u64,
+        size: u16,
+    },
+    /// A delivery opportunity of 1 to 1000000 bytes came.
+    Opportunity {
+        moment: u64,
+        bytes: u32,
+    },
+    /// A packet left, so many milliseconds after it came in.
+    Departure {
+        moment: u64,
+        size: u16,
+        delay: u64,
+    },
+    /// The queue dropped so many packets, of so many bytes in all.
+    Drop {
+        moment: u64,
+        packets: u64,
+        bytes: u64,
+    },
+}
