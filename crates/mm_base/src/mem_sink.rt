@@ -1,0 +1,64 @@
+// A sink in memory, which fails by a list.
+ghost use Rattle.std.specs.Prelude.{◌≡◌, ◌≤◌, ◌<◌, ◌++◌, ℕ, List, [], length, take, Some, IfOk, OnOk, OnErr, IsErrOf};
+ghost use Rattle.mm_base.specs.Counts.{Rose, CountsFaults};
+ghost use Rattle.mm_base.specs.MemSink.{MemSinkState};
+ghost use Rattle.mm_base.specs.Sink.{sending};
+
+use crate::fails::is_failing;
+use crate::{Bytes, EndError, Sink};
+use std::alloc::Global;
+use std::marker::Model;
+
+/// A sink in memory. It tells what was written, counts its calls from 1, and fails exactly those that its list
+/// names.
+#[derive(Drop)]
+pub struct MemSink {
+    bytes: Bytes,
+    fails: Vec<u64>,
+    calls: u64,
+    faults: u64,
+}
+
+impl Model for MemSink {
+    ghost Value = { MemSinkState };
+
+    ghost view = { λ s. record { written = s.bytes; fails = s.fails.items; calls = s.calls; faults = s.faults } };
+}
+
+impl MemSink {
+    /// A sink on which nothing was written, and whose calls of these numbers are to fail.
+    pub fn new(alloc: Global, fails: Vec<u64>) -> Self
+        ensures { result ≡ record { written = []; fails = fails.items; calls = 0; faults = 0 } }
+    {
+        MemSink {
+            bytes: Bytes::new(alloc),
+            fails,
+            calls: 0,
+            faults: 0,
+        }
+    }
+
+    /// What was written.
+    pub fn written(&self) -> &[u8]
+        ensures { result.now ≡ self.now.written }
+    {
+        self.bytes.as_slice()
+    }
+}
+
+impl Sink for MemSink {
+    ghost written = { λ s. Some s.written };
+
+    ghost faults = { λ s. s.faults };
+
+    ghost never_fails = { λ s. s.fails ≡ [] };
+
+    fn write(&mut self, piece: &[u8]) -> Result<usize, EndError> {
+        if is_failing(&mut self.calls, &self.fails) {
+            self.faults = self.faults.saturating_add(1);
+            return Err(EndError::Failed);
+        }
+        self.bytes.append(piece)?;
+        Ok(piece.len())
+    }
+}

@@ -1,0 +1,39 @@
+// A writer of the outside, as the standard output. It tells no content.
+ghost use Rattle.std.specs.Prelude.{◌≡◌, ◌≤◌, ◌<◌, ℕ, length, None, IfOk, OnErr, IsErrOf};
+ghost use Rattle.mm_base.specs.Counts.{Rose, CountsFaults};
+
+use crate::{EndError, Sink};
+use std::io::Write;
+
+/// The standard output, or another writer of std. It tells no content, and counts each error of its writer as a
+/// fault, as it does a write that takes nothing of a piece.
+#[derive(Drop)]
+pub struct StdSink<W: Write + Drop> {
+    writer: W,
+    faults: u64,
+}
+
+impl<W: Write + Drop> StdSink<W> {
+    /// A sink over this writer, without a fault so far.
+    pub fn new(writer: W) -> Self {
+        StdSink { writer, faults: 0 }
+    }
+}
+
+impl<W: Write + Drop> Sink for StdSink<W> {
+    ghost written = { λ _. None };
+
+    ghost faults = { λ s. s.faults };
+
+    ghost never_fails = { λ _. ⊥ };
+
+    fn write(&mut self, piece: &[u8]) -> Result<usize, EndError> {
+        match self.writer.write(piece) {
+            Ok(count) if count > 0 || piece.is_empty() => Ok(count),
+            _ => {
+                self.faults = self.faults.saturating_add(1);
+                Err(EndError::Failed)
+            }
+        }
+    }
+}
