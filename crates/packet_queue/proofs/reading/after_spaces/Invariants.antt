@@ -1,0 +1,9 @@
+use Rattle.std.proofs.Common.{◌≡◌, length}
+use Rattle.packet_queue.specs.Arguments.{after_spaces}
+use Rattle.packet_queue.proofs.reading.after_spaces.Given as goal
+
+abbrev pub invariant-spaces : goal.invariant-spaces
+invariant-spaces l = after_spaces l.rest ≡ after_spaces l.fn.text
+
+abbrev pub decreases-spaces : goal.decreases-spaces
+decreases-spaces l = length l.rest

@@ -1,0 +1,12 @@
+//! The three queues of a link: infinite, droptail and drophead.
+#![tactic(auto)]
+
+mod queue;
+mod reading;
+mod spec;
+#[cfg(test)]
+mod tests;
+
+pub use queue::{Dropped, PacketQueue};
+pub use reading::read_queue;
+pub use spec::{QueueError, QueueKind, QueueSpec};

@@ -1,0 +1,278 @@
+// A queue of packets that may drop some.
+ghost use Rattle.std.specs.Prelude.{◌≡◌, ◌+◌, ◌-◌, ◌*◌, ◌^◌, ◌<◌, ◌≤◌, ◌≢◌, ◌&&◌, ◌++◌, ◌∷◌, [], length, map, IfOk, OnOk, OnErr, ◌↔◌, IsSome, option_to_list, vec_len, vec_capacity};
+ghost use Rattle.std.specs.VecDeque.{deque_len, deque_capacity};
+ghost use Rattle.packet_queue.specs.Queues.{bytes, is_within, fits, fitting, excess, enqueued, dropped, moved_to};
+ghost use Rattle.packet_queue.specs.View.{Queue};
+
+use crate::spec::{QueueKind, QueueSpec};
+use mm_base::OutOfMemory;
+use packet_record::Timed;
+use std::alloc::Global;
+use std::collections::VecDeque;
+use std::marker::Model;
+
+/// What one arrival dropped: how many packets, and their bytes.
+#[derive(Clone, Copy, Debug, PartialEq, Eq)]
+pub struct Dropped {
+    pub packets: u64,
+    pub bytes: u64,
+}
+
+/// The packets that wait at a link, in order, and those that were dropped.
+///
+/// Contracts see its specification, the packets that wait, those lost so far, each at the moment of its drop, and
+/// how many more may be enqueued without memory.
+#[derive(Drop)]
+pub struct PacketQueue {
+    spec: QueueSpec,
+    waiting: VecDeque<Timed>,
+    size: u64,
+    gone: Vec<Timed>,
+    spare: usize,
+}
+
+impl Model for PacketQueue {
+    ghost Value = { Queue };
+
+    ghost view = { λ q. record { spec = q.spec; packets = q.waiting.items; lost = q.gone.items; spare = q.spare } };
+
+    ghost invariant = { λ q. (q.size ≡ bytes q.waiting.items) × (q.spare + length q.waiting.items ≤ 2 ^ 40)
+        × (q.spare + length q.waiting.items ≤ deque_capacity q.waiting) × (q.spare + length q.waiting.items + vec_len q.gone ≤ vec_capacity q.gone) };
+}
+
+#[tactic(auto, using(crate::proofs::Sizes::queue_steps))]
+impl PacketQueue {
+    /// An empty queue, with room for no packet.
+    pub fn new(alloc: Global, spec: QueueSpec) -> Self
+        ensures { result ≡ record { spec = spec; packets = []; lost = []; spare = 0 } }
+    {
+        PacketQueue {
+            spec,
+            waiting: VecDeque::new(alloc),
+            size: 0,
+            gone: Vec::new(alloc),
+            spare: 0,
+        }
+    }
+
+    /// How many packets wait.
+    pub fn len(&self) -> usize
+        ensures len { result ≡ length self.now.packets }
+        ensures few { result ≤ 2 ^ 40 }
+    {
+        self.waiting.len()
+    }
+
+    /// The sum of the sizes of the packets that wait.
+    pub fn bytes(&self) -> u128
+        ensures { result ≡ bytes self.now.packets }
+    {
+        self.size as u128
+    }
+
+    /// The numbers of the packets that wait, in order.
+    pub fn ids(&self, alloc: Global) -> Result<Vec<u32>, OutOfMemory>
+        ensures { IfOk result (λ ids. ids.items ≡ map (λ t. t.packet.id) self.now.packets) }
+    {
+        let ids = self.waiting.iter().map(|t| t.packet.id).collect(alloc)?;
+        Ok(ids)
+    }
+
+    /// All packets dropped so far, in order, each at the moment of the arrival that dropped it.
+    pub fn lost(&self) -> &[Timed]
+        ensures { result.now ≡ self.now.lost }
+    {
+        self.gone.as_slice()
+    }
+
+    /// Makes room for at least this many packets. Beyond 2^40 packets there is no memory.
+    pub fn reserve(&mut self, n: usize) -> Result<(), OutOfMemory>
+        ensures ok { OnOk result (n ≤ self.new.spare) }
+        ensures err { OnErr result (self.new ≡ self.old) }
+        ensures same { self.new ≡ record self.old { spare = self.new.spare } }
+        ensures grows { self.old.spare ≤ self.new.spare }
+    {
+        if n <= self.spare {
+            return Ok(());
+        }
+        let held = self.waiting.len();
+        if n > MOST - held {
+            return Err(OutOfMemory);
+        }
+        self.waiting.reserve(n)?;
+        self.gone.reserve(held + n)?;
+        self.spare = n;
+        Ok(())
+    }
+
+    /// Takes the first packet; None exactly where none waits.
+    pub fn dequeue(&mut self) -> Option<Timed>
+        ensures packets { self.old.packets ≡ option_to_list result ++ self.new.packets }
+        ensures none { IsSome result ↔ (0 < length self.old.packets) }
+        ensures same { self.new ≡ record self.old { packets = self.new.packets } }
+    {
+        let first = self.waiting.pop_front();
+        if let Some(t) = first {
+            self.size -= t.packet.size as u64;
+        }
+        first
+    }
+
+    /// Lets in a packet that arrives at its moment, and answers what this dropped.
+    ///
+    /// An infinite queue drops nothing. Droptail drops the new packet where the queue with it would pass a limit.
+    /// Drophead appends it, and drops from the head until no limit is passed. (Manual page of mm-link.)
+    pub fn enqueue(&mut self, t: Timed) -> Dropped
+        requires { 1 ≤ self.old.spare }
+        ensures queue { let out = dropped self.old.spec self.old.packets t in
+            self.new
+            ≡ record {
+              spec = self.old.spec;
+              packets = enqueued self.old.spec self.old.packets t;
+              lost = self.old.lost ++ map (moved_to t.moment) out;
+              spare = self.old.spare - 1;
+            } }
+        ensures packets { result.packets ≡ length (dropped self.old.spec self.old.packets t) }
+        ensures bytes { result.bytes ≡ bytes (dropped self.old.spec self.old.packets t) }
+    {
+        match self.spec.kind {
+            QueueKind::Infinite => {
+                self.add(t);
+                NOTHING
+            }
+            QueueKind::DropTail => {
+                if self.would_fit(t) {
+                    self.add(t);
+                    NOTHING
+                } else {
+                    self.refuse(t)
+                }
+            }
+            QueueKind::DropHead => {
+                self.add(t);
+                self.drop_heads(t.moment)
+            }
+        }
+    }
+
+    fn would_fit(&self, t: Timed) -> bool
+        requires { 1 ≤ self.now.spare }
+        ensures { result ≡ fits self.now.spec (self.now.packets ++ t ∷ []) }
+    {
+        fits_now(
+            &self.spec,
+            self.waiting.len() as u64 + 1,
+            self.size + t.packet.size as u64,
+        )
+    }
+
+    fn add(&mut self, t: Timed)
+        requires { 1 ≤ self.old.spare }
+        ensures { self.new ≡ record self.old { packets = self.old.packets ++ t ∷ []; spare = self.old.spare - 1 } }
+    {
+        self.size += t.packet.size as u64;
+        self.waiting.push_back(t).unwrap();
+        self.spare -= 1;
+    }
+
+    fn refuse(&mut self, t: Timed) -> Dropped
+        requires { 1 ≤ self.old.spare }
+        ensures queue { self.new ≡ record self.old { lost = self.old.lost ++ moved_to t.moment t ∷ []; spare = self.old.spare - 1 } }
+        ensures packets { result.packets ≡ 1 }
+        ensures bytes { result.bytes ≡ t.packet.size }
+    {
+        self.gone.push(t).unwrap();
+        self.spare -= 1;
+        Dropped {
+            packets: 1,
+            bytes: t.packet.size as u64,
+        }
+    }
+
+    fn drop_heads(&mut self, moment: u64) -> Dropped
+        ensures queue { self.new
+            ≡ record self.old {
+              packets = fitting self.old.spec self.old.packets;
+              lost = self.old.lost ++ map (moved_to moment) (excess self.old.spec self.old.packets);
+            } }
+        ensures packets { result.packets ≡ length (excess self.old.spec self.old.packets) }
+        ensures bytes { result.bytes ≡ bytes (excess self.old.spec self.old.packets) }
+    {
+        let spec = self.spec;
+        shed(
+            &spec,
+            moment,
+            &mut self.waiting,
+            &mut self.size,
+            &mut self.gone,
+        )
+    }
+}
+
+const MOST: usize = 1 << 40;
+
+const NOTHING: Dropped = Dropped {
+    packets: 0,
+    bytes: 0,
+};
+
+// Whether a number is within a limit; 0 is no limit.
+fn within(limit: Option<u64>, n: u64) -> bool
+    ensures { result ≡ is_within limit n }
+{
+    match limit {
+        None => true,
+        Some(limit) => limit == 0 || n <= limit,
+    }
+}
+
+fn fits_now(spec: &QueueSpec, packets: u64, size: u64) -> bool
+    ensures { result ≡ (is_within spec.now.packets packets && is_within spec.now.bytes size) }
+{
+    within(spec.packets, packets) && within(spec.bytes, size)
+}
+
+// Drops from the head until the rest fits.
+#[tactic(auto, using(crate::proofs::Sizes::queue_steps))]
+fn shed(
+    spec: &QueueSpec,
+    moment: u64,
+    waiting: &mut VecDeque<Timed>,
+    size: &mut u64,
+    gone: &mut Vec<Timed>,
+) -> Dropped
+    requires size { size.old ≡ bytes waiting.old.items }
+    requires few { length waiting.old.items ≤ 2 ^ 40 }
+    requires room { length waiting.old.items + vec_len gone.old ≤ vec_capacity gone.old }
+    ensures waiting { waiting.new.items ≡ fitting spec.now waiting.old.items }
+    ensures capacity { deque_capacity waiting.new ≡ deque_capacity waiting.old }
+    ensures size { size.new ≡ bytes waiting.new.items }
+    ensures gone { gone.new.items ≡ gone.old.items ++ map (moved_to moment) (excess spec.now waiting.old.items) }
+    ensures room { length waiting.new.items + vec_len gone.new ≡ length waiting.old.items + vec_len gone.old }
+    ensures keeps { vec_capacity gone.old ≤ vec_capacity gone.new }
+    ensures packets { result.packets ≡ length (excess spec.now waiting.old.items) }
+    ensures bytes { result.bytes ≡ bytes (excess spec.now waiting.old.items) }
+{
+    let mut packets = 0;
+    let mut dropped_bytes = 0;
+    'heads: while !fits_now(spec, waiting.len() as u64, *size) {
+        match waiting.pop_front() {
+            None => break,
+            Some(t) => {
+                let less = t.packet.size as u64;
+                *size -= less;
+                packets += 1;
+                dropped_bytes += less;
+                gone.push(Timed {
+                    moment,
+                    packet: t.packet,
+                })
+                .unwrap();
+            }
+        }
+    }
+    Dropped {
+        packets,
+        bytes: dropped_bytes,
+    }
+}
