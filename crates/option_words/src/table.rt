@@ -1,0 +1,69 @@
+// A command's table of options, as clap reads it.
+ghost use Rattle.std.specs.Prelude.{◌≡◌, IfOk, map, string_bytes, true, false, if◌then◌else◌};
+ghost use Rattle.std.specs.List.{list_all};
+ghost use Rattle.option_words.specs.Options.{is_fit};
+ghost use Rattle.option_words.specs.Found.{IsMatchOf};
+ghost use Rattle.option_words.specs.View.{opt};
+ghost use Rattle.option_words.specs.ClapTable.{app_for, rule_for};
+ghost use Rattle.clap.specs.Words.{app_of, rule_of};
+
+use clap::error::ErrorKind;
+use clap::{Arg, ArgAction, ArgMatches, Command};
+use std::alloc::{AllocError, Global};
+
+// An option: its name, and whether it takes a value.
+#[derive(Clone, Copy)]
+pub(crate) struct OptionSpec<'a> {
+    pub name: &'a str,
+    pub takes_value: bool,
+}
+
+fn action_for(takes_value: bool) -> ArgAction
+    ensures { result ≡ (if takes_value then ArgAction.Set else ArgAction.SetTrue) }
+{
+    if takes_value {
+        ArgAction::Set
+    } else {
+        ArgAction::SetTrue
+    }
+}
+
+fn arg_for<'a>(alloc: Global, option: OptionSpec<'a>) -> Arg<'a>
+    ensures rule { rule_of result ≡ rule_for (opt option.entry) }
+    ensures local { result.global ≡ false }
+{
+    Arg::new(alloc, option.name)
+        .long(option.name)
+        .action(action_for(option.takes_value))
+}
+
+fn command_for<'a>(alloc: Global, table: &[OptionSpec<'a>]) -> Result<Command<'a>, AllocError>
+    ensures { IfOk result (λ c. app_of c ≡ app_for (map opt table.now)) }
+{
+    let mut command = Command::new(alloc, "mm")
+        .no_binary_name(true)
+        .disable_help_flag(true);
+    for option in table {
+        command = command.arg(arg_for(alloc, *option))?;
+    }
+    Ok(command)
+}
+
+// What clap makes of the words, or none where they spell no uses of these options.
+pub(crate) fn matches_for<'a>(
+    alloc: Global,
+    table: &[OptionSpec<'a>],
+    words: &'a [String],
+) -> Result<Option<ArgMatches<'a>>, AllocError>
+    requires { list_all is_fit (map string_bytes words.now) ≡ true }
+    ensures { IfOk result (IsMatchOf (map opt table.now) (map string_bytes words.now)) }
+{
+    let command = command_for(alloc, table)?;
+    match command.try_get_matches_from(words) {
+        Ok(matches) => Ok(Some(matches)),
+        Err(error) => match error.kind() {
+            ErrorKind::OutOfMemory => Err(AllocError),
+            _ => Ok(None),
+        },
+    }
+}
