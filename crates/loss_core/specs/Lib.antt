@@ -1,0 +1,4 @@
+pub mod Rates
+pub mod Losses
+pub mod Sources
+pub mod Cores

@@ -1,0 +1,12 @@
+//! One direction of a loss shell: its rate, the words that it draws, and the packets that it drops.
+#![tactic(auto)]
+
+mod loss;
+mod rate;
+#[cfg(test)]
+mod tests;
+mod words;
+
+pub use loss::LossCore;
+pub use rate::{Rate, RateError, read_rate};
+pub use words::{ChaWords, ListWords, Words};
