@@ -1,7 +1,7 @@
 // A sink in memory, which fails by a list.
 ghost use Rattle.std.specs.Prelude.{◌≡◌, ◌≤◌, ◌<◌, ◌++◌, ℕ, List, [], length, take, Some, IfOk, OnOk, OnErr, IsErrOf};
 ghost use Rattle.mm_base.specs.Counts.{Rose, CountsFaults};
-ghost use Rattle.mm_base.specs.MemSink.{MemSinkState};
+ghost use Rattle.mm_base.specs.MemSink.{MemSinkState, IsMemWrite};
 ghost use Rattle.mm_base.specs.Sink.{sending};
 
 use crate::fails::is_failing;
@@ -53,7 +53,15 @@ impl Sink for MemSink {
 
     ghost never_fails = { λ s. s.fails ≡ [] };
 
-    fn write(&mut self, piece: &[u8]) -> Result<usize, EndError> {
+    fn write(&mut self, piece: &[u8]) -> Result<usize, EndError>
+        ensures exact { IsMemWrite piece.now self.old self.new result }
+        ensures within { IfOk result (λ n. n ≤ length piece.now) }
+        ensures some { IfOk result (λ n. 0 < length piece.now → 0 < n) }
+        ensures ok { IfOk result (λ n. Some self.new.written ≡ sending (take n piece.now) (Some self.old.written)) }
+        ensures err { OnErr result (Some self.new.written ≡ Some self.old.written) }
+        ensures counts { CountsFaults (λ (s : MemSinkState). s.faults) (λ (s : MemSinkState). s.fails ≡ []) self.old self.new }
+        ensures failed_cause { IsErrOf result EndError.Failed → Rose self.old.faults self.new.faults }
+    {
         if is_failing(&mut self.calls, &self.fails) {
             self.faults = self.faults.saturating_add(1);
             return Err(EndError::Failed);
