@@ -1,4 +1,10 @@
 pub mod Words
+pub mod SaidLemmas
 pub mod Faults
+pub mod OneList
 pub mod OrdersLemmas
+pub mod PrintingLemmas
+pub mod LoadLemmas
+pub mod RowsLemmas
+pub mod SourcesLemmas
 pub mod MomentsLemmas

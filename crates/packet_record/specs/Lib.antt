@@ -1,8 +1,14 @@
 pub mod Said
 pub mod Schedules
 pub mod Orders
+pub mod Reading
+pub mod Readers
+pub mod Printing
+pub mod Draws
+pub mod Loads
 pub mod Streams
 pub mod Rows
+pub mod Sources
 pub mod Moments
 pub mod Flows
 pub mod Views

@@ -1,5 +1,5 @@
 // The record of a stream of items.
-ghost use Rattle.std.specs.Prelude.{◌≡◌, ◌≤◌, ◌<◌, ◌-◌, ◌↔◌, IsTrue, IsOk, OnOk, OnErr};
+ghost use Rattle.std.specs.Prelude.{◌≡◌, ◌≤◌, ◌↔◌, max, IsTrue, IsOk, OnOk, OnErr};
 ghost use Rattle.packet_record.specs.Streams.{no_items, after, MayFollow};
 ghost use Rattle.packet_record.specs.Takes.{spare_after, NeedsRoom, HasRoomFor};
 
@@ -8,6 +8,8 @@ use mm_base::OutOfMemory;
 use std::alloc::Global;
 use std::marker::Model;
 
+/// What a stream of items was: its packets in order, the greatest moment that any item named (0 at first), and how it ended. Contracts
+/// see these three as a `Stream`, and beside it a number `spare`: so many more packets take no memory.
 #[derive(Drop)]
 pub struct Flow {
     packets: Vec<Timed>,
@@ -29,6 +31,7 @@ impl Model for Flow {
 }
 
 impl Flow {
+    /// An open flow without items and without spare room.
     pub fn new(alloc: Global) -> Flow
         ensures { (result.stream ≡ no_items) × (result.spare ≡ 0) }
     {
@@ -40,24 +43,28 @@ impl Flow {
         }
     }
 
+    /// The packets in order.
     pub fn packets(&self) -> &[Timed]
         ensures { result.now ≡ self.now.stream.packets }
     {
         self.packets.as_slice()
     }
 
+    /// The greatest moment that any item named, in milliseconds.
     pub fn bound(&self) -> u64
         ensures { result ≡ self.now.stream.bound }
     {
         self.bound
     }
 
+    /// How the stream ended, if it did.
     pub fn end(&self) -> FlowEnd
         ensures { result ≡ self.now.stream.end }
     {
         self.end
     }
 
+    /// Whether the item may come next: the flow is open, and a packet's or a mark's moment is at least the bound.
     pub fn may_follow(&self, item: &Item) -> bool
         ensures { IsTrue result ↔ MayFollow self.now.stream item.now }
     {
@@ -71,11 +78,12 @@ impl Flow {
         }
     }
 
-    /// Makes room for this many packets.
+    /// Makes room for so many packets, and takes no memory where there is that room.
     pub fn reserve(&mut self, count: usize) -> Result<(), OutOfMemory>
         ensures same { self.new.stream ≡ self.old.stream }
-        ensures ok { OnOk result (count ≤ self.new.spare) }
+        ensures ok { OnOk result (self.new.spare ≡ max self.old.spare count) }
         ensures err { OnErr result (self.new ≡ self.old) }
+        ensures enough { count ≤ self.old.spare → IsOk result }
     {
         if self.spare < count {
             match self.packets.reserve(count) {
@@ -86,7 +94,7 @@ impl Flow {
         Ok(())
     }
 
-    /// An item that takes no room, or for which there is room.
+    /// Adds an item that takes no room, or for which there is room.
     pub fn add(&mut self, item: Item)
         requires follows { MayFollow self.old.stream item }
         requires room { HasRoomFor self.old.spare item }
@@ -105,27 +113,16 @@ impl Flow {
         }
     }
 
+    /// Adds an item. Only a packet takes memory, and only where there is no spare room; else it takes one of it.
     pub fn push(&mut self, item: Item) -> Result<(), OutOfMemory>
         requires { MayFollow self.old.stream item }
         ensures stream { OnOk result ((self.new.stream ≡ after self.old.stream item) × (self.new.spare ≡ spare_after self.old.spare item)) }
         ensures err { OnErr result ((self.new ≡ self.old) × NeedsRoom self.old.spare item) }
     {
-        match item {
-            Item::Packet(t) => {
-                if self.spare == 0 {
-                    match self.packets.reserve(1) {
-                        Ok(()) => self.spare = 1,
-                        Err(_) => return Err(OutOfMemory),
-                    }
-                }
-                self.spare -= 1;
-                self.packets.push_reserved(t);
-                self.bound = t.moment;
-            }
-            Item::Mark(m) => self.bound = m,
-            Item::End => self.end = FlowEnd::Ended,
-            Item::Broken => self.end = FlowEnd::Broken,
+        if let Item::Packet(_) = item {
+            self.reserve(1)?;
         }
+        self.add(item);
         Ok(())
     }
 }

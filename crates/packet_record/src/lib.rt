@@ -1,14 +1,26 @@
 //! Packets, rows and schedules, and the items and flows that pass between shells.
 #![tactic(auto)]
 
+mod draws;
 mod flow;
 mod item;
+mod line;
+mod load;
 mod packet;
+mod printing;
 mod reading;
 mod rows;
+mod source;
 
+pub use draws::Draws;
 pub use flow::Flow;
 pub use item::{FlowEnd, Item, Stream};
+pub use load::make_load;
 pub use packet::{Direction, Packet, Row, Timed};
-pub use reading::{ScheduleError, read_schedule};
+pub use printing::print_schedule;
+pub use reading::{ScheduleError, ScheduleReader, read_schedule};
 pub use rows::Schedule;
+pub use source::source_item;
+
+#[cfg(test)]
+mod tests;

@@ -1,0 +1,117 @@
+// Worked values, and what no clause says.
+use crate::{
+    Direction, Draws, Flow, FlowEnd, Item, Packet, Row, ScheduleError, ScheduleReader, Timed,
+    make_load, print_schedule, read_schedule, source_item,
+};
+use std::test::Fail;
+
+fn moves<T: Send + Drop>(_value: T) {}
+
+fn shares<T: Sync>(_value: &T) {}
+
+#[test]
+fn prints_what_it_read(rt: HostRuntime) -> Result<(), Fail> {
+    let schedule = read_schedule(rt.alloc(), b"05 up 0100")?;
+    let text = print_schedule(rt.alloc(), &schedule)?;
+    assert_eq!(rt; text.as_slice(), b"5 up 100\n".as_slice());
+    let again = read_schedule(rt.alloc(), b"0 up 1\n9999999999 down 1504\n")?;
+    let text = print_schedule(rt.alloc(), &again)?;
+    assert_eq!(rt;
+        text.as_slice(),
+        b"0 up 1\n9999999999 down 1504\n".as_slice()
+    );
+    let empty = read_schedule(rt.alloc(), b"")?;
+    assert_eq!(rt; empty.rows().len(), 0);
+    shares(&empty);
+    moves(empty);
+    Ok(())
+}
+
+#[test]
+fn refuses_the_first(rt: HostRuntime) {
+    for (text, number, line) in [
+        (b"0 up 1505".as_slice(), 2, 1),
+        (b"0 up 0", 2, 1),
+        (b"5 up 1\n\n", 1, 2),
+        (b"5 up 1\r\n", 1, 1),
+        (b"5  up 1", 1, 1),
+        (b"5 up 1 ", 1, 1),
+        (b"12345678901 up 1", 1, 1),
+        (b"5 up 1\n4 up 0\n", 2, 2),
+        (b"5 up 1\n4 down 7\n3 up\n", 3, 2),
+    ] {
+        match read_schedule(rt.alloc(), text) {
+            Ok(_) => assert!(rt; false, "{number} at {line} was read"),
+            Err(fault) => {
+                assert_eq!(rt; fault.number(), number);
+                assert_eq!(rt; fault.line(), line);
+            }
+        }
+    }
+}
+
+#[test]
+fn refuses_again(rt: HostRuntime) {
+    let mut reader = ScheduleReader::new();
+    assert!(rt; reader.next(b"7 down 40").is_ok());
+    let fault = ScheduleError::Decreasing { line: 2 };
+    assert_eq!(rt; reader.next(b"6 down 40"), Err(fault));
+    assert_eq!(rt; reader.next(b"8 down 40"), Err(fault));
+}
+
+#[test]
+fn makes_loads(rt: HostRuntime) -> Result<(), Fail> {
+    let load = make_load(rt.alloc(), 1, 3)?;
+    let text = print_schedule(rt.alloc(), &load)?;
+    assert_eq!(rt;
+        text.as_slice(),
+        b"1 up 366\n1 down 1483\n4 up 675\n".as_slice()
+    );
+    let mut draws = Draws::new(65537);
+    for value in [
+        149, 11249, 57305, 38044, 35283, 24819, 26463, 18689, 25472, 9901, 21742,
+    ] {
+        assert_eq!(rt; draws.draw(), value);
+    }
+    Ok(())
+}
+
+#[test]
+fn records_a_stream(rt: HostRuntime) -> Result<(), Fail> {
+    let packet = Packet { id: 1, size: 40 };
+    let first = Timed { moment: 5, packet };
+    let mut flow = Flow::new(rt.alloc());
+    flow.push(Item::Packet(first))?;
+    flow.reserve(1)?;
+    assert!(rt; flow.may_follow(&Item::Mark(5)));
+    assert!(rt; !flow.may_follow(&Item::Mark(4)));
+    flow.push(Item::Mark(5))?;
+    flow.push(Item::End)?;
+    assert!(rt; !flow.may_follow(&Item::End));
+    assert_eq!(rt; flow.packets().len(), 1);
+    assert_eq!(rt; flow.bound(), 5);
+    assert_eq!(rt; flow.end(), FlowEnd::Ended);
+    shares(&flow);
+    moves(flow);
+    Ok(())
+}
+
+#[test]
+fn sends_marks_for_the_other_direction(rt: HostRuntime) {
+    let packet = Packet { id: 1, size: 40 };
+    let timed = Timed { moment: 9, packet };
+    let row = Row {
+        direction: Direction::Up,
+        timed,
+    };
+    assert_eq!(rt;
+        source_item(Direction::Up, 9, 9, &row),
+        Some(Item::Packet(timed))
+    );
+    assert_eq!(rt;
+        source_item(Direction::Down, 9, 8, &row),
+        Some(Item::Mark(9))
+    );
+    assert_eq!(rt; source_item(Direction::Down, 9, 9, &row), None);
+    assert_eq!(rt; source_item(Direction::Up, 8, 0, &row), None);
+}
