@@ -9,11 +9,16 @@ moment_of (Opportunity moment bytes) = moment
 moment_of (Departure moment size delay) = moment
 moment_of (Drop moment packets bytes) = moment
 
+-- a number of at most ten digits, as all numbers of a log are
+abbrev pub IsShort : ℕ → Type 0
+IsShort n = n ≤ 9999999999
+
+-- the ranges of an entry's numbers
 abbrev pub IsEntry : Entry → Type 0
-IsEntry (Arrival moment size) = (1 ≤ size) × (size ≤ 1504)
-IsEntry (Opportunity moment bytes) = (1 ≤ bytes) × (bytes ≤ 1000000)
-IsEntry (Departure moment size delay) = (1 ≤ size) × (size ≤ 1504) × (delay ≤ moment)
-IsEntry (Drop moment packets bytes) = (1 ≤ packets) × (1 ≤ bytes)
+IsEntry (Arrival moment size) = IsShort moment × (1 ≤ size) × (size ≤ 1504)
+IsEntry (Opportunity moment bytes) = IsShort moment × (1 ≤ bytes) × (bytes ≤ 1000000)
+IsEntry (Departure moment size delay) = IsShort moment × (1 ≤ size) × (size ≤ 1504) × (delay ≤ moment)
+IsEntry (Drop moment packets bytes) = IsShort moment × (1 ≤ packets) × IsShort packets × (1 ≤ bytes) × IsShort bytes
 
 -- no entry is after this moment
 abbrev pub AreUpTo : ℕ → List Entry → Type 0
