@@ -1,0 +1,22 @@
+-- What contracts see of an end of a channel.
+use Rattle.std.specs.Prelude.{◌≡◌, ℕ}
+use Rattle.atomic_table.specs.Seated.{TableId}
+use Rattle.atomic_table.specs.declared.badge.Badge.{Badge}
+use Rattle.crossbeam_channel.specs.declared.flavors.array.Key.{Key}
+use Rattle.packet_record.specs.declared.item.Item.{Item}
+use Rattle.packet_record.specs.declared.item.Stream.{Stream}
+
+-- which channel it is
+pub record Channel : Type 0 where
+  pub table : TableId
+  pub key : Badge (Key Item)
+
+-- the stream that went through the end, the horizon, and the channel
+pub record End : Type 0 where
+  pub flow : Stream
+  pub horizon : ℕ
+  pub channel : Channel
+
+-- an end keeps its horizon and its channel
+abbrev pub IsSameEnd : End → End → Type 0
+IsSameEnd old new = (new.horizon ≡ old.horizon) × (new.channel ≡ old.channel)

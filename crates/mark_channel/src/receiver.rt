@@ -1,0 +1,50 @@
+//! The receiving end.
+ghost use Rattle.std.specs.Prelude.{◌≡◌};
+ghost use Rattle.packet_record.specs.declared.item.FlowEnd.TheVariants.{Open};
+ghost use Rattle.packet_record.specs.Streams.{after, MayFollow, IsUpTo};
+ghost use Rattle.mark_channel.specs.Ends.{IsSameEnd};
+
+use crate::rule::{Got, InOrder, View};
+use crossbeam_channel::{Pass, RuledReceiver};
+use packet_record::Item;
+use std::marker::Model;
+use std::sync::Wait;
+
+/// The receiving end of a channel. Contracts see the stream of what was received, the horizon and the
+/// channel.
+#[derive(Drop)]
+pub struct Receiver {
+    pub(crate) end: RuledReceiver<Item, View, InOrder>,
+    pub(crate) pass: Pass<Item, View>,
+}
+
+impl Model for Receiver {
+    ghost use Rattle.mark_channel.specs.Ends.{End};
+
+    ghost Value = { End };
+
+    ghost use Rattle.mark_channel.specs.Sides.{receiver_view, IsReceiver};
+
+    ghost view = { receiver_view };
+
+    ghost invariant = { IsReceiver };
+}
+
+impl Receiver {
+    /// Waits for an item and takes it. The item may follow what was received before and is within the
+    /// channel's horizon: a packet up to it, a mark up to one millisecond past it. It takes no memory.
+    pub fn recv<R: Wait>(&mut self, rt: &R) -> Item
+        requires { self.old.flow.end ≡ Open }
+        ensures follows { MayFollow self.old.flow result }
+        ensures within { IsUpTo self.old.horizon result }
+        ensures flow { self.new.flow ≡ after self.old.flow result }
+        ensures same { IsSameEnd self.old self.new }
+    {
+        for _ in rt.forever() {
+            if let Ok(item) = self.end.recv_as::<Got, R>(rt, &mut self.pass) {
+                return item;
+            }
+        }
+        unreachable!()
+    }
+}

@@ -1,0 +1,47 @@
+//! The sending end.
+ghost use Rattle.std.specs.Prelude.{◌≡◌};
+ghost use Rattle.packet_record.specs.Streams.{after, MayFollow, IsUpTo};
+ghost use Rattle.mark_channel.specs.Ends.{IsSameEnd};
+
+use crate::rule::{InOrder, Sent, View};
+use crossbeam_channel::{Pass, RuledSender};
+use packet_record::Item;
+use std::marker::Model;
+use std::sync::Wait;
+
+/// The sending end of a channel. Contracts see the stream of what was sent, the horizon and the channel.
+#[derive(Drop)]
+pub struct Sender {
+    pub(crate) end: RuledSender<Item, View, InOrder>,
+    pub(crate) pass: Pass<Item, View>,
+}
+
+impl Model for Sender {
+    ghost use Rattle.mark_channel.specs.Ends.{End};
+
+    ghost Value = { End };
+
+    ghost use Rattle.mark_channel.specs.Sides.{sender_view, IsSender};
+
+    ghost view = { sender_view };
+
+    ghost invariant = { IsSender };
+}
+
+impl Sender {
+    /// Waits for room, and adds the item at the end of what was sent. It takes no memory. Nothing is
+    /// promised of how long it waits: a sender whose receiver is gone may wait for ever.
+    pub fn send<R: Wait>(&mut self, rt: &R, item: Item)
+        requires follows { MayFollow self.old.flow item }
+        requires within { IsUpTo self.old.horizon item }
+        ensures flow { self.new.flow ≡ after self.old.flow item }
+        ensures same { IsSameEnd self.old self.new }
+    {
+        for _ in rt.forever() {
+            if let Ok(()) = self.end.send_as::<Sent, R>(rt, &mut self.pass, item) {
+                return;
+            }
+        }
+        unreachable!()
+    }
+}

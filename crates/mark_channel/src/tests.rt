@@ -1,0 +1,132 @@
+//! A channel in one thread and between two, and the types that may cross threads.
+ghost use Rattle.std.specs.Prelude.{◌≡◌, ◌≤◌};
+ghost use Rattle.packet_record.specs.declared.item.FlowEnd.TheVariants.{Open};
+ghost use Rattle.packet_record.specs.Streams.{no_items};
+ghost use Rattle.mark_channel.specs.Ends.{IsSameEnd};
+
+use crate::{Receiver, Sender, open, settle};
+use packet_record::{Item, Packet, Timed};
+use std::sync::Wait;
+use std::sync::atomic::{AtomicU64, Ordering};
+use std::test::Fail;
+use std::thread::{Threads, join_mut, yield_now};
+
+// An end may be sent to another thread.
+fn moves<T: Send>(_end: &T) {}
+
+fn timed(id: u32, moment: u64) -> Timed
+    ensures { result.moment ≡ moment }
+{
+    Timed {
+        moment,
+        packet: Packet { id, size: 100 },
+    }
+}
+
+#[test]
+fn carries_two(rt: HostRuntime) -> Result<(), Fail> {
+    let (mut sender, mut receiver) = open(rt.alloc(), 2, 20)?;
+    moves(&sender);
+    moves(&receiver);
+    sender.send(&rt, Item::Packet(timed(1, 0)));
+    sender.send(&rt, Item::End);
+    let Item::Packet(first) = receiver.recv(&rt) else {
+        return Err(Fail::from("no packet"));
+    };
+    assert_eq!(rt; first, timed(1, 0));
+    let last = receiver.recv(&rt);
+    assert_eq!(rt; last, Item::End);
+    settle(sender, receiver);
+    Ok(())
+}
+
+// Sends packets at the moments below `count`, and then the end. `begun` counts the sends that have begun.
+fn send_all<R: Wait>(rt: &R, sender: &mut Sender, count: u32, begun: &AtomicU64)
+    requires empty { sender.old.flow ≡ no_items }
+    requires within { count ≤ sender.old.horizon }
+    ensures same { IsSameEnd sender.old sender.new }
+{
+    for number in 0..count {
+        begun.fetch_add(1, Ordering::SeqCst);
+        sender.send(rt, Item::Packet(timed(number, number as u64)));
+    }
+    sender.send(rt, Item::End);
+}
+
+// Waits until a number is reached. False at the limit of turns.
+fn reached(number: &AtomicU64, goal: u64) -> bool {
+    for _ in 0..10_000_000 {
+        if number.load(Ordering::SeqCst) >= goal {
+            return true;
+        }
+        yield_now();
+    }
+    false
+}
+
+// Receives until the end, and counts the packets that come in their order.
+fn receive_all<R: Wait>(rt: &R, receiver: &mut Receiver) -> u32
+    requires open { receiver.old.flow.end ≡ Open }
+    ensures same { IsSameEnd receiver.old receiver.new }
+{
+    let mut count = 0u32;
+    for _ in rt.forever() {
+        match receiver.recv(rt) {
+            Item::Packet(t) => {
+                if t.packet.id == count {
+                    count = count.saturating_add(1);
+                }
+            }
+            Item::Mark(_) => {}
+            Item::End | Item::Broken => return count,
+        }
+    }
+    unreachable!()
+}
+
+// Waits until 65 sends have begun, gives way, and looks how many have begun. Then it receives all.
+fn receive_late<R: Wait>(rt: &R, receiver: &mut Receiver, begun: &AtomicU64) -> (u64, u32)
+    requires open { receiver.old.flow.end ≡ Open }
+    ensures same { IsSameEnd receiver.old receiver.new }
+{
+    let full = reached(begun, 65);
+    for _ in 0..10_000 {
+        yield_now();
+    }
+    let held = if full {
+        begun.load(Ordering::SeqCst)
+    } else {
+        0
+    };
+    (held, receive_all(rt, receiver))
+}
+
+fn meet<R: Threads + Wait + Sync>(
+    rt: &R,
+    sender: &mut Sender,
+    receiver: &mut Receiver,
+) -> (u64, u32)
+    requires empty { sender.old.flow ≡ no_items }
+    requires within { 1000 ≤ sender.old.horizon }
+    requires open { receiver.old.flow.end ≡ Open }
+    ensures sender { IsSameEnd sender.old sender.new }
+    ensures receiver { IsSameEnd receiver.old receiver.new }
+{
+    let begun = AtomicU64::new(0);
+    let (_, seen) = join_mut(
+        rt,
+        &mut || send_all(rt, sender, 1000, &begun),
+        &mut || receive_late(rt, receiver, &begun),
+    );
+    seen
+}
+
+#[test]
+fn holds_64_and_one_waits(rt: HostRuntime) -> Result<(), Fail> {
+    let (mut sender, mut receiver) = open(rt.alloc(), 64, 1000)?;
+    let (held, came) = meet(&rt, &mut sender, &mut receiver);
+    settle(sender, receiver);
+    assert_eq!(rt; held, 65);
+    assert_eq!(rt; came, 1000);
+    Ok(())
+}
