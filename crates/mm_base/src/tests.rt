@@ -1,10 +1,150 @@
 use super::*;
+use std::alloc::Global;
+use std::fs;
 use std::marker::{Send, Sync};
+use std::test::Fail;
 
 fn is_shared<T: Send + Sync>(_: &T) {}
 
+fn disk_with(alloc: Global, name: &str, bytes: &[u8], fails: &[u64]) -> Result<MemDisk, Fail> {
+    let mut files = Vec::new(alloc);
+    files.push((
+        Text::from_text(alloc, name)?,
+        Bytes::from_slice(alloc, bytes)?,
+    ))?;
+    Ok(MemDisk::new(alloc, files, fails.to_vec(alloc)?))
+}
+
 #[test]
-fn bytes_and_texts_go_between_threads(rt: HostRuntime) {
-    is_shared(&Bytes::new(rt.alloc()));
-    is_shared(&Text::from_text(rt.alloc(), "t").unwrap());
+fn bytes_and_texts_grow_and_go_between_threads(rt: HostRuntime) -> Result<(), Fail> {
+    let alloc = rt.alloc();
+    let mut bytes = Bytes::with_capacity(alloc, 2)?;
+    bytes.push(b'a')?;
+    bytes.reserve(3)?;
+    bytes.append(b"bc")?;
+    assert_eq!(rt; bytes.as_slice(), b"abc".as_slice());
+    assert_eq!(rt; bytes.clone()?, bytes);
+    is_shared(&bytes);
+    bytes.clear();
+    assert!(rt; bytes.is_empty());
+    let text = Text::from_text(alloc, "name")?;
+    assert_eq!(rt; text.clone()?, text);
+    assert_eq!(rt; text.len(), 4);
+    is_shared(&text);
+    Ok(())
+}
+
+#[test]
+fn numbers_are_read_and_written(rt: HostRuntime) -> Result<(), Fail> {
+    let rows: [(&str, Option<u64>, Option<u64>); 9] = [
+        ("0", Some(0), Some(0)),
+        ("00", Some(0), None),
+        ("05", Some(5), None),
+        ("10", Some(10), Some(10)),
+        ("9999999999", Some(9999999999), Some(9999999999)),
+        ("00000000001", None, None),
+        ("", None, None),
+        ("+1", None, None),
+        ("1 ", None, None),
+    ];
+    for (text, decimal, canonical) in rows {
+        assert_eq!(rt; read_decimal(text.as_bytes()), decimal, "of {text}");
+        assert_eq!(rt; read_canonical(text.as_bytes()), canonical, "of {text}");
+    }
+    let mut out = Bytes::new(rt.alloc());
+    write_decimal(&mut out, 0)?;
+    write_decimal(&mut out, 18446744073709551615)?;
+    assert_eq!(rt; out.as_slice(), b"018446744073709551615".as_slice());
+    Ok(())
+}
+
+#[test]
+fn a_text_is_cut_at_each_line_feed(rt: HostRuntime) {
+    let mut lines = Lines::new(b"a\r\n\nb");
+    assert_eq!(rt; lines.next(), Some(b"a\r".as_slice()));
+    assert_eq!(rt; lines.next(), Some(b"".as_slice()));
+    assert_eq!(rt; lines.next(), Some(b"b".as_slice()));
+    assert_eq!(rt; lines.next(), None);
+    assert_eq!(rt; Lines::new(b"").next(), None);
+    assert_eq!(rt; Lines::new(b"a\n").count(), 1);
+}
+
+#[test]
+fn a_disk_in_memory_fails_by_its_list(rt: HostRuntime) -> Result<(), Fail> {
+    let mut disk = disk_with(rt.alloc(), "s", b"abc", &[2, 4])?;
+    let mut buf = [0u8; 2];
+    assert_eq!(rt; disk.size("s"), Ok(3));
+    assert_eq!(rt; disk.size("s"), Err(DiskError::Failed));
+    assert_eq!(rt; disk.size("t"), Err(DiskError::Absent));
+    assert_eq!(rt; disk.append("t", b"x"), Err(DiskError::Failed));
+    assert_eq!(rt; disk.read_at("s", 1, &mut buf), Ok(2));
+    assert_eq!(rt; buf, *b"bc");
+    assert_eq!(rt; disk.read_at("s", 3, &mut buf), Ok(0));
+    assert_eq!(rt; disk.append("t", b"x"), Ok(1));
+    assert_eq!(rt; disk.file("t").ok_or("no t")?, b"x".as_slice());
+    assert_eq!(rt; disk.create("s"), Ok(()));
+    assert_eq!(rt; disk.file("s").ok_or("no s")?, b"".as_slice());
+    assert!(rt; disk.file("u").is_none());
+    Ok(())
+}
+
+#[test]
+fn files_are_loaded_and_saved_whole(rt: HostRuntime) -> Result<(), Fail> {
+    let alloc = rt.alloc();
+    let mut disk = disk_with(alloc, "s", b"abc", &[5, 9])?;
+    assert_eq!(rt;
+        load(alloc, &mut disk, "s", 3)?.as_slice(),
+        b"abc".as_slice()
+    );
+    assert_eq!(rt;
+        load(alloc, &mut disk, "s", 2).err(),
+        Some(LoadError::TooLong { size: 3 })
+    );
+    assert_eq!(rt;
+        load(alloc, &mut disk, "t", 3).err(),
+        Some(LoadError::Absent)
+    );
+    assert_eq!(rt;
+        load(alloc, &mut disk, "s", 3).err(),
+        Some(LoadError::Failed)
+    );
+    assert_eq!(rt; save(&mut disk, "f", b"12"), Ok(()));
+    assert_eq!(rt; disk.file("f").ok_or("no f")?, b"12".as_slice());
+    assert_eq!(rt; save(&mut disk, "f", b"34"), Err(DiskError::Failed));
+    assert_eq!(rt; disk.file("f").ok_or("no f")?, b"".as_slice());
+    Ok(())
+}
+
+#[test]
+fn all_is_sent_or_a_front(rt: HostRuntime) -> Result<(), Fail> {
+    let alloc = rt.alloc();
+    let mut sink = MemSink::new(alloc, [2].to_vec(alloc)?);
+    assert_eq!(rt; send_all(&mut sink, b"ab"), Ok(()));
+    assert_eq!(rt; send_all(&mut sink, b"cd"), Err(EndError::Failed));
+    assert_eq!(rt; sink.written(), b"ab".as_slice());
+    let mut out = StdSink::new(rt.stdout());
+    assert_eq!(rt;
+        send_all(&mut out, b"sent to the standard output\n"),
+        Ok(())
+    );
+    Ok(())
+}
+
+#[test]
+fn real_files_are_saved_and_loaded(rt: HostRuntime) -> Result<(), Fail> {
+    let alloc = rt.alloc();
+    let mut disk = FileDisk::new(rt.clone()?);
+    assert_eq!(rt; save(&mut disk, "mm_base_test_file", b"held\n"), Ok(()));
+    assert_eq!(rt; disk.append("mm_base_test_file", b"more\n"), Ok(5));
+    assert_eq!(rt;
+        load(alloc, &mut disk, "mm_base_test_file", 10)?.as_slice(),
+        b"held\nmore\n".as_slice()
+    );
+    fs::remove_file(&rt, "mm_base_test_file")?;
+    assert_eq!(rt;
+        load(alloc, &mut disk, "mm_base_test_file", 10).err(),
+        Some(LoadError::Absent)
+    );
+    assert_eq!(rt; disk.create(""), Err(DiskError::Failed));
+    Ok(())
 }
