@@ -1,2 +1,5 @@
 pub mod Entries
 pub mod View
+pub mod Words
+pub mod LogText
+pub mod Reading

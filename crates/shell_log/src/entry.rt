@@ -1,4 +1,5 @@
 // What happened at one direction of a link.
+ghost use Rattle.std.specs.Prelude.{◌≡◌};
 
 /// One line of a log, at a moment in milliseconds from the start of the run. Sizes are in bytes. Every number of an
 /// entry in a log has at most ten digits, so that what is printed is read again.
@@ -26,4 +27,20 @@ pub enum Entry {
         packets: u64,
         bytes: u64,
     },
+}
+
+impl Entry {
+    ghost use Rattle.shell_log.specs.Entries.{moment_of};
+
+    /// The moment at which it happened.
+    pub fn moment(&self) -> u64
+        ensures { result ≡ moment_of self.now }
+    {
+        match *self {
+            Entry::Arrival { moment, .. }
+            | Entry::Opportunity { moment, .. }
+            | Entry::Departure { moment, .. }
+            | Entry::Drop { moment, .. } => moment,
+        }
+    }
 }

@@ -2,7 +2,14 @@
 #![tactic(auto)]
 
 mod entry;
+mod line;
 mod log;
+mod printing;
+mod reading;
+#[cfg(test)]
+mod tests;
 
 pub use entry::Entry;
 pub use log::Log;
+pub use printing::print_log;
+pub use reading::{LogError, read_log};

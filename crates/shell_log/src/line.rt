@@ -1,0 +1,116 @@
+// One line of a log, read.
+ghost use Rattle.std.specs.Prelude.{◌≡◌, ◌<◌, ◌≤◌, ◌==◌, ◌∷◌, [], Option, MatchOption, IfSome, IfNone, All, false, position, length};
+ghost use Rattle.shell_log.specs.Words.{first_word, other_words, parts_of};
+ghost use Rattle.shell_log.specs.Reading.{arrival_of, opportunity_of, departure_of, drop_of, entry_of};
+
+use crate::Entry;
+use mm_base::read_canonical;
+
+// The place of the first such byte.
+fn place_of(text: &[u8], wanted: u8) -> Option<usize>
+    ensures place { result ≡ position (λ byte. byte == wanted) text.now }
+    ensures within { IfSome result (λ end. end < length text.now) }
+    ensures none { IfNone result (All (λ byte. (byte == wanted) ≡ false) text.now) }
+{
+    text.iter().position(|byte| *byte == wanted)
+}
+
+// The first line with its line feed taken off, and what follows it; None where no line feed is left.
+pub(crate) fn split_line(text: &[u8]) -> Option<(&[u8], &[u8])>
+    ensures parts { MatchOption result (parts_of text.now ≡ text.now ∷ []) (λ cut. parts_of text.now ≡ cut.0.now ∷ parts_of cut.1.now) }
+    ensures shorter { IfSome result (λ cut. length cut.1.now < length text.now) }
+{
+    match place_of(text, b'\n') {
+        Some(end) => Some((&text[..end], &text[end + 1..])),
+        None => None,
+    }
+}
+
+// The first word, and what follows its space.
+fn split_word(text: &[u8]) -> (&[u8], &[u8])
+    ensures first { result.0.now ≡ first_word text.now }
+    ensures others { result.1.now ≡ other_words text.now }
+{
+    match place_of(text, b' ') {
+        Some(end) => (&text[..end], &text[end + 1..]),
+        None => (text, &text[text.len()..]),
+    }
+}
+
+// The entry that a line says, if it is of one of the four forms and in range.
+pub(crate) fn read_entry(line: &[u8]) -> Option<Entry>
+    ensures { result ≡ entry_of line.now }
+{
+    let (first, rest) = split_word(line);
+    let moment = read_canonical(first)?;
+    let (sign, rest) = split_word(rest);
+    if sign == b"+".as_slice() {
+        read_arrival(moment, rest)
+    } else if sign == b"#".as_slice() {
+        read_opportunity(moment, rest)
+    } else if sign == b"-".as_slice() {
+        read_departure(moment, rest)
+    } else if sign == b"d".as_slice() {
+        read_drop(moment, rest)
+    } else {
+        None
+    }
+}
+
+fn read_arrival(moment: u64, rest: &[u8]) -> Option<Entry>
+    ensures { result ≡ arrival_of moment rest.now }
+{
+    let size = read_canonical(rest)?;
+    if size < 1 || size > 1504 {
+        return None;
+    }
+    Some(Entry::Arrival {
+        moment,
+        size: size as u16,
+    })
+}
+
+fn read_opportunity(moment: u64, rest: &[u8]) -> Option<Entry>
+    ensures { result ≡ opportunity_of moment rest.now }
+{
+    let bytes = read_canonical(rest)?;
+    if bytes < 1 || bytes > 1_000_000 {
+        return None;
+    }
+    Some(Entry::Opportunity {
+        moment,
+        bytes: bytes as u32,
+    })
+}
+
+fn read_departure(moment: u64, rest: &[u8]) -> Option<Entry>
+    ensures { result ≡ departure_of moment rest.now }
+{
+    let (first, rest) = split_word(rest);
+    let size = read_canonical(first)?;
+    let delay = read_canonical(rest)?;
+    if size < 1 || size > 1504 || delay > moment {
+        return None;
+    }
+    Some(Entry::Departure {
+        moment,
+        size: size as u16,
+        delay,
+    })
+}
+
+fn read_drop(moment: u64, rest: &[u8]) -> Option<Entry>
+    ensures { result ≡ drop_of moment rest.now }
+{
+    let (first, rest) = split_word(rest);
+    let packets = read_canonical(first)?;
+    let bytes = read_canonical(rest)?;
+    if packets < 1 || bytes < 1 {
+        return None;
+    }
+    Some(Entry::Drop {
+        moment,
+        packets,
+        bytes,
+    })
+}

@@ -1,0 +1,96 @@
+// Logs read from their text.
+ghost use Rattle.std.specs.Prelude.{◌≡◌, ◌≢◌, ◌≤◌, ◌+◌, List, Option, Some, None, MatchResult, IfOk, length};
+ghost use Rattle.shell_log.specs.declared.reading.LogError.TheVariants as errors;
+ghost use Rattle.shell_log.specs.declared.entry.Entry.{Entry as EntryValue};
+ghost use Rattle.shell_log.specs.Entries.{IsEntry, IsLog, moment_of};
+ghost use Rattle.shell_log.specs.LogText.{log_text};
+ghost use Rattle.shell_log.specs.Reading.{entry_of, fault_of, log_fault};
+
+use crate::line::{read_entry, split_line};
+use crate::{Entry, Log};
+use mm_base::OutOfMemory;
+use std::alloc::Global;
+
+/// Why a text isn't the text of a log. The first refusal wins; lines are counted from 1.
+#[derive(Clone, Copy, Debug, PartialEq, Eq)]
+pub enum LogError {
+    /// 1: the first line isn't `# base timestamp: 0` with its line feed.
+    BadHeader,
+    /// 2: a line of another form, with a number out of range or with a leading zero, or without its line feed.
+    BadLine { line: u64 },
+    /// 3: a moment below that of the line before.
+    Backwards { line: u64 },
+    OutOfMemory,
+}
+
+impl From<OutOfMemory> for LogError {
+    ghost from_gives = { λ _ e. e ≡ errors.OutOfMemory };
+
+    fn from(_: OutOfMemory) -> Self {
+        LogError::OutOfMemory
+    }
+}
+
+/// The log of which this is the text. It is refused by the first refusal of its lines, or where memory is wanting.
+pub fn read_log(alloc: Global, text: &[u8]) -> Result<Log, LogError>
+    ensures found { IfOk result (λ log. text.now ≡ log_text log.entries) }
+    ensures every { (list : List EntryValue) → IsLog list → text.now ≡ log_text list
+        → MatchResult result (λ log. log.entries ≡ list) (λ e. e ≡ LogError.OutOfMemory) }
+    ensures exact { MatchResult result (λ _. log_fault text.now ≡ None)
+        (λ e. e ≢ LogError.OutOfMemory → log_fault text.now ≡ Some e) }
+{
+    read_text(alloc, text)
+}
+
+fn read_text(alloc: Global, text: &[u8]) -> Result<Log, LogError>
+    ensures found { IfOk result (λ log. text.now ≡ log_text log.entries) }
+    ensures log { IfOk result (λ log. IsLog log.entries) }
+    ensures exact { MatchResult result (λ _. log_fault text.now ≡ None)
+        (λ e. e ≢ LogError.OutOfMemory → log_fault text.now ≡ Some e) }
+{
+    let Some((first, after)) = split_line(text) else {
+        return Err(LogError::BadHeader);
+    };
+    if first != b"# base timestamp: 0".as_slice() {
+        return Err(LogError::BadHeader);
+    }
+    let mut log = Log::new(alloc);
+    log.reserve(count_lines(after))?;
+    let mut rest = after;
+    let mut low = 0;
+    'lines: while let Some((line, after)) = split_line(rest) {
+        let entry = next_entry(log.entries().len() as u64 + 2, low, line)?;
+        log.reserve(1)?;
+        log.add(entry);
+        low = entry.moment();
+        rest = after;
+    }
+    if !rest.is_empty() {
+        return Err(LogError::BadLine {
+            line: log.entries().len() as u64 + 2,
+        });
+    }
+    Ok(log)
+}
+
+// How many line feeds there are.
+fn count_lines(text: &[u8]) -> usize {
+    text.iter().filter(|byte| **byte == b'\n').count()
+}
+
+// The entry of a line with this number, where the line before has this moment.
+#[tactic(auto, using(crate::proofs::LineLaws::entry_in_range))]
+fn next_entry(number: u64, low: u64, line: &[u8]) -> Result<Entry, LogError>
+    ensures said { IfOk result (λ e. entry_of line.now ≡ Some e) }
+    ensures order { IfOk result (λ e. low ≤ moment_of e) }
+    ensures entry { IfOk result IsEntry }
+    ensures fault { MatchResult result (λ _. fault_of number low (entry_of line.now) ≡ None) (λ e. fault_of number low (entry_of line.now) ≡ Some e) }
+{
+    let Some(entry) = read_entry(line) else {
+        return Err(LogError::BadLine { line: number });
+    };
+    if entry.moment() < low {
+        return Err(LogError::Backwards { line: number });
+    }
+    Ok(entry)
+}
