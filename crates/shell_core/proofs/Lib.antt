@@ -1,0 +1,3 @@
+pub mod Delaying
+pub mod Counting
+pub mod Laws

@@ -1,0 +1,4 @@
+pub mod Promises
+pub mod Shells
+pub mod CoreParts
+pub mod CoreInside

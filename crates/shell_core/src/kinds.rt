@@ -1,0 +1,192 @@
+// One direction of a shell of any kind.
+ghost use Rattle.std.specs.Prelude.{◌≡◌, ◌≤◌, ◌+◌, ◌++◌, ◌∷◌, [], length, map, OnOk, OnErr, IfOk};
+ghost use Rattle.packet_record.specs.Moments.{AreUpTo};
+ghost use Rattle.shell_core.specs.Promises.{count_to};
+ghost use Rattle.shell_core.specs.Shells.{IsInRange, IsBuilt, opportunities, out, lost, inside, shell_log, floor};
+ghost use Rattle.shell_core.specs.CoreParts.{CorePart, with_arrival, with_burnt, is_spent, burns, new_part};
+
+use crate::spec::DirSpec;
+use delay_core::DelayCore;
+use loss_core::{ChaWords, LossCore};
+use mm_base::OutOfMemory;
+use packet_record::Timed;
+use shell_log::Log;
+use std::alloc::Global;
+use std::marker::Model;
+
+#[derive(Drop)]
+enum Inner {
+    Pass(Vec<Timed>),
+    Delay {
+        core: DelayCore,
+        ms: u64,
+    },
+    Loss {
+        core: LossCore<ChaWords>,
+        seed: u64,
+        stream: u64,
+    },
+}
+
+/// One direction of a shell of any kind.
+///
+/// Contracts see what the direction does, its horizon, the packets that arrived, and how many
+/// opportunities are burnt. Everything else that it answers is a function of these.
+#[derive(Drop)]
+pub struct Core {
+    alloc: Global,
+    until: u64,
+    inner: Inner,
+    no_log: Log,
+}
+
+impl Model for Core {
+    ghost use Rattle.shell_core.specs.CoreParts.{CorePart};
+
+    ghost Value = { CorePart };
+
+    ghost use Rattle.shell_core.specs.CoreInside.{core_view, IsCore};
+
+    ghost view = { core_view };
+
+    ghost invariant = { IsCore };
+}
+
+fn push(list: &mut Vec<Timed>, t: Timed) -> Result<(), OutOfMemory>
+    ensures ok { OnOk result (list.new.items ≡ list.old.items ++ t ∷ []) }
+    ensures err { OnErr result (list.new.items ≡ list.old.items) }
+{
+    list.reserve(1)?;
+    list.push_reserved(t);
+    Ok(())
+}
+
+#[tactic(auto, unfolding(crate::specs::Shells::opportunities, crate::specs::Shells::out, crate::specs::Shells::lost, crate::specs::Shells::inside, crate::specs::Shells::shell_log, crate::specs::Shells::floor))]
+impl Core {
+    /// The direction before any arrival.
+    pub fn new(alloc: Global, spec: DirSpec, horizon: u64) -> Result<Core, OutOfMemory>
+        requires range { IsInRange spec }
+        requires horizon { horizon ≤ 3600000 }
+        requires few { length (opportunities spec horizon) ≤ 16000000 }
+        ensures is { IfOk result (λ c. c ≡ new_part spec horizon) }
+        ensures built { OnOk result (IsBuilt spec) }
+    {
+        let inner = match spec {
+            DirSpec::Pass => Inner::Pass(Vec::new(alloc)),
+            DirSpec::Delay { ms } => Inner::Delay {
+                core: DelayCore::new(alloc, ms, horizon),
+                ms,
+            },
+            DirSpec::Loss { rate, seed, stream } => Inner::Loss {
+                core: LossCore::new(alloc, rate, ChaWords::new(seed, stream)),
+                seed,
+                stream,
+            },
+        };
+        Ok(Core {
+            alloc,
+            until: horizon,
+            inner,
+            no_log: Log::new(alloc),
+        })
+    }
+
+    /// Burns every opportunity up to the packet's moment, and then lets the packet in.
+    pub fn arrive(&mut self, t: Timed) -> Result<(), OutOfMemory>
+        requires until { t.moment ≤ self.old.horizon }
+        requires order { AreUpTo t.moment self.old.arrivals }
+        requires burnt { self.old.burnt ≤ count_to (opportunities self.old.spec self.old.horizon) t.moment }
+        ensures ok { OnOk result (self.new ≡ with_arrival self.old t) }
+        ensures err { OnErr result (self.new ≡ self.old) }
+    {
+        match &mut self.inner {
+            Inner::Pass(arrived) => push(arrived, t),
+            Inner::Delay { core, ms: _ } => core.arrive(t),
+            Inner::Loss {
+                core,
+                seed: _,
+                stream: _,
+            } => core.arrive(t),
+        }
+    }
+
+    /// Burns the next opportunities up to this moment, at most so many, and answers how many.
+    pub fn burn(&mut self, bound: u64, most: u32) -> Result<u32, OutOfMemory>
+        ensures count { IfOk result (λ n. n ≡ burns self.old bound most) }
+        ensures burnt { IfOk result (λ n. self.new ≡ with_burnt self.old n) }
+        ensures err { OnErr result (self.new ≡ self.old) }
+    {
+        match &mut self.inner {
+            Inner::Pass(_) | Inner::Delay { .. } | Inner::Loss { .. } => Ok(0),
+        }
+    }
+
+    /// The packets that departed, in order, each at the moment of its departure.
+    pub fn departed(&self) -> &[Timed]
+        ensures { result.now ≡ out self.now.spec self.now.horizon self.now.burnt self.now.arrivals }
+    {
+        match &self.inner {
+            Inner::Pass(arrived) => arrived.as_slice(),
+            Inner::Delay { core, .. } => core.departed(),
+            Inner::Loss { core, .. } => core.departed(),
+        }
+    }
+
+    /// The packets that were dropped, in order, each at the moment of its drop.
+    pub fn lost(&self) -> &[Timed]
+        ensures { result.now ≡ lost self.now.spec self.now.horizon self.now.burnt self.now.arrivals }
+    {
+        match &self.inner {
+            Inner::Pass(_) | Inner::Delay { .. } => &[],
+            Inner::Loss { core, .. } => core.lost(),
+        }
+    }
+
+    /// What happened at a link, in order; empty for the other kinds.
+    pub fn log(&self) -> &Log
+        ensures { result.now.entries ≡ shell_log self.now.spec self.now.horizon self.now.burnt self.now.arrivals }
+    {
+        match &self.inner {
+            Inner::Pass(_) | Inner::Delay { .. } | Inner::Loss { .. } => &self.no_log,
+        }
+    }
+
+    /// The numbers of the packets that neither departed nor were dropped, in order; in a link the
+    /// one in transit is the first.
+    pub fn inside(&self) -> Result<Vec<u32>, OutOfMemory>
+        ensures { IfOk result (λ ids. ids.items ≡ map (λ t. t.packet.id) (inside self.now.spec self.now.horizon self.now.burnt self.now.arrivals)) }
+    {
+        match &self.inner {
+            Inner::Pass(_) | Inner::Loss { .. } => Ok(Vec::new(self.alloc)),
+            Inner::Delay { core, .. } => core.inside(),
+        }
+    }
+
+    /// No later departure is before this moment, where no later packet is before the bound.
+    pub fn floor(&self, bound: u64) -> u64
+        requires { bound ≤ self.now.horizon + 1 }
+        ensures { result ≡ floor self.now.spec self.now.horizon self.now.burnt bound }
+    {
+        match &self.inner {
+            Inner::Pass(_) | Inner::Loss { .. } => bound,
+            Inner::Delay { ms, .. } => (bound + *ms).min(self.until + 1),
+        }
+    }
+
+    /// No opportunity up to the horizon is unburnt.
+    pub fn is_spent(&self) -> bool
+        ensures { result ≡ is_spent self.now }
+    {
+        match &self.inner {
+            Inner::Pass(_) | Inner::Delay { .. } | Inner::Loss { .. } => true,
+        }
+    }
+
+    /// The last moment at which anything happens, in milliseconds.
+    pub fn horizon(&self) -> u64
+        ensures is { result ≡ self.now.horizon }
+        ensures small { result ≤ 3600000 }
+    {
+        self.until
+    }
+}

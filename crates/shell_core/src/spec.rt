@@ -1,0 +1,13 @@
+// What one direction of a shell does.
+use loss_core::Rate;
+
+/// What one direction of a shell does with the packets that arrive.
+#[derive(Drop)]
+pub enum DirSpec {
+    /// Each packet passes at once, as in the direction that an mm-loss doesn't name.
+    Pass,
+    /// Each packet departs so many milliseconds later, at most 3,600,000 (mm-delay).
+    Delay { ms: u64 },
+    /// Each packet is dropped at this rate, by the words of a seed and a stream, or passes at once (mm-loss).
+    Loss { rate: Rate, seed: u64, stream: u64 },
+}

@@ -1,0 +1,6 @@
+pub mod States
+pub mod Steps
+pub mod Standing
+pub mod Causes
+pub mod Inside
+pub mod StateInside

@@ -1,0 +1,172 @@
+// One direction of a shell, between what was fed and what was taken.
+ghost use Rattle.std.specs.Prelude.{◌≡◌, ◌⊎◌, ◌≤◌, length, map, true, false, OnOk, OnErr, IfOk};
+ghost use Rattle.packet_record.specs.Streams.{MayFollow, IsUpTo};
+ghost use Rattle.packet_record.specs.declared.item.FlowEnd.TheVariants.{Open};
+ghost use Rattle.packet_record.specs.Takes.{IsPacket};
+ghost use Rattle.shell_core.specs.Shells.{IsInRange, opportunities, lost, inside, shell_log};
+ghost use Rattle.shell_state.specs.States.{new_state};
+ghost use Rattle.shell_state.specs.Steps.{after_feed, after_take, after_break, answer_of};
+ghost use Rattle.shell_state.specs.Standing.{Stands, ForetellsAll};
+ghost use Rattle.shell_state.specs.Causes.{HasCauses};
+
+use crate::parts;
+use crate::taken::Taken;
+use mm_base::OutOfMemory;
+use packet_record::{Flow, Item, Timed};
+use shell_core::{Core, DirSpec};
+use shell_log::Log;
+use std::alloc::Global;
+use std::marker::Model;
+
+/// One direction of a shell that is fed items and from which items are taken, in any order of the two.
+///
+/// What is taken is always a front of what the whole shell would let out, whatever is fed later, and
+/// a mark that is taken is at or before every departure still to come.
+/// Contracts see what the direction does, its horizon, the two flows, how many opportunities were
+/// burnt, and whether it is broken. Everything else that it answers is a function of these.
+#[derive(Drop)]
+pub struct ShellState {
+    core: Core,
+    fed: Flow,
+    taken: Flow,
+    broken: bool,
+}
+
+impl Model for ShellState {
+    ghost use Rattle.shell_state.specs.States.{State};
+
+    ghost Value = { State };
+
+    ghost use Rattle.shell_state.specs.StateInside.{state_view, IsShellState};
+
+    ghost view = { state_view };
+
+    ghost invariant = { IsShellState };
+}
+
+#[tactic(auto, unfolding(crate::specs::Steps::after_feed, crate::specs::Steps::after_take, crate::specs::Steps::after_break, crate::specs::Steps::answer_of))]
+impl ShellState {
+    /// The direction before anything was fed or taken. A delay is at most 3,600,000 milliseconds, the
+    /// horizon too, and a link has at most 16,000,000 opportunities up to it.
+    pub fn new(alloc: Global, spec: DirSpec, horizon: u64) -> Result<ShellState, OutOfMemory>
+        requires range { IsInRange spec }
+        requires horizon { horizon ≤ 3600000 }
+        requires few { length (opportunities spec horizon) ≤ 16000000 }
+        ensures { IfOk result (λ s. s ≡ new_state spec horizon) }
+    {
+        let core = Core::new(alloc, spec, horizon)?;
+        Ok(ShellState {
+            core,
+            fed: Flow::new(alloc),
+            taken: Flow::new(alloc),
+            broken: false,
+        })
+    }
+
+    /// Adds the item to what was fed. A packet arrives at the shell: every opportunity up to its
+    /// moment is burnt, and then it enters. `Broken` breaks the state. A broken state stays as it is.
+    /// Only a packet can find no memory, and the state is then as it was.
+    pub fn feed(&mut self, item: Item) -> Result<(), OutOfMemory>
+        requires follows { MayFollow self.old.fed item ⊎ (self.old.broken ≡ true) }
+        requires within { IsUpTo self.old.horizon item }
+        ensures ok { OnOk result (self.new ≡ after_feed self.old item) }
+        ensures err { OnErr result ((self.new ≡ self.old) × IsPacket item × (self.old.broken ≡ false)) }
+    {
+        if self.broken {
+            return Ok(());
+        }
+        parts::arrive(&mut self.core, &mut self.fed, item)?;
+        self.broken = parts::breaks_off(item);
+        Ok(())
+    }
+
+    /// Takes what comes next.
+    ///
+    /// 1. A broken state answers `Item(Broken)`.
+    /// 2. Where nothing is ready, the next licensed opportunities are burnt, at most `most` of them:
+    ///    those at or before the bound of what was fed, or all where that has ended.
+    /// 3. Where a departure is ready, it is the answer.
+    /// 4. Where what was fed has ended and no opportunity is left, `Item(End)`.
+    /// 5. Where the floor, before which no later departure can be, is above the bound of what was
+    ///    taken, `Item(Mark(floor))`.
+    /// 6. Where this call burnt `most` opportunities, `Again` with that number.
+    /// 7. Else `NotYet` with the bound of what was fed, and nothing has changed.
+    ///
+    /// Where it finds no memory the state is as it was.
+    pub fn take(&mut self, most: u32) -> Result<Taken, OutOfMemory>
+        requires most { 1 ≤ most }
+        requires open { self.old.taken.end ≡ Open }
+        ensures ok { IfOk result (λ a. (a ≡ answer_of self.old most) × (self.new ≡ after_take self.old most)) }
+        ensures causes { IfOk result (λ a. HasCauses self.old most a self.new) }
+        ensures err { OnErr result ((self.new ≡ self.old) × (self.old.broken ≡ false)) }
+    {
+        if self.broken {
+            self.taken.add(Item::Broken);
+            return Ok(Taken::Item(Item::Broken));
+        }
+        self.taken.reserve(1)?;
+        let burnt = parts::burn(&mut self.core, &self.fed, &self.taken, most)?;
+        let answer = parts::answer(&self.core, &self.fed, &self.taken, burnt, most);
+        parts::put(&mut self.taken, answer);
+        Ok(answer)
+    }
+
+    /// Breaks the state: from then on every `feed` changes nothing and every `take` answers `Item(Broken)`.
+    pub fn break_off(&mut self)
+        ensures { self.new ≡ after_break self.old }
+    {
+        self.broken = true;
+    }
+
+    /// Whether the state is broken.
+    pub fn is_broken(&self) -> bool
+        ensures { result ≡ self.now.broken }
+    {
+        self.broken
+    }
+
+    /// What was fed.
+    pub fn fed(&self) -> &Flow
+        ensures { result.now.stream ≡ self.now.fed }
+    {
+        &self.fed
+    }
+
+    /// What was taken.
+    pub fn taken(&self) -> &Flow
+        ensures { result.now.stream ≡ self.now.taken }
+    {
+        &self.taken
+    }
+
+    /// The log of a link; empty for shells that aren't links.
+    pub fn log(&self) -> &Log
+        ensures { result.now.entries ≡ shell_log self.now.spec self.now.horizon self.now.burnt self.now.fed.packets }
+    {
+        self.core.log()
+    }
+
+    /// The packets that were dropped, in order, each at the moment of its drop.
+    pub fn lost(&self) -> &[Timed]
+        ensures { result.now ≡ lost self.now.spec self.now.horizon self.now.burnt self.now.fed.packets }
+    {
+        self.core.lost()
+    }
+
+    /// The numbers of the packets that neither departed nor were dropped, in order; in a link the
+    /// one in transit is the first.
+    pub fn inside(&self) -> Result<Vec<u32>, OutOfMemory>
+        ensures { IfOk result (λ ids. ids.items ≡ map (λ t. t.packet.id) (inside self.now.spec self.now.horizon self.now.burnt self.now.fed.packets)) }
+    {
+        self.core.inside()
+    }
+
+    /// What is true of every state, for its callers: its parts fit each other, and what was taken
+    /// stands for whatever may still be fed. It does nothing.
+    pub fn stands(&self)
+        ensures stands { Stands self.now }
+        ensures foretells { ForetellsAll self.now }
+    {
+        let _ = &self.broken;
+    }
+}

@@ -1,0 +1,128 @@
+// States that are fed and taken from, by tables of steps.
+ghost use Rattle.std.specs.Prelude.{◌≡◌, ◌≤◌, ◌↔◌, IsTrue};
+ghost use Rattle.packet_record.specs.Streams.{IsUpTo};
+
+use crate::{DirSpec, ShellState, Taken};
+use loss_core::read_rate;
+use packet_record::{FlowEnd, Item, Packet, Timed};
+use std::process::Abort;
+use std::test::Fail;
+
+// What is done to a state, and what a take must answer.
+#[derive(Clone, Copy)]
+enum Step {
+    Feed(Item),
+    Take(Taken),
+}
+
+fn is_within(item: &Item, horizon: u64) -> bool
+    ensures { IsTrue result ↔ IsUpTo horizon item.now }
+{
+    match *item {
+        Item::Packet(t) => t.moment <= horizon,
+        Item::Mark(moment) => moment == 0 || moment - 1 <= horizon,
+        Item::End | Item::Broken => true,
+    }
+}
+
+#[tactic(auto, using(crate::proofs::Equations::feed_horizon, crate::proofs::Equations::take_horizon))]
+fn play(
+    rt: &impl Abort,
+    state: &mut ShellState,
+    horizon: u64,
+    most: u32,
+    steps: &[Step],
+) -> Result<(), Fail>
+    requires horizon { state.old.horizon ≡ horizon }
+    requires most { 1 ≤ most }
+{
+    for (i, step) in steps.iter().enumerate() {
+        match *step {
+            Step::Feed(item) => {
+                assert!(rt; state.fed().may_follow(&item), "at {i}");
+                assert!(rt; is_within(&item, horizon), "at {i}");
+                state.feed(item)?;
+            }
+            Step::Take(answer) => {
+                assert!(rt; state.taken().end() == FlowEnd::Open, "at {i}");
+                assert_eq!(rt; state.take(most)?, answer, "at {i}");
+            }
+        }
+    }
+    Ok(())
+}
+
+fn packet(moment: u64, id: u32) -> Item {
+    Item::Packet(Timed {
+        moment,
+        packet: Packet { id, size: 100 },
+    })
+}
+
+fn give(item: Item) -> Step {
+    Step::Take(Taken::Item(item))
+}
+
+#[test]
+fn a_direction_that_passes(rt: HostRuntime) -> Result<(), Fail> {
+    let mut state = ShellState::new(rt.alloc(), DirSpec::Pass, 100)?;
+    let steps = [
+        Step::Take(Taken::NotYet { bound: 0 }),
+        Step::Feed(packet(5, 1)),
+        give(packet(5, 1)),
+        Step::Feed(Item::Mark(7)),
+        give(Item::Mark(7)),
+        Step::Take(Taken::NotYet { bound: 7 }),
+        Step::Feed(Item::End),
+        give(Item::End),
+    ];
+    play(&rt, &mut state, 100, 1, &steps)?;
+    assert_eq!(rt; state.fed().packets().len(), 1);
+    assert_eq!(rt; state.log().entries().len(), 0);
+    assert_eq!(rt; state.inside()?.len(), 0);
+    Ok(())
+}
+
+#[test]
+fn a_delay(rt: HostRuntime) -> Result<(), Fail> {
+    let mut state = ShellState::new(rt.alloc(), DirSpec::Delay { ms: 20 }, 100)?;
+    let steps = [
+        give(Item::Mark(20)),
+        Step::Feed(packet(80, 1)),
+        Step::Feed(packet(81, 2)),
+        give(packet(100, 1)),
+        give(Item::Mark(101)),
+        Step::Take(Taken::NotYet { bound: 81 }),
+        Step::Feed(Item::End),
+        give(Item::End),
+    ];
+    play(&rt, &mut state, 100, 4, &steps)?;
+    assert!(rt; state.inside()?.as_slice() == [2].as_slice());
+    assert_eq!(rt; state.taken().bound(), 101);
+    Ok(())
+}
+
+#[test]
+fn a_loss_and_a_broken_state(rt: HostRuntime) -> Result<(), Fail> {
+    let rate = read_rate("1").expect(&rt, "a rate");
+    let spec = DirSpec::Loss {
+        rate,
+        seed: 0,
+        stream: 2,
+    };
+    let mut state = ShellState::new(rt.alloc(), spec, 9)?;
+    let steps = [
+        Step::Feed(packet(4, 1)),
+        give(Item::Mark(4)),
+        Step::Feed(Item::Mark(10)),
+        give(Item::Mark(10)),
+    ];
+    play(&rt, &mut state, 9, 4, &steps)?;
+    assert_eq!(rt; state.lost().len(), 1);
+    assert!(rt; !state.is_broken());
+    state.break_off();
+    assert!(rt; state.is_broken());
+    assert!(rt; state.taken().end() == FlowEnd::Open);
+    assert_eq!(rt; state.take(4)?, Taken::Item(Item::Broken));
+    Ok(())
+}
