@@ -1,8 +1,6 @@
--- Counts of opportunities, and moments by index.
-use Rattle.std.proofs.Common.{ℕ, zero, suc, ◌≤◌, ◌<◌, ◌≡◌, ◌⊎◌, inl, inr, List, [], ◌∷◌, length, get_or, ap, arith}
+-- Counts of opportunities.
+use Rattle.std.proofs.Common.{ℕ, suc, ◌≤◌, ◌<◌, ◌≡◌, ◌⊎◌, inl, inr, List, [], ◌∷◌, length, ap, arith}
 use Rattle.std.proofs.lemmas.Bool.{cases_lt}
-use Rattle.packet_record.specs.declared.packet.Timed.{Timed}
-use Rattle.packet_record.specs.Moments.{AreUpTo}
 use Rattle.trace_reader.specs.declared.opportunity.Opportunity.{Opportunity}
 use Rattle.trace_reader.specs.Opps.{up_to}
 use Rattle.trace_reader.proofs.OrderLemmas.{length-up_to, up_to_in, up_to_out}
@@ -27,8 +25,3 @@ count_to-grows (o ∷ os) m n le =
             | inl past ↦ let b : count_to (o ∷ os) n ≡ count_to os n = ap length (up_to_out n o os past) in omega arith
           ]
     ]
-
-pub up_to_at : (m : ℕ) (ts : List Timed) → AreUpTo m ts → (k : ℕ) (d : Timed) → k < length ts → (get_or ts k d).moment ≤ m
-up_to_at m [] u k d lt = absurd (omega arith)
-up_to_at m (t ∷ ts) u zero d lt = u.0
-up_to_at m (t ∷ ts) u (suc k) d lt = up_to_at m ts u.1 k d (omega arith)

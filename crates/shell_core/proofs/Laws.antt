@@ -12,7 +12,7 @@ use Rattle.shell_core.specs.declared.spec.DirSpec.{DirSpec}
 use Rattle.shell_core.specs.declared.spec.DirSpec.TheVariants.{Pass, Delay, Loss}
 use Rattle.shell_core.specs.Promises.{count_to, AreCovered, Extends}
 use Rattle.shell_core.specs.Shells.{IsBuilt, opportunities, out, shell_log, floor}
-use Rattle.shell_core.proofs.Delaying.{delayed-append, from-delayed, up_to-delayed, within-delayed, rise-delayed}
+use Rattle.delay_core.proofs.Delaying.{delayed-append, from-delayed, up_to-delayed, within-delayed, rise-delayed}
 
 unchanged : (l : List Timed) (low : ℕ) → Extends l l low
 unchanged l low = record { more = []; is = sym (append-nil l); later = tt }

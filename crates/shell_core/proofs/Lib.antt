@@ -1,3 +1,2 @@
-pub mod Delaying
 pub mod Counting
 pub mod Laws
