@@ -3,3 +3,4 @@ pub mod View
 pub mod Arguments
 pub mod Reading
 pub mod Faults
+pub mod Kept

@@ -3,6 +3,7 @@ ghost use Rattle.std.specs.Prelude.{◌≡◌, ◌+◌, ◌-◌, ◌*◌, ◌^�
 ghost use Rattle.std.specs.VecDeque.{deque_len, deque_capacity};
 ghost use Rattle.packet_queue.specs.Queues.{bytes, is_within, fits, fitting, excess, enqueued, dropped, moved_to};
 ghost use Rattle.packet_queue.specs.View.{Queue};
+ghost use Rattle.packet_queue.specs.Kept.{AreKept};
 
 use crate::spec::{QueueKind, QueueSpec};
 use mm_base::OutOfMemory;
@@ -32,11 +33,17 @@ pub struct PacketQueue {
 }
 
 impl Model for PacketQueue {
+    ghost use Rattle.std.specs.Prelude.{◌≡◌, ◌+◌, ◌^◌, ◌≤◌, length, vec_len, vec_capacity};
+    ghost use Rattle.std.specs.VecDeque.{deque_capacity};
+    ghost use Rattle.packet_queue.specs.Queues.{bytes};
+    ghost use Rattle.packet_queue.specs.View.{Queue};
+    ghost use Rattle.packet_queue.specs.Kept.{AreKept};
+
     ghost Value = { Queue };
 
     ghost view = { λ q. record { spec = q.spec; packets = q.waiting.items; lost = q.gone.items; spare = q.spare } };
 
-    ghost invariant = { λ q. (q.size ≡ bytes q.waiting.items) × (q.spare + length q.waiting.items ≤ 2 ^ 40)
+    ghost invariant = { λ q. AreKept q.spec q.waiting.items × (q.size ≡ bytes q.waiting.items) × (q.spare + length q.waiting.items ≤ 2 ^ 40)
         × (q.spare + length q.waiting.items ≤ deque_capacity q.waiting) × (q.spare + length q.waiting.items + vec_len q.gone ≤ vec_capacity q.gone) };
 }
 
@@ -134,6 +141,7 @@ impl PacketQueue {
             } }
         ensures packets { result.packets ≡ length (dropped self.old.spec self.old.packets t) }
         ensures bytes { result.bytes ≡ bytes (dropped self.old.spec self.old.packets t) }
+        ensures few { result.bytes ≤ 3008 }
     {
         match self.spec.kind {
             QueueKind::Infinite => {
@@ -148,10 +156,7 @@ impl PacketQueue {
                     self.refuse(t)
                 }
             }
-            QueueKind::DropHead => {
-                self.add(t);
-                self.drop_heads(t.moment)
-            }
+            QueueKind::DropHead => self.push_out(t),
         }
     }
 
@@ -167,7 +172,8 @@ impl PacketQueue {
     }
 
     fn add(&mut self, t: Timed)
-        requires { 1 ≤ self.old.spare }
+        requires spare { 1 ≤ self.old.spare }
+        requires kept { AreKept self.old.spec (self.old.packets ++ t ∷ []) }
         ensures { self.new ≡ record self.old { packets = self.old.packets ++ t ∷ []; spare = self.old.spare - 1 } }
     {
         self.size += t.packet.size as u64;
@@ -189,19 +195,27 @@ impl PacketQueue {
         }
     }
 
-    fn drop_heads(&mut self, moment: u64) -> Dropped
+    // Appends the packet, and drops from the head.
+    #[tactic(auto, using(crate::proofs::Sizes::queue_steps, crate::proofs::Limits::kept_fitting))]
+    fn push_out(&mut self, t: Timed) -> Dropped
+        requires { 1 ≤ self.old.spare }
         ensures queue { self.new
-            ≡ record self.old {
-              packets = fitting self.old.spec self.old.packets;
-              lost = self.old.lost ++ map (moved_to moment) (excess self.old.spec self.old.packets);
+            ≡ record {
+              spec = self.old.spec;
+              packets = fitting self.old.spec (self.old.packets ++ t ∷ []);
+              lost = self.old.lost ++ map (moved_to t.moment) (excess self.old.spec (self.old.packets ++ t ∷ []));
+              spare = self.old.spare - 1;
             } }
-        ensures packets { result.packets ≡ length (excess self.old.spec self.old.packets) }
-        ensures bytes { result.bytes ≡ bytes (excess self.old.spec self.old.packets) }
+        ensures packets { result.packets ≡ length (excess self.old.spec (self.old.packets ++ t ∷ [])) }
+        ensures bytes { result.bytes ≡ bytes (excess self.old.spec (self.old.packets ++ t ∷ [])) }
     {
         let spec = self.spec;
+        self.size += t.packet.size as u64;
+        self.waiting.push_back(t).unwrap();
+        self.spare -= 1;
         shed(
             &spec,
-            moment,
+            t.moment,
             &mut self.waiting,
             &mut self.size,
             &mut self.gone,

@@ -1,0 +1,19 @@
+use Rattle.std.proofs.Common.{◌≡◌, ◌+◌, ◌-◌, ◌≤◌, length, vec_len, vec_capacity}
+use Rattle.packet_queue.specs.View.{Queue}
+use Rattle.link_core.specs.State.{inside_line}
+use Rattle.link_core.specs.Sound.{IsSound}
+use Rattle.link_core.proofs.parts.Parts.burn_to.Given as goal
+
+abbrev pub invariant-burning : goal.invariant-burning
+invariant-burning l = record {
+  well : IsSound l.self;
+  same : l.self.opportunities ≡ l.fn.self.opportunities;
+  so_far : l.self.burnt ≤ l.end;
+  entered : l.self.arrived ≡ l.fn.self.arrived;
+  others : l.self.line.queue ≡ record l.fn.self.line.queue { packets = l.self.line.queue.packets };
+  holds : length (inside_line l.self.line) + vec_len l.self.left ≤ vec_capacity l.self.left;
+  free : l.fn.self.log.spare + l.fn.self.burnt + length (inside_line l.self.line) ≤ l.self.log.spare + l.self.burnt + length (inside_line l.fn.self.line);
+}
+
+abbrev pub decreases-burning : goal.decreases-burning
+decreases-burning l = l.end - l.self.burnt

@@ -1,0 +1,9 @@
+pub mod Stream
+pub mod Orders
+pub mod Links
+pub mod Back
+pub mod State
+pub mod Sound
+pub mod View
+pub mod Numbers
+pub mod Promises

@@ -1,0 +1,141 @@
+// One direction of a link, as its callers see it.
+ghost use Rattle.std.specs.Prelude.{◌≡◌, ◌+◌, ◌-◌, ◌≤◌, ◌++◌, ◌∷◌, [], IsOk, length, map, slice_get, IfOk, OnOk, OnErr};
+ghost use Rattle.std.specs.Option.{option_map};
+ghost use Prim.Native.Nat.{min};
+ghost use Rattle.packet_record.specs.Moments.{AreUpTo};
+ghost use Rattle.trace_reader.specs.Opps.{opps};
+ghost use Rattle.link_core.specs.Promises.{count_to};
+ghost use Rattle.link_core.specs.Sound.{IsSound};
+ghost use Rattle.link_core.specs.View.{Link, opps_of, out_of, lost_of, log_of, inside_of, OnlyGoesOn};
+
+use crate::opportunities::Opportunities;
+use crate::parts::Parts;
+use mm_base::OutOfMemory;
+use packet_queue::QueueSpec;
+use packet_record::Timed;
+use shell_log::Log;
+use std::alloc::Global;
+use std::marker::Model;
+use trace_reader::Trace;
+
+/// One direction of a link: delivery opportunities, a queue in front of them, and the packet in transit.
+///
+/// Contracts see its trace, whether it is played once, its queue, its horizon, how many opportunities are burnt, and
+/// the packets that arrived. Everything else that it answers is a function of these.
+#[derive(Drop)]
+pub struct LinkCore {
+    alloc: Global,
+    parts: Parts,
+}
+
+impl Model for LinkCore {
+    ghost use Rattle.link_core.specs.Sound.{IsSound};
+    ghost use Rattle.link_core.specs.View.{Link};
+
+    ghost Value = { Link };
+
+    ghost view = { λ c. record {
+      trace = c.parts.opportunities.trace;
+      once = c.parts.opportunities.once;
+      queue = c.parts.line.queue.spec;
+      horizon = c.parts.opportunities.horizon;
+      burnt = c.parts.burnt;
+      arrivals = c.parts.arrived.items;
+    } };
+
+    ghost invariant = { λ c. IsSound c.parts };
+}
+
+impl LinkCore {
+    /// A link before any arrival. It never answers OutOfMemory.
+    pub fn new(
+        alloc: Global,
+        trace: Trace,
+        once: bool,
+        queue: QueueSpec,
+        horizon: u64,
+    ) -> Result<LinkCore, OutOfMemory>
+        requires horizon { horizon ≤ 3600000 }
+        requires few { length (opps trace.opportunities once horizon) ≤ 16000000 }
+        ensures ok { IsOk result }
+        ensures value { IfOk result (λ c. c ≡ record { trace = trace; once = once; queue = queue; horizon = horizon; burnt = 0; arrivals = [] }) }
+    {
+        let opportunities = Opportunities::new(trace, once, horizon);
+        Ok(LinkCore {
+            alloc,
+            parts: Parts::new(alloc, opportunities, queue),
+        })
+    }
+
+    /// Burns every opportunity up to the packet's moment, and then lets the packet in. It takes all its memory first.
+    pub fn arrive(&mut self, t: Timed) -> Result<(), OutOfMemory>
+        requires within { t.moment ≤ self.old.horizon }
+        requires order { AreUpTo t.moment self.old.arrivals }
+        requires burnt { self.old.burnt ≤ count_to (opps_of self.old) t.moment }
+        ensures ok { OnOk result (self.new ≡ record self.old { burnt = count_to (opps_of self.old) t.moment; arrivals = self.old.arrivals ++ t ∷ [] }) }
+        ensures err { OnErr result (self.new ≡ self.old) }
+    {
+        self.parts.arrive(t)
+    }
+
+    /// Burns the next opportunities up to a bound, at most so many, and answers how many.
+    pub fn burn(&mut self, bound: u64, most: u32) -> Result<u32, OutOfMemory>
+        ensures count { IfOk result (λ n. n ≡ min most (count_to (opps_of self.old) bound - self.old.burnt)) }
+        ensures ok { IfOk result (λ n. self.new ≡ record self.old { burnt = self.old.burnt + n }) }
+        ensures err { OnErr result (self.new ≡ self.old) }
+    {
+        self.parts.burn(bound, most)
+    }
+
+    /// The packets that departed, in order, each at the moment of its departure.
+    pub fn departed(&self) -> &[Timed]
+        ensures { result.now ≡ out_of self.now }
+    {
+        self.parts.left.as_slice()
+    }
+
+    /// The packets that the queue dropped, in order, each at the moment of the arrival that dropped it.
+    pub fn lost(&self) -> &[Timed]
+        ensures { result.now ≡ lost_of self.now }
+    {
+        self.parts.line.queue.lost()
+    }
+
+    /// What happened here, in order.
+    pub fn log(&self) -> &Log
+        ensures { result.now.entries ≡ log_of self.now }
+    {
+        &self.parts.log
+    }
+
+    /// The numbers of the packets inside, the one in transit first.
+    pub fn inside(&self) -> Result<Vec<u32>, OutOfMemory>
+        ensures { IfOk result (λ ids. ids.items ≡ map (λ t. t.packet.id) (inside_of self.now)) }
+    {
+        self.parts.line.ids(self.alloc)
+    }
+
+    /// The moment of the next opportunity; None exactly where none up to the horizon is unburnt.
+    pub fn next_opportunity(&self) -> Option<u64>
+        ensures { result ≡ option_map (λ o. o.moment) (slice_get (opps_of self.now) self.now.burnt) }
+    {
+        self.parts
+            .opportunities
+            .at(self.parts.burnt)
+            .map(|o| o.moment)
+    }
+
+    /// The packets that arrived, in order.
+    pub fn arrivals(&self) -> &[Timed]
+        ensures { result.now ≡ self.now.arrivals }
+    {
+        self.parts.arrived.as_slice()
+    }
+
+    /// How many opportunities are burnt.
+    pub fn burnt(&self) -> u32
+        ensures { result ≡ self.now.burnt }
+    {
+        self.parts.burnt
+    }
+}

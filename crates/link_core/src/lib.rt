@@ -1,0 +1,10 @@
+//! One direction of a link: its departures, drops and log are functions of its opportunities and arrivals.
+#![tactic(auto)]
+
+mod direction;
+mod line;
+mod opportunities;
+mod parts;
+mod serving;
+
+pub use direction::LinkCore;

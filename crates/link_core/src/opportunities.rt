@@ -1,0 +1,68 @@
+// The opportunities of a trace up to a horizon. They are counted and looked up, and never listed.
+ghost use Rattle.std.specs.Prelude.{◌≡◌, ◌≤◌, length, slice_get, IfSome};
+ghost use Rattle.trace_reader.specs.Orders.{AreRising};
+ghost use Rattle.trace_reader.specs.Opps.{up_to, opps};
+ghost use Rattle.link_core.specs.View.{span_opps};
+
+use std::marker::Model;
+use trace_reader::{Opportunity, Trace};
+
+#[derive(Drop)]
+pub struct Opportunities {
+    trace: Trace,
+    once: bool,
+    horizon: u64,
+    number: u32,
+}
+
+impl Model for Opportunities {
+    ghost use Rattle.std.specs.Prelude.{◌≡◌, ◌≤◌, length};
+    ghost use Rattle.trace_reader.specs.Opps.{opps};
+    ghost use Rattle.link_core.specs.View.{Span};
+
+    ghost Value = { Span };
+
+    ghost view = { λ s. record { trace = s.trace; once = s.once; horizon = s.horizon } };
+
+    ghost invariant = { λ s. (s.number ≡ length (opps s.trace.opportunities s.once s.horizon)) × (s.number ≤ 16000000) × (s.horizon ≤ 3600000) };
+}
+
+impl Opportunities {
+    pub fn new(trace: Trace, once: bool, horizon: u64) -> Self
+        requires horizon { horizon ≤ 3600000 }
+        requires few { length (opps trace.opportunities once horizon) ≤ 16000000 }
+        ensures { result ≡ record { trace = trace; once = once; horizon = horizon } }
+    {
+        let number = trace.count_to(horizon, once) as u32;
+        Opportunities {
+            trace,
+            once,
+            horizon,
+            number,
+        }
+    }
+
+    /// Opportunity number `j`, counted from 0, if it is up to the horizon.
+    pub fn at(&self, j: u32) -> Option<Opportunity>
+        ensures at { result ≡ slice_get (span_opps self.now) j }
+        ensures within { IfSome result (λ o. o.moment ≤ 3600000) }
+        ensures few { length (span_opps self.now) ≤ 16000000 }
+    {
+        if j >= self.number {
+            return None;
+        }
+        self.trace.opportunity(u64::from(j), self.once)
+    }
+
+    /// How many are at this moment or earlier.
+    pub fn count_to(&self, moment: u64) -> u32
+        ensures count { result ≡ length (up_to moment (span_opps self.now)) }
+        ensures within { result ≤ length (span_opps self.now) }
+        ensures few { length (span_opps self.now) ≤ 16000000 }
+        ensures order { AreRising (span_opps self.now) }
+        ensures horizon { self.now.horizon ≤ 3600000 }
+    {
+        let until = moment.min(self.horizon);
+        self.trace.count_to(until, self.once) as u32
+    }
+}
