@@ -1,1 +1,9 @@
 pub mod FateTexts
+pub mod RateValues
+pub mod NestFaults
+pub mod LinkViews
+pub mod ShellViews
+pub mod Words
+pub mod Plans
+pub mod PlanViews
+pub mod DraftViews

@@ -1,10 +1,20 @@
-//! What becomes of the packets of a run, and its text.
+//! Nests of shells: their words, what becomes of their packets, and its text.
 #![tactic(auto)]
 
+mod error;
 mod fate;
 mod fates_text;
+mod link_words;
+mod nest_words;
+mod shell_reading;
+mod shell_words;
 #[cfg(test)]
 mod tests;
+#[cfg(test)]
+mod words_tests;
 
+pub use error::NestError;
 pub use fate::{Fate, FateRow};
 pub use fates_text::print_fates;
+pub use nest_words::{NestWords, read_nest};
+pub use shell_words::{LinkSide, ShellKind, ShellWords};

@@ -1,0 +1,10 @@
+-- What contracts see of the words for a nest.
+use Rattle.nest_spec.specs.Words.{NestPlan}
+use Rattle.nest_spec.specs.Plans.{IsPlan}
+use Rattle.nest_spec.specs.declared.nest_words.NestWords.TheInside.{Inside}
+
+abbrev pub plan_view : Inside → NestPlan
+plan_view w = record { shells = w.shells.items; traces = w.traces.items; logs = w.logs.items }
+
+abbrev pub HasPlan : Inside → Type 0
+HasPlan w = IsPlan (plan_view w)

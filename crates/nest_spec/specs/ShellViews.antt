@@ -1,0 +1,10 @@
+-- What was read of one shell, as contracts see it.
+use Rattle.std.specs.Prelude.{ℕ, List, ◌++◌, map, string_bytes, option_to_list}
+use Rattle.nest_spec.specs.Words.{ShellRead, shell_read}
+use Rattle.nest_spec.specs.LinkViews.{text_of}
+use Rattle.nest_spec.specs.declared.shell_reading.ShellRead.{ShellRead as ShellInside}
+
+abbrev pub shell_given : ShellInside → ShellRead
+shell_given r =
+    shell_read r.shell (option_to_list (text_of r.up_trace) ++ option_to_list (text_of r.down_trace)) (option_to_list (text_of r.up_log) ++ option_to_list (text_of r.down_log))
+    r.place (map string_bytes r.rest.now)
