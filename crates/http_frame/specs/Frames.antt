@@ -1,10 +1,9 @@
--- The state of a reader of requests, and what its answers say.
-use Rattle.std.specs.Prelude.{◌≡◌, ◌⊎◌, ℕ, false, List, ◌++◌, length, drop, Option, Some, None, Result, Ok, Err}
-use Rattle.httparse.specs.Grammar.{RequestHead as Head, HasNoRequest, MayBecomeRequest}
-use Rattle.http_frame.specs.Window.{IsBelow}
-use Rattle.http_frame.specs.Heads.{said, IsHeadRead, HeadFault}
+-- The state of a reader of messages, and what its answers say.
+use Rattle.std.specs.Prelude.{◌≡◌, ◌⊎◌, ℕ, ◌+◌, Bool, List, ◌++◌, drop, take, Option, Some, None, Result, Ok, Err}
+use Rattle.http_frame.specs.Forms.{Form}
+use Rattle.http_frame.specs.Heads.{AwaitsHead, IsHeadRead, HeadFault}
 use Rattle.http_frame.specs.Bodies.{BodyCause, MayGoOn}
-use Rattle.http_frame.specs.Messages.{IsRequest}
+use Rattle.http_frame.specs.Messages.{IsMessage, MayStop}
 use Rattle.http_frame.specs.declared.body.BodyStep.{BodyStep}
 use Rattle.http_frame.specs.declared.body.BodyStep.TheVariants as bodies
 use Rattle.http_frame.specs.declared.framing.Framing.{Framing}
@@ -15,83 +14,120 @@ use Rattle.http_frame.specs.declared.errors.FrameFault.{FrameFault}
 use Rattle.http_frame.specs.declared.errors.FrameFault.TheVariants as faults
 use Rattle.http_frame.specs.declared.errors.FrameError.{FrameError}
 use Rattle.http_frame.specs.declared.errors.FrameError.TheVariants.{BadHead, HeadTooLong, TooManyHeaders, BadLength, BadCoding, BadChunk, BodyTooLong, Refused}
-use Rattle.http_frame.specs.declared.head.RequestHead.{RequestHead}
-use Rattle.http_frame.specs.declared.pending.Request.{Request}
 use Rattle.http_frame.specs.declared.pending.Pending.{Pending}
 use Rattle.http_frame.specs.declared.pending.Outcome.{Outcome}
 use Rattle.http_frame.specs.declared.pending.Outcome.TheVariants as outcomes
 
--- the reader knows a head, and how far its body was read
-abbrev pub IsPending : List ℕ → Option Pending → Type 0
-IsPending unread None = Unit {0}
-IsPending unread (Some p) = IsHeadRead unread p.len p.framing p.head × MayGoOn p.framing (drop p.len unread) p.place
-
--- the message is the first request of the bytes
-pub record BeginsMessage (bytes : List ℕ) (m : Request) : Type 0 where
-  pub tree : Head
-  pub is : IsRequest m.bytes tree
-  pub says : m.head ≡ said tree
-  pub split : bytes ≡ m.bytes ++ drop (length m.bytes) bytes
-
--- a head within the limits is there, and its body is in that state
-pub record HasBody (bytes : List ℕ) (step : BodyStep) : Type 0 where
-  pub len : ℕ
-  pub framing : Framing
-  pub head : RequestHead
-  pub read : IsHeadRead bytes len framing head
-  pub body : BodyCause false framing (drop len bytes) step
-
--- no head yet, or a head and less than its body
-abbrev pub MoreCause : List ℕ → Type 0
-MoreCause bytes = (IsBelow 102 bytes × HasNoRequest bytes × MayBecomeRequest bytes) ⊎ ((place : ℕ) × HasBody bytes (bodies.More place))
-
-abbrev pub FaultCause : List ℕ → FrameError → Type 0
-FaultCause bytes BadHead = HeadFault bytes BadHead
-FaultCause bytes HeadTooLong = HeadFault bytes HeadTooLong
-FaultCause bytes TooManyHeaders = HeadFault bytes TooManyHeaders
-FaultCause bytes BadLength = HeadFault bytes BadLength
-FaultCause bytes BadCoding = HeadFault bytes BadCoding
-FaultCause bytes BadChunk = HasBody bytes bodies.Bad
-FaultCause bytes BodyTooLong = HasBody bytes bodies.TooLong
-FaultCause bytes Refused = HeadFault bytes Refused
-
-abbrev pub AdvanceSays : List ℕ → Option Pending → Result Outcome OutOfMemory → Type 0
-AdvanceSays bytes p (Ok (outcomes.Message m)) = (p ≡ None) × BeginsMessage bytes m
-AdvanceSays bytes p (Ok outcomes.More) = IsPending bytes p × MoreCause bytes
-AdvanceSays bytes p (Ok (outcomes.Fault e)) = IsPending bytes p × FaultCause bytes e
-AdvanceSays bytes p (Err e) = IsPending bytes p
-
--- what contracts see of a reader
+-- what contracts see of a reader: the bytes that no message has taken, whether the input has ended,
+-- and the error that was answered
 pub record Frames : Type 0 where
   pub unread : List ℕ
+  pub ended : Bool
   pub failed : Option FrameError
 
 -- the same bytes, and no error
 pub record StaysOpen (old new : Frames) : Type 0 where
   pub was : old.failed ≡ None
-  pub is : new.failed ≡ None
-  pub unread : new.unread ≡ old.unread
+  pub same : new ≡ old
 
-pub record TakesMessage (old : Frames) (m : Request) (new : Frames) : Type 0 where
+-- going on with a body
+pub record KeepsPlace {Said : Type 0} (p : Pending Said) (place : ℕ) (q : Option (Pending Said)) : Type 0 where
+  pub same : q ≡ Some (record { head = p.head; len = p.len; framing = p.framing; place = place })
+
+abbrev pub FinishSays : {Said : Type 0} → Bool → List ℕ → Pending Said → Option (Pending Said) → Result (Outcome Said) OutOfMemory → Type 0
+FinishSays ended bytes p q (Ok (outcomes.Message head text)) =
+    (q ≡ None) × (head ≡ p.head) × (k : ℕ) × (text ≡ take (p.len + k) bytes) × BodyCause ended p.framing (drop p.len bytes) (bodies.Whole k)
+FinishSays ended bytes p q (Ok outcomes.More) = (place : ℕ) × KeepsPlace p place q × BodyCause ended p.framing (drop p.len bytes) (bodies.More place)
+FinishSays ended bytes p q (Ok (outcomes.Fault BadHead)) = ⊥
+FinishSays ended bytes p q (Ok (outcomes.Fault HeadTooLong)) = ⊥
+FinishSays ended bytes p q (Ok (outcomes.Fault TooManyHeaders)) = ⊥
+FinishSays ended bytes p q (Ok (outcomes.Fault BadLength)) = ⊥
+FinishSays ended bytes p q (Ok (outcomes.Fault BadCoding)) = ⊥
+FinishSays ended bytes p q (Ok (outcomes.Fault BadChunk)) = (q ≡ Some p) × BodyCause ended p.framing (drop p.len bytes) bodies.Bad
+FinishSays ended bytes p q (Ok (outcomes.Fault BodyTooLong)) = (q ≡ Some p) × BodyCause ended p.framing (drop p.len bytes) bodies.TooLong
+FinishSays ended bytes p q (Ok (outcomes.Fault Refused)) = ⊥
+FinishSays ended bytes p q (Err e) = q ≡ Some p
+
+-- the bytes begin with that message
+pub record BeginsMessage {Tree Said Message : Type 0} (form : Form Tree Said Message) (ended : Bool) (bytes : List ℕ) (head : Said) (text : List ℕ) : Type 0 where
+  pub tree : Tree
+  pub is : IsMessage form text tree
+  pub says : head ≡ form.said is.framing tree
+  pub after : List ℕ
+  pub split : bytes ≡ text ++ after
+  pub stops : MayStop is.framing ended after
+
+-- a head within the limits is there, and its body is in that state
+pub record HasBody {Tree Said Message : Type 0} (form : Form Tree Said Message) (ended : Bool) (bytes : List ℕ) (step : BodyStep) : Type 0 where
+  pub len : ℕ
+  pub framing : Framing
+  pub head : Said
+  pub read : IsHeadRead form bytes len framing head
+  pub body : BodyCause ended framing (drop len bytes) step
+
+pub record TakesMessage {Tree Said Message : Type 0} (form : Form Tree Said Message) (old : Frames) (m : Message) (new : Frames) : Type 0 where
   pub was : old.failed ≡ None
   pub is : new.failed ≡ None
-  pub begins : BeginsMessage old.unread m
-  pub unread : old.unread ≡ m.bytes ++ new.unread
+  pub ended : new.ended ≡ old.ended
+  pub begins : BeginsMessage form old.ended old.unread (form.head m) (form.bytes m)
+  pub unread : old.unread ≡ form.bytes m ++ new.unread
 
-pub record Fails (old : Frames) (e : FrameError) (new : Frames) : Type 0 where
-  pub unread : new.unread ≡ old.unread
-  pub failed : new.failed ≡ Some e
-  pub cause : (old.failed ≡ Some e) ⊎ ((old.failed ≡ None) × FaultCause old.unread e)
+module _ {Tree Said Message : Type 0} (form : Form Tree Said Message) where
+  -- the reader knows a head, and how far its body was read
+  abbrev pub IsPending : List ℕ → Option (Pending Said) → Type 0
+  IsPending unread None = Unit {0}
+  IsPending unread (Some p) = IsHeadRead form unread p.len p.framing p.head × MayGoOn p.framing (drop p.len unread) p.place
 
-abbrev pub NextSays : Frames → Result (Step Request) FrameFault → Frames → Type 0
-NextSays old (Ok (steps.Message m)) new = TakesMessage old m new
-NextSays old (Ok steps.More) new = StaysOpen old new × MoreCause old.unread
-NextSays old (Err (faults.Frame e)) new = Fails old e new
-NextSays old (Err faults.OutOfMemory) new = StaysOpen old new
+  -- no head yet, or a head and less than its body
+  abbrev pub MoreCause : Bool → List ℕ → Type 0
+  MoreCause ended bytes = AwaitsHead form bytes ⊎ ((place : ℕ) × HasBody form ended bytes (bodies.More place))
 
--- the message has those bytes, or memory ran out
-abbrev pub GivesBytes : List ℕ → Result (Step Request) FrameFault → Type 0
-GivesBytes bytes (Ok (steps.Message m)) = m.bytes ≡ bytes
-GivesBytes bytes (Ok steps.More) = ⊥
-GivesBytes bytes (Err (faults.Frame e)) = ⊥
-GivesBytes bytes (Err faults.OutOfMemory) = Unit {0}
+  -- why there is no message, now and whatever comes
+  abbrev pub FaultCause : Bool → List ℕ → FrameError → Type 0
+  FaultCause ended bytes BadHead = HeadFault form bytes BadHead
+  FaultCause ended bytes HeadTooLong = HeadFault form bytes HeadTooLong
+  FaultCause ended bytes TooManyHeaders = HeadFault form bytes TooManyHeaders
+  FaultCause ended bytes BadLength = HeadFault form bytes BadLength
+  FaultCause ended bytes BadCoding = HeadFault form bytes BadCoding
+  FaultCause ended bytes BadChunk = HasBody form ended bytes bodies.Bad
+  FaultCause ended bytes BodyTooLong = HasBody form ended bytes bodies.TooLong
+  FaultCause ended bytes Refused = HeadFault form bytes Refused
+
+  abbrev pub AdvanceSays : Bool → List ℕ → Option (Pending Said) → Result (Outcome Said) OutOfMemory → Type 0
+  AdvanceSays ended bytes p (Ok (outcomes.Message head text)) = (p ≡ None) × BeginsMessage form ended bytes head text
+  AdvanceSays ended bytes p (Ok outcomes.More) = IsPending bytes p × MoreCause ended bytes
+  AdvanceSays ended bytes p (Ok (outcomes.Fault e)) = IsPending bytes p × FaultCause ended bytes e
+  AdvanceSays ended bytes p (Err e) = IsPending bytes p
+
+  pub record Fails (old : Frames) (e : FrameError) (new : Frames) : Type 0 where
+    pub unread : new.unread ≡ old.unread
+    pub ended : new.ended ≡ old.ended
+    pub failed : new.failed ≡ Some e
+    pub cause : (old.failed ≡ Some e) ⊎ ((old.failed ≡ None) × FaultCause old.ended old.unread e)
+
+  -- what each answer of `next` says
+  abbrev pub NextSays : Frames → Result (Step Message) FrameFault → Frames → Type 0
+  NextSays old (Ok (steps.Message m)) new = TakesMessage form old m new
+  NextSays old (Ok steps.More) new = StaysOpen old new × MoreCause old.ended old.unread
+  NextSays old (Err (faults.Frame e)) new = Fails old e new
+  NextSays old (Err faults.OutOfMemory) new = StaysOpen old new
+
+  -- the message has those bytes, or memory ran out
+  abbrev pub GivesBytes : List ℕ → Result (Step Message) FrameFault → Type 0
+  GivesBytes bytes (Ok (steps.Message m)) = form.bytes m ≡ bytes
+  GivesBytes bytes (Ok steps.More) = ⊥
+  GivesBytes bytes (Err (faults.Frame e)) = ⊥
+  GivesBytes bytes (Err faults.OutOfMemory) = Unit {0}
+
+-- that error is answered, or memory ran out
+abbrev pub GivesFault : {Message : Type 0} → FrameError → Result (Step Message) FrameFault → Type 0
+GivesFault e (Ok step) = ⊥
+GivesFault e (Err (faults.Frame f)) = f ≡ e
+GivesFault e (Err faults.OutOfMemory) = Unit {0}
+
+-- More is answered, or memory ran out
+abbrev pub GivesMore : {Message : Type 0} → Result (Step Message) FrameFault → Type 0
+GivesMore (Ok (steps.Message m)) = ⊥
+GivesMore (Ok steps.More) = Unit {0}
+GivesMore (Err (faults.Frame e)) = ⊥
+GivesMore (Err faults.OutOfMemory) = Unit {0}

@@ -1,175 +1,19 @@
-// Heads of requests.
-ghost use Rattle.std.specs.Prelude.{◌≡◌, ℕ, ◌+◌, ◌<◌, ◌≤◌, List, length, take, map, IfOk, All, IfSome, option_map, codes};
-ghost use Rattle.httparse.specs.Spans.{span_bytes, IsWithin as IsSpanWithin, IsRequestWithin, IsRequestAt};
-ghost use Rattle.httparse.specs.Grammar.{RequestHead as Head};
-ghost use Rattle.http_header.specs.HeaderMap.{get_all};
-ghost use Rattle.http_frame.specs.Window.{IsWindow};
-ghost use Rattle.http_frame.specs.Heads.{request_line, said_by, SaysHead, HeadCause};
-
+// What reading a head answers.
 use crate::errors::FrameError;
-use crate::fields::field_map;
-use crate::framing::{Framing, framing_of_request};
-use http_header::HeaderMap;
-use httparse::spans::{EMPTY_HEADER_SPAN, HeaderSpan, RequestSpans, Span, parse_request};
-use httparse::{Error, Status};
-use mm_base::{Bytes, OutOfMemory};
-use std::alloc::Global;
-
-/// What a request's head says.
-#[derive(Drop)]
-pub struct RequestHead {
-    pub line: Bytes,
-    pub host: Option<Bytes>,
-    pub agent: Option<Bytes>,
-    pub head_only: bool,
-}
+use crate::framing::Framing;
 
 /// A head that was read: its length, its framing and what it says.
 #[derive(Drop)]
-pub struct HeadRead {
+pub struct HeadRead<H> {
     pub len: usize,
     pub framing: Framing,
-    pub head: RequestHead,
+    pub head: H,
 }
 
 /// What reading a head answers.
 #[derive(Drop)]
-pub enum HeadStep {
-    Head(HeadRead),
+pub enum HeadStep<H> {
+    Head(HeadRead<H>),
     More,
     Fault(FrameError),
-}
-
-const MOST_BYTES: usize = 65536;
-
-/// The longest front within the limits: its bytes and its line feeds.
-pub(crate) fn window(bytes: &[u8], most: usize) -> (usize, usize)
-    requires { most < 1000 }
-    ensures { IsWindow most bytes.now result.0 result.1 }
-{
-    let mut lines = 0;
-    for (i, b) in bytes.iter().enumerate() {
-        if i == MOST_BYTES {
-            return (i, lines);
-        }
-        if *b == b'\n' {
-            if lines == most {
-                return (i, lines);
-            }
-            lines += 1;
-        }
-    }
-    (bytes.len(), lines)
-}
-
-/// The request line, built anew.
-fn line_of(alloc: Global, method: &[u8], target: &[u8], minor: u8) -> Result<Bytes, OutOfMemory>
-    requires { minor ≤ 1 }
-    ensures { IfOk result (λ line. line ≡ request_line method.now target.now minor) }
-{
-    let mut line = Vec::from_slice(alloc, method)?;
-    line.extend_from_slice(b" ")?;
-    line.extend_from_slice(target)?;
-    line.extend_from_slice(b" HTTP/1.")?;
-    line.extend_from_slice(&[b'0' + minor])?;
-    Ok(Bytes::from_vec(line))
-}
-
-/// A copy of what a span covers.
-fn copy_of(alloc: Global, front: &[u8], span: Option<Span>) -> Result<Option<Bytes>, OutOfMemory>
-    requires { IfSome span (IsSpanWithin (length front.now)) }
-    ensures { IfOk result (λ bytes. bytes ≡ option_map (span_bytes front.now) span) }
-{
-    match span {
-        Some(span) => Ok(Some(Bytes::from_slice(alloc, span.of(front))?)),
-        None => Ok(None),
-    }
-}
-
-/// What the parts of a head say.
-fn head_of(
-    alloc: Global,
-    front: &[u8],
-    method: &[u8],
-    target: &[u8],
-    minor: u8,
-    fields: &HeaderMap<Span>,
-) -> Result<RequestHead, OutOfMemory>
-    requires minor { minor ≤ 1 }
-    requires within { (name : List ℕ) → All (IsSpanWithin (length front.now)) (get_all fields.now name) }
-    ensures { IfOk result (λ head. head ≡ said_by method.now target.now minor
-        (map (span_bytes front.now) (get_all fields.now (codes "host"))) (map (span_bytes front.now) (get_all fields.now (codes "user-agent")))) }
-{
-    let line = line_of(alloc, method, target, minor)?;
-    let host = copy_of(alloc, front, fields.get("host").copied())?;
-    let agent = copy_of(alloc, front, fields.get("user-agent").copied())?;
-    Ok(RequestHead {
-        line,
-        host,
-        agent,
-        head_only: method == b"HEAD".as_slice(),
-    })
-}
-
-/// What a whole head gives, by the spans of its parts.
-fn request_step(
-    alloc: Global,
-    front: &[u8],
-    headers: &[HeaderSpan],
-    spans: &RequestSpans,
-) -> Result<HeadStep, OutOfMemory>
-    requires { IsRequestWithin front.now headers.now spans.now }
-    ensures { IfOk result (λ step. (h : Head) → IsRequestAt front.now headers.now spans.now h → SaysHead h spans.now.len step) }
-{
-    let fields = field_map(alloc, front, &headers[..spans.headers])?;
-    let method = spans.method.of(front);
-    match framing_of_request(front, method, &fields) {
-        Ok(framing) => {
-            let head = head_of(
-                alloc,
-                front,
-                method,
-                spans.path.of(front),
-                spans.version,
-                &fields,
-            )?;
-            Ok(HeadStep::Head(HeadRead {
-                len: spans.len,
-                framing,
-                head,
-            }))
-        }
-        Err(error) => Ok(HeadStep::Fault(error)),
-    }
-}
-
-/// The head at the front of the bytes.
-pub fn read_request(alloc: Global, bytes: &[u8]) -> Result<HeadStep, OutOfMemory>
-    ensures { IfOk result (HeadCause bytes.now) }
-{
-    let (end, lines) = window(bytes, 102);
-    let front = &bytes[..end];
-    let mut headers = [EMPTY_HEADER_SPAN; 100];
-    match parse_request(front, &mut headers) {
-        Ok(Status::Complete(spans)) => request_step(alloc, front, &headers, &spans),
-        Ok(Status::Partial) => {
-            if lines == 102 {
-                Ok(HeadStep::Fault(FrameError::TooManyHeaders))
-            } else if end == MOST_BYTES {
-                Ok(HeadStep::Fault(FrameError::HeadTooLong))
-            } else {
-                Ok(HeadStep::More)
-            }
-        }
-        Err(Error::TooManyHeaders) => Ok(HeadStep::Fault(FrameError::TooManyHeaders)),
-        Err(_) => {
-            if lines == 102 {
-                Ok(HeadStep::Fault(FrameError::TooManyHeaders))
-            } else if end == MOST_BYTES {
-                Ok(HeadStep::Fault(FrameError::HeadTooLong))
-            } else {
-                Ok(HeadStep::Fault(FrameError::BadHead))
-            }
-        }
-    }
 }

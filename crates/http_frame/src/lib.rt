@@ -1,19 +1,25 @@
-//! HTTP messages, cut out of a stream that comes in pieces.
+//! HTTP/1.1 messages, cut out of a stream that comes in pieces.
 #![tactic(auto)]
 
 mod body;
+mod buffer;
 mod chunks;
 mod errors;
 mod fields;
 mod framing;
 mod head;
+mod limits;
+mod messages;
 mod pending;
 mod request_frames;
+mod request_head;
+mod response_frames;
+mod response_head;
 #[cfg(test)]
 mod tests;
 
 pub use errors::{FrameError, FrameFault, Step};
 pub use framing::Framing;
-pub use head::RequestHead;
-pub use pending::Request;
+pub use messages::{Request, RequestHead, Response, ResponseHead};
 pub use request_frames::RequestFrames;
+pub use response_frames::ResponseFrames;

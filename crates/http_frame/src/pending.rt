@@ -1,26 +1,19 @@
 // One message, by what is known of it.
-ghost use Rattle.std.specs.Prelude.{◌≡◌, ◌≤◌, ℕ, length, drop, take, Some};
-ghost use Rattle.http_frame.specs.Frames.{IsPending, AdvanceSays};
+ghost use Rattle.std.specs.Prelude.{◌≡◌, ◌≤◌, ℕ, length, drop};
+ghost use Rattle.http_frame.specs.Bodies.{MayGoOn};
+ghost use Rattle.http_frame.specs.Frames.{FinishSays};
 
 use crate::body::{BodyStep, read_body};
 use crate::chunks::from_place;
 use crate::errors::FrameError;
 use crate::framing::Framing;
-use crate::head::{HeadStep, RequestHead, read_request};
 use mm_base::{Bytes, OutOfMemory};
 use std::alloc::Global;
 
-/// A request: what its head says, and all of its bytes.
-#[derive(Drop)]
-pub struct Request {
-    pub head: RequestHead,
-    pub bytes: Bytes,
-}
-
 /// A head that was read, and how far its body was.
 #[derive(Drop)]
-pub struct Pending {
-    pub head: RequestHead,
+pub struct Pending<H> {
+    pub head: H,
     pub len: usize,
     pub framing: Framing,
     pub place: usize,
@@ -28,31 +21,27 @@ pub struct Pending {
 
 /// What is there.
 #[derive(Drop)]
-pub enum Outcome {
-    Message(Request),
+pub enum Outcome<H> {
+    Message(H, Bytes),
     More,
     Fault(FrameError),
 }
 
 /// Goes on with a body.
-fn finish(
+pub fn finish<H: Drop>(
     alloc: Global,
+    ended: bool,
     unread: &[u8],
-    pending: Pending,
-) -> (Option<Pending>, Result<Outcome, OutOfMemory>)
-    requires { IsPending unread.now (Some pending) }
-    ensures { AdvanceSays unread.now result.0 result.1 }
+    pending: Pending<H>,
+) -> (Option<Pending<H>>, Result<Outcome<H>, OutOfMemory>)
+    requires inside { pending.len ≤ length unread.now }
+    requires place { MayGoOn pending.framing (drop pending.len unread.now) pending.place }
+    ensures { FinishSays ended unread.now pending result.0 result.1 }
 {
     let rest = from_place(unread, pending.len);
-    match read_body(rest, pending.framing, false, pending.place) {
+    match read_body(rest, pending.framing, ended, pending.place) {
         BodyStep::Whole(more) => match Bytes::from_slice(alloc, &unread[..pending.len + more]) {
-            Ok(bytes) => {
-                let message = Request {
-                    head: pending.head,
-                    bytes,
-                };
-                (None, Ok(Outcome::Message(message)))
-            }
+            Ok(bytes) => (None, Ok(Outcome::Message(pending.head, bytes))),
             Err(error) => (Some(pending), Err(error)),
         },
         BodyStep::More(place) => {
@@ -66,33 +55,5 @@ fn finish(
         }
         BodyStep::Bad => (Some(pending), Ok(Outcome::Fault(FrameError::BadChunk))),
         BodyStep::TooLong => (Some(pending), Ok(Outcome::Fault(FrameError::BodyTooLong))),
-    }
-}
-
-/// The first message, by what was known of it before.
-pub fn advance(
-    alloc: Global,
-    unread: &[u8],
-    pending: Option<Pending>,
-) -> (Option<Pending>, Result<Outcome, OutOfMemory>)
-    requires { IsPending unread.now pending }
-    ensures { AdvanceSays unread.now result.0 result.1 }
-{
-    match pending {
-        Some(pending) => finish(alloc, unread, pending),
-        None => match read_request(alloc, unread) {
-            Ok(HeadStep::Head(read)) => {
-                let pending = Pending {
-                    head: read.head,
-                    len: read.len,
-                    framing: read.framing,
-                    place: 0,
-                };
-                finish(alloc, unread, pending)
-            }
-            Ok(HeadStep::More) => (None, Ok(Outcome::More)),
-            Ok(HeadStep::Fault(error)) => (None, Ok(Outcome::Fault(error))),
-            Err(error) => (None, Err(error)),
-        },
     }
 }

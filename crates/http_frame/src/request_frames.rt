@@ -1,50 +1,35 @@
 // Requests from a stream in pieces.
-ghost use Rattle.std.specs.Prelude.{◌≡◌, ◌≤◌, ◌++◌, ℕ, List, [], length, drop, None, Some, OnOk, OnErr};
-ghost use Rattle.std.specs.Vec.{vec_len};
-ghost use Rattle.httparse.specs.Grammar.{RequestHead as Head};
+ghost use Rattle.std.specs.Prelude.{◌≡◌, ◌≤◌, ◌++◌, ℕ, List, [], false, length, None, Some, Err, OnOk, OnErr};
+ghost use Rattle.httparse.specs.Grammar.{RequestHead as Head, IsRequestHead, print_request};
+ghost use Rattle.http_frame.specs.Window.{NeverHas};
+ghost use Rattle.http_frame.specs.Forms.{request_form};
 ghost use Rattle.http_frame.specs.Messages.{IsRequest};
 ghost use Rattle.http_frame.specs.Runs.{Messages};
-ghost use Rattle.http_frame.specs.declared.pending.Request.{Request as RequestValue};
-ghost use Rattle.http_frame.specs.Frames.{IsPending, NextSays, Frames, GivesBytes};
+ghost use Rattle.http_frame.specs.declared.messages.Request.{Request as RequestValue};
+ghost use Rattle.http_frame.specs.declared.errors.FrameError.{FrameError as ErrorValue};
+ghost use Rattle.http_frame.specs.declared.errors.FrameError.TheVariants.{BadHead};
+ghost use Rattle.http_frame.specs.declared.errors.FrameFault.TheVariants.{Frame};
+ghost use Rattle.http_frame.specs.Frames.{IsPending, AdvanceSays, NextSays, Frames, GivesBytes, GivesFault, GivesMore, FaultCause, MoreCause};
+ghost use Rattle.http_frame.specs.Forms.{Form};
 
-use crate::chunks::from_place;
+use crate::buffer::Buffer;
 use crate::errors::{FrameError, FrameFault, Step};
-use crate::pending::{Outcome, Pending, Request, advance};
+use crate::head::HeadStep;
+use crate::messages::{Request, RequestHead};
+use crate::pending::{Outcome, Pending, finish};
+use crate::request_head::read_request;
 use mm_base::OutOfMemory;
 use std::alloc::Global;
 use std::marker::Model;
 
-/// A reader of requests. Contracts see the bytes that no message has taken, and the error, if one came.
+/// A reader of requests (RFC 9112). Contracts see the bytes that no message has taken, and the error,
+/// if one came; a request never ends where the input does, so `ended` says nothing here.
 #[derive(Drop)]
 pub struct RequestFrames {
     alloc: Global,
-    bytes: Vec<u8>,
-    start: usize,
-    pending: Option<Pending>,
+    buffer: Buffer,
+    pending: Option<Pending<RequestHead>>,
     failed: Option<FrameError>,
-}
-
-/// Takes bytes off the front.
-fn drop_front(bytes: &mut Vec<u8>, count: usize)
-    requires { count ≤ vec_len bytes.old }
-    ensures { bytes.new.items ≡ drop count bytes.old.items }
-{
-    let left = bytes.len() - count;
-    bytes.copy_within(count.., 0);
-    bytes.truncate(left);
-}
-
-/// Where the unread bytes begin, once the front is taken off where it is the greater part.
-fn without_front(bytes: &mut Vec<u8>, start: usize) -> usize
-    requires { start ≤ vec_len bytes.old }
-    ensures within { result ≤ length bytes.new.items }
-    ensures same { drop result bytes.new.items ≡ drop start bytes.old.items }
-{
-    if start > 0 && start >= bytes.len() - start {
-        drop_front(bytes, start);
-        return 0;
-    }
-    start
 }
 
 /// No request is a proper prefix of another.
@@ -57,23 +42,53 @@ pub fn requests_are_found_once()
     ensures { (bytes : List ℕ) (ms ns : List RequestValue) (rest other : List ℕ) → Messages bytes ms rest → Messages bytes ns other → (ms ≡ ns) × (rest ≡ other) }
 {}
 
+/// The first request, by what was known of it before.
+fn advance(
+    alloc: Global,
+    unread: &[u8],
+    pending: Option<Pending<RequestHead>>,
+) -> (
+    Option<Pending<RequestHead>>,
+    Result<Outcome<RequestHead>, OutOfMemory>,
+)
+    requires { IsPending request_form unread.now pending }
+    ensures { AdvanceSays request_form false unread.now result.0 result.1 }
+{
+    match pending {
+        Some(pending) => finish(alloc, false, unread, pending),
+        None => match read_request(alloc, unread) {
+            Ok(HeadStep::Head(read)) => {
+                let pending = Pending {
+                    head: read.head,
+                    len: read.len,
+                    framing: read.framing,
+                    place: 0,
+                };
+                finish(alloc, false, unread, pending)
+            }
+            Ok(HeadStep::More) => (None, Ok(Outcome::More)),
+            Ok(HeadStep::Fault(error)) => (None, Ok(Outcome::Fault(error))),
+            Err(error) => (None, Err(error)),
+        },
+    }
+}
+
 impl Model for RequestFrames {
     ghost Value = { Frames };
 
-    ghost view = { λ s. record { unread = drop s.start s.bytes.items; failed = s.failed } };
+    ghost view = { λ s. record { unread = s.buffer; ended = false; failed = s.failed } };
 
-    ghost invariant = { λ s. (s.start ≤ length s.bytes.items) × IsPending (drop s.start s.bytes.items) s.pending };
+    ghost invariant = { λ s. IsPending request_form s.buffer s.pending };
 }
 
 impl RequestFrames {
+    /// A reader that has read nothing.
     pub fn new(alloc: Global) -> Self
-        ensures unread { result.unread ≡ [] }
-        ensures open { result.failed ≡ None }
+        ensures { result ≡ record { unread = []; ended = false; failed = None } }
     {
         RequestFrames {
             alloc,
-            bytes: Vec::new(alloc),
-            start: 0,
+            buffer: Buffer::new(alloc),
             pending: None,
             failed: None,
         }
@@ -83,42 +98,41 @@ impl RequestFrames {
     pub fn unread(&self) -> &[u8]
         ensures { result.now ≡ self.now.unread }
     {
-        from_place(self.bytes.as_slice(), self.start)
+        self.buffer.as_slice()
     }
 
     /// Takes the next piece of the stream.
     pub fn feed(&mut self, piece: &[u8]) -> Result<(), OutOfMemory>
-        ensures ok { OnOk result (self.new.unread ≡ self.old.unread ++ piece.now) }
-        ensures err { OnErr result (self.new.unread ≡ self.old.unread) }
-        ensures failed { self.new.failed ≡ self.old.failed }
+        ensures ok { OnOk result (self.new ≡ record self.old { unread = self.old.unread ++ piece.now }) }
+        ensures err { OnErr result (self.new ≡ self.old) }
     {
-        self.start = without_front(&mut self.bytes, self.start);
-        self.bytes.extend_from_slice(piece)?;
-        Ok(())
+        self.buffer.append(piece)
     }
 
-    /// The first request, or why there is none.
+    /// The first request, taken off the front; or why there is none.
     pub fn next(&mut self) -> Result<Step<Request>, FrameFault>
-        ensures says { NextSays self.old result self.new }
-        ensures first { (bytes after : List ℕ) (h : Head) → IsRequest bytes h → self.old.unread ≡ bytes ++ after → self.old.failed ≡ None → GivesBytes bytes result }
+        ensures says { NextSays request_form self.old result self.new }
+        ensures first { (bytes after : List ℕ) (h : Head) → IsRequest bytes h → self.old.unread ≡ bytes ++ after → self.old.failed ≡ None → GivesBytes request_form bytes result }
+        ensures fails { (e : ErrorValue) → FaultCause request_form self.old.ended self.old.unread e → self.old.failed ≡ None → (e ≡ BadHead → MoreCause request_form self.old.ended self.old.unread → ⊥) → GivesFault e result }
+        ensures waits { MoreCause request_form self.old.ended self.old.unread → self.old.failed ≡ None → (NeverHas print_request IsRequestHead self.old.unread → ⊥) → GivesMore result }
+        ensures again { (e : ErrorValue) → self.old.failed ≡ Some e → result ≡ Err (Frame e) }
     {
         self.take_next()
     }
 
     fn take_next(&mut self) -> Result<Step<Request>, FrameFault>
-        ensures { NextSays self.old result self.new }
+        ensures { NextSays request_form self.old result self.new }
     {
         if let Some(error) = self.failed {
             return Err(FrameFault::Frame(error));
         }
         let pending = self.pending.take();
-        let unread = from_place(self.bytes.as_slice(), self.start);
-        let (pending, outcome) = advance(self.alloc, unread, pending);
+        let (pending, outcome) = advance(self.alloc, self.buffer.as_slice(), pending);
         self.pending = pending;
         match outcome {
-            Ok(Outcome::Message(message)) => {
-                self.start += message.bytes.len();
-                Ok(Step::Message(message))
+            Ok(Outcome::Message(head, bytes)) => {
+                self.buffer.advance(bytes.len());
+                Ok(Step::Message(Request { head, bytes }))
             }
             Ok(Outcome::More) => Ok(Step::More),
             Ok(Outcome::Fault(error)) => {

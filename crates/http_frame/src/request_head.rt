@@ -1,0 +1,135 @@
+// Heads of requests.
+ghost use Rattle.std.specs.Prelude.{◌≡◌, ◌==◌, ◌||◌, ℕ, ◌+◌, ◌<◌, ◌≤◌, List, length, take, map, IfOk, All, IfSome, option_map, codes};
+ghost use Rattle.httparse.specs.Spans.{span_bytes, IsWithin as IsSpanWithin, IsRequestWithin, IsRequestAt};
+ghost use Rattle.httparse.specs.Grammar.{RequestHead as Head};
+ghost use Rattle.http_header.specs.HeaderMap.{get_all};
+ghost use Rattle.http_frame.specs.Forms.{request_line, request_said, request_form};
+ghost use Rattle.http_frame.specs.Heads.{SaysHead, HeadCause};
+
+use crate::errors::FrameError;
+use crate::fields::{asks_close, field_map};
+use crate::framing::framing_of_request;
+use crate::head::{HeadRead, HeadStep};
+use crate::limits::{MOST_LINES, front_of, limit_of, line_feeds};
+use crate::messages::RequestHead;
+use http_header::HeaderMap;
+use httparse::spans::{EMPTY_HEADER_SPAN, HeaderSpan, RequestSpans, Span, parse_request};
+use httparse::{Error, Status};
+use mm_base::{Bytes, OutOfMemory};
+use std::alloc::Global;
+
+/// The request line, built anew.
+fn line_of(alloc: Global, method: &[u8], target: &[u8], minor: u8) -> Result<Bytes, OutOfMemory>
+    requires { minor ≤ 1 }
+    ensures { IfOk result (λ line. line ≡ request_line method.now target.now minor) }
+{
+    let mut line = Vec::from_slice(alloc, method)?;
+    line.extend_from_slice(b" ")?;
+    line.extend_from_slice(target)?;
+    line.extend_from_slice(b" HTTP/1.")?;
+    line.extend_from_slice(&[b'0' + minor])?;
+    Ok(Bytes::from_vec(line))
+}
+
+/// A copy of what a span covers.
+fn copy_of(alloc: Global, front: &[u8], span: Option<Span>) -> Result<Option<Bytes>, OutOfMemory>
+    requires { IfSome span (IsSpanWithin (length front.now)) }
+    ensures { IfOk result (λ bytes. bytes ≡ option_map (span_bytes front.now) span) }
+{
+    match span {
+        Some(span) => Ok(Some(Bytes::from_slice(alloc, span.of(front))?)),
+        None => Ok(None),
+    }
+}
+
+/// Whether the connection closes after this request: always at version 1.0.
+fn closes_after(minor: u8, asks: bool) -> bool
+    ensures { result ≡ (minor == 0 || asks) }
+{
+    minor == 0 || asks
+}
+
+/// What the parts of a head say.
+fn head_of(
+    alloc: Global,
+    front: &[u8],
+    method: &[u8],
+    target: &[u8],
+    minor: u8,
+    fields: &HeaderMap<Span>,
+) -> Result<RequestHead, OutOfMemory>
+    requires minor { minor ≤ 1 }
+    requires within { (name : List ℕ) → All (IsSpanWithin (length front.now)) (get_all fields.now name) }
+    ensures { IfOk result (λ head. head ≡ request_said method.now target.now minor
+        (map (span_bytes front.now) (get_all fields.now (codes "host"))) (map (span_bytes front.now) (get_all fields.now (codes "user-agent")))
+        (map (span_bytes front.now) (get_all fields.now (codes "connection")))) }
+{
+    let line = line_of(alloc, method, target, minor)?;
+    let host = copy_of(alloc, front, fields.get("host").copied())?;
+    let agent = copy_of(alloc, front, fields.get("user-agent").copied())?;
+    let closes = closes_after(minor, asks_close(front, fields));
+    Ok(RequestHead {
+        line,
+        host,
+        agent,
+        head_only: method == b"HEAD".as_slice(),
+        closes,
+    })
+}
+
+/// What a whole head gives, by the spans of its parts.
+fn request_step(
+    alloc: Global,
+    front: &[u8],
+    headers: &[HeaderSpan],
+    spans: &RequestSpans,
+) -> Result<HeadStep<RequestHead>, OutOfMemory>
+    requires { IsRequestWithin front.now headers.now spans.now }
+    ensures { IfOk result (λ step. (h : Head) → IsRequestAt front.now headers.now spans.now h → SaysHead request_form h spans.now.len step) }
+{
+    let fields = field_map(alloc, front, &headers[..spans.headers])?;
+    let method = spans.method.of(front);
+    match framing_of_request(front, method, &fields) {
+        Ok(framing) => {
+            let head = head_of(
+                alloc,
+                front,
+                method,
+                spans.path.of(front),
+                spans.version,
+                &fields,
+            )?;
+            Ok(HeadStep::Head(HeadRead {
+                len: spans.len,
+                framing,
+                head,
+            }))
+        }
+        Err(error) => Ok(HeadStep::Fault(error)),
+    }
+}
+
+/// The head at the front of the bytes.
+pub fn read_request(alloc: Global, bytes: &[u8]) -> Result<HeadStep<RequestHead>, OutOfMemory>
+    ensures { IfOk result (HeadCause request_form bytes.now) }
+{
+    let front = front_of(bytes);
+    let mut headers = [EMPTY_HEADER_SPAN; 100];
+    match parse_request(front, &mut headers) {
+        Ok(Status::Complete(spans)) => {
+            if line_feeds(&front[..spans.len]) > MOST_LINES {
+                return Ok(HeadStep::Fault(FrameError::TooManyHeaders));
+            }
+            request_step(alloc, front, &headers, &spans)
+        }
+        Ok(Status::Partial) => match limit_of(bytes) {
+            Some(error) => Ok(HeadStep::Fault(error)),
+            None => Ok(HeadStep::More),
+        },
+        Err(Error::TooManyHeaders) => Ok(HeadStep::Fault(FrameError::TooManyHeaders)),
+        Err(_) => match limit_of(bytes) {
+            Some(error) => Ok(HeadStep::Fault(error)),
+            None => Ok(HeadStep::Fault(FrameError::BadHead)),
+        },
+    }
+}

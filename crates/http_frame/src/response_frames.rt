@@ -1,0 +1,171 @@
+// Responses from a stream in pieces.
+ghost use Rattle.std.specs.Prelude.{◌≡◌, ◌≤◌, ◌++◌, ℕ, Bool, List, [], true, false, length, None, Some, Err, OnOk, OnErr};
+ghost use Rattle.httparse.specs.Grammar.{ResponseHead as Answer};
+ghost use Rattle.http_frame.specs.Forms.{response_form};
+ghost use Rattle.http_frame.specs.Messages.{IsResponse, MayStop};
+ghost use Rattle.http_frame.specs.declared.errors.FrameError.{FrameError as ErrorValue};
+ghost use Rattle.http_frame.specs.declared.errors.FrameFault.TheVariants.{Frame};
+ghost use Rattle.http_frame.specs.Frames.{IsPending, AdvanceSays, NextSays, Frames, GivesBytes, GivesFault, GivesMore, FaultCause, MoreCause};
+
+use crate::buffer::Buffer;
+use crate::errors::{FrameError, FrameFault, Step};
+use crate::head::HeadStep;
+use crate::messages::{Response, ResponseHead};
+use crate::pending::{Outcome, Pending, finish};
+use crate::response_head::read_response;
+use mm_base::OutOfMemory;
+use std::alloc::Global;
+use std::marker::Model;
+
+/// A reader of responses (RFC 9112). Contracts see the bytes that no message has taken, whether the
+/// input has ended, and the error, if one came.
+#[derive(Drop)]
+pub struct ResponseFrames {
+    alloc: Global,
+    buffer: Buffer,
+    ended: bool,
+    /// The pending head was read as the response to a HEAD request.
+    to_head: bool,
+    pending: Option<Pending<ResponseHead>>,
+    failed: Option<FrameError>,
+}
+
+/// What stands at the front of a stream is one response, where the kind of its request is known.
+pub fn responses_are_found_once()
+    ensures { (to_head ended : Bool) (a b x y : List ℕ) (h k : Answer) (p : IsResponse to_head a h) (q : IsResponse to_head b k)
+        → MayStop p.framing ended x → MayStop q.framing ended y → a ++ x ≡ b ++ y → (a ≡ b) × (h ≡ k) }
+{}
+
+/// What is known of the head, if it was read as a response of the kind that is wanted.
+fn of_kind(
+    pending: Option<Pending<ResponseHead>>,
+    read_for: bool,
+    wanted: bool,
+) -> Option<Pending<ResponseHead>>
+    ensures { (bytes : List ℕ) → IsPending (response_form read_for) bytes pending → IsPending (response_form wanted) bytes result }
+{
+    if read_for == wanted { pending } else { None }
+}
+
+/// The first response, by what was known of it before.
+fn advance(
+    alloc: Global,
+    to_head: bool,
+    ended: bool,
+    unread: &[u8],
+    pending: Option<Pending<ResponseHead>>,
+) -> (
+    Option<Pending<ResponseHead>>,
+    Result<Outcome<ResponseHead>, OutOfMemory>,
+)
+    requires { IsPending (response_form to_head) unread.now pending }
+    ensures { AdvanceSays (response_form to_head) ended unread.now result.0 result.1 }
+{
+    match pending {
+        Some(pending) => finish(alloc, ended, unread, pending),
+        None => match read_response(alloc, to_head, unread) {
+            Ok(HeadStep::Head(read)) => {
+                let pending = Pending {
+                    head: read.head,
+                    len: read.len,
+                    framing: read.framing,
+                    place: 0,
+                };
+                finish(alloc, ended, unread, pending)
+            }
+            Ok(HeadStep::More) => (None, Ok(Outcome::More)),
+            Ok(HeadStep::Fault(error)) => (None, Ok(Outcome::Fault(error))),
+            Err(error) => (None, Err(error)),
+        },
+    }
+}
+
+impl Model for ResponseFrames {
+    ghost Value = { Frames };
+
+    ghost view = { λ s. record { unread = s.buffer; ended = s.ended; failed = s.failed } };
+
+    ghost invariant = { λ s. IsPending (response_form s.to_head) s.buffer s.pending };
+}
+
+impl ResponseFrames {
+    /// A reader that has read nothing.
+    pub fn new(alloc: Global) -> Self
+        ensures { result ≡ record { unread = []; ended = false; failed = None } }
+    {
+        ResponseFrames {
+            alloc,
+            buffer: Buffer::new(alloc),
+            ended: false,
+            to_head: false,
+            pending: None,
+            failed: None,
+        }
+    }
+
+    /// The bytes that no message has taken.
+    pub fn unread(&self) -> &[u8]
+        ensures { result.now ≡ self.now.unread }
+    {
+        self.buffer.as_slice()
+    }
+
+    /// Takes the next piece of the stream.
+    pub fn feed(&mut self, piece: &[u8]) -> Result<(), OutOfMemory>
+        requires { self.old.ended ≡ false }
+        ensures ok { OnOk result (self.new ≡ record self.old { unread = self.old.unread ++ piece.now }) }
+        ensures err { OnErr result (self.new ≡ self.old) }
+    {
+        self.buffer.append(piece)
+    }
+
+    /// Says that the input has ended; no piece follows.
+    pub fn end(&mut self)
+        ensures { self.new ≡ record self.old { ended = true } }
+    {
+        self.ended = true;
+    }
+
+    /// The first response, taken off the front; or why there is none. `head_request`: it answers a
+    /// HEAD request. One whose body ends by closing comes once the input has ended, and takes all.
+    pub fn next(&mut self, head_request: bool) -> Result<Step<Response>, FrameFault>
+        ensures says { NextSays (response_form head_request) self.old result self.new }
+        ensures first { (bytes after : List ℕ) (h : Answer) (r : IsResponse head_request bytes h) → self.old.unread ≡ bytes ++ after → MayStop r.framing self.old.ended after
+            → self.old.failed ≡ None → GivesBytes (response_form head_request) bytes result }
+        ensures fails { (e : ErrorValue) → FaultCause (response_form head_request) self.old.ended self.old.unread e → self.old.failed ≡ None → GivesFault e result }
+        ensures waits { MoreCause (response_form head_request) self.old.ended self.old.unread → self.old.failed ≡ None → GivesMore result }
+        ensures again { (e : ErrorValue) → self.old.failed ≡ Some e → result ≡ Err (Frame e) }
+    {
+        self.take_next(head_request)
+    }
+
+    fn take_next(&mut self, head_request: bool) -> Result<Step<Response>, FrameFault>
+        ensures { NextSays (response_form head_request) self.old result self.new }
+    {
+        if let Some(error) = self.failed {
+            return Err(FrameFault::Frame(error));
+        }
+        let pending = of_kind(self.pending.take(), self.to_head, head_request);
+        self.to_head = head_request;
+        let (pending, outcome) = advance(
+            self.alloc,
+            head_request,
+            self.ended,
+            self.buffer.as_slice(),
+            pending,
+        );
+        self.pending = pending;
+        match outcome {
+            Ok(Outcome::Message(head, bytes)) => {
+                self.buffer.advance(bytes.len());
+                Ok(Step::Message(Response { head, bytes }))
+            }
+            Ok(Outcome::More) => Ok(Step::More),
+            Ok(Outcome::Fault(error)) => {
+                self.failed = Some(error);
+                Err(FrameFault::Frame(error))
+            }
+            Err(_) => Err(FrameFault::OutOfMemory),
+        }
+    }
+}
