@@ -4,3 +4,7 @@ pub mod OrderLemmas
 pub mod Laps
 pub mod OppsLaws
 pub mod Counts
+pub mod WordsLemmas
+pub mod TextLaws
+pub mod TextFaults
+pub mod MadeLemmas

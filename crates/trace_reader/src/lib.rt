@@ -1,8 +1,17 @@
 //! Traces of delivery opportunities: their formula over laps, their text, and the text read back.
 #![tactic(auto)]
 
+mod line;
+mod making;
 mod opportunity;
+mod printing;
+mod reading;
+#[cfg(test)]
+mod tests;
 mod trace;
 
+pub use making::make_trace;
 pub use opportunity::{Form, Opportunity};
+pub use printing::print_trace;
+pub use reading::{TraceError, read_trace};
 pub use trace::Trace;

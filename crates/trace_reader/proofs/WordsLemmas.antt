@@ -1,0 +1,55 @@
+-- A line cut at its first space.
+use Rattle.std.proofs.Common.{◌≡◌, ℕ, ◌+◌, ◌-◌, ◌≤◌, ◌++◌, ◌==◌, ◌&&◌, not, Bool, true, false, cond, List, [], ◌∷◌, length, take, drop, Some, None, nat_lt, refl, ap, sym, ◌∙◌, arith}
+use Rattle.std.specs.List.{position, position_or_len, list_all}
+use Rattle.std.proofs.lemmas.List.{take_rest, take_all, drop_all}
+use Rattle.std.proofs.lemmas.Bool.Decides.{nat_tests}
+use Rattle.std.proofs.Math.Seq.{take-append_seam, drop-append-add}
+use Rattle.trace_reader.specs.TraceText.{first_word, other_words}
+
+by_test : (b : Bool) (m n : ℕ) → cond b (Some m) None ≡ Some n → (b ≡ true) × (m ≡ n)
+by_test true m n e = (refl, cc)
+by_test false m n e = absurd cc
+
+no_test : (b : Bool) (m : ℕ) → cond b (Some m) None ≡ None → b ≡ false
+no_test true m e = absurd cc
+no_test false m e = refl
+
+place_is : (xs : List ℕ) (n : ℕ) → position (λ byte. byte == 32) xs ≡ Some n → n ≡ position_or_len (λ byte. byte == 32) xs
+place_is xs n e = sym (by_test _ _ n e).1
+
+no_place : (xs : List ℕ) → position (λ byte. byte == 32) xs ≡ None → length xs ≤ position_or_len (λ byte. byte == 32) xs
+no_place xs e = let no : nat_lt (position_or_len (λ (byte : ℕ). byte == 32) xs) (length xs) ≡ false = no_test _ _ e in grind (arith, nat_tests)
+
+pub before_cut : (xs : List ℕ) (n : ℕ) → position (λ byte. byte == 32) xs ≡ Some n → take n xs ≡ first_word xs
+before_cut xs n e = ap (λ (i : ℕ). take i xs) (place_is xs n e)
+
+pub after_cut : (xs : List ℕ) (n : ℕ) → position (λ byte. byte == 32) xs ≡ Some n → take (length xs - (n + 1)) (drop (n + 1) xs) ≡ other_words xs
+after_cut xs n e = take_rest xs (n + 1) ∙ ap (λ (i : ℕ). drop (i + 1) xs) (place_is xs n e)
+
+pub before_none : (xs : List ℕ) → position (λ byte. byte == 32) xs ≡ None → xs ≡ first_word xs
+before_none xs e = sym (take_all (position_or_len (λ (byte : ℕ). byte == 32) xs) xs (no_place xs e))
+
+pub after_none : (xs : List ℕ) → position (λ byte. byte == 32) xs ≡ None → take (length xs - length xs) (drop (length xs) xs) ≡ other_words xs
+after_none xs e =
+    let past = no_place xs e in
+    take_rest xs (length xs) ∙ drop_all (length xs) xs (omega arith) ∙ sym (drop_all (position_or_len (λ (byte : ℕ). byte == 32) xs + 1) xs (omega arith))
+
+both : (a b : Bool) → (a && b) ≡ true → (a ≡ true) × (b ≡ true)
+both true b e = (refl, e)
+both false b e = cc
+
+-- words that are parted by a space
+first_space : (a b : List ℕ) → list_all (λ byte. not (byte == 32)) a ≡ true → position_or_len (λ byte. byte == 32) (a ++ 32 ∷ b) ≡ length a
+first_space [] b none = refl
+first_space (x ∷ xs) b none =
+    let parts = both (not (x == 32)) (list_all (λ byte. not (byte == 32)) xs) none in
+    let ih = first_space xs b parts.1 in
+    let here : position_or_len (λ (byte : ℕ). byte == 32) (x ∷ xs ++ 32 ∷ b) ≡ 1 + position_or_len (λ (byte : ℕ). byte == 32) (xs ++ 32 ∷ b) =
+    ap (λ t. cond t (1 + position_or_len (λ (byte : ℕ). byte == 32) (xs ++ 32 ∷ b)) 0) parts.0 in
+    omega arith
+
+pub first_word-spaced : (a b : List ℕ) → list_all (λ byte. not (byte == 32)) a ≡ true → first_word (a ++ 32 ∷ b) ≡ a
+first_word-spaced a b none = ap (λ (n : ℕ). take n (a ++ 32 ∷ b)) (first_space a b none) ∙ take-append_seam a (32 ∷ b)
+
+pub other_words-spaced : (a b : List ℕ) → list_all (λ byte. not (byte == 32)) a ≡ true → other_words (a ++ 32 ∷ b) ≡ b
+other_words-spaced a b none = ap (λ (n : ℕ). drop (n + 1) (a ++ 32 ∷ b)) (first_space a b none) ∙ drop-append-add a (32 ∷ b) 1

@@ -1,0 +1,15 @@
+use Rattle.std.proofs.Common.{sym}
+use Rattle.trace_reader.proofs.WordsLemmas.{before_cut, after_cut, before_none, after_none}
+use Rattle.trace_reader.proofs.line.split_word.Goals as goal
+
+pub returns-in-Some-clause-first : goal.returns-in-Some-clause-first
+returns-in-Some-clause-first c = before_cut c.args.text.now c.in-Some.end (sym c.in-Some.ensures.place)
+
+pub returns-in-Some-clause-others : goal.returns-in-Some-clause-others
+returns-in-Some-clause-others c = after_cut c.args.text.now c.in-Some.end (sym c.in-Some.ensures.place)
+
+pub returns-in-None-clause-first : goal.returns-in-None-clause-first
+returns-in-None-clause-first c = before_none c.args.text.now (sym c.in-None.ensures.place)
+
+pub returns-in-None-clause-others : goal.returns-in-None-clause-others
+returns-in-None-clause-others c = after_none c.args.text.now (sym c.in-None.ensures.place)

@@ -1,0 +1,29 @@
+// Traces made from a number.
+ghost use Rattle.std.specs.Prelude.{◌≡◌, ◌≤◌, ◌<◌, ◌+◌, ◌*◌, ◌%◌, map, IfOk};
+ghost use Rattle.packet_record.specs.Draws.{next_draw};
+ghost use Rattle.trace_reader.specs.Made.{made_moments};
+ghost use Rattle.trace_reader.specs.declared.opportunity.Form.TheVariants as forms;
+
+use crate::{Form, Opportunity, Trace};
+use mm_base::OutOfMemory;
+use packet_record::Draws;
+use std::alloc::Global;
+
+/// The trace that the generator makes of a number: 100 opportunities of 1504 bytes, each 1 to 3 milliseconds after the
+/// one before, the first after moment 0. Each takes one draw, which modulo 3 plus 1 is the milliseconds.
+pub fn make_trace(alloc: Global, number: u64) -> Result<Trace, OutOfMemory>
+    ensures form { IfOk result (λ trace. trace.form ≡ forms.Moments) }
+    ensures moments { IfOk result (λ trace. map (λ o. o.moment) trace.opportunities ≡ made_moments number) }
+{
+    let mut draws = Draws::new(number);
+    let mut list = Vec::with_capacity(alloc, 100)?;
+    let mut moment = 0;
+    for _ in 0..100u32 {
+        moment += 1 + u64::from(draws.draw() % 3);
+        list.push(Opportunity {
+            moment,
+            bytes: 1504,
+        })?;
+    }
+    Ok(Trace::from_list(Form::Moments, list))
+}

@@ -1,0 +1,58 @@
+// Traces written as text.
+ghost use Rattle.std.specs.Prelude.{◌≡◌, ◌≤◌, ◌++◌, ◌∷◌, [], IfOk, OnOk, decimal};
+ghost use Rattle.trace_reader.specs.TraceText.{line_of, header_text, trace_text, IsTraceText};
+
+use crate::{Form, Opportunity, Trace};
+use mm_base::{Bytes, OutOfMemory, write_decimal};
+use std::alloc::Global;
+
+/// The text of a trace in its own form: each opportunity on a line, after the line `# mm-trace 2` where it states
+/// bytes. Reading it gives the trace back.
+pub fn print_trace(alloc: Global, trace: &Trace) -> Result<Bytes, OutOfMemory>
+    ensures text { IfOk result (λ text. text ≡ trace_text trace.now) }
+    ensures read { IfOk result (λ text. IsTraceText text trace.now) }
+{
+    let form = trace.form();
+    let mut out = Bytes::with_capacity(alloc, length_of(trace.opportunities()))?;
+    write_header(&mut out, form)?;
+    for o in trace.opportunities() {
+        write_line(&mut out, form, *o)?;
+    }
+    Ok(out)
+}
+
+fn write_header(out: &mut Bytes, form: Form) -> Result<(), OutOfMemory>
+    ensures { OnOk result (out.new ≡ out.old ++ header_text form) }
+{
+    match form {
+        Form::Moments => Ok(()),
+        Form::MomentsAndBytes => out.append(b"# mm-trace 2\n"),
+    }
+}
+
+fn write_line(out: &mut Bytes, form: Form, o: Opportunity) -> Result<(), OutOfMemory>
+    ensures { OnOk result (out.new ≡ out.old ++ (line_of form o ++ 10 ∷ [])) }
+{
+    write_decimal(out, o.moment)?;
+    if form == Form::MomentsAndBytes {
+        out.push(b' ')?;
+        write_decimal(out, u64::from(o.bytes))?;
+    }
+    out.push(b'\n')
+}
+
+// No fewer bytes than the text has.
+fn length_of(list: &[Opportunity]) -> usize {
+    let mut length = 13usize;
+    for o in list {
+        length = length.saturating_add(digits(o.moment) + 1 + digits(u64::from(o.bytes)) + 1);
+    }
+    length
+}
+
+// How many digits a number is written in.
+fn digits(n: u64) -> usize
+    ensures { result ≤ 20 }
+{
+    n.checked_ilog10().map_or(1, |power| power as usize + 1)
+}

@@ -1,0 +1,185 @@
+// Traces read from their text.
+ghost use Rattle.std.specs.Prelude.{◌≡◌, ◌≢◌, ◌≤◌, ◌<◌, ◌+◌, ◌∷◌, ℕ, List, Option, Some, None, MatchResult, IfOk, OnOk, length};
+ghost use Rattle.trace_reader.specs.declared.reading.TraceError.TheVariants as errors;
+ghost use Rattle.trace_reader.specs.Opps.{last_moment};
+ghost use Rattle.trace_reader.specs.Traces.{TraceView, IsTrace};
+ghost use Rattle.trace_reader.specs.TraceText.{form_of, lines_before, stated, said_of, said, IsTraceText, trace_text};
+ghost use Rattle.trace_reader.specs.Reading.{first_fault, trace_fault};
+ghost use Rattle.mm_base.specs.Lines.{lines_of};
+ghost use Rattle.mm_base.specs.LinesLeft.{lines_left};
+
+use crate::line::read_line;
+use crate::{Form, Opportunity, Trace};
+use mm_base::{Lines, OutOfMemory};
+use std::alloc::{AllocError, AllocFailed, Global};
+
+/// Why a text is no trace. The first refusal wins; lines are counted from 1, the first line `# mm-trace 2` among them.
+#[derive(Clone, Copy, Debug, PartialEq, Eq)]
+pub enum TraceError {
+    /// There is no opportunity.
+    Empty,
+    /// The line isn't a number of 1 to 10 digits, or two with a single space where the text states bytes.
+    BadLine { line: u32 },
+    /// The moment is below that of the line before.
+    Decreasing { line: u32 },
+    /// The last moment is 0.
+    ZeroLength,
+    /// There is an opportunity number 1,000,001.
+    TooManyLines,
+    /// The bytes are below 1 or above 1,000,000.
+    BadBytes { line: u32 },
+    /// Memory was wanting. The text wasn't refused.
+    OutOfMemory,
+}
+
+impl TraceError {
+    ghost use Rattle.trace_reader.specs.Reading.{number_of, line_named};
+
+    /// The number of the refusal, 1 to 6 in the order of the variants, or 0 for want of memory.
+    pub fn number(self) -> u32
+        ensures { result ≡ number_of self }
+    {
+        match self {
+            TraceError::Empty => 1,
+            TraceError::BadLine { .. } => 2,
+            TraceError::Decreasing { .. } => 3,
+            TraceError::ZeroLength => 4,
+            TraceError::TooManyLines => 5,
+            TraceError::BadBytes { .. } => 6,
+            TraceError::OutOfMemory => 0,
+        }
+    }
+
+    /// The line that the refusal names, or 0 where it names none.
+    pub fn line(self) -> u32
+        ensures { result ≡ line_named self }
+    {
+        match self {
+            TraceError::BadLine { line }
+            | TraceError::Decreasing { line }
+            | TraceError::BadBytes { line } => line,
+            TraceError::Empty
+            | TraceError::ZeroLength
+            | TraceError::TooManyLines
+            | TraceError::OutOfMemory => 0,
+        }
+    }
+}
+
+impl From<OutOfMemory> for TraceError {
+    ghost from_gives = { λ _ e. e ≡ errors.OutOfMemory };
+
+    fn from(_: OutOfMemory) -> Self {
+        TraceError::OutOfMemory
+    }
+}
+
+impl From<AllocError> for TraceError {
+    ghost from_gives = { λ _ e. e ≡ errors.OutOfMemory };
+
+    fn from(_: AllocError) -> Self {
+        TraceError::OutOfMemory
+    }
+}
+
+impl<T: Drop> From<AllocFailed<T>> for TraceError {
+    ghost from_gives = { λ _ e. e ≡ errors.OutOfMemory };
+
+    fn from(_: AllocFailed<T>) -> Self {
+        TraceError::OutOfMemory
+    }
+}
+
+/// The trace of which this is a text. A text whose first line is `# mm-trace 2` states the bytes of each opportunity;
+/// in any other each line is a moment alone. It is refused by the first refusal of its lines, or where memory is
+/// wanting.
+pub fn read_trace(alloc: Global, text: &[u8]) -> Result<Trace, TraceError>
+    ensures found { IfOk result (λ trace. IsTraceText text.now trace) }
+    ensures every { (t : TraceView) → IsTraceText text.now t
+        → MatchResult result (λ trace. trace ≡ t) (λ e. e ≡ TraceError.OutOfMemory) }
+    ensures printed { (t : TraceView) → IsTrace t → text.now ≡ trace_text t
+        → MatchResult result (λ trace. trace ≡ t) (λ e. e ≡ TraceError.OutOfMemory) }
+    ensures exact { MatchResult result (λ _. trace_fault text.now ≡ None)
+        (λ e. e ≢ TraceError.OutOfMemory → trace_fault text.now ≡ Some e) }
+{
+    read_text(alloc, text)
+}
+
+fn read_text(alloc: Global, text: &[u8]) -> Result<Trace, TraceError>
+    ensures found { IfOk result (λ trace. IsTraceText text.now trace) }
+    ensures exact { MatchResult result (λ _. trace_fault text.now ≡ None)
+        (λ e. e ≢ TraceError.OutOfMemory → trace_fault text.now ≡ Some e) }
+{
+    let (form, lines) = open(text);
+    let mut list = Vec::new(alloc);
+    let mut low = 0;
+    for line in lines {
+        let o = next_opportunity(form, list.len(), low, line)?;
+        low = o.moment;
+        list.push(o)?;
+    }
+    if list.is_empty() {
+        return Err(TraceError::Empty);
+    }
+    if low == 0 {
+        return Err(TraceError::ZeroLength);
+    }
+    Ok(Trace::from_list(form, list))
+}
+
+// The form of a text, and the lines of its opportunities.
+fn open(text: &[u8]) -> (Form, Lines<'_>)
+    ensures form { result.0 ≡ form_of (lines_of text.now) }
+    ensures lines { lines_left result.1 ≡ stated (lines_of text.now) }
+{
+    let mut lines = Lines::new(text);
+    match lines.next() {
+        Some(line) if line == b"# mm-trace 2".as_slice() => (Form::MomentsAndBytes, lines),
+        _ => (Form::Moments, Lines::new(text)),
+    }
+}
+
+// The opportunity of a line, after so many, of which the last is at this moment.
+fn next_opportunity(
+    form: Form,
+    count: usize,
+    low: u64,
+    line: &[u8],
+) -> Result<Opportunity, TraceError>
+    requires { count ≤ 1000000 }
+    ensures few { OnOk result (count < 1000000) }
+    ensures said { IfOk result (λ o. said_of form line.now ≡ Some (said o)) }
+    ensures order { IfOk result (λ o. low ≤ o.moment) }
+    ensures fault { (rest : List (List ℕ)) → MatchResult result
+        (λ o. first_fault form count low (line.now ∷ rest) ≡ first_fault form (count + 1) o.moment rest)
+        (λ e. first_fault form count low (line.now ∷ rest) ≡ Some e) }
+{
+    if count >= 1_000_000 {
+        return Err(TraceError::TooManyLines);
+    }
+    let number = count_before(form) + count as u32 + 1;
+    let Some((moment, bytes)) = read_line(form, line) else {
+        return Err(TraceError::BadLine { line: number });
+    };
+    if bytes < 1 || bytes > 1_000_000 {
+        return Err(TraceError::BadBytes { line: number });
+    }
+    if moment < low {
+        return Err(TraceError::Decreasing { line: number });
+    }
+    Ok(Opportunity {
+        moment,
+        bytes: bytes as u32,
+    })
+}
+
+// How many lines stand before those of the opportunities.
+fn count_before(form: Form) -> u32
+    ensures count { result ≡ lines_before form }
+    ensures few { result ≤ 1 }
+{
+    match form {
+        Form::Moments => 0,
+        Form::MomentsAndBytes => 1,
+    }
+}
