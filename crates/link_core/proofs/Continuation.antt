@@ -57,7 +57,7 @@ goes_then low q os os' os'' ts ts' ts'' a b = record {
   log = goes_on_then _ _ _ a.log b.log;
 }
 
-moved_from : (low moment : ℕ) (ts : List Timed) → low ≤ moment → AreFrom low (map (moved_to moment) ts)
+pub moved_from : (low moment : ℕ) (ts : List Timed) → low ≤ moment → AreFrom low (map (moved_to moment) ts)
 moved_from low moment [] le = tt
 moved_from low moment (t ∷ ts) le = (le, moved_from low moment ts le)
 

@@ -17,3 +17,5 @@ pub mod FirstSent
 pub mod MergedLemmas
 pub mod SeenLemmas
 pub mod OppsLemmas
+pub mod LinkLaws
+pub mod FloorLaws
