@@ -1,10 +1,11 @@
--- Counts of opportunities.
-use Rattle.std.proofs.Common.{ℕ, suc, ◌≤◌, ◌<◌, ◌≡◌, ◌⊎◌, inl, inr, List, [], ◌∷◌, length, ap, arith}
+-- Counts of opportunities, and how late they are.
+use Rattle.std.proofs.Common.{ℕ, suc, ◌≤◌, ◌<◌, ◌≡◌, ◌⊎◌, inl, inr, Bool, List, [], ◌∷◌, length, ap, arith}
 use Rattle.std.proofs.lemmas.Bool.{cases_lt}
 use Rattle.trace_reader.specs.declared.opportunity.Opportunity.{Opportunity}
-use Rattle.trace_reader.specs.Opps.{up_to}
+use Rattle.trace_reader.specs.Opps.{up_to, entries, enough, opps}
+use Rattle.trace_reader.specs.Orders.{Each}
 use Rattle.trace_reader.proofs.OrderLemmas.{length-up_to, up_to_in, up_to_out}
-use Rattle.shell_core.specs.Promises.{count_to}
+use Rattle.link_core.specs.Promises.{count_to}
 
 pub count_to-le : (os : List Opportunity) (m : ℕ) → count_to os m ≤ length os
 count_to-le os m = length-up_to m os
@@ -25,3 +26,17 @@ count_to-grows (o ∷ os) m n le =
             | inl past ↦ let b : count_to (o ∷ os) n ≡ count_to os n = ap length (up_to_out n o os past) in omega arith
           ]
     ]
+
+up_to_early : (m : ℕ) (os : List Opportunity) → Each (λ o. o.moment ≤ m) (up_to m os)
+up_to_early m [] = tt
+up_to_early m (o ∷ os) =
+    let ih = up_to_early m os in
+    elim (cases_lt m o.moment) [
+      | inr here ↦ let e : up_to m (o ∷ os) ≡ o ∷ up_to m os = up_to_in m o os here in rw e (here, ih)
+      | inl later ↦ let e : up_to m (o ∷ os) ≡ up_to m os = up_to_out m o os later in rw e ih
+    ]
+
+-- none is after the horizon
+pub opps_within : (trace : List Opportunity) (once : Bool) (h : ℕ) → Each (λ o. o.moment ≤ h) (opps trace once h)
+unfolding opps
+opps_within trace once h = up_to_early h (entries trace (enough trace once h))

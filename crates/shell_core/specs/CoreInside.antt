@@ -7,7 +7,7 @@ use Rattle.loss_core.specs.Cores.{Stands}
 use Rattle.shell_core.specs.declared.spec.DirSpec.{DirSpec}
 use Rattle.shell_core.specs.declared.spec.DirSpec.TheVariants as specs
 use Rattle.shell_core.specs.declared.kinds.Inner.{Inner}
-use Rattle.shell_core.specs.declared.kinds.Inner.TheVariants.{Pass, Delay, Loss}
+use Rattle.shell_core.specs.declared.kinds.Inner.TheVariants.{Pass, Delay, Loss, Link}
 use Rattle.shell_core.specs.declared.kinds.Core.TheInside.{Inside}
 use Rattle.shell_core.specs.CoreParts.{CorePart}
 
@@ -15,16 +15,19 @@ abbrev pub spec_of : Inner → DirSpec
 spec_of (Pass arrived) = specs.Pass
 spec_of (Delay core ms) = specs.Delay ms
 spec_of (Loss core seed stream) = specs.Loss core.rate seed stream
+spec_of (Link core) = specs.Link core.trace core.once core.queue
 
 abbrev pub arrivals_of : Inner → List Timed
 arrivals_of (Pass arrived) = arrived.items
 arrivals_of (Delay core ms) = core.arrivals
 arrivals_of (Loss core seed stream) = core.arrivals
+arrivals_of (Link core) = core.arrivals
 
 abbrev pub burnt_of : Inner → ℕ
 burnt_of (Pass arrived) = 0
 burnt_of (Delay core ms) = 0
 burnt_of (Loss core seed stream) = 0
+burnt_of (Link core) = core.burnt
 
 abbrev pub core_view : Inside → CorePart
 core_view c = record { spec = spec_of c.inner; horizon = c.until; arrivals = arrivals_of c.inner; burnt = burnt_of c.inner }
@@ -34,6 +37,7 @@ abbrev pub IsInner : ℕ → Inner → Type 0
 IsInner h (Pass arrived) = Unit {0}
 IsInner h (Delay core ms) = (core.horizon ≡ h) × (core.ms ≡ ms) × (ms ≤ 3600000)
 IsInner h (Loss core seed stream) = Stands cha_words core (cha_word seed stream)
+IsInner h (Link core) = core.horizon ≡ h
 
 abbrev pub IsCore : Inside → Type 0
 IsCore c = IsInner c.until c.inner × (c.until ≤ 3600000) × (c.no_log.entries ≡ [])

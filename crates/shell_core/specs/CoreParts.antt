@@ -2,7 +2,7 @@
 use Rattle.std.specs.Prelude.{ℕ, ◌+◌, ◌-◌, ◌++◌, Bool, List, [], ◌∷◌, length, min, max, nat_le}
 use Rattle.packet_record.specs.declared.packet.Timed.{Timed}
 use Rattle.shell_core.specs.declared.spec.DirSpec.{DirSpec}
-use Rattle.shell_core.specs.Promises.{count_to}
+use Rattle.link_core.specs.Promises.{count_to}
 use Rattle.shell_core.specs.Shells.{opportunities}
 
 pub record CorePart : Type 0 where

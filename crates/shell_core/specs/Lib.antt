@@ -1,4 +1,3 @@
-pub mod Promises
 pub mod Shells
 pub mod CoreParts
 pub mod CoreInside

@@ -1,12 +1,14 @@
 // One direction of a shell of any kind.
-ghost use Rattle.std.specs.Prelude.{◌≡◌, ◌≤◌, ◌+◌, ◌++◌, ◌∷◌, [], length, map, OnOk, OnErr, IfOk};
+ghost use Rattle.std.specs.Prelude.{◌≡◌, ◌≤◌, ◌+◌, ◌++◌, ◌∷◌, [], length, nat_le, map, OnOk, OnErr, IfOk};
 ghost use Rattle.packet_record.specs.Moments.{AreUpTo};
-ghost use Rattle.shell_core.specs.Promises.{count_to};
+ghost use Rattle.link_core.specs.Promises.{count_to};
+ghost use Rattle.link_core.specs.View.{opps_of};
 ghost use Rattle.shell_core.specs.Shells.{IsInRange, IsBuilt, opportunities, out, lost, inside, shell_log, floor};
 ghost use Rattle.shell_core.specs.CoreParts.{CorePart, with_arrival, with_burnt, is_spent, burns, new_part};
 
 use crate::spec::DirSpec;
 use delay_core::DelayCore;
+use link_core::LinkCore;
 use loss_core::{ChaWords, LossCore};
 use mm_base::OutOfMemory;
 use packet_record::Timed;
@@ -26,6 +28,7 @@ enum Inner {
         seed: u64,
         stream: u64,
     },
+    Link(LinkCore),
 }
 
 /// One direction of a shell of any kind.
@@ -61,6 +64,12 @@ fn push(list: &mut Vec<Timed>, t: Timed) -> Result<(), OutOfMemory>
     Ok(())
 }
 
+fn has_none_left(core: &LinkCore) -> bool
+    ensures { result ≡ nat_le (length (opps_of core.now)) core.now.burnt }
+{
+    core.next_opportunity().is_none()
+}
+
 #[tactic(auto, unfolding(crate::specs::Shells::opportunities, crate::specs::Shells::out, crate::specs::Shells::lost, crate::specs::Shells::inside, crate::specs::Shells::shell_log, crate::specs::Shells::floor))]
 impl Core {
     /// The direction before any arrival.
@@ -82,6 +91,10 @@ impl Core {
                 seed,
                 stream,
             },
+            DirSpec::Link { trace, once, queue } => {
+                let _ = trace.form();
+                Inner::Link(LinkCore::new(alloc, trace, once, queue, horizon)?)
+            }
         };
         Ok(Core {
             alloc,
@@ -107,6 +120,7 @@ impl Core {
                 seed: _,
                 stream: _,
             } => core.arrive(t),
+            Inner::Link(core) => core.arrive(t),
         }
     }
 
@@ -118,6 +132,7 @@ impl Core {
     {
         match &mut self.inner {
             Inner::Pass(_) | Inner::Delay { .. } | Inner::Loss { .. } => Ok(0),
+            Inner::Link(core) => core.burn(bound, most),
         }
     }
 
@@ -129,6 +144,7 @@ impl Core {
             Inner::Pass(arrived) => arrived.as_slice(),
             Inner::Delay { core, .. } => core.departed(),
             Inner::Loss { core, .. } => core.departed(),
+            Inner::Link(core) => core.departed(),
         }
     }
 
@@ -139,6 +155,7 @@ impl Core {
         match &self.inner {
             Inner::Pass(_) | Inner::Delay { .. } => &[],
             Inner::Loss { core, .. } => core.lost(),
+            Inner::Link(core) => core.lost(),
         }
     }
 
@@ -148,6 +165,7 @@ impl Core {
     {
         match &self.inner {
             Inner::Pass(_) | Inner::Delay { .. } | Inner::Loss { .. } => &self.no_log,
+            Inner::Link(core) => core.log(),
         }
     }
 
@@ -159,6 +177,7 @@ impl Core {
         match &self.inner {
             Inner::Pass(_) | Inner::Loss { .. } => Ok(Vec::new(self.alloc)),
             Inner::Delay { core, .. } => core.inside(),
+            Inner::Link(core) => core.inside(),
         }
     }
 
@@ -170,6 +189,7 @@ impl Core {
         match &self.inner {
             Inner::Pass(_) | Inner::Loss { .. } => bound,
             Inner::Delay { ms, .. } => (bound + *ms).min(self.until + 1),
+            Inner::Link(core) => core.next_opportunity().unwrap_or(self.until + 1),
         }
     }
 
@@ -179,6 +199,7 @@ impl Core {
     {
         match &self.inner {
             Inner::Pass(_) | Inner::Delay { .. } | Inner::Loss { .. } => true,
+            Inner::Link(core) => has_none_left(core),
         }
     }
 

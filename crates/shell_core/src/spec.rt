@@ -1,5 +1,7 @@
 // What one direction of a shell does.
 use loss_core::Rate;
+use packet_queue::QueueSpec;
+use trace_reader::Trace;
 
 /// What one direction of a shell does with the packets that arrive.
 #[derive(Drop)]
@@ -10,4 +12,11 @@ pub enum DirSpec {
     Delay { ms: u64 },
     /// Each packet is dropped at this rate, by the words of a seed and a stream, or passes at once (mm-loss).
     Loss { rate: Rate, seed: u64, stream: u64 },
+    /// Packets wait in a queue for the delivery opportunities of a trace, which is played once or
+    /// again and again (mm-link).
+    Link {
+        trace: Trace,
+        once: bool,
+        queue: QueueSpec,
+    },
 }

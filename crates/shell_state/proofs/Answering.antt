@@ -11,7 +11,7 @@ use Rattle.packet_record.specs.Streams.{no_items, after, MayFollow, IsUpTo}
 use Rattle.packet_record.specs.Moments.{AreFrom, AreUpTo}
 use Rattle.packet_record.proofs.MomentsLemmas.{up_to_higher}
 use Rattle.shell_core.specs.declared.spec.DirSpec.{DirSpec}
-use Rattle.shell_core.specs.Promises.{count_to}
+use Rattle.link_core.specs.Promises.{count_to}
 use Rattle.shell_core.specs.Shells.{IsBuilt, opportunities}
 use Rattle.shell_core.specs.CoreParts.{CorePart, new_part, with_burnt as core_burnt}
 use Rattle.shell_core.proofs.Laws.{all_at_horizon}

@@ -4,7 +4,7 @@ use Rattle.packet_record.specs.declared.packet.Timed.{Timed}
 use Rattle.packet_record.specs.declared.item.Item.TheVariants.{Packet, Mark, End, Broken}
 use Rattle.packet_record.specs.declared.item.FlowEnd.{FlowEnd}
 use Rattle.packet_record.specs.declared.item.FlowEnd.TheVariants.{Open, Ended, Broken as Cut}
-use Rattle.shell_core.specs.Promises.{count_to}
+use Rattle.link_core.specs.Promises.{count_to}
 use Rattle.shell_core.specs.Shells.{floor}
 use Rattle.shell_core.proofs.Laws.{floor_rises}
 use Rattle.shell_state.specs.declared.taken.Taken.{Taken}

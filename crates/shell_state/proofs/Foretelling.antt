@@ -10,7 +10,7 @@ use Rattle.packet_record.specs.Streams.{after, after_all, AllFollow}
 use Rattle.packet_record.specs.Moments.{AreFrom, Rise}
 use Rattle.packet_record.proofs.MomentsLemmas.{from_lower, from-append}
 use Rattle.shell_log.specs.declared.entry.Entry.{Entry}
-use Rattle.shell_core.specs.Promises.{count_to, Extends}
+use Rattle.link_core.specs.Promises.{count_to, Extends}
 use Rattle.shell_core.specs.Shells.{out, shell_log, whole_out, whole_log}
 use Rattle.shell_core.proofs.Counting.{count_to-le}
 use Rattle.shell_core.proofs.Laws.{out_fed, out_burnt, log_fed, log_burnt}
@@ -64,7 +64,7 @@ foretells_added s added st later rises (inl open') =
     let within = count_to-le (opps_of s) s.fed.bound in
     let le : s.burnt ≤ length (opps_of s) = omega arith in
     foretold s (s.fed.packets ++ added) st
-    (out_fed s.spec s.horizon s.burnt (length (opps_of s)) s.fed.bound s.fed.packets added st.built le before st.honest_fed.rises st.honest_fed.bounded later rises)
+    (out_fed s.spec s.horizon s.burnt (length (opps_of s)) s.fed.bound s.fed.packets added st.built le before st.covered st.honest_fed.rises st.honest_fed.bounded later rises)
     (log_fed s.spec s.horizon s.burnt (length (opps_of s)) s.fed.bound s.fed.packets added st.built le before st.covered st.honest_fed.rises st.honest_fed.bounded later rises)
 foretells_added s added st later rises (inr none) =
     let f = st.allowed in

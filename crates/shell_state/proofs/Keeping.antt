@@ -11,7 +11,7 @@ use Rattle.packet_record.specs.Streams.{after, stream, MayFollow, IsUpTo}
 use Rattle.packet_record.specs.Moments.{AreFrom, AreUpTo, Rise}
 use Rattle.packet_record.proofs.MomentsLemmas.{from_lower, up_to_higher, from-append, up_to-append, up_to_back, rise-append, rise_back}
 use Rattle.trace_reader.specs.declared.opportunity.Opportunity.{Opportunity}
-use Rattle.shell_core.specs.Promises.{count_to, AreCovered}
+use Rattle.link_core.specs.Promises.{count_to, AreCovered}
 use Rattle.shell_core.proofs.Counting.{count_to-le, count_to-grows}
 use Rattle.shell_core.proofs.Laws.{out_fed, out_burnt, out_rises, out_within, out_up_to, floor_grows, floor_within}
 use Rattle.shell_state.specs.declared.taken.Taken.{Taken}
@@ -97,7 +97,7 @@ fed_keeps s (Packet t) st whole may within =
     let le : s.burnt ≤ b' = omega arith in
     let before : s.burnt ≤ count_to os s.fed.bound = subst (λ n. s.burnt ≤ n) (licensed_open s may.0) st.allowed in
     let grown = count_to-grows os s.fed.bound t.moment may.1 in
-    let ext = out_fed s.spec s.horizon s.burnt b' s.fed.bound s.fed.packets (t ∷ []) st.built le before st.honest_fed.rises st.honest_fed.bounded (may.1, tt) (tt, tt) in
+    let ext = out_fed s.spec s.horizon s.burnt b' s.fed.bound s.fed.packets (t ∷ []) st.built le before st.covered st.honest_fed.rises st.honest_fed.bounded (may.1, tt) (tt, tt) in
     let s' = fed_more s (Packet t) in
     let departs = more_departs s.taken.packets (departures s) (ready s) ext.more (departures s') st.taken ext.is in
     let is = ready_is (departures s') s.taken.packets (ready s ++ ext.more) departs in

@@ -8,7 +8,7 @@ use Rattle.shell_state.specs.declared.taken.Taken.TheVariants.{Item as Gives, Ag
 use Rattle.packet_record.specs.Flows.{FlowView}
 use Rattle.packet_record.specs.declared.item.FlowEnd.TheVariants.{Open}
 use Rattle.packet_record.specs.Moments.{AreUpTo}
-use Rattle.shell_core.specs.Promises.{count_to}
+use Rattle.link_core.specs.Promises.{count_to}
 use Rattle.shell_core.specs.Shells.{opportunities}
 use Rattle.shell_core.specs.CoreParts.{CorePart, with_arrival}
 use Rattle.shell_state.specs.States.{State}

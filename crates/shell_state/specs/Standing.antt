@@ -7,7 +7,7 @@ use Rattle.packet_record.specs.declared.item.FlowEnd.TheVariants.{Ended, Broken 
 use Rattle.packet_record.specs.Streams.{after_all, AllFollow}
 use Rattle.packet_record.specs.Moments.{AreFrom, AreUpTo, Rise}
 use Rattle.shell_log.specs.declared.entry.Entry.{Entry}
-use Rattle.shell_core.specs.Promises.{AreCovered}
+use Rattle.link_core.specs.Promises.{AreCovered}
 use Rattle.shell_core.specs.Shells.{IsBuilt, shell_log, whole_out, whole_log}
 use Rattle.shell_state.specs.States.{State, opps_of, departures, ready, floor_of}
 use Rattle.shell_state.specs.Steps.{licensed}

@@ -3,7 +3,7 @@ ghost use Rattle.std.specs.Prelude.{◌≡◌, ◌≤◌, ◌<◌, ◌+◌, [], 
 ghost use Rattle.std.specs.Bool.{OnTrue, OnFalse};
 ghost use Rattle.packet_record.specs.Streams.{after, MayFollow, IsUpTo};
 ghost use Rattle.packet_record.specs.Takes.{IsPacket};
-ghost use Rattle.shell_core.specs.Promises.{count_to};
+ghost use Rattle.link_core.specs.Promises.{count_to};
 ghost use Rattle.shell_core.specs.Shells.{opportunities};
 ghost use Rattle.shell_core.specs.CoreParts.{with_burnt as core_burnt, is_spent};
 ghost use Rattle.shell_state.specs.States.{departures, ready};
