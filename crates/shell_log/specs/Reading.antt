@@ -58,6 +58,20 @@ entry_of line = do
   moment ← canonical_of (first_word line)
   entry_by_sign (first_word (other_words line)) moment (other_words (other_words line))
 
+-- the number of a refusal, 0 for want of memory
+abbrev pub number_of : LogError → ℕ
+number_of errors.BadHeader = 1
+number_of (errors.BadLine line) = 2
+number_of (errors.Backwards line) = 3
+number_of errors.OutOfMemory = 0
+
+-- the line that it names, 0 where it names none
+abbrev pub line_named : LogError → ℕ
+line_named errors.BadHeader = 0
+line_named (errors.BadLine line) = line
+line_named (errors.Backwards line) = line
+line_named errors.OutOfMemory = 0
+
 -- the refusal of one line, by its number, the moment of the line before and what the line says
 abbrev pub fault_of : ℕ → ℕ → Option Entry → Option LogError
 fault_of number low None = Some (errors.BadLine number)

@@ -14,13 +14,40 @@ use std::alloc::Global;
 /// Why a text isn't the text of a log. The first refusal wins; lines are counted from 1.
 #[derive(Clone, Copy, Debug, PartialEq, Eq)]
 pub enum LogError {
-    /// 1: the first line isn't `# base timestamp: 0` with its line feed.
+    /// The first line isn't `# base timestamp: 0` with its line feed.
     BadHeader,
-    /// 2: a line of another form, with a number out of range or with a leading zero, or without its line feed.
+    /// The line is of another form, has a number out of range or a leading zero, or lacks its line feed.
     BadLine { line: u64 },
-    /// 3: a moment below that of the line before.
+    /// The moment is below that of the line before.
     Backwards { line: u64 },
+    /// Memory was wanting. The text wasn't refused.
     OutOfMemory,
+}
+
+impl LogError {
+    ghost use Rattle.shell_log.specs.Reading.{number_of, line_named};
+
+    /// The number of the refusal, 1 to 3 in the order of the variants, or 0 for want of memory.
+    pub fn number(self) -> u32
+        ensures { result ≡ number_of self }
+    {
+        match self {
+            LogError::BadHeader => 1,
+            LogError::BadLine { .. } => 2,
+            LogError::Backwards { .. } => 3,
+            LogError::OutOfMemory => 0,
+        }
+    }
+
+    /// The line that the refusal names, or 0 where it names none.
+    pub fn line(self) -> u64
+        ensures { result ≡ line_named self }
+    {
+        match self {
+            LogError::BadLine { line } | LogError::Backwards { line } => line,
+            LogError::BadHeader | LogError::OutOfMemory => 0,
+        }
+    }
 }
 
 impl From<OutOfMemory> for LogError {

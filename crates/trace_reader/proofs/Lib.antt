@@ -8,3 +8,4 @@ pub mod WordsLemmas
 pub mod TextLaws
 pub mod TextFaults
 pub mod MadeLemmas
+pub mod CountLaws

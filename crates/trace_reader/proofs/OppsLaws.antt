@@ -93,7 +93,7 @@ length-opps_more t once m horizon is le =
     let few : length (up_to m (opps t.opportunities once horizon)) ≤ length (opps t.opportunities once horizon) = length-up_to m (opps t.opportunities once horizon) in
     omega arith
 
-entries_rising : (t : TraceView) (once : Bool) (horizon : ℕ) → IsTrace t → AreRising (entries t.opportunities (enough t.opportunities once horizon))
+pub entries_rising : (t : TraceView) (once : Bool) (horizon : ℕ) → IsTrace t → AreRising (entries t.opportunities (enough t.opportunities once horizon))
 entries_rising t true horizon is =
     let e : length t.opportunities ≡ 1 * length t.opportunities = omega arith in
     subst AreRising (sym (ap (entries t.opportunities) e ∙ entries_laps t.opportunities 1)) (laps_rising t.opportunities 1 is.rising)
@@ -113,7 +113,7 @@ fewer_than_enough t once horizon is =
     let all = length-entries t.opportunities (enough t.opportunities once horizon) is.some in
     omega arith
 
-within : (trace : List Opportunity) (once : Bool) (horizon j : ℕ) → j < enough trace once horizon → opportunity_at trace once j ≡ entry trace j
+pub within : (trace : List Opportunity) (once : Bool) (horizon j : ℕ) → j < enough trace once horizon → opportunity_at trace once j ≡ entry trace j
 within trace true horizon j lt = rw (lt-leb (length trace) j lt)
 within trace false horizon j lt = refl
 

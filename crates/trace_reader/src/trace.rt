@@ -1,5 +1,5 @@
 // A trace, and the formula of its opportunities.
-ghost use Rattle.std.specs.Prelude.{◌≡◌, ◌<◌, ◌≤◌, ◌^◌, ◌↔◌, Option, None, IsTrue, length, IfOk};
+ghost use Rattle.std.specs.Prelude.{◌≡◌, ◌<◌, ◌≤◌, ◌^◌, ◌↔◌, ℕ, Option, Some, None, IsTrue, length, IfOk};
 ghost use Rattle.trace_reader.specs.Orders.{AreRising};
 ghost use Rattle.trace_reader.specs.Opps.{up_to, last_moment, opportunity_at, opps};
 ghost use Rattle.trace_reader.specs.Traces.{IsTrace};
@@ -29,6 +29,8 @@ impl Model for Trace {
 }
 
 impl Trace {
+    ghost use Rattle.trace_reader.specs.declared.opportunity.Opportunity.{Opportunity as OpportunityValue};
+
     pub(crate) fn from_list(form: Form, list: Vec<Opportunity>) -> Self
         requires { IsTrace (record { form = form; opportunities = list.items }) }
         ensures { result ≡ record { form = form; opportunities = list.items } }
@@ -76,6 +78,7 @@ impl Trace {
     pub fn count_to(&self, h: u64, once: bool) -> u64
         requires { h ≤ 10000000000 }
         ensures count { result ≡ length (opps self.now.opportunities once h) }
+        ensures which { (j : ℕ) (o : OpportunityValue) → opportunity_at self.now.opportunities once j ≡ Some o → (j < result) ↔ (o.moment ≤ h) }
         ensures trace { IsTrace self.now }
     {
         if once {
