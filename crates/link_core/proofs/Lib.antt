@@ -19,3 +19,4 @@ pub mod SeenLemmas
 pub mod OppsLemmas
 pub mod LinkLaws
 pub mod FloorLaws
+pub mod OnlyLaws

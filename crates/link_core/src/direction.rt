@@ -74,6 +74,7 @@ impl LinkCore {
         requires burnt { self.old.burnt ≤ count_to (opps_of self.old) t.moment }
         ensures ok { OnOk result (self.new ≡ record self.old { burnt = count_to (opps_of self.old) t.moment; arrivals = self.old.arrivals ++ t ∷ [] }) }
         ensures err { OnErr result (self.new ≡ self.old) }
+        ensures goes_on { OnlyGoesOn self.old self.new }
     {
         self.parts.arrive(t)
     }
@@ -83,6 +84,7 @@ impl LinkCore {
         ensures count { IfOk result (λ n. n ≡ min most (count_to (opps_of self.old) bound - self.old.burnt)) }
         ensures ok { IfOk result (λ n. self.new ≡ record self.old { burnt = self.old.burnt + n }) }
         ensures err { OnErr result (self.new ≡ self.old) }
+        ensures goes_on { OnlyGoesOn self.old self.new }
     {
         self.parts.burn(bound, most)
     }
