@@ -276,6 +276,18 @@ module _ {Tree Said Message : Type 0} (form : Form Tree Said Message)
   taken : (old : Frames) (head : Said) (text : List ℕ) (b : BeginsMessage form old.ended old.unread head text) → Sorted old.ended old.unread (message (length text))
   taken old head text b = sort_message old.ended old.unread text b.tree b.after b.is b.split b.stops
 
+  -- no message where another answer has its cause
+  pub more_none : (ended : Bool) (bytes text after : List ℕ) (h : Tree) (r : IsMessage form text h) → MoreCause form ended bytes → bytes ≡ text ++ after → MayStop r.framing ended after → ⊥
+  more_none ended bytes text after h r x e stops =
+      not_waits (length text) (one_finding ended bytes (message (length text)) waits (sort_message ended bytes text h after r e stops) (sort_more ended bytes x)
+      ((λ w f. not_waits (length text) w), (λ w f. not_fault (length text) BadHead f)))
+
+  pub fault_none : (ended : Bool) (bytes text after : List ℕ) (h : Tree) (r : IsMessage form text h) (f : FrameError) → FaultCause form ended bytes f → bytes ≡ text ++ after
+      → MayStop r.framing ended after → ⊥
+  fault_none ended bytes text after h r f x e stops =
+      not_fault (length text) f (one_finding ended bytes (message (length text)) (fails f) (sort_message ended bytes text h after r e stops) (sort_fault ended bytes f x)
+      ((λ w g. not_waits (length text) w), (λ w g. not_fault (length text) BadHead g)))
+
   pub gives_first : (old new : Frames) (result : Result (Step Message) FrameFault) (bytes after : List ℕ) (h : Tree) (r : IsMessage form bytes h) → NextSays form old result new
       → old.unread ≡ bytes ++ after → MayStop r.framing old.ended after → old.failed ≡ None → GivesBytes form bytes result
   gives_first old new (Ok (steps.Message m)) bytes after h r x e stops is_open =

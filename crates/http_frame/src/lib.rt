@@ -6,6 +6,7 @@ mod buffer;
 mod chunks;
 mod errors;
 mod fields;
+mod first;
 mod framing;
 mod head;
 mod limits;
@@ -19,6 +20,7 @@ mod response_head;
 mod tests;
 
 pub use errors::{FrameError, FrameFault, Step};
+pub use first::{first_request, first_response};
 pub use framing::Framing;
 pub use messages::{Request, RequestHead, Response, ResponseHead};
 pub use request_frames::RequestFrames;

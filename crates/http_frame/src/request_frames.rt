@@ -43,7 +43,7 @@ pub fn requests_are_found_once()
 {}
 
 /// The first request, by what was known of it before.
-fn advance(
+pub(crate) fn advance(
     alloc: Global,
     unread: &[u8],
     pending: Option<Pending<RequestHead>>,

@@ -48,7 +48,7 @@ fn of_kind(
 }
 
 /// The first response, by what was known of it before.
-fn advance(
+pub(crate) fn advance(
     alloc: Global,
     to_head: bool,
     ended: bool,

@@ -1,0 +1,41 @@
+// The message at the front of bytes that are all there.
+ghost use Rattle.std.specs.Prelude.{IfOk};
+ghost use Rattle.http_frame.specs.Runs.{FirstRequest, FirstResponse};
+
+use crate::messages::{Request, Response};
+use crate::pending::Outcome;
+use crate::request_frames::advance as advance_request;
+use crate::response_frames::advance as advance_response;
+use mm_base::OutOfMemory;
+use std::alloc::Global;
+
+/// The request at the front; `None` exactly where no front of the bytes is one.
+pub fn first_request(alloc: Global, bytes: &[u8]) -> Result<Option<Request>, OutOfMemory>
+    ensures { IfOk result (FirstRequest bytes.now) }
+{
+    let (_, outcome) = advance_request(alloc, bytes, None);
+    match outcome {
+        Ok(Outcome::Message(head, bytes)) => Ok(Some(Request { head, bytes })),
+        Ok(Outcome::More) => Ok(None),
+        Ok(Outcome::Fault(_)) => Ok(None),
+        Err(error) => Err(error),
+    }
+}
+
+/// The response at the front, to a HEAD request or to another, where the input ends with the bytes;
+/// `None` exactly where no front of the bytes is one.
+pub fn first_response(
+    alloc: Global,
+    to_head: bool,
+    bytes: &[u8],
+) -> Result<Option<Response>, OutOfMemory>
+    ensures { IfOk result (FirstResponse to_head bytes.now) }
+{
+    let (_, outcome) = advance_response(alloc, to_head, true, bytes, None);
+    match outcome {
+        Ok(Outcome::Message(head, bytes)) => Ok(Some(Response { head, bytes })),
+        Ok(Outcome::More) => Ok(None),
+        Ok(Outcome::Fault(_)) => Ok(None),
+        Err(error) => Err(error),
+    }
+}
