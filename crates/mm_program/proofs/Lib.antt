@@ -1,0 +1,6 @@
+pub mod Departures
+pub mod WordLemmas
+pub mod SendLemmas
+pub mod EndLemmas
+pub mod InputLemmas
+pub mod TopLemmas

@@ -1,0 +1,8 @@
+use Rattle.mm_program.proofs.SendLemmas.{sent_whole, sent_line}
+use Rattle.mm_program.proofs.explain.explain.Goals as goal
+
+pub returns-in-Ok-clause-line : goal.returns-in-Ok-clause-line
+returns-in-Ok-clause-line g c = λ _. sent_line _ _ _ _ _ c.in-Ok.ensures.ok
+
+pub returns-in-Ok-clause-front : goal.returns-in-Ok-clause-front
+returns-in-Ok-clause-front g c = sent_whole _ _ _ c.in-Ok.ensures.ok

@@ -1,0 +1,9 @@
+pub mod Jobs
+pub mod Causes
+pub mod Refusals
+pub mod Fates
+pub mod Ends
+pub mod View
+pub mod Sends
+pub mod Inputs
+pub mod Shells

@@ -1,0 +1,12 @@
+//! The top call: what the words of a command line make of the files of a disk, and what it answers.
+#![tactic(auto)]
+
+mod delay;
+mod explain;
+mod input;
+mod job;
+mod refusal;
+mod run;
+mod top;
+
+pub use top::mm_main;
