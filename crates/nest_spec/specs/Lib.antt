@@ -3,6 +3,9 @@ pub mod RateValues
 pub mod NestFaults
 pub mod LinkViews
 pub mod ShellViews
+pub mod Fates
+pub mod Passing
+pub mod Index
 pub mod Words
 pub mod Plans
 pub mod PlanViews

@@ -4,7 +4,10 @@
 mod error;
 mod fate;
 mod fates_text;
+mod gathering;
 mod link_words;
+mod mark;
+mod marking;
 mod nest_words;
 mod shell_reading;
 mod shell_words;

@@ -1,0 +1,49 @@
+-- The lists of states that have run are those of the shells over what arrives.
+use Rattle.std.proofs.Common.{◌≡◌, ℕ, ◌<◌, List, [], ◌∷◌, length, ap, sym, subst, ◌∙◌, refl, arith}
+use Rattle.packet_record.specs.declared.packet.Timed.{Timed}
+use Rattle.packet_record.specs.declared.packet.Direction.{Direction}
+use Rattle.packet_record.specs.declared.item.FlowEnd.TheVariants.{Ended}
+use Rattle.shell_core.specs.declared.spec.DirSpec.{DirSpec}
+use Rattle.shell_core.specs.Shells.{lost, opportunities, whole_out, whole_lost}
+use Rattle.shell_state.specs.States.{State}
+use Rattle.shell_state.specs.Standing.{Stands}
+use Rattle.shell_state.proofs.Foretelling.{taken_whole}
+use Rattle.nest_spec.specs.declared.mark.Mark.TheVariants.{Enters}
+use Rattle.nest_spec.specs.Fates.{Stage, stage_of, stages_of, next_number, passes, AllStand}
+use Rattle.nest_spec.specs.Passing.{HavePassed}
+
+abbrev pub ArePassed : Direction → ℕ → ℕ → List DirSpec → List Timed → List Stage → Type 0
+ArePassed d h n [] arrivals [] = Unit {0}
+ArePassed d h n [] arrivals (s ∷ stages) = ⊥
+ArePassed d h n (c ∷ specs) arrivals [] = ⊥
+ArePassed d h n (c ∷ specs) arrivals (s ∷ stages) =
+    (s.number ≡ n) × (s.lost ≡ whole_lost c h arrivals) × (s.taken ≡ whole_out c h arrivals) × ArePassed d h (next_number d n) specs (whole_out c h arrivals) stages
+
+-- a state that has run
+pub has_out : (c : DirSpec) (h : ℕ) (arrivals : List Timed) (s : State) → Stands s → s.spec ≡ c → s.horizon ≡ h → s.fed.packets ≡ arrivals → s.taken.end ≡ Ended → s.taken.packets ≡ whole_out c h arrivals
+has_out c h arrivals s stands es eh ef ended =
+    (taken_whole s stands ended).1 ∙ ap (λ x. whole_out x s.horizon s.fed.packets) es ∙ ap (λ x. whole_out c x s.fed.packets) eh ∙ ap (whole_out c h) ef
+
+pub has_lost : (c : DirSpec) (h : ℕ) (arrivals : List Timed) (s : State) → Stands s → s.spec ≡ c → s.horizon ≡ h → s.fed.packets ≡ arrivals → s.taken.end ≡ Ended
+    → lost s.spec s.horizon s.burnt s.fed.packets ≡ whole_lost c h arrivals
+has_lost c h arrivals s stands es eh ef ended =
+    ap (λ b. lost s.spec s.horizon b s.fed.packets) (stands.ended ended).1
+    ∙ ap (λ x. whole_lost x s.horizon s.fed.packets) es ∙ ap (λ x. whole_lost c x s.fed.packets) eh ∙ ap (whole_lost c h) ef
+
+pub have_passed : (d : Direction) (h n : ℕ) (specs : List DirSpec) (arrivals : List Timed) (states : List State) → AllStand states → HavePassed h specs arrivals states
+    → ArePassed d h n specs arrivals (stages_of d n states)
+have_passed d h n [] arrivals [] stand have = tt
+have_passed d h n [] arrivals (s ∷ states) stand have = absurd have
+have_passed d h n (c ∷ specs) arrivals [] stand have = absurd have
+have_passed d h n (c ∷ specs) arrivals (s ∷ states) stand have =
+    let out_is = has_out c h arrivals s stand.0 have.0 have.1 have.2 have.3 in (
+      refl,
+      has_lost c h arrivals s stand.0 have.0 have.1 have.2 have.3,
+      out_is,
+      subst (λ l. ArePassed d h (next_number d n) specs l (stages_of d (next_number d n) states)) out_is (have_passed d h (next_number d n) specs s.taken.packets states stand.1 have.4),
+    )
+
+-- what the first of some shells makes of the packets that enter it
+pub passes_some : (d : Direction) (n : ℕ) (states : List State) → 0 < length states → passes (stages_of d n states) ≡ Enters n
+passes_some d n [] some = absurd (omega arith)
+passes_some d n (s ∷ states) some = refl

@@ -1,0 +1,26 @@
+// What a list of packets says of each of them.
+ghost use Rattle.std.specs.Prelude.{◌≡◌};
+ghost use Rattle.nest_spec.specs.Fates.{mark_fate};
+
+use crate::Fate;
+use packet_record::Timed;
+
+#[derive(Clone, Copy)]
+pub(crate) enum Mark {
+    Drops { shell: u32 },
+    Enters { shell: u32 },
+    Leaves,
+}
+
+pub(crate) fn fate_by(mark: Mark, t: Timed) -> Fate
+    ensures { result ≡ mark_fate mark t }
+{
+    match mark {
+        Mark::Drops { shell } => Fate::Dropped {
+            shell,
+            moment: t.moment,
+        },
+        Mark::Enters { shell } => Fate::Inside { shell },
+        Mark::Leaves => Fate::Departed { moment: t.moment },
+    }
+}
