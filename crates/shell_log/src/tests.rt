@@ -1,7 +1,10 @@
 // Logs read and printed.
 use crate::{Entry, Log, LogError, print_log, read_log};
 use std::alloc::Global;
+use std::marker::{Send, Sync};
 use std::test::Fail;
+
+fn is_shared<T: Send + Sync>(_: &T) {}
 
 fn refusal(alloc: Global, text: &[u8]) -> Option<LogError> {
     match read_log(alloc, text) {
@@ -45,6 +48,7 @@ fn a_log_is_printed_and_read(rt: HostRuntime) -> Result<(), Fail> {
     let log = read_log(alloc, text)?;
     assert_eq!(rt; log.entries().len(), 4);
     assert_eq!(rt; print_log(alloc, &log)?.as_slice(), text);
+    is_shared(&log);
     let mut own = Log::new(alloc);
     own.reserve(1)?;
     own.add(Entry::Opportunity {

@@ -1,7 +1,10 @@
 // Traces read, printed, played and made.
 use crate::{Form, TraceError, make_trace, print_trace, read_trace};
 use std::alloc::Global;
+use std::marker::{Send, Sync};
 use std::test::Fail;
+
+fn is_shared<T: Send + Sync>(_: &T) {}
 
 fn refusal(alloc: Global, text: &[u8]) -> Option<TraceError> {
     match read_trace(alloc, text) {
@@ -43,6 +46,7 @@ fn texts_are_refused_by_their_first_fault(rt: HostRuntime) {
 fn traces_are_printed(rt: HostRuntime) -> Result<(), Fail> {
     let alloc = rt.alloc();
     let trace = read_trace(alloc, b"007".as_slice())?;
+    is_shared(&trace);
     assert_eq!(rt;
         print_trace(alloc, &trace.copy(alloc)?)?.as_slice(),
         b"7\n".as_slice()
