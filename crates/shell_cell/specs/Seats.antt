@@ -1,0 +1,104 @@
+-- What callers see of a cell and its seats, and what a call does to a seat.
+use Rattle.std.specs.Prelude.{◌≡◌, ◌⊎◌, ℕ, ◌<◌, ◌≤◌, List, [], ◌∷◌, ◌++◌, Bool, true, false, All}
+use Rattle.atomic_table.specs.Seated.{TableId}
+use Rattle.packet_record.specs.declared.item.Item.{Item}
+use Rattle.packet_record.specs.declared.item.Stream.{Stream}
+use Rattle.packet_record.specs.Streams.{after, MayFollow, IsUpTo}
+use Rattle.shell_state.specs.declared.taken.Taken.{Taken}
+use Rattle.shell_state.specs.declared.taken.Taken.TheVariants.{Item as Gives, Again, NotYet}
+use Rattle.shell_state.specs.States.{State}
+use Rattle.shell_state.specs.Steps.{answer_of, after_take, breaks}
+use Rattle.shell_state.specs.Standing.{Stands}
+use Rattle.shell_state.specs.Causes.{HasCauses}
+use Rattle.shell_cell.specs.declared.view.FeedTurn.{FeedTurn}
+use Rattle.shell_cell.specs.declared.view.DrainTurn.{DrainTurn}
+use Rattle.shell_cell.specs.declared.view.DrainCall.{DrainCall}
+use Rattle.shell_cell.specs.declared.view.DrainCall.TheVariants.{Takes, Breaks}
+use Rattle.shell_cell.specs.declared.view.View.{View}
+use Rattle.shell_cell.specs.History.{IsPast, fed_flow, taken_flow}
+
+-- which cell it is, and the state that it was opened with
+pub record Cell : Type 0 where
+  pub table : TableId
+  pub opening : State
+
+-- a seat: the turns that it has spent, the flow of its items, whether it has found the state broken, the horizon and its cell
+pub record Seat (Turn : Type 0) : Type 0 where
+  pub turns : List Turn
+  pub flow : Stream
+  pub broken : Bool
+  pub horizon : ℕ
+  pub cell : Cell
+
+abbrev pub FeedView : Type 0
+FeedView = Seat FeedTurn
+
+abbrev pub DrainView : Type 0
+DrainView = Seat DrainTurn
+
+-- what a seat at this table shows by what it knows
+abbrev pub feed_seat : TableId → View → FeedView
+feed_seat table v = record { turns = v.fed; flow = fed_flow v.fed; broken = v.broken; horizon = v.opening.horizon; cell = record { table = table; opening = v.opening } }
+
+abbrev pub drain_seat : TableId → View → DrainView
+drain_seat table v = record { turns = v.drained; flow = taken_flow v.drained; broken = v.broken; horizon = v.opening.horizon; cell = record { table = table; opening = v.opening } }
+
+-- a seat keeps its horizon and its cell
+abbrev pub IsSameSeat : {Turn : Type 0} → Seat Turn → Seat Turn → Type 0
+IsSameSeat old new = (new.horizon ≡ old.horizon) × (new.cell ≡ old.cell)
+
+-- no turn was spent, and the flow is as it was
+abbrev pub IsUnspent : {Turn : Type 0} → Seat Turn → Seat Turn → Type 0
+IsUnspent old new = (new.turns ≡ old.turns) × (new.flow ≡ old.flow)
+
+-- the item may be fed by this seat
+abbrev pub MayFeedAt : FeedView → Item → Type 0
+MayFeedAt s item = MayFollow s.flow item ⊎ (s.broken ≡ true)
+
+-- a feed spent a turn with a number above those that the seat had
+pub record SpendsFeed (old : FeedView) (item : Item) (new : FeedView) : Type 0 where
+  pub number : ℕ
+  pub turns : new.turns ≡ old.turns ++ record { number = number; item = item } ∷ []
+  pub above : All (λ (t : FeedTurn). t.number < number) old.turns
+  pub breaks_it : new.broken ≡ breaks item
+
+-- a feed found the state broken and spent none
+abbrev pub FindsBroken : FeedView → FeedView → Type 0
+FindsBroken old new = (new.broken ≡ true) × IsUnspent old new
+
+-- the item was added to the flow, or the state was found broken
+abbrev pub Fed : FeedView → Item → FeedView → Type 0
+Fed old item new = ((old.broken ≡ false) × (new.flow ≡ after old.flow item)) ⊎ ((new.broken ≡ true) × (new.flow ≡ old.flow))
+
+-- a call of the drain spent a turn with a number above those that the seat had
+pub record SpendsDrain (old : DrainView) (call : DrainCall) (new : DrainView) : Type 0 where
+  pub number : ℕ
+  pub turns : new.turns ≡ old.turns ++ record { number = number; call = call } ∷ []
+  pub above : All (λ (t : DrainTurn). t.number < number) old.turns
+
+-- the answer is that of the state which the turn found, with its causes; that state stands, and its taken flow was the seat's
+pub record Found (old : DrainView) (most : ℕ) (answer : Taken) (new : DrainView) : Type 0 where
+  pub state : State
+  pub stands : Stands state
+  pub gives : answer ≡ answer_of state most
+  pub causes : HasCauses state most answer (after_take state most)
+  pub taken : state.taken ≡ old.flow
+  pub horizon : state.horizon ≡ old.horizon
+  pub spec : state.spec ≡ old.cell.opening.spec
+  pub broken : new.broken ≡ state.broken
+
+-- an item that is given may follow the flow and is within the horizon
+abbrev pub MayGive : Stream → ℕ → Taken → Type 0
+MayGive flow horizon (Gives item) = MayFollow flow item × IsUpTo horizon item
+MayGive flow horizon (Again burnt) = Unit {0}
+MayGive flow horizon (NotYet bound) = Unit {0}
+
+-- what a take did to the flow
+abbrev pub Took : DrainView → Taken → DrainView → Type 0
+Took old (Gives item) new = (new.flow ≡ after old.flow item) × MayFollow old.flow item × IsUpTo old.horizon item
+Took old (Again burnt) new = new.flow ≡ old.flow
+Took old (NotYet bound) new = new.flow ≡ old.flow
+
+-- the numbers of both seats are together 1 to n, each once, and the calls in their order are legal from the first state and leave the second
+abbrev pub HasHistory : State → List FeedTurn → List DrainTurn → State → Type 0
+HasHistory x fed drained y = (n : ℕ) × IsPast x fed drained n y

@@ -1,0 +1,195 @@
+//! The cell, and what each seat may do at it.
+ghost use Rattle.std.specs.Prelude.{◌≡◌, [], false, IfOk};
+ghost use Rattle.packet_record.specs.Streams.{no_items};
+
+use crate::rule::Part;
+use crate::turns::TurnTable;
+use crate::view::{Call, DrainCall};
+use crate::{DrainSeat, FeedSeat};
+use atomic_table::Table;
+use mm_base::OutOfMemory;
+use packet_record::Item;
+use shell_state::{ShellState, Taken};
+use std::alloc::Global;
+use std::marker::{Brand, Model};
+use std::snapshot::Snapshot;
+use std::sync::Wait;
+
+/// A shell's state under a lock. Contracts see which cell it is, and the state that it was opened with.
+#[derive(Drop)]
+pub struct ShellCell {
+    pub(crate) turns: TurnTable,
+}
+
+impl Model for ShellCell {
+    ghost use Rattle.shell_cell.specs.Seats.{Cell};
+
+    ghost Value = { Cell };
+
+    ghost use Rattle.shell_cell.specs.Sides.{cell_view};
+
+    ghost view = { cell_view };
+}
+
+/// Opens a cell over a state of which nothing was fed or taken, and gives its two seats. All the memory
+/// of the lock is taken here. On `OutOfMemory` the state is given up.
+pub fn open(
+    alloc: Global,
+    state: ShellState,
+) -> Result<(ShellCell, FeedSeat, DrainSeat), OutOfMemory>
+    requires fed { state.fed ≡ no_items }
+    requires taken { state.taken ≡ no_items }
+    ensures opening { IfOk result (λ r. r.0.opening ≡ state) }
+    ensures cells { IfOk result (λ r. (r.1.cell ≡ r.0) × (r.2.cell ≡ r.0)) }
+    ensures horizons { IfOk result (λ r. (r.1.horizon ≡ state.horizon) × (r.2.horizon ≡ state.horizon)) }
+    ensures turns { IfOk result (λ r. (r.1.turns ≡ []) × (r.2.turns ≡ [])) }
+    ensures flows { IfOk result (λ r. (r.1.flow ≡ no_items) × (r.2.flow ≡ no_items)) }
+    ensures broken { IfOk result (λ r. (r.1.broken ≡ false) × (r.2.broken ≡ false)) }
+{
+    let key = Snapshot::of(&state);
+    let mut slots = Vec::new(alloc);
+    slots.push(Some(state))?;
+    let Ok((table, mut seat)) = Table::new(alloc, &[0], slots, &key) else {
+        return Err(OutOfMemory);
+    };
+    let drain = table.shared.split_seat::<Part>(&mut seat);
+    let cell = ShellCell {
+        turns: TurnTable { table },
+    };
+    let taking = DrainSeat {
+        seat: drain,
+        seen: 0,
+    };
+    Ok((cell, FeedSeat { seat }, taking))
+}
+
+impl ShellCell {
+    ghost use Rattle.std.specs.Prelude.{◌≡◌, ◌≤◌, ◌⊎◌, true, false, OnOk, OnErr, IfOk, IsOk};
+    ghost use Rattle.packet_record.specs.declared.item.FlowEnd.TheVariants.{Open};
+    ghost use Rattle.packet_record.specs.declared.item.Item.TheVariants.{Broken};
+    ghost use Rattle.packet_record.specs.Streams.{IsUpTo};
+    ghost use Rattle.packet_record.specs.Takes.{IsPacket};
+    ghost use Rattle.shell_state.specs.Standing.{Stands};
+    ghost use Rattle.shell_state.specs.declared.taken.Taken.TheVariants.{Item as Gives};
+    ghost use Rattle.shell_cell.specs.declared.view.DrainCall.TheVariants.{Takes, Breaks};
+    ghost use Rattle.shell_cell.specs.Seats.{MayFeedAt, SpendsFeed, FindsBroken, Fed, SpendsDrain, Found, Took, IsUnspent, IsSameSeat, HasHistory};
+
+    /// Waits for the turn and feeds the item. On a broken state it answers Ok and changes nothing.
+    /// `OutOfMemory` comes only for a packet, and changes neither the state nor the seat.
+    pub fn feed<R: Wait>(&self, rt: &R, seat: &mut FeedSeat, item: Item) -> Result<(), OutOfMemory>
+        requires own { seat.old.cell ≡ self.now }
+        requires follows { MayFeedAt seat.old item }
+        requires within { IsUpTo seat.old.horizon item }
+        ensures turn { OnOk result (SpendsFeed seat.old item seat.new ⊎ FindsBroken seat.old seat.new) }
+        ensures fed { OnOk result (Fed seat.old item seat.new) }
+        ensures broken { seat.old.broken ≡ true → IsOk result × FindsBroken seat.old seat.new }
+        ensures err { OnErr result (seat.new ≡ seat.old) }
+        ensures only_packets { OnErr result (IsPacket item) }
+        ensures breaks { item ≡ Broken → IsOk result }
+        ensures same { IsSameSeat seat.old seat.new }
+    {
+        let (word, mut state) = self.turns.claim(rt, &mut seat.seat);
+        if state.is_broken() {
+            self.turns.give_up(&mut seat.seat, word, state);
+            return Ok(());
+        }
+        match state.feed(item) {
+            Ok(()) => {
+                let call = Call::Feeds(item);
+                self.turns.spend::<Brand>(&mut seat.seat, word, state, call);
+                Ok(())
+            }
+            Err(_) => {
+                self.turns.give_up(&mut seat.seat, word, state);
+                Err(OutOfMemory)
+            }
+        }
+    }
+
+    /// Waits for the turn and takes what the state has to give, burning at most `most` opportunities.
+    /// `OutOfMemory` changes neither the state nor the seat, and never comes on a broken state.
+    pub fn take<R: Wait>(
+        &self,
+        rt: &R,
+        seat: &mut DrainSeat,
+        most: u32,
+    ) -> Result<Taken, OutOfMemory>
+        requires own { seat.old.cell ≡ self.now }
+        requires most { 1 ≤ most }
+        requires open { seat.old.flow.end ≡ Open }
+        ensures turn { IfOk result (λ answer. SpendsDrain seat.old (Takes most answer) seat.new) }
+        ensures found { IfOk result (λ answer. Found seat.old most answer seat.new) }
+        ensures took { IfOk result (λ answer. Took seat.old answer seat.new) }
+        ensures broken { seat.old.broken ≡ true → result ≡ Ok (Gives Broken) }
+        ensures err { OnErr result (seat.new ≡ seat.old) }
+        ensures same { IsSameSeat seat.old seat.new }
+    {
+        let (word, mut state) = self.turns.claim(rt, &mut seat.seat);
+        state.stands();
+        match state.take(most) {
+            Ok(answer) => {
+                let call = Call::Drains(DrainCall::Takes(most, answer));
+                self.turns.spend::<Brand>(&mut seat.seat, word, state, call);
+                seat.seen = word + 1;
+                Ok(answer)
+            }
+            Err(_) => {
+                self.turns.give_up(&mut seat.seat, word, state);
+                seat.seen = word - 1;
+                Err(OutOfMemory)
+            }
+        }
+    }
+
+    /// Waits for the turn and breaks the state. It takes no memory.
+    pub fn break_off<R: Wait>(&self, rt: &R, seat: &mut DrainSeat)
+        requires own { seat.old.cell ≡ self.now }
+        ensures turn { SpendsDrain seat.old Breaks seat.new }
+        ensures flow { seat.new.flow ≡ seat.old.flow }
+        ensures broken { seat.new.broken ≡ true }
+        ensures same { IsSameSeat seat.old seat.new }
+    {
+        let (word, mut state) = self.turns.claim(rt, &mut seat.seat);
+        state.break_off();
+        self.turns.spend::<Brand>(&mut seat.seat, word, state, Call::Drains(DrainCall::Breaks));
+        seat.seen = word + 1;
+    }
+
+    /// Sleeps until a feed was released since the seat's last take. It may return early, and takes no
+    /// memory.
+    pub fn wait<R: Wait>(&self, rt: &R, seat: &mut DrainSeat)
+        requires own { seat.old.cell ≡ self.now }
+        ensures same { seat.new ≡ seat.old }
+    {
+        let shared = &self.turns.table.shared;
+        let word = shared.peek(0);
+        if word.wrapping_sub(seat.seen) <= 1 {
+            shared.park(rt, 0, (word % (1 << 32)) as u32);
+        }
+    }
+
+    /// Gives the state back, once both seats are here again. It takes no memory.
+    pub fn close(self, feed: FeedSeat, drain: DrainSeat) -> ShellState
+        requires own { (feed.cell ≡ self) × (drain.cell ≡ self) }
+        ensures history { HasHistory self.opening feed.turns drain.turns result }
+        ensures fed { result.fed ≡ feed.flow }
+        ensures taken { result.taken ≡ drain.flow }
+        ensures horizon { result.horizon ≡ self.opening.horizon }
+        ensures spec { result.spec ≡ self.opening.spec }
+        ensures broken { (feed.broken ≡ true) ⊎ (drain.broken ≡ true) → result.broken ≡ true }
+        ensures stands { Stands result }
+    {
+        let ShellCell { turns } = self;
+        let TurnTable { table } = turns;
+        let FeedSeat { seat: mut whole } = feed;
+        let DrainSeat { seat, seen: _ } = drain;
+        table.shared.join_seat::<Part>(&mut whole, seat);
+        let mut closed = table.close_with(whole);
+        let Some(state) = closed.take(0) else {
+            unreachable!()
+        };
+        closed.free();
+        state.stands();
+        state
+    }
+}

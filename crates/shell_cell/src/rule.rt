@@ -1,0 +1,85 @@
+//! The rule of the table, and what its steps tell. These types are for the proofs alone.
+use crate::view::View;
+use atomic_table::{Join, Play, Split, TableRule};
+use shell_state::ShellState;
+use std::marker::{Brand, PhantomData};
+use std::snapshot::Snapshot;
+
+/// The slot is the shell's state, or `None` while a seat works on it.
+pub type Slot = Option<ShellState>;
+
+/// The key is the state that the cell was opened with.
+pub type Opening = Snapshot<ShellState>;
+
+pub struct Turns;
+
+impl TableRule<Slot, View, Opening> for Turns {
+    ghost use Rattle.std.specs.Prelude.{[], None, false};
+    ghost use Rattle.shell_cell.specs.declared.view.Role.TheVariants.{Whole};
+    ghost use Rattle.shell_cell.specs.Rule.{Kept, view};
+
+    ghost holds = { λ key. Kept key.value };
+
+    ghost first = { λ key. view Whole key.value [] [] false None };
+}
+
+/// The seat asks for the turn.
+pub struct Claim;
+
+impl Play<Slot, View> for Claim {
+    ghost use Rattle.shell_cell.specs.Rule.{claims};
+
+    ghost then = { claims };
+}
+
+/// The seat gives the turn back and has not spent it.
+pub struct GiveUp;
+
+impl Play<Slot, View> for GiveUp {
+    ghost use Rattle.shell_cell.specs.Rule.{gives_up};
+
+    ghost then = { gives_up };
+}
+
+/// Names the call that a turn is spent on. Each release picks it.
+pub trait Spending {
+    ghost use Rattle.shell_cell.specs.declared.view.Call.{Call};
+
+    ghost call: { Call };
+}
+
+impl Spending for Brand {
+    ghost use Rattle.shell_cell.specs.declared.view.Call.TheVariants.{Drains};
+    ghost use Rattle.shell_cell.specs.declared.view.DrainCall.TheVariants.{Breaks};
+
+    ghost call = { Drains Breaks };
+}
+
+/// The seat gives the turn back and has spent it.
+pub struct Spend<J> {
+    call: PhantomData<J>,
+}
+
+impl<J: Spending> Play<Slot, View> for Spend<J> {
+    ghost use Rattle.shell_cell.specs.Rule.{spends};
+
+    ghost then = { spends J.call };
+}
+
+pub struct Part;
+
+impl Split<View> for Part {
+    ghost use Rattle.shell_cell.specs.Rule.{left_of, right_of};
+
+    ghost left = { left_of };
+
+    ghost right = { right_of };
+}
+
+impl Join<View> for Part {
+    ghost use Rattle.shell_cell.specs.Rule.{both_of, spent_view};
+
+    ghost both = { both_of };
+
+    ghost spent = { spent_view };
+}

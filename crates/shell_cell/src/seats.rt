@@ -1,0 +1,45 @@
+//! The two seats of a cell.
+use crate::rule::Slot;
+use crate::view::View;
+use atomic_table::Seat;
+use std::marker::Model;
+
+/// The seat that feeds. Contracts see the turns that it has spent, the flow of the items that it has fed,
+/// whether it has found the state broken, the horizon and its cell. The program stores none of these.
+#[derive(Drop)]
+pub struct FeedSeat {
+    pub(crate) seat: Seat<Slot, View>,
+}
+
+impl Model for FeedSeat {
+    ghost use Rattle.shell_cell.specs.Seats.{FeedView};
+
+    ghost Value = { FeedView };
+
+    ghost use Rattle.shell_cell.specs.Sides.{feed_view, IsFeedSeat};
+
+    ghost view = { feed_view };
+
+    ghost invariant = { IsFeedSeat };
+}
+
+/// The seat that takes. Contracts see the turns that it has spent, the flow of the items that it has
+/// taken, whether it has found the state broken, the horizon and its cell.
+#[derive(Drop)]
+pub struct DrainSeat {
+    pub(crate) seat: Seat<Slot, View>,
+    /// The turn word as this seat left it last.
+    pub(crate) seen: u64,
+}
+
+impl Model for DrainSeat {
+    ghost use Rattle.shell_cell.specs.Seats.{DrainView};
+
+    ghost Value = { DrainView };
+
+    ghost use Rattle.shell_cell.specs.Sides.{drain_view, IsDrainSeat};
+
+    ghost view = { drain_view };
+
+    ghost invariant = { IsDrainSeat };
+}

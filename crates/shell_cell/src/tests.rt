@@ -1,0 +1,124 @@
+//! The cell in one thread and between two, and the types that may cross threads.
+ghost use Rattle.std.specs.Prelude.{◌≡◌, ◌≤◌, IfOk};
+ghost use Rattle.packet_record.specs.declared.item.FlowEnd.TheVariants.{Open};
+ghost use Rattle.packet_record.specs.Streams.{no_items};
+ghost use Rattle.shell_cell.specs.Seats.{IsSameSeat};
+
+use crate::{DrainSeat, FeedSeat, ShellCell, open};
+use packet_record::{FlowEnd, Item, Packet, Timed};
+use shell_state::{DirSpec, ShellState, Taken};
+use std::alloc::Global;
+use std::sync::Wait;
+use std::test::Fail;
+use std::thread::{Threads, join_mut};
+
+// A cell may be shared and sent, and a seat may be sent.
+fn is_shared<T: Send + Sync>(_value: &T) {}
+
+fn is_sent<T: Send>(_value: &T) {}
+
+fn cross(cell: &ShellCell, feed: &FeedSeat, drain: &DrainSeat) {
+    is_shared(cell);
+    is_sent(feed);
+    is_sent(drain);
+}
+
+fn timed(id: u32, moment: u64) -> Timed
+    ensures { result.moment ≡ moment }
+{
+    Timed {
+        moment,
+        packet: Packet { id, size: 100 },
+    }
+}
+
+#[test]
+fn a_broken_cell_stays_broken(rt: HostRuntime) -> Result<(), Fail> {
+    let (cell, mut feed, mut drain) = open(rt.alloc(), delay(rt.alloc())?)?;
+    cell.break_off(&rt, &mut drain);
+    assert!(rt; cell.feed(&rt, &mut feed, Item::Mark(7)).is_ok());
+    assert!(rt; cell.feed(&rt, &mut feed, Item::Broken).is_ok());
+    assert_eq!(rt; cell.take(&rt, &mut drain, 4)?, Taken::Item(Item::Broken));
+    let state = cell.close(feed, drain);
+    assert!(rt; state.is_broken());
+    assert_eq!(rt; state.fed().end(), FlowEnd::Open);
+    assert_eq!(rt; state.taken().end(), FlowEnd::Broken);
+    Ok(())
+}
+
+// Feeds a packet at each of the moments 1 to `count`, and then the end. False where it finds no memory.
+fn feed_all<R: Wait>(rt: &R, cell: &ShellCell, seat: &mut FeedSeat, count: u32) -> bool
+    requires own { seat.old.cell ≡ cell.now }
+    requires empty { seat.old.flow ≡ no_items }
+    requires within { count ≤ seat.old.horizon }
+    ensures same { IsSameSeat seat.old seat.new }
+{
+    for number in 0..count {
+        match cell.feed(rt, seat, Item::Packet(timed(number + 1, number as u64 + 1))) {
+            Ok(()) => {}
+            Err(_) => return false,
+        }
+    }
+    cell.feed(rt, seat, Item::End).is_ok()
+}
+
+// Takes until the end. False where it finds no memory or a broken state.
+fn take_all<R: Wait>(rt: &R, cell: &ShellCell, seat: &mut DrainSeat) -> bool
+    requires own { seat.old.cell ≡ cell.now }
+    requires open { seat.old.flow.end ≡ Open }
+    ensures same { IsSameSeat seat.old seat.new }
+{
+    for _ in rt.forever() {
+        let Ok(taken) = cell.take(rt, seat, 256) else {
+            return false;
+        };
+        match taken {
+            Taken::Item(item) => match item {
+                Item::End => return true,
+                Item::Broken => return false,
+                Item::Packet(_) | Item::Mark(_) => {}
+            },
+            Taken::Again { .. } => {}
+            Taken::NotYet { .. } => cell.wait(rt, seat),
+        }
+    }
+    unreachable!()
+}
+
+fn delay(alloc: Global) -> Result<ShellState, Fail>
+    ensures { IfOk result (λ s. (s.fed ≡ no_items) × (s.taken ≡ no_items) × (s.horizon ≡ 2000)) }
+{
+    Ok(ShellState::new(alloc, DirSpec::Delay { ms: 1 }, 2000)?)
+}
+
+// A feeder and a drain in two threads, over a delay of one millisecond.
+fn run_both<R: Threads + Wait + Sync>(rt: &R, alloc: Global, count: u32) -> Result<ShellState, Fail>
+    requires { count ≤ 2000 }
+{
+    let state = delay(alloc)?;
+    let (cell, mut feed, mut drain) = open(alloc, state)?;
+    cross(&cell, &feed, &drain);
+    let shared = &cell;
+    let (fed, taken) = join_mut(
+        rt,
+        &mut || feed_all(rt, shared, &mut feed, count),
+        &mut || take_all(rt, shared, &mut drain),
+    );
+    if !fed || !taken {
+        return Err(Fail::from("a thread found no memory, or a broken state"));
+    }
+    Ok(cell.close(feed, drain))
+}
+
+#[test]
+fn two_threads_pass_all_through(rt: HostRuntime) -> Result<(), Fail> {
+    let state = run_both(&rt, rt.alloc(), 1000)?;
+    let taken = state.taken();
+    assert_eq!(rt; taken.packets().len(), 1000);
+    for (index, departure) in taken.packets().iter().enumerate() {
+        assert_eq!(rt; departure.packet.id as usize, index + 1);
+        assert_eq!(rt; departure.moment as usize, index + 2);
+    }
+    assert_eq!(rt; taken.end(), FlowEnd::Ended);
+    Ok(())
+}
