@@ -1,5 +1,8 @@
 pub mod Rates
 pub mod PlanLemmas
+pub mod CountLemmas
+pub mod NestLemmas
+pub mod LogLemmas
 pub mod Indexing
 pub mod MarkLemmas
 pub mod NumberLemmas

@@ -46,8 +46,8 @@ untouched d h n (q ∷ shells) arrivals (s ∷ stages) f r sent p w =
     let id = r.timed.packet.id in
     let o = whole_out q h arrivals in
     let l = whole_lost q h arrivals in
-    let wo = out_without id q h arrivals w in
-    let wl = lost_without id q h arrivals w in
+    let wo = out_without id q h arrivals p.4 w in
+    let wl = lost_without id q h arrivals p.4 w in
     untouched d h (next_number d n) shells o stages (marked d h s.taken (passes stages) (marked d h s.lost (Drops s.number) f)) r sent p.3 wo
     ∙ step d h s (passes stages) f r l o sent p.1 p.2
     ∙ ap (λ x. found_fate x (passes stages) (found_fate (find_id id l) (Drops s.number) (f r))) (none_found id o wo)

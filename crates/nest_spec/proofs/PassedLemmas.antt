@@ -4,20 +4,21 @@ use Rattle.packet_record.specs.declared.packet.Timed.{Timed}
 use Rattle.packet_record.specs.declared.packet.Direction.{Direction}
 use Rattle.packet_record.specs.declared.item.FlowEnd.TheVariants.{Ended}
 use Rattle.shell_core.specs.declared.spec.DirSpec.{DirSpec}
-use Rattle.shell_core.specs.Shells.{lost, opportunities, whole_out, whole_lost}
+use Rattle.shell_core.specs.Shells.{IsBuilt, lost, opportunities, shell_log, whole_out, whole_lost, whole_log}
 use Rattle.shell_state.specs.States.{State}
 use Rattle.shell_state.specs.Standing.{Stands}
 use Rattle.shell_state.proofs.Foretelling.{taken_whole}
 use Rattle.nest_spec.specs.declared.mark.Mark.TheVariants.{Enters}
 use Rattle.nest_spec.specs.Fates.{Stage, stage_of, stages_of, next_number, passes, AllStand}
 use Rattle.nest_spec.specs.Passing.{HavePassed}
+use Rattle.nest_spec.specs.Nests.{state_logs, whole_logs}
 
 abbrev pub ArePassed : Direction → ℕ → ℕ → List DirSpec → List Timed → List Stage → Type 0
 ArePassed d h n [] arrivals [] = Unit {0}
 ArePassed d h n [] arrivals (s ∷ stages) = ⊥
 ArePassed d h n (c ∷ specs) arrivals [] = ⊥
 ArePassed d h n (c ∷ specs) arrivals (s ∷ stages) =
-    (s.number ≡ n) × (s.lost ≡ whole_lost c h arrivals) × (s.taken ≡ whole_out c h arrivals) × ArePassed d h (next_number d n) specs (whole_out c h arrivals) stages
+    (s.number ≡ n) × (s.lost ≡ whole_lost c h arrivals) × (s.taken ≡ whole_out c h arrivals) × ArePassed d h (next_number d n) specs (whole_out c h arrivals) stages × IsBuilt c
 
 -- a state that has run
 pub has_out : (c : DirSpec) (h : ℕ) (arrivals : List Timed) (s : State) → Stands s → s.spec ≡ c → s.horizon ≡ h → s.fed.packets ≡ arrivals → s.taken.end ≡ Ended → s.taken.packets ≡ whole_out c h arrivals
@@ -41,9 +42,23 @@ have_passed d h n (c ∷ specs) arrivals (s ∷ states) stand have =
       has_lost c h arrivals s stand.0 have.0 have.1 have.2 have.3,
       out_is,
       subst (λ l. ArePassed d h (next_number d n) specs l (stages_of d (next_number d n) states)) out_is (have_passed d h (next_number d n) specs s.taken.packets states stand.1 have.4),
+      subst IsBuilt have.0 stand.0.built,
     )
 
 -- what the first of some shells makes of the packets that enter it
 pub passes_some : (d : Direction) (n : ℕ) (states : List State) → 0 < length states → passes (stages_of d n states) ≡ Enters n
 passes_some d n [] some = absurd (omega arith)
 passes_some d n (s ∷ states) some = refl
+
+-- the logs of states that have run
+pub have_logs : (h : ℕ) (specs : List DirSpec) (arrivals : List Timed) (states : List State) → AllStand states → HavePassed h specs arrivals states → state_logs states ≡ whole_logs h specs arrivals
+have_logs h [] arrivals [] stand have = refl
+have_logs h [] arrivals (s ∷ states) stand have = absurd have
+have_logs h (c ∷ specs) arrivals [] stand have = absurd have
+have_logs h (c ∷ specs) arrivals (s ∷ states) stand have =
+    let here : shell_log s.spec s.horizon s.burnt s.fed.packets ≡ whole_log c h arrivals =
+    ap (λ b. shell_log s.spec s.horizon b s.fed.packets) (stand.0.ended have.3).1
+    ∙ ap (λ x. whole_log x s.horizon s.fed.packets) have.0 ∙ ap (λ x. whole_log c x s.fed.packets) have.1 ∙ ap (whole_log c h) have.2 in
+    ap (λ l. l ∷ state_logs states) here
+    ∙ ap (λ ls. whole_log c h arrivals ∷ ls) (have_logs h specs s.taken.packets states stand.1 have.4
+    ∙ ap (whole_logs h specs) (has_out c h arrivals s stand.0 have.0 have.1 have.2 have.3))

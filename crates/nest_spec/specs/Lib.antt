@@ -8,5 +8,9 @@ pub mod Passing
 pub mod Index
 pub mod Words
 pub mod Plans
+pub mod Nests
+pub mod NestViews
+pub mod RunViews
+pub mod ResultViews
 pub mod PlanViews
 pub mod DraftViews

@@ -1,15 +1,18 @@
 // The fates of the rows, from the states of the shells.
-ghost use Rattle.std.specs.Prelude.{◌≡◌, ◌≤◌, List, length, map, IfOk};
+ghost use Rattle.std.specs.Prelude.{◌≡◌, ◌≤◌, [], List, length, map, IfOk, OnOk};
 ghost use Rattle.packet_record.specs.declared.packet.Row.{Row as RowValue};
 ghost use Rattle.packet_record.specs.declared.packet.Direction.TheVariants.{Up, Down};
 ghost use Rattle.packet_record.specs.Rows.{entering};
 ghost use Rattle.shell_core.specs.declared.spec.DirSpec.{DirSpec};
 ghost use Rattle.nest_spec.specs.declared.fate.Fate.{Fate as FateValue};
-ghost use Rattle.nest_spec.specs.Fates.{AreApart};
+ghost use Rattle.nest_spec.specs.Fates.{AreApart, AllStand};
 ghost use Rattle.nest_spec.specs.Passing.{HavePassed, fate_row, fates_of};
+ghost use Rattle.nest_spec.specs.Nests.{directions_of, named_logs, state_logs, logs_of, result_of};
+ghost use Rattle.nest_spec.specs.RunViews.{all_named};
 
 use crate::marking::{first_fates, index_of, walk};
-use crate::{Fate, FateRow};
+use crate::naming::push_logs;
+use crate::{Fate, FateRow, NamedLog, Nest, RunResult};
 use mm_base::OutOfMemory;
 use packet_record::{Direction, Row};
 use shell_state::ShellState;
@@ -43,7 +46,8 @@ pub(crate) fn gather_fates(
     requires few_up { length up.now ≤ 8 }
     requires some_down { 1 ≤ length down.now }
     requires few_down { length down.now ≤ 8 }
-    ensures { IfOk result (λ v. (ups downs : List DirSpec) → HavePassed horizon ups (entering Up horizon rows.now) up.now
+    ensures stand { OnOk result (AllStand up.now × AllStand down.now) }
+    ensures fates { IfOk result (λ v. (ups downs : List DirSpec) → HavePassed horizon ups (entering Up horizon rows.now) up.now
         → HavePassed horizon downs (entering Down horizon rows.now) down.now → v.items ≡ fates_of horizon ups downs rows.now) }
 {
     let index = index_of(alloc, rows)?;
@@ -60,4 +64,26 @@ pub(crate) fn gather_fates(
     );
     walk(&index, rows, Direction::Down, horizon, 1, down, &mut fates);
     fate_rows(alloc, rows, fates.as_slice())
+}
+
+/// The result of a run: the fate of each row, and the logs of the nest that have a name. The states are those of the nest's shells in
+/// passing order, each of which was fed what the one before it passed on, the first the direction's rows up to the horizon, and was
+/// taken to its end.
+pub fn gather(
+    alloc: Global,
+    nest: &Nest,
+    rows: &[Row],
+    up: &[ShellState],
+    down: &[ShellState],
+) -> Result<RunResult, OutOfMemory>
+    requires apart { AreApart rows.now }
+    requires up { HavePassed nest.now.horizon (directions_of Up nest.now) (entering Up nest.now.horizon rows.now) up.now }
+    requires down { HavePassed nest.now.horizon (directions_of Down nest.now) (entering Down nest.now.horizon rows.now) down.now }
+    ensures { IfOk result (λ r. r ≡ result_of nest.now rows.now) }
+{
+    let shells = nest.shell_words();
+    let fates = gather_fates(alloc, nest.horizon(), rows, up, down)?;
+    let mut logs = Vec::new(alloc);
+    push_logs(&mut logs, shells, up, down, nest.log_names())?;
+    Ok(RunResult::new(fates, logs))
 }

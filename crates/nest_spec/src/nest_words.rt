@@ -1,9 +1,11 @@
 // The words for a nest.
-ghost use Rattle.std.specs.Prelude.{◌≡◌, ◌≢◌, ◌+◌, ◌++◌, Ok, Err, length, map, string_bytes, option_map, option_to_list, MatchResult, OnOk};
+ghost use Rattle.std.specs.Prelude.{◌≡◌, ◌≢◌, ◌≤◌, ◌+◌, ◌*◌, ◌++◌, Ok, Err, length, map, string_bytes, option_map, option_to_list, MatchResult, OnOk};
 ghost use Rattle.nest_spec.specs.Words.{with_shell, passed_over, shells_from, nest_of};
 ghost use Rattle.nest_spec.specs.Plans.{IsPlan};
 ghost use Rattle.nest_spec.specs.LinkViews.{text_of};
 ghost use Rattle.nest_spec.specs.ShellViews.{shell_given};
+ghost use Rattle.nest_spec.specs.Nests.{opportunities_of};
+ghost use Rattle.trace_reader.specs.Opps.{opps};
 ghost use Rattle.nest_spec.specs.DraftViews.{draft_plan, place_and_words};
 
 use crate::shell_reading::{ShellRead, read_shell};
@@ -12,6 +14,7 @@ use crate::{NestError, ShellWords};
 use mm_base::{OutOfMemory, Text};
 use std::alloc::Global;
 use std::marker::Model;
+use trace_reader::Trace;
 
 /// A nest as its words state it: 1 to 8 shells, the outermost first, and the names of its traces and logs in that order, up before
 /// down.
@@ -58,6 +61,63 @@ impl NestWords {
     {
         self.logs.as_slice()
     }
+}
+
+impl NestWords {
+    /// How many opportunities the links have up to a horizon, both directions of all links together; `once` holds for both directions
+    /// of its link. There is a trace for each name.
+    pub fn opportunities(&self, traces: &[Trace], horizon: u64) -> u64
+        requires traces { length traces.now ≡ length self.now.traces }
+        requires horizon { horizon ≤ 3600000 }
+        ensures { result ≡ opportunities_of horizon self.now.shells traces.now }
+    {
+        count_opportunities(self.shells.as_slice(), traces, horizon)
+    }
+
+    pub(crate) fn into_parts(self) -> (Vec<ShellWords>, Vec<Text>)
+        ensures shells { result.0.items ≡ self.shells }
+        ensures logs { result.1.items ≡ self.logs }
+        ensures plan { IsPlan self }
+    {
+        let NestWords {
+            shells,
+            traces: _,
+            logs,
+        } = self;
+        (shells, logs)
+    }
+}
+
+fn count_opportunities(shells: &[ShellWords], traces: &[Trace], horizon: u64) -> u64
+    requires horizon { horizon ≤ 3600000 }
+    requires few { length shells.now ≤ 8 }
+    ensures count { result ≡ opportunities_of horizon shells.now traces.now }
+    ensures most { result ≤ length shells.now * 7200002000000 }
+{
+    let Some((words, shells)) = shells.split_first() else {
+        return 0;
+    };
+    let ShellWords::Link { once, .. } = *words else {
+        return count_opportunities(shells, traces, horizon);
+    };
+    let Some((up, traces)) = traces.split_first() else {
+        return 0;
+    };
+    let Some((down, traces)) = traces.split_first() else {
+        return 0;
+    };
+    count_in(up, once, horizon)
+        + count_in(down, once, horizon)
+        + count_opportunities(shells, traces, horizon)
+}
+
+#[tactic(auto, using(crate::proofs::CountLemmas::count_within))]
+fn count_in(trace: &Trace, once: bool, horizon: u64) -> u64
+    requires { horizon ≤ 3600000 }
+    ensures count { result ≡ length (opps trace.now.opportunities once horizon) }
+    ensures most { result ≤ 3600001000000 }
+{
+    trace.count_to(horizon, once)
 }
 
 // A nest that is being read.

@@ -6,8 +6,8 @@ use Rattle.nest_spec.specs.Passing.{fate_of}
 use Rattle.nest_spec.proofs.Results.{gathered, rows_same}
 use Rattle.nest_spec.proofs.gathering.gather_fates.Goals as goal
 
-pub returns : goal.returns
-returns c =
+pub returns-clause-fates : goal.returns-clause-fates
+returns-clause-fates c =
     let a = c.args in
     let n = length c.args.up.now in
     let first = first_fate a.horizon n 1 in

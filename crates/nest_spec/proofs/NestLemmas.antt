@@ -1,0 +1,94 @@
+-- The directions of a nest.
+use Rattle.std.proofs.Common.{◌≡◌, ℕ, suc, ◌+◌, ◌≤◌, Bool, true, false, cond, List, [], ◌∷◌, ◌++◌, length, map, reverse, refl, ap, sym, subst, ◌∙◌, arith}
+use Rattle.std.proofs.lemmas.List.{reverse-append, map-append, length-reverse}
+use Rattle.packet_record.specs.declared.packet.Direction.{Direction}
+use Rattle.packet_record.specs.declared.packet.Direction.TheVariants.{Up, Down}
+use Rattle.packet_record.specs.declared.packet.Timed.{Timed}
+use Rattle.packet_record.specs.Rows.{goes}
+use Rattle.trace_reader.specs.declared.trace.Trace.{Trace}
+use Rattle.trace_reader.specs.Opps.{opps}
+use Rattle.loss_core.specs.declared.rate.Rate.{Rate}
+use Rattle.shell_log.specs.declared.entry.Entry.{Entry}
+use Rattle.shell_core.specs.declared.spec.DirSpec.{DirSpec}
+use Rattle.shell_core.specs.declared.spec.DirSpec.TheVariants as specs
+use Rattle.shell_core.specs.Shells.{IsInRange, opportunities, shell_log}
+use Rattle.shell_state.specs.States.{State}
+use Rattle.nest_spec.specs.declared.shell_words.ShellWords.{ShellWords}
+use Rattle.nest_spec.specs.declared.shell_words.ShellWords.TheVariants.{Delay, Loss, Link}
+use Rattle.nest_spec.specs.declared.shell_words.LinkSide.{LinkSide}
+use Rattle.nest_spec.specs.Plans.{IsShell, AreShells, traces_in, trace_count}
+use Rattle.nest_spec.specs.Nests.{NestParts, IsNest, AllFit, stream_of, link_spec, specs_from, in_passing_order, directions_of, opportunities_of, state_logs}
+use Rattle.nest_spec.specs.Passing.{HavePassed}
+
+loss_fits : (b : Bool) (rate : Rate) (seed stream h : ℕ) (rest : List DirSpec) → AllFit h rest → AllFit h (cond b (specs.Loss rate seed stream) specs.Pass ∷ rest)
+unfolding opportunities
+loss_fits true rate seed stream h rest fit = (tt, omega arith, fit)
+loss_fits false rate seed stream h rest fit = (tt, omega arith, fit)
+
+link_fits : (d : Direction) (once : Bool) (up down : LinkSide) (t u : Trace) (h n : ℕ) (rest : List DirSpec)
+    → length (opps t.opportunities once h) + length (opps u.opportunities once h) + n ≤ 16000000 → AllFit h rest → AllFit h (link_spec d once up down t u ∷ rest)
+unfolding opportunities
+link_fits Up once up down t u h n rest le fit = (tt, omega arith, fit)
+link_fits Down once up down t u h n rest le fit = (tt, omega arith, fit)
+
+specs_fit : (d : Direction) (seed n h : ℕ) (shells : List ShellWords) (traces : List Trace) → AreShells shells → opportunities_of h shells traces ≤ 16000000 → AllFit h (specs_from d seed n shells traces)
+unfolding opportunities
+specs_fit d seed n h [] traces are le = tt
+specs_fit d seed n h (Delay ms ∷ shells) traces are le = (are.0, omega arith, specs_fit d seed (n + 1) h shells traces are.1 le)
+specs_fit d seed n h (Loss named rate ∷ shells) traces are le =
+    loss_fits (goes d named) rate seed (stream_of n d) h (specs_from d seed (n + 1) shells traces) (specs_fit d seed (n + 1) h shells traces are.1 le)
+specs_fit d seed n h (Link once up down ∷ shells) [] are le = tt
+specs_fit d seed n h (Link once up down ∷ shells) (t ∷ []) are le = tt
+specs_fit d seed n h (Link once up down ∷ shells) (t ∷ u ∷ traces) are le =
+    link_fits d once up down t u h (opportunities_of h shells traces) (specs_from d seed (n + 1) shells traces) le (specs_fit d seed (n + 1) h shells traces are.1 (omega arith))
+
+fit-append : (h : ℕ) (list more : List DirSpec) → AllFit h list → AllFit h more → AllFit h (list ++ more)
+fit-append h [] more fit fits = fits
+fit-append h (c ∷ list) more fit fits = (fit.0, fit.1, fit-append h list more fit.2 fits)
+
+fit-reverse : (h : ℕ) (list : List DirSpec) → AllFit h list → AllFit h (reverse list)
+fit-reverse h [] fit = tt
+fit-reverse h (c ∷ list) fit =
+    subst (AllFit h) (sym (reverse-append (c ∷ []) list)) (fit-append h (reverse list) (c ∷ []) (fit-reverse h list fit.2) (fit.0, fit.1, tt))
+
+in_order_fit : (d : Direction) (h : ℕ) (list : List DirSpec) → AllFit h list → AllFit h (in_passing_order d list)
+in_order_fit Up h list fit = fit-reverse h list fit
+in_order_fit Down h list fit = fit
+
+pub directions_fit : (d : Direction) (nest : NestParts) → IsNest nest → AllFit nest.horizon (directions_of d nest)
+directions_fit d nest is = in_order_fit d nest.horizon (specs_from d nest.seed 1 nest.shells nest.traces) (specs_fit d nest.seed 1 nest.horizon nest.shells nest.traces is.shells is.opportunities)
+
+specs_long : (d : Direction) (seed n : ℕ) (shells : List ShellWords) (traces : List Trace) → length traces ≡ trace_count shells → length (specs_from d seed n shells traces) ≡ length shells
+specs_long d seed n [] traces e = refl
+specs_long d seed n (Delay ms ∷ shells) traces e = ap suc (specs_long d seed (n + 1) shells traces (let same : 0 + trace_count shells ≡ trace_count shells = omega arith in e ∙ same))
+specs_long d seed n (Loss named rate ∷ shells) traces e = ap suc (specs_long d seed (n + 1) shells traces (let same : 0 + trace_count shells ≡ trace_count shells = omega arith in e ∙ same))
+specs_long d seed n (Link once up down ∷ shells) [] e = absurd (let no : 0 ≡ 2 + trace_count shells = e in omega arith)
+specs_long d seed n (Link once up down ∷ shells) (t ∷ []) e = absurd (let no : 1 ≡ 2 + trace_count shells = e in omega arith)
+specs_long d seed n (Link once up down ∷ shells) (t ∷ u ∷ traces) e =
+    ap suc (specs_long d seed (n + 1) shells traces (let long : length (t ∷ u ∷ traces) ≡ 2 + trace_count shells = e in omega arith))
+
+in_order_long : (d : Direction) (list : List DirSpec) → length (in_passing_order d list) ≡ length list
+in_order_long Up list = length-reverse list
+in_order_long Down list = refl
+
+passed_long : (h : ℕ) (list : List DirSpec) (arrivals : List Timed) (states : List State) → HavePassed h list arrivals states → length states ≡ length list
+passed_long h [] arrivals [] have = refl
+passed_long h [] arrivals (s ∷ states) have = absurd have
+passed_long h (c ∷ list) arrivals [] have = absurd have
+passed_long h (c ∷ list) arrivals (s ∷ states) have = ap suc (passed_long h list s.taken.packets states have.4)
+
+-- as many states as shells
+pub have_long : (d : Direction) (nest : NestParts) (arrivals : List Timed) (states : List State) → IsNest nest → HavePassed nest.horizon (directions_of d nest) arrivals states
+    → length states ≡ length nest.shells
+have_long d nest arrivals states is have =
+    passed_long nest.horizon (directions_of d nest) arrivals states have
+    ∙ in_order_long d (specs_from d nest.seed 1 nest.shells nest.traces)
+    ∙ specs_long d nest.seed 1 nest.shells nest.traces is.traces
+
+-- the last of the states is the first of their logs turned round
+pub last_log : (states rest : List State) (last : State) → states ≡ rest ++ last ∷ []
+    → reverse (state_logs states) ≡ shell_log last.spec last.horizon last.burnt last.fed.packets ∷ reverse (state_logs rest)
+last_log states rest last is =
+    ap (λ l. reverse (state_logs l)) is
+    ∙ ap reverse (map-append (λ (s : State). shell_log s.spec s.horizon s.burnt s.fed.packets) rest (last ∷ []))
+    ∙ reverse-append (state_logs rest) (shell_log last.spec last.horizon last.burnt last.fed.packets ∷ [])

@@ -1,0 +1,55 @@
+// What a run gives.
+ghost use Rattle.std.specs.Prelude.{◌≡◌};
+ghost use Rattle.nest_spec.specs.RunViews.{all_named};
+
+use crate::FateRow;
+use mm_base::Text;
+use shell_log::Log;
+use std::marker::Model;
+
+/// A log of one direction of a link, and the name of its file.
+#[derive(Drop)]
+pub struct NamedLog {
+    pub name: Text,
+    pub log: Log,
+}
+
+/// The fate of each packet in the order of their rows, and the logs that have a name in the order of the shells, up before down.
+/// Contracts see it as these two lists.
+#[derive(Drop)]
+pub struct RunResult {
+    fates: Vec<FateRow>,
+    logs: Vec<NamedLog>,
+}
+
+impl Model for RunResult {
+    ghost use Rattle.nest_spec.specs.Nests.{RunLists};
+
+    ghost Value = { RunLists };
+
+    ghost use Rattle.nest_spec.specs.ResultViews.{result_view};
+
+    ghost view = { result_view };
+}
+
+impl RunResult {
+    pub(crate) fn new(fates: Vec<FateRow>, logs: Vec<NamedLog>) -> Self
+        ensures { result ≡ record { fates = fates.items; logs = all_named logs.items } }
+    {
+        RunResult { fates, logs }
+    }
+
+    /// The fates, one for each row.
+    pub fn fates(&self) -> &[FateRow]
+        ensures { result.now ≡ self.now.fates }
+    {
+        self.fates.as_slice()
+    }
+
+    /// The named logs.
+    pub fn logs(&self) -> &[NamedLog]
+        ensures { all_named result.now ≡ self.now.logs }
+    {
+        self.logs.as_slice()
+    }
+}
