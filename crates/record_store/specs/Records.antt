@@ -1,0 +1,12 @@
+-- What a record is.
+use Rattle.std.specs.Prelude.{◌≤◌}
+use Rattle.http_frame.specs.Runs.{IsRequestOf, IsResponseOf}
+use Rattle.record_store.specs.declared.record.Record.{Record}
+
+-- one whole request with what its head says, one whole response to it of a final status with what
+-- its head says, and a port
+pub record IsRecord (r : Record) : Type 0 where
+  pub port : r.port ≤ 65535
+  pub request : IsRequestOf r.request
+  pub response : IsResponseOf r.request.head.head_only r.response
+  pub final : 200 ≤ r.response.head.status

@@ -1,0 +1,11 @@
+//! Stores of recorded exchanges: requests, each with its response and the port that it was recorded from.
+#![tactic(auto)]
+
+mod errors;
+mod pairing;
+mod record;
+mod server;
+
+pub use errors::PairError;
+pub use pairing::pair;
+pub use record::{Record, Store};

@@ -1,0 +1,62 @@
+// Pairing a client's requests with a server's responses.
+ghost use Rattle.std.specs.Prelude.{◌≡◌, ◌≤◌, [], length, drop, IfOk, IfErr};
+ghost use Rattle.http_frame.specs.Runs.{AreRequests};
+ghost use Rattle.record_store.specs.Pairs.{Pairs, RefusesRequests};
+
+use crate::errors::PairError;
+use crate::record::{Record, Store};
+use crate::server::{Found, answer_at, from_place};
+use http_frame::{Request, first_request};
+use std::alloc::Global;
+
+/// The requests that the bytes are made of.
+fn requests_of(alloc: Global, client: &[u8]) -> Result<Vec<Request>, PairError>
+    ensures ok { IfOk result (λ requests. AreRequests client.now requests.items []) }
+    ensures err { IfErr result (RefusesRequests client.now) }
+{
+    let mut requests = Vec::new(alloc);
+    let mut place = 0;
+    'requests: while place < client.len() {
+        match first_request(alloc, from_place(client, place))? {
+            Some(request) => {
+                place += request.bytes.len();
+                requests.push(request)?;
+            }
+            None => {
+                return Err(PairError::BadRequest {
+                    n: requests.as_slice().len() as u64 + 1,
+                });
+            }
+        }
+    }
+    Ok(requests)
+}
+
+/// The store of a client's requests with a server's responses, each recorded from that port: the
+/// requests in order, each with the first response that is no interim one.
+pub fn pair(alloc: Global, client: &[u8], server: &[u8], port: u16) -> Result<Store, PairError>
+    ensures { Pairs client.now server.now port result }
+{
+    let requests = requests_of(alloc, client)?;
+    let mut store = Store::new(alloc);
+    let mut place = 0;
+    'answers: for request in requests {
+        let n = store.records().len() as u64 + 1;
+        match answer_at(alloc, request.head.head_only, from_place(server, place))? {
+            Found::Final(skipped, response) => {
+                place += skipped + response.bytes.len();
+                store.add(Record {
+                    port,
+                    request,
+                    response,
+                })?;
+            }
+            Found::Unanswered => return Err(PairError::Unanswered { n }),
+            Found::Bad => return Err(PairError::BadResponse { n }),
+        }
+    }
+    if place < server.len() {
+        return Err(PairError::ExtraResponse);
+    }
+    Ok(store)
+}
