@@ -1,5 +1,5 @@
 -- When a row of a schedule departs: by its own moment alone.
-use Rattle.std.proofs.Common.{◌≡◌, ◌≢◌, ℕ, zero, suc, ◌+◌, ◌<◌, ◌≤◌, ◌==◌, ◌&&◌, ◌++◌, Bool, true, false, cond, eqb, List, [], ◌∷◌, length, get_or, map, filter, find, Option, Some, None, nat_lt, nat_le, take, drop, subst, refl, ap, sym, ◌∙◌, arith, rules, tests}
+use Rattle.std.proofs.Common.{◌≡◌, ◌≢◌, ℕ, zero, suc, ◌+◌, ◌<◌, ◌≤◌, ◌==◌, ◌&&◌, ◌++◌, Bool, true, false, cond, eqb, List, [], ◌∷◌, length, get_or, map, filter, find, Option, Some, None, nat_lt, nat_le, take, subst, refl, ap, sym, ◌∙◌, arith, rules, tests}
 use Rattle.std.specs.Option.{option_map}
 use Rattle.packet_record.specs.declared.packet.Direction.{Direction}
 use Rattle.packet_record.specs.declared.packet.Direction.TheVariants.{Up, Down}
@@ -9,12 +9,11 @@ use Rattle.packet_record.specs.Orders.{AreInOrder}
 use Rattle.delay_core.specs.Delays.{delayed, later}
 use Rattle.packet_record.specs.Rows.{entering, goes}
 use Rattle.mm_program.specs.Fates.{departure_of, fate_of, fate_by, fate_row}
-use Rattle.delay_core.specs.View.{Delay}
-use Rattle.mm_program.specs.Shells.{fate_alone, IsReady}
+use Rattle.mm_program.specs.Shells.{fate_alone}
 use Rattle.nest_spec.specs.declared.fate.Fate.{Fate}
 use Rattle.nest_spec.specs.declared.fate.Fate.TheVariants as fates
 use Rattle.nest_spec.specs.declared.fate.FateRow.{FateRow}
-use Rattle.std.proofs.lemmas.List.{drop_more, take_more, map-append}
+use Rattle.std.proofs.lemmas.List.{take_more, map-append}
 
 outs : Direction → ℕ → ℕ → List Row → List Timed
 outs d ms horizon rows = delayed ms horizon (entering d horizon rows)
@@ -93,24 +92,6 @@ departure_at ms horizon place low (suc i) (row ∷ rows) dflt order lt early =
     step it.direction ms horizon it.timed.packet.id row rows
     ∙ skipped _ _ it.timed.packet.id (later ms row.timed) _ (λ (e : row.timed.packet.id ≡ it.timed.packet.id). let h = order.0 in omega arith)
     ∙ departure_at ms horizon (place + 1) row.timed.moment i rows dflt order.2 (omega arith) early
-
-pub order_more : (place low i : ℕ) (rows : List Row) (row : Row) → i < length rows → row ≡ get_or rows i row → AreInOrder place low (drop i rows)
-    → AreInOrder (place + 1) row.timed.moment (drop (i + 1) rows)
-order_more place low i rows row lt read order =
-    let here = subst (AreInOrder place low) (drop_more rows i row lt) order in
-    subst (λ r. AreInOrder (place + 1) r.timed.moment (drop (i + 1) rows)) (sym read) here.2
-
--- a shell that is ready for the rows that are left is ready for the first of them
-pub ready_at : (ms horizon i : ℕ) (rows : List Row) (row : Row) (core : Delay) → i < length rows → row ≡ get_or rows i row → (low : ℕ) → AreInOrder (i + 1) low (drop i rows)
-    → IsReady ms horizon low core → IsReady ms horizon row.timed.moment core
-ready_at ms horizon i rows row core lt read low order ready =
-    let here = subst (AreInOrder (i + 1) low) (drop_more rows i row lt) order in
-    let above : low ≤ row.timed.moment = subst (λ (r : Row). low ≤ r.timed.moment) (sym read) here.1 in
-    record {
-      same_ms = ready.same_ms;
-      same_horizon = ready.same_horizon;
-      earlier = λ k d within. omega (arith, ready.earlier k d within);
-    }
 
 by_test : (late : Bool) (horizon m : ℕ) (a b : Fate) → nat_lt horizon m ≡ late → (m ≤ horizon → a ≡ b) → cond late fates.Unsent a ≡ cond late fates.Unsent b
 by_test true horizon m a b e same = refl

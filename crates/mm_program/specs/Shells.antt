@@ -1,5 +1,5 @@
--- The shells of a run in one direction, between two rows.
-use Rattle.std.specs.Prelude.{◌≡◌, ◌≤◌, ℕ, ◌+◌, All, Some, None, nat_lt, nat_le, if◌then◌else◌}
+-- A shell of a run in one direction, and what it makes of one row.
+use Rattle.std.specs.Prelude.{◌≡◌, ℕ, ◌+◌, Some, None, nat_lt, nat_le, if◌then◌else◌}
 use Rattle.delay_core.specs.View.{Delay}
 use Rattle.packet_record.specs.declared.packet.Row.{Row}
 use Rattle.nest_spec.specs.declared.fate.Fate.{Fate}
@@ -12,8 +12,7 @@ fate_alone ms horizon row =
     if nat_lt horizon row.timed.moment then fates.Unsent
     else fate_by (if nat_le (row.timed.moment + ms) horizon then Some (row.timed.moment + ms) else None)
 
--- the shell has this delay and horizon, and nothing arrived after this moment
-pub record IsReady (ms horizon low : ℕ) (core : Delay) : Type 0 where
+-- the shell has this delay and horizon
+pub record IsReady (ms horizon : ℕ) (core : Delay) : Type 0 where
   pub same_ms : core.ms ≡ ms
   pub same_horizon : core.horizon ≡ horizon
-  pub earlier : All (λ arrival. arrival.moment ≤ low) core.arrivals

@@ -1,5 +1,5 @@
 // A run through one delay: the fates of its rows.
-ghost use Rattle.std.specs.Prelude.{◌≡◌, ◌≤◌, ◌+◌, ◌++◌, ◌∷◌, [], All, IfOk, OnOk, Some, None, nat_le, if◌then◌else◌};
+ghost use Rattle.std.specs.Prelude.{◌≡◌, ◌≤◌, ◌+◌, ◌++◌, ◌∷◌, [], IfOk, OnOk, Some, None, nat_le, if◌then◌else◌};
 ghost use Rattle.packet_record.specs.Orders.{AreInOrder};
 ghost use Rattle.mm_program.specs.Fates.{fate_by, result_of};
 ghost use Rattle.mm_program.specs.Shells.{fate_alone, IsReady};
@@ -44,13 +44,13 @@ fn pass_row(
     horizon: u64,
     row: &Row,
 ) -> Result<Fate, OutOfMemory>
-    requires up { IsReady ms horizon row.now.timed.moment up.old }
-    requires down { IsReady ms horizon row.now.timed.moment down.old }
+    requires up { IsReady ms horizon up.old }
+    requires down { IsReady ms horizon down.old }
     requires short { ms ≤ 3600000 }
     requires small { horizon ≤ 3600000 }
     ensures fate { IfOk result (λ fate. fate ≡ fate_alone ms horizon row.now) }
-    ensures up { OnOk result (IsReady ms horizon row.now.timed.moment up.new) }
-    ensures down { OnOk result (IsReady ms horizon row.now.timed.moment down.new) }
+    ensures up { OnOk result (IsReady ms horizon up.new) }
+    ensures down { OnOk result (IsReady ms horizon down.new) }
 {
     if row.timed.moment > horizon {
         return Ok(Fate::Unsent);
@@ -64,7 +64,6 @@ fn pass_row(
 // The packet arrives, and its fate is known at once.
 fn pass(core: &mut DelayCore, t: Timed) -> Result<Fate, OutOfMemory>
     requires until { t.moment ≤ core.old.horizon }
-    requires order { All (λ arrival. arrival.moment ≤ t.moment) core.old.arrivals }
     requires small { core.old.horizon ≤ 3600000 }
     requires short { core.old.ms ≤ 3600000 }
     ensures fate { IfOk result (λ fate. fate

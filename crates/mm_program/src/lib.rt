@@ -7,6 +7,8 @@ mod input;
 mod job;
 mod refusal;
 mod run;
+#[cfg(test)]
+mod tests;
 mod top;
 
 pub use top::mm_main;

@@ -1,0 +1,19 @@
+//! The program `mm`: its words, the files of the machine and the standard output, given to the top call.
+#![tactic(auto)]
+
+use mm_base::{FileDisk, StdSink};
+use mm_program::mm_main;
+use std::process::ExitCode;
+use std::{env, io};
+
+fn main(rt: HostRuntime) -> io::Result<ExitCode> {
+    let alloc = rt.alloc();
+    let mut words = Vec::new(alloc);
+    for word in env::args(&rt)?.skip(1) {
+        words.push(word)?;
+    }
+    let mut out = StdSink::new(rt.stdout());
+    let mut disk = FileDisk::new(rt.clone()?);
+    let status = mm_main(&rt, alloc, &words, &mut disk, &mut out);
+    Ok(ExitCode::from(status))
+}
