@@ -4,9 +4,11 @@ ghost use Rattle.packet_record.specs.Streams.{IsUpTo};
 
 use crate::{DirSpec, ShellState, Taken};
 use loss_core::read_rate;
+use packet_queue::{QueueKind, QueueSpec};
 use packet_record::{FlowEnd, Item, Packet, Timed};
 use std::process::Abort;
 use std::test::Fail;
+use trace_reader::read_trace;
 
 // What is done to a state, and what a take must answer.
 #[derive(Clone, Copy)]
@@ -64,6 +66,7 @@ fn give(item: Item) -> Step {
 }
 
 #[test]
+#[tactic(auto, unfolding(shell_core::specs::Shells::opportunities))]
 fn a_direction_that_passes(rt: HostRuntime) -> Result<(), Fail> {
     let mut state = ShellState::new(rt.alloc(), DirSpec::Pass, 100)?;
     let steps = [
@@ -84,6 +87,7 @@ fn a_direction_that_passes(rt: HostRuntime) -> Result<(), Fail> {
 }
 
 #[test]
+#[tactic(auto, unfolding(shell_core::specs::Shells::opportunities))]
 fn a_delay(rt: HostRuntime) -> Result<(), Fail> {
     let mut state = ShellState::new(rt.alloc(), DirSpec::Delay { ms: 20 }, 100)?;
     let steps = [
@@ -103,6 +107,7 @@ fn a_delay(rt: HostRuntime) -> Result<(), Fail> {
 }
 
 #[test]
+#[tactic(auto, unfolding(shell_core::specs::Shells::opportunities))]
 fn a_loss_and_a_broken_state(rt: HostRuntime) -> Result<(), Fail> {
     let rate = read_rate("1").expect(&rt, "a rate");
     let spec = DirSpec::Loss {
@@ -125,4 +130,48 @@ fn a_loss_and_a_broken_state(rt: HostRuntime) -> Result<(), Fail> {
     assert!(rt; state.taken().end() == FlowEnd::Open);
     assert_eq!(rt; state.take(4)?, Taken::Item(Item::Broken));
     Ok(())
+}
+
+#[test]
+#[tactic(auto, unfolding(shell_core::specs::Shells::opportunities))]
+fn a_link(rt: HostRuntime) -> Result<(), Fail> {
+    let trace = read_trace(rt.alloc(), b"5\n5\n9\n").expect(&rt, "a trace");
+    assert!(rt; trace.count_to(20, false) <= 16_000_000);
+    let queue = QueueSpec {
+        kind: QueueKind::Infinite,
+        packets: None,
+        bytes: None,
+    };
+    let spec = DirSpec::Link {
+        trace,
+        once: false,
+        queue,
+    };
+    let mut state = moves(ShellState::new(rt.alloc(), spec, 20)?);
+    let steps = [
+        give(Item::Mark(5)),
+        Step::Take(Taken::NotYet { bound: 0 }),
+        Step::Feed(Item::Mark(7)),
+        Step::Take(Taken::Again { burnt: 1 }),
+        give(Item::Mark(9)),
+        Step::Take(Taken::NotYet { bound: 7 }),
+        Step::Feed(packet(9, 1)),
+        give(Item::Mark(14)),
+        Step::Feed(Item::End),
+        give(packet(14, 1)),
+        give(Item::Mark(18)),
+        give(Item::End),
+    ];
+    play(&rt, &mut state, 20, 1, &steps)?;
+    assert_eq!(rt; state.log().entries().len(), 8);
+    assert_eq!(rt; state.lost().len(), 0);
+    assert_eq!(rt; state.inside()?.len(), 0);
+    Ok(())
+}
+
+// A state may move to another thread.
+fn moves<T: Send>(x: T) -> T
+    ensures { result ≡ x }
+{
+    x
 }
