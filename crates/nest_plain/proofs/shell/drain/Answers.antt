@@ -1,0 +1,30 @@
+use Rattle.std.proofs.Common.{◌≡◌, ◌∙◌, ◌≤◌, false, sym, ap, arith}
+use Rattle.packet_record.specs.declared.item.Stream.{Stream}
+use Rattle.nest_plain.proofs.Feeding.{keeps_more, goes, ends}
+use Rattle.nest_plain.proofs.shell.drain.Goals as goal
+
+pub returns-then-is_end : goal.returns-then-is_end
+returns-then-is_end c =
+    let ok = c.in_ok-answer.ensures.ok in (
+      keeps_more _ c.takes.state c.take.new.self 4294967295 c.takes.invariant.keeps ok.1,
+      ends c.takes.state c.take.new.self 4294967295 c.in_ok-answer.answer ok.0 ok.1 (sym c.is_end.ensures ∙ c.if-is_end.true),
+    )
+
+pub takes-smaller : goal.takes-smaller
+takes-smaller c =
+    let ok = c.in_ok-answer.ensures.ok in
+    let inv = c.takes.invariant in
+    let one : 1 ≤ 4294967295 = omega arith in
+    (goes c.takes.state c.take.new.self 4294967295 c.in_ok-answer.answer c.stands.ensures.stands inv.ended inv.open' (inv.keeps.broken ∙ c.requires.whole) one ok.0 ok.1 (sym c.is_end.ensures ∙ c.if-is_end.false)).1
+
+pub takes-preserved : goal.takes-preserved
+takes-preserved c =
+    let ok = c.in_ok-answer.ensures.ok in
+    let inv = c.takes.invariant in
+    let one : 1 ≤ 4294967295 = omega arith in
+    let keeps = keeps_more _ c.takes.state c.take.new.self 4294967295 inv.keeps ok.1 in
+    record {
+      ended = ap (λ (f : Stream). f.end) keeps.fed ∙ c.requires.ended;
+      open' = (goes c.takes.state c.take.new.self 4294967295 c.in_ok-answer.answer c.stands.ensures.stands inv.ended inv.open' (inv.keeps.broken ∙ c.requires.whole) one ok.0 ok.1 (sym c.is_end.ensures ∙ c.if-is_end.false)).0;
+      keeps = keeps;
+    }
