@@ -1,19 +1,16 @@
 -- What a link has done stays, whatever comes later.
-use Rattle.std.proofs.Common.{reverse, ◌≡◌, ℕ, ◌+◌, ◌-◌, ◌<◌, ◌≤◌, ◌++◌, Bool, true, false, cond, List, [], ◌∷◌, map, length, take, arith, rules, refl, ap, sym, subst, ◌∙◌, inl, inr}
+use Rattle.std.proofs.Common.{reverse, ◌≡◌, ℕ, ◌<◌, ◌≤◌, ◌++◌, List, [], ◌∷◌, map, arith, refl, ap, sym, ◌∙◌, inl, inr}
 use Rattle.std.proofs.lemmas.Bool.{cases_lt}
 use Rattle.std.proofs.lemmas.List.{append-nil, append_assoc}
 use Rattle.packet_record.specs.declared.packet.Timed.{Timed}
 use Rattle.packet_queue.specs.declared.spec.QueueSpec.{QueueSpec}
-use Rattle.packet_queue.specs.Queues.{dropped, moved_to}
-use Rattle.shell_log.specs.declared.entry.Entry.{Entry}
-use Rattle.shell_log.specs.declared.entry.Entry.TheVariants as entries
+use Rattle.packet_queue.specs.Queues.{moved_to}
 use Rattle.trace_reader.specs.declared.opportunity.Opportunity.{Opportunity}
-use Rattle.link_core.specs.Stream.{carried, rest, begun, waiting, ahead}
+use Rattle.link_core.specs.Stream.{rest, begun}
 use Rattle.trace_reader.specs.Orders.{Each, AreRising}
 use Rattle.link_core.specs.Orders.{Rising, Falling, AreFalling}
-use Rattle.link_core.specs.Links.{drop_line}
 use Rattle.link_core.specs.Back.{sent, keep, departures, losses, log_of}
-use Rattle.link_core.specs.State.{Tied, served_lines}
+use Rattle.link_core.specs.State.{Tied}
 use Rattle.packet_record.specs.Moments.{AreFrom}
 use Rattle.packet_record.proofs.MomentsLemmas.{from-append}
 use Rattle.link_core.specs.Promises.{Extends}

@@ -1,15 +1,14 @@
 -- The first opportunity with which so many bytes are sent.
-use Rattle.std.proofs.Common.{◌≡◌, ℕ, zero, suc, ◌+◌, ◌-◌, ◌<◌, ◌≤◌, ◌++◌, ◌==◌, Bool, true, false, cond, List, [], ◌∷◌, Option, Some, None, option_to_list, map, reverse, length, fold, nat_le, nat_lt, slice_get, arith, refl, ap, sym, ◌∙◌, inl, inr}
+use Rattle.std.proofs.Common.{◌≡◌, ℕ, suc, ◌+◌, ◌-◌, ◌<◌, ◌≤◌, ◌++◌, false, cond, List, [], ◌∷◌, Option, Some, None, option_to_list, reverse, length, nat_le, slice_get, arith, refl, ap, sym, ◌∙◌, inl, inr}
 use Rattle.std.specs.Option.{option_map, option_and_then}
 use Rattle.std.proofs.lemmas.Bool.{cases_lt, le-leb, lt-leb, eq-eqb, ne_eqb}
 use Rattle.packet_record.specs.declared.packet.Timed.{Timed}
 use Rattle.packet_queue.specs.Queues.{moved_to}
 use Rattle.trace_reader.specs.declared.opportunity.Opportunity.{Opportunity}
-use Rattle.trace_reader.specs.Orders.{Each}
 use Rattle.trace_reader.proofs.ListLemmas.{slice_get-front, slice_get-next, some_at}
 use Rattle.link_core.specs.Orders.{AreFalling}
 use Rattle.link_core.specs.Stream.{rest, ending}
-use Rattle.link_core.specs.Links.{sent_with, sent, sums_sent, first_reaching, first_sent, departure_at, departing, leaving, is_number, is_no_number}
+use Rattle.link_core.specs.Links.{sent_with, sums_sent, first_reaching, first_sent, departure_at, departing, leaving, is_number, is_no_number}
 use Rattle.link_core.specs.Back as back
 use Rattle.link_core.proofs.Least as least
 use Rattle.link_core.proofs.SentLemmas as sums

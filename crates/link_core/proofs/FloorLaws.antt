@@ -1,31 +1,28 @@
 -- Where departures can be, and the floor, which is the moment of the next opportunity or the one after the horizon.
-use Rattle.std.proofs.Common.{◌≡◌, ℕ, zero, suc, ◌+◌, ◌-◌, ◌<◌, ◌≤◌, ◌++◌, List, [], ◌∷◌, Option, Some, None, slice_get, length, take, drop, reverse, map, arith, refl, ap, sym, subst, ◌∙◌, inl, inr}
+use Rattle.std.proofs.Common.{◌≡◌, ℕ, zero, suc, ◌+◌, ◌-◌, ◌<◌, ◌≤◌, List, [], ◌∷◌, Some, slice_get, length, take, drop, reverse, map, arith, refl, ap, sym, subst, ◌∙◌, inl, inr}
 use Rattle.std.proofs.lemmas.Bool.{cases_lt}
 use Rattle.std.proofs.lemmas.List.{take-append-drop}
 use Rattle.std.proofs.lemmas.Option.{slice_get_past}
-use Rattle.packet_record.specs.declared.packet.Packet.{Packet}
 use Rattle.packet_record.specs.declared.packet.Timed.{Timed}
-use Rattle.packet_record.specs.Moments.{AreFrom, AreUpTo, Rise}
-use Rattle.packet_record.proofs.MomentsLemmas.{up_to_higher, up_to-append, rise-append}
+use Rattle.packet_record.specs.Moments.{AreUpTo, Rise}
+use Rattle.packet_record.proofs.MomentsLemmas.{up_to-append, rise-append}
 use Rattle.packet_queue.specs.declared.spec.QueueSpec.{QueueSpec}
 use Rattle.packet_queue.specs.Queues.{moved_to}
 use Rattle.trace_reader.specs.declared.opportunity.Opportunity.{Opportunity}
 use Rattle.trace_reader.specs.Orders.{Each, AreRising}
-use Rattle.trace_reader.specs.Opps.{up_to}
 use Rattle.trace_reader.proofs.OrderLemmas.{each_map, counted, length-up_to}
 use Rattle.trace_reader.proofs.ListLemmas.{some_at, slice_get-take}
 use Rattle.link_core.specs.Orders.{AreFalling}
 use Rattle.link_core.specs.Links.{link_out}
 use Rattle.link_core.specs.Back as back
 use Rattle.link_core.specs.Promises.{count_to, floor_of}
-use Rattle.link_core.proofs.SentLemmas.{each_front}
 use Rattle.link_core.proofs.SoundLemmas.{each_reverse, drop_one}
 use Rattle.link_core.proofs.KeepLemmas.{up_to_all}
 use Rattle.link_core.proofs.InOrder.{out_is, falling_turned}
 use Rattle.link_core.proofs.SeenLemmas.{rising_take}
 use Rattle.link_core.proofs.OppsLemmas.{each_at}
 use Rattle.link_core.proofs.Continuation.{moved_from}
-use Rattle.link_core.proofs.LinkLaws.{floor_at, floor_past, between, each_take, from_floor, rising_drop}
+use Rattle.link_core.proofs.LinkLaws.{floor_at, floor_past, between, each_take, from_floor}
 
 moved_to_moment : (low moment : ℕ) (ts : List Timed) → moment ≤ low → AreUpTo low (map (moved_to moment) ts)
 moved_to_moment low moment [] le = tt

@@ -1,14 +1,13 @@
 -- What a link makes of whole lists in order is what its steps make of them.
-use Rattle.std.proofs.Common.{◌≡◌, ℕ, suc, ◌-◌, ◌≤◌, ◌++◌, List, [], ◌∷◌, map, reverse, length, arith, refl, ap, sym, subst, ◌∙◌, add-one}
+use Rattle.std.proofs.Common.{◌≡◌, ℕ, suc, ◌-◌, ◌≤◌, ◌++◌, List, [], ◌∷◌, map, reverse, length, arith, refl, ap, sym, subst, ◌∙◌}
 use Rattle.std.proofs.lemmas.List.{append-nil, append_assoc, reverse-append, reverse-reverse, length-reverse}
 use Rattle.packet_record.specs.declared.packet.Timed.{Timed}
 use Rattle.packet_queue.specs.declared.spec.QueueSpec.{QueueSpec}
-use Rattle.shell_log.specs.declared.entry.Entry.{Entry}
 use Rattle.shell_log.specs.declared.entry.Entry.TheVariants as entries
 use Rattle.trace_reader.specs.declared.opportunity.Opportunity.{Opportunity}
 use Rattle.trace_reader.specs.Orders.{Each, AreRising}
 use Rattle.link_core.specs.Orders.{Falling, AreFalling}
-use Rattle.link_core.specs.Stream.{rest, ending}
+use Rattle.link_core.specs.Stream.{rest}
 use Rattle.link_core.specs.Links.{keep, link_lost, departing, link_out, leaving, is_number, is_no_number, link_inside, Lines, departure_line, opportunity_lines, arrival_lines, merged, entries_of, link_log}
 use Rattle.link_core.specs.Back as back
 use Rattle.link_core.proofs.SentLemmas.{each_append}

@@ -1,15 +1,15 @@
 -- What the queue keeps.
-use Rattle.std.proofs.Common.{◌≡◌, ℕ, ◌+◌, ◌-◌, ◌<◌, ◌≤◌, ◌++◌, Bool, true, false, cond, List, [], ◌∷◌, nat_lt, nat_le, map, filter, arith, rules, refl, ap, sym, subst, ◌∙◌, inl, inr}
-use Rattle.std.proofs.lemmas.Bool.{cases_lt, le-leb, lt-leb, lt-ltb, le-ltb, cond_both}
+use Rattle.std.proofs.Common.{◌≡◌, ℕ, ◌<◌, ◌≤◌, ◌++◌, List, [], ◌∷◌, map, refl, ap, sym, subst, ◌∙◌}
+use Rattle.std.proofs.lemmas.Bool.{le-leb, lt-leb, cond_both}
 use Rattle.packet_record.specs.declared.packet.Timed.{Timed}
 use Rattle.packet_queue.specs.declared.spec.QueueKind.{QueueKind}
 use Rattle.packet_queue.specs.declared.spec.QueueKind.TheVariants.{Infinite, DropTail, DropHead}
 use Rattle.packet_queue.specs.declared.spec.QueueSpec.{QueueSpec}
-use Rattle.packet_queue.specs.Queues.{bytes, fits, fitting, enqueued, enqueued_by, dropped, moved_to}
+use Rattle.packet_queue.specs.Queues.{fits, fitting, enqueued, enqueued_by, dropped, moved_to}
 use Rattle.trace_reader.specs.declared.opportunity.Opportunity.{Opportunity}
 use Rattle.link_core.specs.Stream.{waiting, ahead}
 use Rattle.trace_reader.specs.Orders.{Each}
-use Rattle.link_core.specs.Orders.{Rising, Falling, AreFalling}
+use Rattle.link_core.specs.Orders.{Rising, Falling}
 use Rattle.trace_reader.specs.Opps.{up_to}
 use Rattle.link_core.specs.Links.{below}
 use Rattle.link_core.specs.Back.{sent, entered, keep, dropped_at, losses}

@@ -20,3 +20,5 @@ pub mod OppsLemmas
 pub mod LinkLaws
 pub mod FloorLaws
 pub mod OnlyLaws
+pub mod Rows
+pub mod FeedLemmas

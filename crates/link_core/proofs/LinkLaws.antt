@@ -1,34 +1,27 @@
 -- What a link promises of arrivals and opportunities to come: nothing is taken back, and each later departure is at the
 -- floor or after it. `os` are all opportunities up to the horizon h, of which the first b are burnt.
-use Rattle.std.proofs.Common.{◌≡◌, ℕ, zero, suc, ◌+◌, ◌-◌, ◌<◌, ◌≤◌, ◌++◌, Bool, true, false, cond, List, [], ◌∷◌, Option, Some, None, slice_get, length, take, drop, reverse, map, arith, refl, ap, sym, subst, ◌∙◌, inl, inr}
+use Rattle.std.proofs.Common.{◌≡◌, ℕ, suc, ◌+◌, ◌-◌, ◌<◌, ◌≤◌, ◌++◌, List, [], ◌∷◌, Option, Some, None, slice_get, length, take, drop, reverse, arith, ap, sym, subst, ◌∙◌, inl, inr}
 use Rattle.std.specs.Option.{option_map, unwrap_or}
 use Rattle.std.proofs.lemmas.Bool.{cases_lt}
 use Rattle.std.proofs.lemmas.List.{append-nil, take-append-drop, drop-drop, drop_all}
-use Rattle.std.proofs.lemmas.Option.{slice_get_past}
 use Rattle.std.proofs.Math.Seq.{take-add}
 use Rattle.packet_record.specs.declared.packet.Timed.{Timed}
 use Rattle.packet_record.specs.Moments.{AreFrom, AreUpTo, Rise}
-use Rattle.packet_record.proofs.MomentsLemmas.{from_lower, up_to_higher, from-append, up_to-append, rise-append, rise_rest}
+use Rattle.packet_record.proofs.MomentsLemmas.{rise-append, rise_rest}
 use Rattle.packet_queue.specs.declared.spec.QueueSpec.{QueueSpec}
-use Rattle.packet_queue.specs.Queues.{moved_to}
 use Rattle.shell_log.specs.declared.entry.Entry.{Entry}
 use Rattle.trace_reader.specs.declared.opportunity.Opportunity.{Opportunity}
 use Rattle.trace_reader.specs.Orders.{Each, AreRising}
-use Rattle.trace_reader.specs.Opps.{up_to}
 use Rattle.trace_reader.proofs.OrderLemmas.{each_map, counted}
 use Rattle.trace_reader.proofs.ListLemmas.{some_at}
-use Rattle.link_core.specs.Orders.{Rising, Falling, AreFalling}
+use Rattle.link_core.specs.Orders.{Rising, Falling}
 use Rattle.link_core.specs.Links.{link_out, link_lost, link_log}
-use Rattle.link_core.specs.Back as back
 use Rattle.link_core.specs.Promises.{count_to, AreCovered, floor_of, Extends}
 use Rattle.link_core.proofs.SentLemmas.{each_append, each_front, each_back}
 use Rattle.link_core.proofs.SoundLemmas.{each_reverse, each_up_to, drop_one}
-use Rattle.link_core.proofs.KeepLemmas.{up_to_all}
-use Rattle.link_core.proofs.CountLemmas.{counted_start}
 use Rattle.link_core.proofs.Turned.{reverse_cons}
 use Rattle.link_core.proofs.InOrder.{out_is, lost_is, log_is, falling_turned}
 use Rattle.link_core.proofs.SeenLemmas.{rising_front, rising_take}
-use Rattle.link_core.proofs.OppsLemmas.{each_at}
 use Rattle.link_core.proofs.Continuation.{GoesOn, GoesOnWhole, MayCome, onto, continues, reverse_onto}
 
 -- lists in order

@@ -1,13 +1,12 @@
 -- The log, as opportunities are burnt and packets arrive.
-use Rattle.std.proofs.Common.{◌≡◌, ℕ, ◌+◌, ◌<◌, ◌≤◌, ◌++◌, Bool, true, false, cond, List, [], ◌∷◌, nat_lt, nat_le, map, filter, arith, rules, refl, ap, sym, ◌∙◌}
+use Rattle.std.proofs.Common.{◌≡◌, ℕ, ◌<◌, ◌≤◌, ◌++◌, List, [], ◌∷◌, nat_lt, nat_le, filter, refl, ap, ◌∙◌}
 use Rattle.std.proofs.lemmas.Bool.{le-leb, lt-leb, lt-ltb, le-ltb}
 use Rattle.packet_record.specs.declared.packet.Timed.{Timed}
 use Rattle.packet_queue.specs.declared.spec.QueueSpec.{QueueSpec}
 use Rattle.trace_reader.specs.declared.opportunity.Opportunity.{Opportunity}
 use Rattle.trace_reader.specs.Orders.{Each}
 use Rattle.link_core.specs.Links.{Lines, drop_line}
-use Rattle.link_core.specs.Back.{opportunity_lines, arrival_lines, dropped_at, keep, merged, in_order}
-use Rattle.shell_log.specs.declared.entry.Entry.{Entry}
+use Rattle.link_core.specs.Back.{opportunity_lines, arrival_lines, dropped_at, keep, merged}
 use Rattle.shell_log.specs.declared.entry.Entry.TheVariants as entries
 use Rattle.link_core.proofs.KeepLemmas.{dropped_burn}
 

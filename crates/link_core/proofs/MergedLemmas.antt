@@ -1,13 +1,13 @@
 -- Lines of opportunities and arrivals, merged in order and with the latest first.
 use Rattle.std.proofs.Common.{◌≡◌, ℕ, ◌<◌, ◌≤◌, ◌++◌, Bool, true, false, cond, List, [], ◌∷◌, filter, reverse, nat_le, nat_lt, arith, refl, ap, sym, subst, ◌∙◌, inl, inr}
 use Rattle.std.proofs.lemmas.Bool.{cases_lt, le-leb, lt-leb, lt-ltb, le-ltb}
-use Rattle.std.proofs.lemmas.List.{append-nil, append_assoc, reverse-append}
+use Rattle.std.proofs.lemmas.List.{append-nil, append_assoc}
 use Rattle.std.proofs.lemmas.List.Elements.{filter-append}
 use Rattle.shell_log.specs.declared.entry.Entry.{Entry}
 use Rattle.trace_reader.specs.Orders.{Each}
 use Rattle.link_core.specs.Links.{Lines, merged, entries_of}
 use Rattle.link_core.specs.Back as back
-use Rattle.link_core.proofs.SentLemmas.{each_append, each_front, each_back}
+use Rattle.link_core.proofs.SentLemmas.{each_append}
 use Rattle.link_core.proofs.Turned.{reverse_cons}
 
 abbrev pub early : ℕ → List Lines → List Lines

@@ -1,16 +1,15 @@
 -- The log's entries are no later than what has been.
-use Rattle.std.proofs.Common.{◌≡◌, ℕ, ◌+◌, ◌<◌, ◌≤◌, ◌++◌, ◌==◌, Bool, true, false, cond, List, [], ◌∷◌, length, map, filter, nat_lt, nat_le, arith, rules, refl, ap, sym, subst, ◌∙◌}
+use Rattle.std.proofs.Common.{ℕ, ◌≤◌, ◌==◌, Bool, List, [], ◌∷◌, length, map, filter, nat_lt, nat_le}
 use Rattle.std.proofs.lemmas.Bool.{cond_both}
 use Rattle.packet_record.specs.declared.packet.Timed.{Timed}
 use Rattle.packet_queue.specs.declared.spec.QueueSpec.{QueueSpec}
 use Rattle.packet_queue.specs.Queues.{bytes}
-use Rattle.shell_log.specs.declared.entry.Entry.{Entry}
 use Rattle.shell_log.specs.declared.entry.Entry.TheVariants as entries
-use Rattle.shell_log.specs.Entries.{moment_of, AreUpTo}
+use Rattle.shell_log.specs.Entries.{AreUpTo}
 use Rattle.shell_log.proofs.LogLemmas.{up_to_append}
 use Rattle.trace_reader.specs.declared.opportunity.Opportunity.{Opportunity}
 use Rattle.trace_reader.specs.Orders.{Each}
-use Rattle.link_core.specs.Links.{Lines, departure_line, drop_line, drop_line_by}
+use Rattle.link_core.specs.Links.{Lines, departure_line, drop_line_by}
 use Rattle.link_core.specs.Back.{keep, ended, dropped_at, opportunity_lines, arrival_lines, merged, in_order, log_of}
 use Rattle.link_core.proofs.SentLemmas.{each_append}
 

@@ -1,15 +1,14 @@
 -- Each packet that arrives has departed, is dropped or is inside, and only one of these.
-use Rattle.std.proofs.Common.{◌≡◌, ℕ, ◌+◌, ◌-◌, ◌<◌, ◌≤◌, ◌++◌, Bool, true, false, cond, List, [], ◌∷◌, map, arith, rules, refl, ap, sym, subst, ◌∙◌, inl, inr}
+use Rattle.std.proofs.Common.{◌≡◌, ℕ, ◌+◌, ◌-◌, ◌<◌, ◌≤◌, ◌++◌, Bool, true, false, cond, List, [], ◌∷◌, map, arith, refl, ap, sym, ◌∙◌, inl, inr}
 use Rattle.std.proofs.lemmas.Bool.{cases_lt}
 use Rattle.packet_record.specs.declared.packet.Packet.{Packet}
 use Rattle.packet_record.specs.declared.packet.Timed.{Timed}
 use Rattle.packet_queue.specs.declared.spec.QueueKind.{QueueKind}
 use Rattle.packet_queue.specs.declared.spec.QueueKind.TheVariants.{Infinite, DropTail, DropHead}
 use Rattle.packet_queue.specs.declared.spec.QueueSpec.{QueueSpec}
-use Rattle.packet_queue.specs.Queues.{bytes, fits, fitting, excess, enqueued, enqueued_by, dropped, dropped_by, moved_to}
+use Rattle.packet_queue.specs.Queues.{fits, fitting, excess, enqueued, enqueued_by, dropped_by, moved_to}
 use Rattle.trace_reader.specs.declared.opportunity.Opportunity.{Opportunity}
 use Rattle.link_core.specs.Stream.{carried, rest, waiting, ahead, ending}
-use Rattle.trace_reader.specs.Orders.{Each}
 use Rattle.link_core.specs.Orders.{AreFalling}
 use Rattle.trace_reader.specs.Opps.{up_to}
 use Rattle.link_core.specs.Back.{sent, keep, dropped_at, losses, ended, departures}

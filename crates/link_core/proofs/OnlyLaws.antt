@@ -1,22 +1,20 @@
 -- One step of a link only adds to what departed, what was lost and the log.
-use Rattle.std.proofs.Common.{◌≡◌, ℕ, ◌+◌, ◌<◌, ◌≤◌, ◌++◌, List, [], ◌∷◌, Result, Ok, Err, IfOk, OnOk, OnErr, Option, length, take, drop, reverse, arith, refl, ap, sym, subst, ◌∙◌}
-use mathlib.Core.List.{IsPrefix}
+use Rattle.std.proofs.Common.{◌≡◌, ℕ, ◌+◌, ◌<◌, ◌≤◌, ◌++◌, List, [], ◌∷◌, Result, Ok, Err, IfOk, OnOk, OnErr, Option, take, drop, reverse, arith, sym, subst}
 use Rattle.std.proofs.lemmas.List.{append-nil, reverse-reverse}
 use Rattle.mm_base.specs.declared.errors.OutOfMemory.{OutOfMemory}
 use Rattle.packet_record.specs.declared.packet.Timed.{Timed}
-use Rattle.packet_record.specs.Moments.{AreUpTo, AreFrom, Rise}
+use Rattle.packet_record.specs.Moments.{AreUpTo, Rise}
 use Rattle.packet_record.proofs.MomentsLemmas.{rise-append}
 use Rattle.packet_queue.specs.declared.spec.QueueSpec.{QueueSpec}
 use Rattle.shell_log.specs.declared.entry.Entry.{Entry}
 use Rattle.trace_reader.specs.declared.opportunity.Opportunity.{Opportunity}
 use Rattle.trace_reader.specs.Orders.{Each, AreRising}
 use Rattle.link_core.specs.Orders.{Falling}
-use Rattle.link_core.specs.Promises.{count_to, floor_of, Extends}
+use Rattle.link_core.specs.Promises.{count_to, floor_of}
 use Rattle.link_core.specs.Sound.{Sound}
 use Rattle.link_core.specs.View.{Span, span_opps, Link, out_of, lost_of, log_of, OnlyGoesOn}
 use Rattle.link_core.proofs.SoundLemmas.{each_reverse, each_up_to}
 use Rattle.link_core.proofs.Turned.{reverse_cons}
-use Rattle.link_core.proofs.Continuation.{GoesOn}
 use Rattle.link_core.proofs.LinkLaws.{LinkGoesOn, goes_on, early_burnt}
 
 abbrev pub made : QueueSpec → Span → ℕ → List Timed → Link

@@ -1,11 +1,11 @@
 -- What callers see of sound parts.
-use Rattle.std.proofs.Common.{◌≡◌, ◌<◌, ◌≤◌, ◌++◌, ℕ, List, [], ◌∷◌, Option, length, take, drop, reverse, refl, ap, sym, subst, ◌∙◌}
+use Rattle.std.proofs.Common.{◌≡◌, ◌≤◌, ◌++◌, ℕ, List, [], ◌∷◌, Option, take, drop, sym, subst, ◌∙◌}
 use Rattle.std.proofs.lemmas.List.{take-append-drop}
 use Rattle.packet_record.specs.declared.packet.Timed.{Timed}
 use Rattle.packet_queue.specs.declared.spec.QueueSpec.{QueueSpec}
 use Rattle.shell_log.specs.declared.entry.Entry.{Entry}
 use Rattle.trace_reader.specs.declared.opportunity.Opportunity.{Opportunity}
-use Rattle.trace_reader.specs.Orders.{Each, AreRising}
+use Rattle.trace_reader.specs.Orders.{AreRising}
 use Rattle.link_core.specs.Links.{link_out, link_lost, link_log, link_inside}
 use Rattle.link_core.specs.State.{pending}
 use Rattle.link_core.specs.Sound.{Sound}

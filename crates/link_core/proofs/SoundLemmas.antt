@@ -1,7 +1,6 @@
 -- The two steps keep what is true of the parts.
-use Rattle.std.proofs.Common.{◌≡◌, ℕ, zero, suc, ◌+◌, ◌-◌, ◌<◌, ◌≤◌, ◌++◌, Bool, true, false, cond, All, List, [], ◌∷◌, Option, Some, None, slice_get, length, take, drop, reverse, map, arith, rules, refl, ap, sym, subst, ◌∙◌, add-one, inl, inr}
+use Rattle.std.proofs.Common.{◌≡◌, ℕ, zero, suc, ◌+◌, ◌<◌, ◌≤◌, ◌++◌, All, List, [], ◌∷◌, Option, Some, slice_get, length, take, drop, reverse, map, arith, ap, sym, subst, ◌∙◌, add-one}
 use Rattle.std.proofs.lemmas.List.{reverse-append, take-append-drop}
-use Rattle.std.proofs.lemmas.Bool.{cases_lt, le-leb, lt-leb}
 use Rattle.packet_record.specs.declared.packet.Timed.{Timed}
 use Rattle.packet_queue.specs.declared.spec.QueueSpec.{QueueSpec}
 use Rattle.packet_queue.specs.Queues.{enqueued, dropped, moved_to}
@@ -11,12 +10,11 @@ use Rattle.trace_reader.specs.declared.opportunity.Opportunity.{Opportunity}
 use Rattle.link_core.specs.Stream.{carried, rest, begun}
 use Rattle.trace_reader.specs.Orders.{Each, AreRising}
 use Rattle.link_core.specs.Orders.{AreFalling}
-use Rattle.trace_reader.specs.Opps.{up_to}
 use Rattle.link_core.specs.Links.{drop_line}
 use Rattle.link_core.specs.Back.{sent, keep, departures, losses, log_of}
 use Rattle.link_core.specs.State.{pending, IsPart, Tied, served_lines}
 use Rattle.link_core.specs.Sound.{Sound}
-use Rattle.link_core.proofs.SentLemmas.{each_append, each_front, each_back, each_map}
+use Rattle.link_core.proofs.SentLemmas.{each_append, each_back, each_map}
 use Rattle.link_core.proofs.MomentLemmas.{log_up_to}
 use Rattle.shell_log.specs.Entries.{AreUpTo as EntriesUpTo}
 use Rattle.packet_record.specs.Moments.{AreUpTo}

@@ -1,5 +1,5 @@
 -- The two steps of a link: an opportunity is burnt, and a packet arrives.
-use Rattle.std.proofs.Common.{◌≡◌, ℕ, ◌+◌, ◌-◌, ◌<◌, ◌≤◌, ◌++◌, Bool, true, false, cond, List, [], ◌∷◌, Option, Some, None, nat_lt, nat_le, map, arith, rules, refl, ap, sym, subst, ◌∙◌}
+use Rattle.std.proofs.Common.{◌≡◌, ℕ, ◌+◌, ◌<◌, ◌≤◌, ◌++◌, List, ◌∷◌, Option, Some, None, map, arith, ap, sym, subst, ◌∙◌}
 use Prim.Native.Nat.{min}
 use Rattle.packet_record.specs.declared.packet.Timed.{Timed}
 use Rattle.packet_queue.specs.declared.spec.QueueSpec.{QueueSpec}
@@ -7,15 +7,15 @@ use Rattle.packet_queue.specs.Queues.{bytes, enqueued, dropped, moved_to}
 use Rattle.shell_log.specs.declared.entry.Entry.{Entry}
 use Rattle.shell_log.specs.declared.entry.Entry.TheVariants as entries
 use Rattle.trace_reader.specs.declared.opportunity.Opportunity.{Opportunity}
-use Rattle.link_core.specs.Stream.{carried, rest, begun, waiting, ahead, ending}
+use Rattle.link_core.specs.Stream.{carried, rest, begun, waiting, ahead}
 use Rattle.trace_reader.specs.Orders.{Each}
-use Rattle.link_core.specs.Orders.{Rising, Falling, AreFalling}
+use Rattle.link_core.specs.Orders.{Rising}
 use Rattle.trace_reader.specs.Opps.{up_to}
-use Rattle.link_core.specs.Links.{below, Lines, departure_line, drop_line}
+use Rattle.link_core.specs.Links.{below, Lines, drop_line}
 use Rattle.link_core.specs.Back.{sent, entered, keep, dropped_at, losses, ended, departures, opportunity_lines, arrival_lines, merged, in_order, log_of}
 use Rattle.link_core.specs.State.{Tied, served_lines, pending, IsPart}
 use Rattle.link_core.proofs.StreamLemmas.{rest_more, begun_more, ending_more, rest_capped, begun_capped, ending_capped, waiting_clean, waiting_part, ahead_waiting, bytes_ahead, begun_ahead, rest_ahead_clean, rest_ahead_part}
-use Rattle.link_core.proofs.SentLemmas.{each_map, below_whole, sent_le, same_sent, same_departures, same_lines}
+use Rattle.link_core.proofs.SentLemmas.{below_whole, sent_le, same_sent, same_departures, same_lines}
 use Rattle.link_core.proofs.KeepLemmas.{keep_each, keep_rising, keep_burn, losses_burn, up_to_all, behind_enqueued}
 use Rattle.link_core.proofs.LogLemmas.{merged_burn, merged_arrive, opportunity_moments, arrival_moments, arrival_lines_burn}
 

@@ -1,6 +1,5 @@
 -- A link direction as its callers see it, and what follows from that.
-use Rattle.std.specs.Prelude.{ℕ, ◌+◌, Bool, List, length, take, slice_get}
-use Rattle.std.specs.Option.{option_map, unwrap_or}
+use Rattle.std.specs.Prelude.{ℕ, Bool, List, take}
 use mathlib.Core.List.{IsPrefix}
 use Rattle.packet_record.specs.declared.packet.Timed.{Timed}
 use Rattle.packet_queue.specs.declared.spec.QueueSpec.{QueueSpec}

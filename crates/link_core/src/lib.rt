@@ -6,5 +6,9 @@ mod line;
 mod opportunities;
 mod parts;
 mod serving;
+#[cfg(test)]
+mod slow;
+#[cfg(test)]
+mod tests;
 
 pub use direction::LinkCore;

@@ -1,4 +1,4 @@
-use Rattle.std.proofs.Common.{◌≡◌, ◌<◌, ◌≤◌, Option, length, slice_get, IfSome, arith, ap, sym, subst, ◌∙◌}
+use Rattle.std.proofs.Common.{◌<◌, length, slice_get, arith, ap, sym, ◌∙◌}
 use Rattle.trace_reader.specs.Opps.{opps, opportunity_at}
 use Rattle.trace_reader.proofs.OppsLaws.{slice_get-opps}
 use Rattle.link_core.specs.View.{Span, span_opps}

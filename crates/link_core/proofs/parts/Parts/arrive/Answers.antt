@@ -1,7 +1,5 @@
-use Rattle.std.proofs.Common.{◌≡◌, ◌<◌, ◌≤◌, List, length, take, drop, ap, arith, rules, ◌∙◌}
-use Rattle.trace_reader.specs.declared.opportunity.Opportunity.{Opportunity}
+use Rattle.std.proofs.Common.{◌≡◌, length, ap, ◌∙◌}
 use Rattle.trace_reader.specs.Opps.{up_to}
-use Rattle.trace_reader.specs.Orders.{Each}
 use Rattle.link_core.specs.View.{span_opps}
 use Rattle.link_core.proofs.CountLemmas.{counted}
 use Rattle.link_core.proofs.parts.Parts.arrive.Goals as goal

@@ -1,4 +1,4 @@
-use Rattle.std.proofs.Common.{◌≡◌, ◌+◌, arith, rules, ap, sym, ◌∙◌}
+use Rattle.std.proofs.Common.{◌≡◌, ap, sym, ◌∙◌}
 use Rattle.packet_queue.specs.View.{Queue}
 use Rattle.link_core.proofs.SoundLemmas.{sound_burn, log_before_burn}
 use Rattle.link_core.proofs.parts.Parts.burn_next.Goals as goal

@@ -1,5 +1,4 @@
 use Rattle.std.proofs.Common.{◌≡◌, ◌+◌, ◌-◌, ◌≤◌, length, vec_len, vec_capacity}
-use Rattle.packet_queue.specs.View.{Queue}
 use Rattle.link_core.specs.State.{inside_line}
 use Rattle.link_core.specs.Sound.{IsSound}
 use Rattle.link_core.proofs.parts.Parts.burn_to.Given as goal

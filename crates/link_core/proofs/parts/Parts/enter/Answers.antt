@@ -1,7 +1,6 @@
-use Rattle.std.proofs.Common.{◌≡◌, ◌++◌, ◌∷◌, [], List, length, map, arith, rules, ap, sym, ◌∙◌}
-use Rattle.packet_queue.specs.Queues.{bytes, enqueued, dropped, moved_to}
+use Rattle.std.proofs.Common.{◌≡◌, ◌++◌, ◌∷◌, [], length, map, arith, rules, ap, ◌∙◌}
+use Rattle.packet_queue.specs.Queues.{enqueued, dropped, moved_to}
 use Rattle.packet_queue.specs.View.{Queue}
-use Rattle.shell_log.specs.declared.entry.Entry.{Entry}
 use Rattle.shell_log.specs.declared.entry.Entry.TheVariants as entries
 use Rattle.link_core.specs.Links.{drop_line, drop_line_by}
 use Rattle.link_core.proofs.SoundLemmas.{sound_enter, log_before_enter}

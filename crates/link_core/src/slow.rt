@@ -1,0 +1,220 @@
+// A plain slow program of the definitions, written apart from the contracts: it sums over whole lists again and again.
+use mm_base::OutOfMemory;
+use packet_queue::{QueueKind, QueueSpec};
+use packet_record::Timed;
+use shell_log::Entry;
+use std::alloc::Global;
+use trace_reader::Opportunity;
+
+#[derive(Drop)]
+pub struct Slow {
+    pub departed: Vec<Timed>,
+    pub lost: Vec<Timed>,
+    pub log: Vec<Entry>,
+}
+
+#[derive(Drop)]
+struct Kept {
+    kept: Vec<Timed>,
+    lost: Vec<Timed>,
+}
+
+fn size_of_all(packets: &[Timed]) -> u64 {
+    let mut sum: u64 = 0;
+    for t in packets {
+        sum = sum.saturating_add(u64::from(t.packet.size));
+    }
+    sum
+}
+
+fn sent(kept: &[Timed], opps: &[Opportunity], until: u64) -> u64 {
+    let mut sum: u64 = 0;
+    for o in opps {
+        if o.moment <= until {
+            let mut before: u64 = 0;
+            for t in kept {
+                if t.moment < o.moment {
+                    before = before.saturating_add(u64::from(t.packet.size));
+                }
+            }
+            sum = sum.saturating_add(u64::from(o.bytes)).min(before);
+        }
+    }
+    sum
+}
+
+fn within(limit: Option<u64>, n: u64) -> bool {
+    match limit {
+        None => true,
+        Some(most) => most == 0 || n <= most,
+    }
+}
+
+fn fits(queue: &QueueSpec, packets: &[Timed]) -> bool {
+    within(queue.packets, packets.len() as u64) && within(queue.bytes, size_of_all(packets))
+}
+
+// What is kept of the packets that wait and a new one, after those ahead; and what is lost.
+fn queued(
+    queue: &QueueSpec,
+    mut after: Kept,
+    waiting: &[Timed],
+    t: Timed,
+) -> Result<Kept, OutOfMemory> {
+    let tail_fits = fits(queue, waiting);
+    let mut dropping = queue.kind == QueueKind::DropHead;
+    for i in 0..waiting.len() {
+        dropping = dropping && !fits(queue, &waiting[i..]);
+        let last = i + 1 == waiting.len();
+        if dropping || (last && queue.kind == QueueKind::DropTail && !tail_fits) {
+            after.lost.push(Timed {
+                moment: t.moment,
+                packet: waiting[i].packet,
+            })?;
+        } else {
+            after.kept.push(waiting[i])?;
+        }
+    }
+    Ok(after)
+}
+
+fn arrive(
+    alloc: Global,
+    queue: &QueueSpec,
+    opps: &[Opportunity],
+    kept: &[Timed],
+    t: Timed,
+) -> Result<Kept, OutOfMemory> {
+    let gone = sent(kept, opps, t.moment);
+    let mut after = Kept {
+        kept: Vec::new(alloc),
+        lost: Vec::new(alloc),
+    };
+    let mut waiting = Vec::new(alloc);
+    let mut sum: u64 = 0;
+    for k in kept {
+        if sum >= gone {
+            waiting.push(*k)?;
+        } else {
+            after.kept.push(*k)?;
+        }
+        sum = sum.saturating_add(u64::from(k.packet.size));
+    }
+    waiting.push(t)?;
+    queued(queue, after, &waiting, t)
+}
+
+// The number of the first opportunity with which so many bytes are sent, or how many there are.
+fn first_with(kept: &[Timed], opps: &[Opportunity], bytes: u64) -> usize {
+    for i in 0..opps.len() {
+        if sent(kept, &opps[..i + 1], u64::MAX) >= bytes {
+            return i;
+        }
+    }
+    opps.len()
+}
+
+fn log_opportunity(
+    log: &mut Vec<Entry>,
+    kept: &[Timed],
+    opps: &[Opportunity],
+    number: usize,
+    o: Opportunity,
+) -> Result<(), OutOfMemory> {
+    log.push(Entry::Opportunity {
+        moment: o.moment,
+        bytes: o.bytes,
+    })?;
+    let mut sum: u64 = 0;
+    for t in kept {
+        sum = sum.saturating_add(u64::from(t.packet.size));
+        if first_with(kept, opps, sum) == number {
+            log.push(Entry::Departure {
+                moment: o.moment,
+                size: t.packet.size,
+                delay: o.moment.saturating_sub(t.moment),
+            })?;
+        }
+    }
+    Ok(())
+}
+
+fn log_arrival(log: &mut Vec<Entry>, t: Timed, lost: &[Timed]) -> Result<(), OutOfMemory> {
+    log.push(Entry::Arrival {
+        moment: t.moment,
+        size: t.packet.size,
+    })?;
+    if !lost.is_empty() {
+        log.push(Entry::Drop {
+            moment: t.moment,
+            packets: lost.len() as u64,
+            bytes: size_of_all(lost),
+        })?;
+    }
+    Ok(())
+}
+
+// The packets that this arrival lost.
+fn lost_at(
+    alloc: Global,
+    queue: &QueueSpec,
+    opps: &[Opportunity],
+    arrivals: &[Timed],
+    number: usize,
+) -> Result<Vec<Timed>, OutOfMemory> {
+    let mut kept = Vec::new(alloc);
+    for i in 0..arrivals.len() {
+        let after = arrive(alloc, queue, opps, &kept, arrivals[i])?;
+        if i == number {
+            return Ok(after.lost);
+        }
+        kept = after.kept;
+    }
+    Ok(Vec::new(alloc))
+}
+
+pub fn slow_link(
+    alloc: Global,
+    queue: &QueueSpec,
+    opps: &[Opportunity],
+    arrivals: &[Timed],
+    horizon: u16,
+) -> Result<Slow, OutOfMemory> {
+    let mut kept = Vec::new(alloc);
+    let mut slow = Slow {
+        departed: Vec::new(alloc),
+        lost: Vec::new(alloc),
+        log: Vec::new(alloc),
+    };
+    for t in arrivals {
+        let after = arrive(alloc, queue, opps, &kept, *t)?;
+        for lost in &after.lost {
+            slow.lost.push(*lost)?;
+        }
+        kept = after.kept;
+    }
+    let mut sum: u64 = 0;
+    for t in &kept {
+        sum = sum.saturating_add(u64::from(t.packet.size));
+        if let Some(o) = opps.get(first_with(&kept, opps, sum)) {
+            slow.departed.push(Timed {
+                moment: o.moment,
+                packet: t.packet,
+            })?;
+        }
+    }
+    for moment in 0..=horizon {
+        for i in 0..opps.len() {
+            if opps[i].moment == u64::from(moment) {
+                log_opportunity(&mut slow.log, &kept, opps, i, opps[i])?;
+            }
+        }
+        for i in 0..arrivals.len() {
+            if arrivals[i].moment == u64::from(moment) {
+                let lost = lost_at(alloc, queue, opps, arrivals, i)?;
+                log_arrival(&mut slow.log, arrivals[i], &lost)?;
+            }
+        }
+    }
+    Ok(slow)
+}
