@@ -9,9 +9,15 @@ pub enum DirSpec {
     /// Each packet passes at once, as in the direction that an mm-loss doesn't name.
     Pass,
     /// Each packet departs so many milliseconds later, at most 3,600,000 (mm-delay).
-    Delay { ms: u64 },
+    Delay {
+        ms: u64,
+    },
     /// Each packet is dropped at this rate, by the words of a seed and a stream, or passes at once (mm-loss).
-    Loss { rate: Rate, seed: u64, stream: u64 },
+    Loss {
+        rate: Rate,
+        seed: u64,
+        stream: u64,
+    },
     /// Packets wait in a queue for the delivery opportunities of a trace, which is played once or
     /// again and again (mm-link).
     Link {
