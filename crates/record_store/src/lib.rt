@@ -5,6 +5,8 @@ mod errors;
 mod pairing;
 mod record;
 mod server;
+#[cfg(test)]
+mod tests;
 
 pub use errors::PairError;
 pub use pairing::pair;

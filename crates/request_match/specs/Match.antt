@@ -1,0 +1,58 @@
+-- Which records agree with a request, and which of them is best.
+use Rattle.std.specs.Prelude.{◌≡◌, ◌⊎◌, ◌==◌, ◌+◌, ◌<◌, ◌≤◌, ℕ, List, [], ◌∷◌, ◌++◌, length, nat_lt, Option, Some, None, All, if◌then◌else◌}
+use Rattle.std.specs.List.{before_first}
+use Rattle.http_frame.specs.declared.messages.RequestHead.{RequestHead}
+use Rattle.record_store.specs.declared.record.Record.{Record}
+
+-- a request line up to its first `?`, or all of it
+abbrev pub stripped : List ℕ → List ℕ
+stripped line = before_first (λ b. b == 63) line
+
+-- the length of the longest common front
+abbrev pub common : List ℕ → List ℕ → ℕ
+common [] b = 0
+common (x ∷ a) [] = 0
+common (x ∷ a) (y ∷ b) = if x == y then 1 + common a b else 0
+
+-- of the whole request lines
+abbrev pub score : RequestHead → Record → ℕ
+score q r = common r.request.head.line q.line
+
+-- a request is asked at a port or at none; a record's port 0 fits any
+abbrev pub FitsPort : ℕ → Option ℕ → Type 0
+FitsPort port None = Unit {0}
+FitsPort port (Some asked) = (port ≡ 0) ⊎ (port ≡ asked)
+
+pub record Agrees (q : RequestHead) (asked : Option ℕ) (r : Record) : Type 0 where
+  pub port : FitsPort r.port asked
+  pub host : r.request.head.host ≡ q.host
+  pub agent : r.request.head.agent ≡ q.agent
+  pub line : stripped r.request.head.line ≡ stripped q.line
+
+-- the place is the first of the agreeing records whose score none of them exceeds
+pub record IsBest (q : RequestHead) (asked : Option ℕ) (rs : List Record) (place : ℕ) : Type 0 where
+  pub before : List Record
+  pub best : Record
+  pub after : List Record
+  pub split : rs ≡ before ++ best ∷ after
+  pub place_is : place ≡ length before
+  pub agrees : Agrees q asked best
+  pub greatest : All (λ r. Agrees q asked r → score q r ≤ score q best) rs
+  pub first : All (λ r. Agrees q asked r → score q r < score q best) before
+
+abbrev pub NoneAgrees : RequestHead → Option ℕ → List Record → Type 0
+NoneAgrees q asked rs = All (λ r. Agrees q asked r → ⊥) rs
+
+abbrev pub BestCause : RequestHead → Option ℕ → List Record → Option ℕ → Type 0
+BestCause q asked rs (Some place) = IsBest q asked rs place
+BestCause q asked rs None = NoneAgrees q asked rs
+
+-- a place with its score, or a new one where that is greater
+abbrev pub better_of : Option (ℕ × ℕ) → ℕ → ℕ → Option (ℕ × ℕ)
+better_of None place most = Some (place, most)
+better_of (Some f) place most = if nat_lt f.1 most then Some (place, most) else Some (f.0, f.1)
+
+-- the best of the records so far, with its score
+abbrev pub BestSoFar : RequestHead → Option ℕ → List Record → Option (ℕ × ℕ) → Type 0
+BestSoFar q asked rs None = NoneAgrees q asked rs
+BestSoFar q asked rs (Some f) = (b : IsBest q asked rs f.0) × (f.1 ≡ score q b.best)
