@@ -8,10 +8,12 @@ use std::{env, io};
 
 fn main(rt: HostRuntime) -> io::Result<ExitCode> {
     let alloc = rt.alloc();
-    let mut words = Vec::new(alloc);
-    for word in env::args(&rt)?.skip(1) {
-        words.push(word)?;
-    }
+    let words = match env::args(&rt) {
+        Ok(words) => words.skip(1).collect(alloc)?,
+        // Words of which one isn't UTF-8 have no job, as no words have none.
+        Err(error) if error.kind() == io::ErrorKind::InvalidData => Vec::new(alloc),
+        Err(error) => return Err(error),
+    };
     let mut out = StdSink::new(rt.stdout());
     let mut disk = FileDisk::new(rt.clone()?);
     let status = mm_main(&rt, alloc, &words, &mut disk, &mut out);

@@ -8,8 +8,7 @@ use Rattle.packet_record.specs.declared.packet.Row.{Row}
 use Rattle.packet_record.specs.Orders.{AreInOrder}
 use Rattle.delay_core.specs.Delays.{delayed, later}
 use Rattle.packet_record.specs.Rows.{entering, goes}
-use Rattle.mm_program.specs.Fates.{departure_of, fate_of, fate_by, fate_row}
-use Rattle.mm_program.specs.Shells.{fate_alone}
+use Rattle.mm_program.specs.Shells.{departure_of, fate_alone, fate_by, fate_through, row_through}
 use Rattle.nest_spec.specs.declared.fate.Fate.{Fate}
 use Rattle.nest_spec.specs.declared.fate.Fate.TheVariants as fates
 use Rattle.nest_spec.specs.declared.fate.FateRow.{FateRow}
@@ -98,22 +97,22 @@ by_test true horizon m a b e same = refl
 by_test false horizon m a b e same = same (search (rules, tests))
 
 -- the fate by the definition is the fate by the row alone
-pub fate_of-alone : (ms horizon i : ℕ) (rows : List Row) (row : Row) → AreInOrder 1 0 rows → i < length rows → row ≡ get_or rows i row
-    → fate_of ms horizon rows row ≡ fate_alone ms horizon row
-fate_of-alone ms horizon i rows row order lt read =
-    subst (λ r. fate_of ms horizon rows r ≡ fate_alone ms horizon r) (sym read)
+pub fate_through-alone : (ms horizon i : ℕ) (rows : List Row) (row : Row) → AreInOrder 1 0 rows → i < length rows → row ≡ get_or rows i row
+    → fate_through ms horizon rows row ≡ fate_alone ms horizon row
+fate_through-alone ms horizon i rows row order lt read =
+    subst (λ r. fate_through ms horizon rows r ≡ fate_alone ms horizon r) (sym read)
     (let it = get_or rows i row in
     by_test (nat_lt horizon it.timed.moment) horizon it.timed.moment _ _ refl
     (λ early. ap fate_by (departure_at ms horizon 1 0 i rows row order lt early)))
 
 -- one more row has its fate
 pub fates_more : (ms horizon i : ℕ) (rows : List Row) (row : Row) (fates : List FateRow) (fate : Fate) → AreInOrder 1 0 rows → i < length rows → row ≡ get_or rows i row
-    → fates ≡ map (fate_row ms horizon rows) (take i rows) → fate ≡ fate_alone ms horizon row
-    → fates ++ record { id = row.timed.packet.id; direction = row.direction; fate = fate } ∷ [] ≡ map (fate_row ms horizon rows) (take (i + 1) rows)
+    → fates ≡ map (row_through ms horizon rows) (take i rows) → fate ≡ fate_alone ms horizon row
+    → fates ++ record { id = row.timed.packet.id; direction = row.direction; fate = fate } ∷ [] ≡ map (row_through ms horizon rows) (take (i + 1) rows)
 fates_more ms horizon i rows row fates fate order lt read so_far last =
-    let here : record { id = row.timed.packet.id; direction = row.direction; fate = fate } ≡ fate_row ms horizon rows row =
-    ap (λ f. record { id = row.timed.packet.id; direction = row.direction; fate = f }) (last ∙ sym (fate_of-alone ms horizon i rows row order lt read)) in
+    let here : record { id = row.timed.packet.id; direction = row.direction; fate = fate } ≡ row_through ms horizon rows row =
+    ap (λ f. record { id = row.timed.packet.id; direction = row.direction; fate = f }) (last ∙ sym (fate_through-alone ms horizon i rows row order lt read)) in
     (λ j. so_far j ++ here j ∷ [])
-    ∙ ap (λ r. map (fate_row ms horizon rows) (take i rows) ++ fate_row ms horizon rows r ∷ []) read
-    ∙ sym (map-append (fate_row ms horizon rows) (take i rows) (get_or rows i row ∷ []))
-    ∙ ap (map (fate_row ms horizon rows)) (sym (take_more rows i row lt))
+    ∙ ap (λ r. map (row_through ms horizon rows) (take i rows) ++ row_through ms horizon rows r ∷ []) read
+    ∙ sym (map-append (row_through ms horizon rows) (take i rows) (get_or rows i row ∷ []))
+    ∙ ap (map (row_through ms horizon rows)) (sym (take_more rows i row lt))

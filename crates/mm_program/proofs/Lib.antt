@@ -4,3 +4,4 @@ pub mod SendLemmas
 pub mod EndLemmas
 pub mod InputLemmas
 pub mod TopLemmas
+pub mod OneShell

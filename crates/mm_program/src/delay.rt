@@ -1,8 +1,8 @@
 // A run through one delay: the fates of its rows.
 ghost use Rattle.std.specs.Prelude.{◌≡◌, ◌≤◌, ◌+◌, ◌++◌, ◌∷◌, [], IfOk, OnOk, Some, None, nat_le, if◌then◌else◌};
 ghost use Rattle.packet_record.specs.Orders.{AreInOrder};
-ghost use Rattle.mm_program.specs.Fates.{fate_by, result_of};
-ghost use Rattle.mm_program.specs.Shells.{fate_alone, IsReady};
+ghost use Rattle.mm_program.specs.Fates.{result_of};
+ghost use Rattle.mm_program.specs.Shells.{fate_alone, fate_by, IsReady};
 
 use delay_core::DelayCore;
 use mm_base::OutOfMemory;

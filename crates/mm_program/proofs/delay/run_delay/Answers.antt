@@ -1,7 +1,8 @@
-use Rattle.std.proofs.Common.{ap, ◌∙◌, map, arith}
+use Rattle.std.proofs.Common.{ap, sym, ◌∙◌, map, arith}
 use Rattle.std.proofs.lemmas.List.{take_all}
-use Rattle.mm_program.specs.Fates.{fate_row, result_of}
+use Rattle.mm_program.specs.Shells.{row_through}
 use Rattle.mm_program.proofs.Departures.{fates_more}
+use Rattle.mm_program.proofs.OneShell.{through_nest}
 use Rattle.mm_program.proofs.delay.run_delay.Goals as goal
 
 pub loop-row-preserved : goal.loop-row-preserved
@@ -13,7 +14,7 @@ loop-row-preserved c = record {
 }
 
 pub returns : goal.returns
-unfolding result_of
 returns c =
     let rows = c.args.rows.now in
-    c.loop-row.invariant.fates ∙ ap (map (fate_row c.args.ms c.args.horizon rows)) (take_all c.loop-row.row-index rows (omega arith))
+    c.loop-row.invariant.fates ∙ ap (map (row_through c.args.ms c.args.horizon rows)) (take_all c.loop-row.row-index rows (omega arith))
+    ∙ sym (through_nest c.args.ms c.args.horizon rows)

@@ -1,11 +1,10 @@
 use Rattle.std.proofs.Common.{◌≡◌, take, map}
-use Rattle.mm_program.specs.Fates.{fate_row}
-use Rattle.mm_program.specs.Shells.{IsReady}
+use Rattle.mm_program.specs.Shells.{IsReady, row_through}
 use Rattle.mm_program.proofs.delay.run_delay.Given as goal
 
 abbrev pub invariant-loop-row : goal.invariant-loop-row
 invariant-loop-row l = record {
   up : IsReady l.ms l.horizon l.up;
   down : IsReady l.ms l.horizon l.down;
-  fates : l.fates.items ≡ map (fate_row l.ms l.horizon l.rows) (take l.row-index l.rows);
+  fates : l.fates.items ≡ map (row_through l.ms l.horizon l.rows) (take l.row-index l.rows);
 }
