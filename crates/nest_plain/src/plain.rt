@@ -1,8 +1,9 @@
 // A run of a nest shell by shell.
-ghost use Rattle.std.specs.Prelude.{◌≡◌, ◌≤◌, map, IfOk};
+ghost use Rattle.std.specs.Prelude.{◌≡◌, ◌≤◌, map, IfOk, OnOk};
 ghost use Rattle.packet_record.specs.Rows.{entering, Rises};
 ghost use Rattle.nest_spec.specs.Nests.{AllFit, directions_of, result_of};
 ghost use Rattle.nest_spec.specs.Passing.{HavePassed};
+ghost use Rattle.nest_spec.specs.Once.{HaveOneFate};
 ghost use Rattle.nest_plain.specs.Runs.{AreOpened};
 
 use crate::shell::run_shells;
@@ -67,7 +68,8 @@ fn run_direction(
 /// Runs the schedule through the nest, each shell over its whole list of arrivals and then the next: the fate of each packet and the
 /// named logs, as the composition of the shells' functions gives them. `OutOfMemory` is want of memory.
 pub fn run_plain(alloc: Global, nest: &Nest, schedule: &Schedule) -> Result<RunResult, OutOfMemory>
-    ensures { IfOk result (λ r. r ≡ result_of nest.now schedule.now) }
+    ensures value { IfOk result (λ r. r ≡ result_of nest.now schedule.now) }
+    ensures once { OnOk result (HaveOneFate nest.now schedule.now) }
 {
     let rows = schedule.rows();
     let up = run_direction(alloc, nest, Direction::Up, rows)?;

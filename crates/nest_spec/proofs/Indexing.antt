@@ -1,12 +1,12 @@
 -- The index of the rows.
-use Rattle.std.proofs.Common.{◌≡◌, ◌≢◌, ◌⊎◌, inl, inr, ℕ, ◌+◌, ◌<◌, ◌≤◌, Bool, true, false, cond, eqb, List, length, get_or, Option, Some, None, ap, sym, subst, ◌∙◌, refl, arith, nat_eq, eq-eqb, ne_eqb, MatchOption, ⊎_elim, [], ◌∷◌, zero, suc}
+use Rattle.std.proofs.Common.{◌≡◌, ◌≢◌, ◌⊎◌, inl, inr, ℕ, ◌+◌, ◌-◌, ◌<◌, ◌≤◌, Bool, true, false, cond, eqb, List, length, get_or, Option, Some, None, ap, sym, subst, ◌∙◌, refl, arith, nat_eq, eq-eqb, ne_eqb, MatchOption, ⊎_elim, [], ◌∷◌, zero, suc}
 use Rattle.std.proofs.lemmas.Bool.{cases_eq}
 use Rattle.std.specs.declared.hash.FoldHasher.{FoldHasher}
 use Rattle.std.specs.declared.hash.BuildHasherDefault.{BuildHasherDefault}
 use Rattle.std.specs.HashMap.{get, HashMap}
 use Rattle.packet_record.specs.declared.packet.Row.{Row}
 use Rattle.nest_spec.specs.Fates.{AreApart}
-use Rattle.nest_spec.specs.Index.{IsIndex, IsNowhere, IsOnlyAt}
+use Rattle.nest_spec.specs.Index.{IsIndex, IsNowhere, IsOnlyAt, AreFromOne}
 
 abbrev Places : Type 0
 Places = HashMap ℕ ℕ (BuildHasherDefault FoldHasher)
@@ -67,4 +67,16 @@ index_all rows n m le is ge = record {
   leads = λ i d lt. is.leads i d (omega arith);
   within = λ id i e. let h = is.within id i e in omega arith;
   only = λ id i d e. is.only id i d e;
+}
+
+-- rows with the numbers 1, 2, 3 and on
+pub numbered_nowhere : (rows : List Row) (id : ℕ) → AreFromOne rows → (id ≡ 0) ⊎ (length rows < id) → IsNowhere rows id
+numbered_nowhere rows id numbered (inl none) j d lt same = let at = numbered j d lt in omega arith
+numbered_nowhere rows id numbered (inr past) j d lt same = let at = numbered j d lt in omega arith
+
+pub numbered_at : (rows : List Row) (id : ℕ) → AreFromOne rows → 0 < id → id ≤ length rows → IsOnlyAt rows id (id - 1)
+numbered_at rows id numbered some most = record {
+  within = omega arith;
+  here = λ d. let at = numbered (id - 1) d (omega arith) in omega arith;
+  others = λ j d lt ne same. let at = numbered j d lt in ne (omega arith);
 }

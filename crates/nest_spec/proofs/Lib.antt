@@ -9,3 +9,4 @@ pub mod NumberLemmas
 pub mod PassedLemmas
 pub mod Natural
 pub mod Results
+pub mod OnceLemmas

@@ -1,5 +1,5 @@
 -- The places of the rows by their numbers.
-use Rattle.std.specs.Prelude.{◌≡◌, ◌≢◌, ◌<◌, ℕ, List, Some, length, get_or, nat_eq}
+use Rattle.std.specs.Prelude.{◌≡◌, ◌≢◌, ◌<◌, ◌+◌, ℕ, List, Some, length, get_or, nat_eq}
 use Rattle.std.specs.declared.hash.FoldHasher.{FoldHasher}
 use Rattle.std.specs.declared.hash.BuildHasherDefault.{BuildHasherDefault}
 use Rattle.std.specs.HashMap.{get, HashMap}
@@ -20,3 +20,7 @@ pub record IsOnlyAt (rows : List Row) (id i : ℕ) : Type 0 where
   pub within : i < length rows
   pub here : (d : Row) → (get_or rows i d).timed.packet.id ≡ id
   pub others : (j : ℕ) (d : Row) → j < length rows → j ≢ i → (get_or rows j d).timed.packet.id ≢ id
+
+-- the numbers are 1, 2, 3 and on
+abbrev pub AreFromOne : List Row → Type 0
+AreFromOne rows = (i : ℕ) (d : Row) → i < length rows → (get_or rows i d).timed.packet.id ≡ i + 1

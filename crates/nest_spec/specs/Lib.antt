@@ -6,11 +6,13 @@ pub mod ShellViews
 pub mod Fates
 pub mod Passing
 pub mod Index
+pub mod Places
 pub mod Words
 pub mod Plans
 pub mod Nests
 pub mod NestViews
 pub mod RunViews
+pub mod Once
 pub mod ResultViews
 pub mod PlanViews
 pub mod DraftViews

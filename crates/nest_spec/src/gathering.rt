@@ -8,9 +8,10 @@ ghost use Rattle.nest_spec.specs.declared.fate.Fate.{Fate as FateValue};
 ghost use Rattle.nest_spec.specs.Fates.{AreApart, AllStand};
 ghost use Rattle.nest_spec.specs.Passing.{HavePassed, fate_row, fates_of};
 ghost use Rattle.nest_spec.specs.Nests.{directions_of, named_logs, state_logs, logs_of, result_of};
+ghost use Rattle.nest_spec.specs.Once.{HaveOneFate};
 ghost use Rattle.nest_spec.specs.RunViews.{all_named};
 
-use crate::marking::{first_fates, index_of, walk};
+use crate::marking::{first_fates, places_of, walk};
 use crate::naming::push_logs;
 use crate::{Fate, FateRow, NamedLog, Nest, RunResult};
 use mm_base::OutOfMemory;
@@ -50,11 +51,11 @@ pub(crate) fn gather_fates(
     ensures fates { IfOk result (λ v. (ups downs : List DirSpec) → HavePassed horizon ups (entering Up horizon rows.now) up.now
         → HavePassed horizon downs (entering Down horizon rows.now) down.now → v.items ≡ fates_of horizon ups downs rows.now) }
 {
-    let index = index_of(alloc, rows)?;
+    let places = places_of(alloc, rows)?;
     let first_up = up.len() as u32;
     let mut fates = first_fates(alloc, rows, horizon, first_up, 1)?;
     walk(
-        &index,
+        &places,
         rows,
         Direction::Up,
         horizon,
@@ -62,7 +63,7 @@ pub(crate) fn gather_fates(
         up,
         &mut fates,
     );
-    walk(&index, rows, Direction::Down, horizon, 1, down, &mut fates);
+    walk(&places, rows, Direction::Down, horizon, 1, down, &mut fates);
     fate_rows(alloc, rows, fates.as_slice())
 }
 
@@ -79,7 +80,8 @@ pub fn gather(
     requires apart { AreApart rows.now }
     requires up { HavePassed nest.now.horizon (directions_of Up nest.now) (entering Up nest.now.horizon rows.now) up.now }
     requires down { HavePassed nest.now.horizon (directions_of Down nest.now) (entering Down nest.now.horizon rows.now) down.now }
-    ensures { IfOk result (λ r. r ≡ result_of nest.now rows.now) }
+    ensures value { IfOk result (λ r. r ≡ result_of nest.now rows.now) }
+    ensures once { OnOk result (HaveOneFate nest.now rows.now) }
 {
     let shells = nest.shell_words();
     let fates = gather_fates(alloc, nest.horizon(), rows, up, down)?;

@@ -3,7 +3,9 @@ ghost use Rattle.std.specs.Prelude.{◌≡◌, ◌≤◌, ◌-◌, ◌+◌, ℕ,
 ghost use Rattle.packet_record.specs.declared.packet.Row.{Row as RowValue};
 ghost use Rattle.nest_spec.specs.declared.fate.Fate.{Fate as FateValue};
 ghost use Rattle.nest_spec.specs.Fates.{is_sent, marked, marked_one, next_number, stages_of, stage_fates, passes, first_fate, AreApart, IsFew, AllStand};
-ghost use Rattle.nest_spec.specs.Index.{IsIndex, IsNowhere, IsOnlyAt};
+ghost use Rattle.nest_spec.specs.Index.{IsIndex, IsNowhere, IsOnlyAt, AreFromOne};
+ghost use Rattle.nest_spec.specs.Places.{ArePlaces};
+ghost use Rattle.std.specs.Bool.{OnTrue};
 
 use crate::Fate;
 use crate::mark::{Mark, fate_by};
@@ -13,8 +15,26 @@ use shell_state::ShellState;
 use std::alloc::Global;
 use std::collections::HashMap;
 
-// Where the row of each number stands.
-pub(crate) fn index_of(alloc: Global, rows: &[Row]) -> Result<HashMap<u32, usize>, OutOfMemory>
+// Where the row of each number stands: in order from 1, as in a schedule, or as an index says.
+#[derive(Drop)]
+pub(crate) enum Places {
+    Numbered,
+    Indexed(HashMap<u32, usize>),
+}
+
+// Whether the numbers are 1, 2, 3 and on.
+fn are_numbered(rows: &[Row]) -> bool
+    ensures { OnTrue result (AreFromOne rows.now) }
+{
+    for (i, row) in rows.iter().enumerate() {
+        if row.timed.packet.id as usize != i + 1 {
+            return false;
+        }
+    }
+    true
+}
+
+fn index_of(alloc: Global, rows: &[Row]) -> Result<HashMap<u32, usize>, OutOfMemory>
     requires apart { AreApart rows.now }
     ensures { IfOk result (λ m. IsIndex rows.now m) }
 {
@@ -28,12 +48,44 @@ pub(crate) fn index_of(alloc: Global, rows: &[Row]) -> Result<HashMap<u32, usize
     Ok(index)
 }
 
-fn place_of(index: &HashMap<u32, usize>, rows: &[Row], id: u32) -> Option<usize>
-    requires index { IsIndex rows.now index.now }
+pub(crate) fn places_of(alloc: Global, rows: &[Row]) -> Result<Places, OutOfMemory>
+    requires apart { AreApart rows.now }
+    ensures { IfOk result (λ places. ArePlaces rows.now places) }
+{
+    if are_numbered(rows) {
+        return Ok(Places::Numbered);
+    }
+    let index = index_of(alloc, rows)?;
+    Ok(Places::Indexed(index))
+}
+
+fn place_by_number(rows: &[Row], id: u32) -> Option<usize>
+    requires { AreFromOne rows.now }
+    ensures { MatchOption result (IsNowhere rows.now id) (λ i. IsOnlyAt rows.now id i) }
+{
+    let number = id as usize;
+    if number == 0 || number > rows.len() {
+        return None;
+    }
+    Some(number - 1)
+}
+
+fn place_by_index(index: &HashMap<u32, usize>, rows: &[Row], id: u32) -> Option<usize>
+    requires { IsIndex rows.now index.now }
     ensures { MatchOption result (IsNowhere rows.now id) (λ i. IsOnlyAt rows.now id i) }
 {
     let _ = rows;
     index.get(&id).copied()
+}
+
+fn place_of(places: &Places, rows: &[Row], id: u32) -> Option<usize>
+    requires { ArePlaces rows.now places.now }
+    ensures { MatchOption result (IsNowhere rows.now id) (λ i. IsOnlyAt rows.now id i) }
+{
+    match places {
+        Places::Numbered => place_by_number(rows, id),
+        Places::Indexed(index) => place_by_index(index, rows, id),
+    }
 }
 
 fn sent(direction: Direction, horizon: u64, row: Row) -> bool
@@ -44,7 +96,7 @@ fn sent(direction: Direction, horizon: u64, row: Row) -> bool
 
 // One packet's row is marked, where the packet is one of its direction.
 fn mark_one(
-    index: &HashMap<u32, usize>,
+    places: &Places,
     rows: &[Row],
     direction: Direction,
     horizon: u64,
@@ -52,12 +104,12 @@ fn mark_one(
     mark: Mark,
     fates: &mut Vec<Fate>,
 )
-    requires index { IsIndex rows.now index.now }
+    requires places { ArePlaces rows.now places.now }
     requires length { length fates.old.items ≡ length rows.now }
     ensures length { length fates.new.items ≡ length rows.now }
     ensures fates { (f : RowValue → FateValue) → fates.old.items ≡ map f rows.now → fates.new.items ≡ map (marked_one direction horizon t mark f) rows.now }
 {
-    if let Some(place) = place_of(index, rows, t.packet.id) {
+    if let Some(place) = place_of(places, rows, t.packet.id) {
         if sent(direction, horizon, rows[place]) {
             fates[place] = fate_by(mark, t);
         }
@@ -66,7 +118,7 @@ fn mark_one(
 
 // Each packet's row is marked; the first of a number counts.
 fn mark_all(
-    index: &HashMap<u32, usize>,
+    places: &Places,
     rows: &[Row],
     direction: Direction,
     horizon: u64,
@@ -74,7 +126,7 @@ fn mark_all(
     mark: Mark,
     fates: &mut Vec<Fate>,
 )
-    requires index { IsIndex rows.now index.now }
+    requires places { ArePlaces rows.now places.now }
     requires length { length fates.old.items ≡ length rows.now }
     ensures length { length fates.new.items ≡ length rows.now }
     ensures fates { (f : RowValue → FateValue) → fates.old.items ≡ map f rows.now → fates.new.items ≡ map (marked direction horizon packets.now mark f) rows.now }
@@ -82,7 +134,7 @@ fn mark_all(
     let mut left = packets.len();
     'packets: while left > 0 {
         left -= 1;
-        mark_one(index, rows, direction, horizon, packets[left], mark, fates);
+        mark_one(places, rows, direction, horizon, packets[left], mark, fates);
     }
 }
 
@@ -111,7 +163,7 @@ fn mark_after(direction: Direction, number: u32, rest: &[ShellState]) -> Mark
 
 // Marks the rows of what each shell lost and passed on, in passing order, the first with this number.
 pub(crate) fn walk(
-    index: &HashMap<u32, usize>,
+    places: &Places,
     rows: &[Row],
     direction: Direction,
     horizon: u64,
@@ -119,7 +171,7 @@ pub(crate) fn walk(
     states: &[ShellState],
     fates: &mut Vec<Fate>,
 )
-    requires index { IsIndex rows.now index.now }
+    requires places { ArePlaces rows.now places.now }
     requires length { length fates.old.items ≡ length rows.now }
     requires few { IsFew direction number (length states.now) }
     ensures length { length fates.new.items ≡ length rows.now }
@@ -128,7 +180,7 @@ pub(crate) fn walk(
 {
     if let Some((state, rest)) = states.split_first() {
         mark_all(
-            index,
+            places,
             rows,
             direction,
             horizon,
@@ -139,7 +191,7 @@ pub(crate) fn walk(
         state.stands();
         let after = mark_after(direction, number, rest);
         mark_all(
-            index,
+            places,
             rows,
             direction,
             horizon,
@@ -148,7 +200,7 @@ pub(crate) fn walk(
             fates,
         );
         let next = next_number(direction, number);
-        walk(index, rows, direction, horizon, next, rest, fates);
+        walk(places, rows, direction, horizon, next, rest, fates);
     }
 }
 

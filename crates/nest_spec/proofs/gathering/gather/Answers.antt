@@ -7,6 +7,7 @@ use Rattle.nest_spec.specs.Nests.{NamedEntries, RunLists, directions_of, named_l
 use Rattle.nest_spec.specs.RunViews.{all_named}
 use Rattle.nest_spec.proofs.NestLemmas.{have_long}
 use Rattle.nest_spec.proofs.PassedLemmas.{have_logs}
+use Rattle.nest_spec.proofs.OnceLemmas.{one_fate}
 use Rattle.nest_spec.proofs.gathering.gather.Goals as goal
 
 pub gather_fates-requires-clause-some_up : goal.gather_fates-requires-clause-some_up
@@ -40,8 +41,12 @@ gather_fates-requires-clause-few_down c =
 abbrev lists : List FateRow → List NamedEntries → RunLists
 lists fates logs = record { fates = fates; logs = logs }
 
-pub returns : goal.returns
-returns c =
+pub returns-clause-once : goal.returns-clause-once
+returns-clause-once c =
+    one_fate c.args.nest.now c.args.rows.now c.args.up.now c.args.down.now c.requires.apart c.in_ok-fates.ensures.stand.0 c.in_ok-fates.ensures.stand.1 c.requires.up c.requires.down
+
+pub returns-clause-value : goal.returns-clause-value
+returns-clause-value c =
     let nest = c.args.nest.now in
     let rows = c.args.rows.now in
     let ups = directions_of Up c.args.nest.now in

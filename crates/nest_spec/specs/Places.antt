@@ -1,0 +1,10 @@
+-- Where the rows of numbers stand.
+use Rattle.std.specs.Prelude.{List}
+use Rattle.packet_record.specs.declared.packet.Row.{Row}
+use Rattle.nest_spec.specs.Index.{IsIndex, AreFromOne}
+use Rattle.nest_spec.specs.declared.marking.Places.{Places}
+use Rattle.nest_spec.specs.declared.marking.Places.TheVariants.{Numbered, Indexed}
+
+abbrev pub ArePlaces : List Row → Places → Type 0
+ArePlaces rows Numbered = AreFromOne rows
+ArePlaces rows (Indexed index) = IsIndex rows index
