@@ -83,20 +83,9 @@ fn a_trace_begins_again_at_its_last_moment(rt: HostRuntime) -> Result<(), Fail> 
 fn a_trace_is_made(rt: HostRuntime) -> Result<(), Fail> {
     let trace = make_trace(rt.alloc(), 1)?;
     assert_eq!(rt; trace.opportunities().len(), 100);
-    for (j, want) in [
-        (0, 3),
-        (1, 6),
-        (2, 9),
-        (3, 11),
-        (4, 12),
-        (5, 13),
-        (6, 14),
-        (7, 17),
-        (8, 20),
-        (9, 22),
-        (10, 24),
-    ] {
-        assert_eq!(rt; trace.opportunity(j, true).map(|o| o.moment), Some(want));
+    let first = [3, 6, 9, 11, 12, 13, 14, 17, 20, 22, 24];
+    for (o, want) in trace.opportunities().iter().zip(first.iter()) {
+        assert_eq!(rt; o.moment, *want);
     }
     Ok(())
 }
