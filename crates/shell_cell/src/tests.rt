@@ -1,16 +1,19 @@
 //! The cell in one thread and between two, and the types that may cross threads.
-ghost use Rattle.std.specs.Prelude.{◌≡◌, ◌≤◌, IfOk};
+ghost use Rattle.std.specs.Prelude.{◌≡◌, ◌≤◌, IfOk, OnOk};
 ghost use Rattle.packet_record.specs.declared.item.FlowEnd.TheVariants.{Open};
 ghost use Rattle.packet_record.specs.Streams.{no_items};
 ghost use Rattle.shell_cell.specs.Seats.{IsSameSeat};
 
 use crate::{DrainSeat, FeedSeat, ShellCell, open};
+use packet_queue::{QueueKind, QueueSpec};
 use packet_record::{FlowEnd, Item, Packet, Timed};
 use shell_state::{DirSpec, ShellState, Taken};
 use std::alloc::Global;
+use std::process::Abort;
 use std::sync::Wait;
 use std::test::Fail;
 use std::thread::{Threads, join_mut};
+use trace_reader::read_trace;
 
 // A cell may be shared and sent, and a seat may be sent.
 fn is_shared<T: Send + Sync>(_value: &T) {}
@@ -30,6 +33,88 @@ fn timed(id: u32, moment: u64) -> Timed
         moment,
         packet: Packet { id, size: 100 },
     }
+}
+
+// Takes from the cell, burning one opportunity at most, and compares each answer. None of them is the end.
+fn take_each<R: Wait + Abort>(
+    rt: &R,
+    cell: &ShellCell,
+    seat: &mut DrainSeat,
+    answers: &[Taken],
+) -> Result<(), Fail>
+    requires own { seat.old.cell ≡ cell.now }
+    requires open { seat.old.flow.end ≡ Open }
+    ensures open { OnOk result (seat.new.flow.end ≡ Open) }
+    ensures same { IsSameSeat seat.old seat.new }
+{
+    for answer in answers {
+        let taken = cell.take(rt, seat, 1)?;
+        assert_eq!(rt; taken, *answer);
+        match taken {
+            Taken::Item(item) => match item {
+                Item::End | Item::Broken => return Err(Fail::from("the end came early")),
+                Item::Packet(_) | Item::Mark(_) => {}
+            },
+            Taken::Again { .. } | Taken::NotYet { .. } => {}
+        }
+    }
+    Ok(())
+}
+
+// A link with the trace 5, 5, 9 and no limit on its queue.
+#[tactic(auto, unfolding(shell_core::specs::Shells::opportunities))]
+fn link(rt: &impl Abort, alloc: Global) -> Result<ShellState, Fail>
+    ensures { IfOk result (λ s. (s.fed ≡ no_items) × (s.taken ≡ no_items) × (s.horizon ≡ 20)) }
+{
+    let Ok(trace) = read_trace(alloc, b"5\n5\n9\n") else {
+        return Err(Fail::from("no trace"));
+    };
+    assert!(rt; trace.count_to(20, false) <= 16_000_000);
+    let queue = QueueSpec {
+        kind: QueueKind::Infinite,
+        packets: None,
+        bytes: None,
+    };
+    let spec = DirSpec::Link {
+        trace,
+        once: false,
+        queue,
+    };
+    Ok(ShellState::new(alloc, spec, 20)?)
+}
+
+// The answers are those of the state alone for these calls, and so is what is left.
+#[test]
+fn answers_as_the_state_alone(rt: HostRuntime) -> Result<(), Fail> {
+    let (cell, mut feed, mut drain) = open(rt.alloc(), link(&rt, rt.alloc())?)?;
+    let fresh = [Taken::Item(Item::Mark(5)), Taken::NotYet { bound: 0 }];
+    take_each(&rt, &cell, &mut drain, &fresh)?;
+    cell.feed(&rt, &mut feed, Item::Mark(7))?;
+    let marked = [
+        Taken::Again { burnt: 1 },
+        Taken::Item(Item::Mark(9)),
+        Taken::NotYet { bound: 7 },
+    ];
+    take_each(&rt, &cell, &mut drain, &marked)?;
+    cell.feed(&rt, &mut feed, Item::Packet(timed(1, 9)))?;
+    take_each(&rt, &cell, &mut drain, &[Taken::Item(Item::Mark(14))])?;
+    cell.feed(&rt, &mut feed, Item::End)?;
+    let ended = [
+        Taken::Item(Item::Packet(timed(1, 14))),
+        Taken::Item(Item::Mark(18)),
+    ];
+    take_each(&rt, &cell, &mut drain, &ended)?;
+    assert_eq!(rt; cell.take(&rt, &mut drain, 1)?, Taken::Item(Item::End));
+    looks_right(&rt, &cell.close(feed, drain))
+}
+
+// The state once the packet of the link has passed.
+fn looks_right(rt: &impl Abort, state: &ShellState) -> Result<(), Fail> {
+    assert_eq!(rt; state.fed().end(), FlowEnd::Ended);
+    assert_eq!(rt; state.taken().packets().len(), 1);
+    assert_eq!(rt; state.taken().bound(), 18);
+    assert_eq!(rt; state.taken().end(), FlowEnd::Ended);
+    Ok(())
 }
 
 #[test]
@@ -85,6 +170,7 @@ fn take_all<R: Wait>(rt: &R, cell: &ShellCell, seat: &mut DrainSeat) -> bool
     unreachable!()
 }
 
+#[tactic(auto, unfolding(shell_core::specs::Shells::opportunities))]
 fn delay(alloc: Global) -> Result<ShellState, Fail>
     ensures { IfOk result (λ s. (s.fed ≡ no_items) × (s.taken ≡ no_items) × (s.horizon ≡ 2000)) }
 {
