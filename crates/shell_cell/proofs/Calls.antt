@@ -1,6 +1,5 @@
 -- What the calls of a cell show of the steps that they make.
-use Rattle.std.proofs.Common.{◌≡◌, Bool, true, false, ℕ, suc, ◌+◌, ◌*◌, ◌<◌, List, [], ◌∷◌, ◌++◌, ◌||◌, Option, Some, None, refl, sym, ap, ◌∙◌, subst, arith, ◌⊎◌}
-use Rattle.std.specs.Prelude.{All}
+use Rattle.std.proofs.Common.{◌≡◌, true, false, ℕ, ◌+◌, List, [], ◌∷◌, ◌||◌, Option, Some, None, sym, ap, ◌∙◌, subst, arith, ◌⊎◌}
 use mathlib.Core.Option.{some}
 use lib.ListN.{get_elem?}
 use Rattle.atomic_table.specs.Table.{rest, Splits, Final, Seen}
@@ -13,7 +12,7 @@ use Rattle.shell_cell.specs.declared.view.Role.TheVariants.{Whole, Feeder, Drain
 use Rattle.shell_cell.specs.declared.view.Call.{Call}
 use Rattle.shell_cell.specs.declared.view.Call.TheVariants.{Feeds, Drains}
 use Rattle.shell_cell.specs.History.{IsPast, fed_flow, taken_flow, MayFeed, Answers, after_drain}
-use Rattle.shell_cell.specs.Rule.{view, note_of, Kept, Place, IsDone, IsUndone, IsTaken, MaySpend, MayGiveUp, with_note, Claimed, with_turn, left_of, right_of, both_of}
+use Rattle.shell_cell.specs.Rule.{view, note_of, Kept, Place, IsDone, IsUndone, IsTaken, MaySpend, MayGiveUp, with_note, Claimed, left_of, right_of, both_of}
 use Rattle.shell_cell.proofs.Keeps.{parts, ends}
 
 pub puts_undone : (m after : Place) (word : ℕ) (y : State) → MayGiveUp m word y → after ≡ (m.0, (0, Some y) ∷ rest m.1) → IsUndone after word

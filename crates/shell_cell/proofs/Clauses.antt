@@ -1,5 +1,5 @@
 -- What the calls of a cell leave of their seats.
-use Rattle.std.proofs.Common.{◌≡◌, Bool, true, false, ℕ, suc, ◌+◌, ◌<◌, List, [], ◌∷◌, ◌++◌, ◌||◌, Option, Some, None, refl, sym, ap, ◌∙◌, subst, ◌⊎◌, inl, inr, ⊎_elim}
+use Rattle.std.proofs.Common.{◌≡◌, Bool, true, false, ℕ, suc, ◌<◌, [], ◌∷◌, ◌++◌, ◌||◌, Option, Some, refl, sym, ap, ◌∙◌, subst, ◌⊎◌, inl, ⊎_elim}
 use Rattle.std.specs.Prelude.{All}
 use Rattle.atomic_table.specs.Seated.{TableId}
 use Rattle.packet_record.specs.declared.item.Item.{Item}
@@ -10,21 +10,20 @@ use Rattle.packet_record.specs.Streams.{after, MayFollow, IsUpTo}
 use Rattle.shell_state.specs.declared.taken.Taken.{Taken}
 use Rattle.shell_state.specs.declared.taken.Taken.TheVariants.{Item as Gives, Again, NotYet}
 use Rattle.shell_state.specs.States.{State}
-use Rattle.shell_state.specs.Steps.{after_feed, after_take, answer_of, stream_after}
+use Rattle.shell_state.specs.Steps.{after_take, answer_of, stream_after}
 use Rattle.shell_state.specs.Standing.{Stands}
 use Rattle.shell_state.specs.Causes.{HasCauses}
 use Rattle.shell_cell.specs.declared.view.FeedTurn.{FeedTurn}
 use Rattle.shell_cell.specs.declared.view.DrainTurn.{DrainTurn}
 use Rattle.shell_cell.specs.declared.view.DrainCall.{DrainCall}
-use Rattle.shell_cell.specs.declared.view.DrainCall.TheVariants.{Takes, Breaks}
+use Rattle.shell_cell.specs.declared.view.DrainCall.TheVariants.{Takes}
 use Rattle.shell_cell.specs.declared.view.View.{View}
 use Rattle.shell_cell.specs.declared.view.Role.TheVariants.{Feeder, Drain}
-use Rattle.shell_cell.specs.declared.view.Call.{Call}
 use Rattle.shell_cell.specs.declared.view.Call.TheVariants.{Feeds, Drains}
 use Rattle.shell_cell.specs.History.{IsPast, fed_flow, taken_flow, flow_after, MayFeed, after_drain}
-use Rattle.shell_cell.specs.Rule.{Place, IsTaken, note_of, with_note, with_turn, without_note, broken_in, broken_by, number_in, IsAbove}
+use Rattle.shell_cell.specs.Rule.{Place, IsTaken, with_turn, without_note, broken_in, broken_by, number_in, IsAbove}
 use Rattle.shell_cell.specs.Seats.{FeedView, DrainView, feed_seat, drain_seat, MayFeedAt, SpendsFeed, FindsBroken, Fed, SpendsDrain, Found, Took, MayGive, HasHistory}
-use Rattle.shell_cell.proofs.StateLaws.{feed_breaks, take_broken, break_broken, answer_broken, answer_may}
+use Rattle.shell_cell.proofs.StateLaws.{feed_breaks, take_broken, answer_broken, answer_may}
 use Rattle.shell_cell.proofs.Calls.{Closed}
 use Rattle.shell_cell.proofs.Histories.{fed_flow_snoc, taken_flow_snoc}
 

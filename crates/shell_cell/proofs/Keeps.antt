@@ -8,11 +8,10 @@ use lib.Seq.{set-get_or}
 use prog.Atomic.{either}
 use Rattle.std.proofs.lemmas.List.Elements.{All-nil}
 use Rattle.std.specs.Prelude.{All}
-use Rattle.atomic_table.specs.Table.{State as TableState, step, keeps, takes, gives, stepped, rest, opening, Allows, Splits, Joins, Final, Seen}
+use Rattle.atomic_table.specs.Table.{State as TableState, step, keeps, takes, gives, stepped, opening, Allows, Splits, Joins, Final, Seen}
 use Rattle.atomic_table.proofs.Lists.{set_again}
 use Rattle.packet_record.specs.declared.item.Item.{Item}
-use Rattle.packet_record.specs.declared.item.Stream.{Stream}
-use Rattle.packet_record.specs.Streams.{no_items, after, MayFollow, IsUpTo}
+use Rattle.packet_record.specs.Streams.{no_items}
 use Rattle.shell_state.specs.States.{State}
 use Rattle.shell_state.specs.Steps.{after_feed}
 use Rattle.shell_cell.specs.declared.view.DrainCall.{DrainCall}
@@ -24,9 +23,9 @@ use Rattle.shell_cell.specs.declared.view.Role.{Role}
 use Rattle.shell_cell.specs.declared.view.Role.TheVariants.{Whole, Feeder, Drain, Joined}
 use Rattle.shell_cell.specs.declared.view.Call.{Call}
 use Rattle.shell_cell.specs.declared.view.Call.TheVariants.{Feeds, Drains}
-use Rattle.shell_cell.specs.History.{IsPast, fed_flow, taken_flow, flow_after, MayFeed, Answers, after_drain}
-use Rattle.shell_cell.specs.Rule.{Stage, whole, shared, joined, Holder, nobody, feeder, drain, view, spent_view, note_of, views_of, feeder_note, drain_note, word_of, home_of, Settles, Kept, Place, IsMade, after_call, IsEnd, IsDone, IsUndone, IsTaken, MaySpend, MayGiveUp, with_note, Claimed, claims, gives_up, without_note, broken_in, broken_by, number_in, with_turn, IsAbove, spends, left_of, right_of, both_of}
-use Rattle.shell_cell.proofs.Histories.{fed_flow_snoc, taken_flow_snoc, drain_broken, goes_on_fed, goes_on_drained, all_fed, all_drained, no_past}
+use Rattle.shell_cell.specs.History.{IsPast, fed_flow, taken_flow, MayFeed, Answers, after_drain}
+use Rattle.shell_cell.specs.Rule.{Stage, whole, shared, joined, Holder, nobody, feeder, drain, view, spent_view, note_of, views_of, feeder_note, drain_note, word_of, home_of, Settles, Kept, Place, IsMade, after_call, IsEnd, IsDone, IsUndone, with_note, Claimed, claims, gives_up, without_note, broken_in, broken_by, number_in, with_turn, IsAbove, spends, left_of, right_of, both_of}
+use Rattle.shell_cell.proofs.Histories.{drain_broken, goes_on_fed, goes_on_drained, all_fed, all_drained, no_past}
 use Rattle.shell_cell.proofs.Seating.{SitsAt, feeder_sits, drain_sits, whole_sits, joined_sits, even_is_free, feeder_holds, drain_holds, none_hold}
 
 abbrev St : Type 0

@@ -1,5 +1,5 @@
 -- What callers see of a cell and its seats, and what a call does to a seat.
-use Rattle.std.specs.Prelude.{◌≡◌, ◌⊎◌, ℕ, ◌<◌, ◌≤◌, List, [], ◌∷◌, ◌++◌, Bool, true, false, All}
+use Rattle.std.specs.Prelude.{◌≡◌, ◌⊎◌, ℕ, ◌<◌, List, [], ◌∷◌, ◌++◌, Bool, true, false, All}
 use Rattle.atomic_table.specs.Seated.{TableId}
 use Rattle.packet_record.specs.declared.item.Item.{Item}
 use Rattle.packet_record.specs.declared.item.Stream.{Stream}
@@ -13,7 +13,6 @@ use Rattle.shell_state.specs.Causes.{HasCauses}
 use Rattle.shell_cell.specs.declared.view.FeedTurn.{FeedTurn}
 use Rattle.shell_cell.specs.declared.view.DrainTurn.{DrainTurn}
 use Rattle.shell_cell.specs.declared.view.DrainCall.{DrainCall}
-use Rattle.shell_cell.specs.declared.view.DrainCall.TheVariants.{Takes, Breaks}
 use Rattle.shell_cell.specs.declared.view.View.{View}
 use Rattle.shell_cell.specs.History.{IsPast, fed_flow, taken_flow}
 

@@ -1,5 +1,4 @@
 use Rattle.std.proofs.Common.{rules, ◌≡◌, Some, ap}
-use Rattle.shell_state.specs.States.{State}
 use Rattle.shell_cell.specs.Rule.{Place}
 use Rattle.shell_cell.specs.Seats.{Cell}
 use Rattle.shell_cell.proofs.Keeps.{unites}

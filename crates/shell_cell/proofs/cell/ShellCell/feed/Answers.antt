@@ -1,6 +1,6 @@
-use Rattle.std.proofs.Common.{◌≡◌, false, inl, inr, ap, sym, ◌∙◌, refl}
+use Rattle.std.proofs.Common.{inl, sym, ◌∙◌, refl}
 use Rattle.shell_cell.proofs.Calls.{may_feed, may_give_up}
-use Rattle.shell_cell.proofs.Clauses.{feed_may, feed_spends, feed_feeds, feed_finds, feed_leaves}
+use Rattle.shell_cell.proofs.Clauses.{feed_may, feed_spends, feed_feeds}
 use Rattle.shell_cell.proofs.cell.ShellCell.feed.Goals as goal
 
 pub give_up-requires-clause-gives : goal.give_up-requires-clause-gives

@@ -1,7 +1,7 @@
 use Rattle.std.proofs.Common.{inr, Ok, ap}
 use Rattle.shell_cell.specs.declared.view.DrainCall.TheVariants.{Takes}
 use Rattle.shell_cell.proofs.Calls.{may_drain, may_give_up}
-use Rattle.shell_cell.proofs.Clauses.{drain_open, drain_spends, take_found, take_took, take_broken_again, take_leaves}
+use Rattle.shell_cell.proofs.Clauses.{drain_open, drain_spends, take_found, take_took, take_broken_again}
 use Rattle.shell_cell.proofs.cell.ShellCell.take.Goals as goal
 
 pub spend-requires-clause-spends : goal.spend-requires-clause-spends
