@@ -98,16 +98,16 @@ by_test false horizon m a b e same = same (search (rules, tests))
 
 -- the fate by the definition is the fate by the row alone
 pub fate_through-alone : (ms horizon i : ℕ) (rows : List Row) (row : Row) → AreInOrder 1 0 rows → i < length rows → row ≡ get_or rows i row
-    → fate_through ms horizon rows row ≡ fate_alone ms horizon row
+    → fate_through ms horizon rows row ≡ fate_alone ms horizon row.timed.moment
 fate_through-alone ms horizon i rows row order lt read =
-    subst (λ r. fate_through ms horizon rows r ≡ fate_alone ms horizon r) (sym read)
+    subst (λ r. fate_through ms horizon rows r ≡ fate_alone ms horizon r.timed.moment) (sym read)
     (let it = get_or rows i row in
     by_test (nat_lt horizon it.timed.moment) horizon it.timed.moment _ _ refl
     (λ early. ap fate_by (departure_at ms horizon 1 0 i rows row order lt early)))
 
 -- one more row has its fate
 pub fates_more : (ms horizon i : ℕ) (rows : List Row) (row : Row) (fates : List FateRow) (fate : Fate) → AreInOrder 1 0 rows → i < length rows → row ≡ get_or rows i row
-    → fates ≡ map (row_through ms horizon rows) (take i rows) → fate ≡ fate_alone ms horizon row
+    → fates ≡ map (row_through ms horizon rows) (take i rows) → fate ≡ fate_alone ms horizon row.timed.moment
     → fates ++ record { id = row.timed.packet.id; direction = row.direction; fate = fate } ∷ [] ≡ map (row_through ms horizon rows) (take (i + 1) rows)
 fates_more ms horizon i rows row fates fate order lt read so_far last =
     let here : record { id = row.timed.packet.id; direction = row.direction; fate = fate } ≡ row_through ms horizon rows row =

@@ -1,11 +1,10 @@
--- A shell of a run in one direction, and what it makes of one row.
-use Rattle.std.specs.Prelude.{◌≡◌, ℕ, ◌+◌, ◌==◌, List, find, Option, Some, None, nat_lt, nat_le, if◌then◌else◌}
+-- The fate of a row, by the departures of one delay, and by its moment alone.
+use Rattle.std.specs.Prelude.{ℕ, ◌+◌, ◌==◌, List, find, Option, Some, None, nat_lt, nat_le, if◌then◌else◌}
 use Rattle.std.specs.Option.{option_map}
 use Rattle.packet_record.specs.Rows.{entering}
 use Rattle.packet_record.specs.declared.packet.Timed.{Timed}
 use Rattle.packet_record.specs.declared.packet.Row.{Row}
 use Rattle.delay_core.specs.Delays.{delayed}
-use Rattle.delay_core.specs.View.{Delay}
 use Rattle.nest_spec.specs.declared.fate.Fate.{Fate}
 use Rattle.nest_spec.specs.declared.fate.Fate.TheVariants as fates
 use Rattle.nest_spec.specs.declared.fate.FateRow.{FateRow}
@@ -28,13 +27,8 @@ fate_through ms horizon rows row =
 abbrev pub row_through : ℕ → ℕ → List Row → Row → FateRow
 row_through ms horizon rows row = record { id = row.timed.packet.id; direction = row.direction; fate = fate_through ms horizon rows row }
 
--- the fate of a row by the row alone
-abbrev pub fate_alone : ℕ → ℕ → Row → Fate
-fate_alone ms horizon row =
-    if nat_lt horizon row.timed.moment then fates.Unsent
-    else fate_by (if nat_le (row.timed.moment + ms) horizon then Some (row.timed.moment + ms) else None)
-
--- the shell has this delay and horizon
-pub record IsReady (ms horizon : ℕ) (core : Delay) : Type 0 where
-  pub same_ms : core.ms ≡ ms
-  pub same_horizon : core.horizon ≡ horizon
+-- the fate of a packet of this moment, by its moment alone
+abbrev pub fate_alone : ℕ → ℕ → ℕ → Fate
+fate_alone ms horizon moment =
+    if nat_lt horizon moment then fates.Unsent
+    else fate_by (if nat_le (moment + ms) horizon then Some (moment + ms) else None)

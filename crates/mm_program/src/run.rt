@@ -1,10 +1,13 @@
 // A run, from its words and files to the file of its fates.
 ghost use Rattle.std.specs.Prelude.{◌≡◌, ◌≢◌, ◌⊎◌, ◌≤◌, ℕ, List, take, Some, None, IfErr, IfOk, OnOk, MatchResult};
 ghost use Rattle.mm_base.specs.Counts.{Rose};
-ghost use Rattle.mm_base.specs.Disk.{OnlyWrites};
+ghost use Rattle.mm_base.specs.Disk.{OnlyReads, OnlyWrites};
 ghost use Rattle.mm_base.specs.Files.{holding};
 ghost use Rattle.mm_program.specs.Causes.{Memory, WriteFault};
 ghost use Rattle.mm_program.specs.Ends.{Ends, Counts, disk_view};
+ghost use Rattle.packet_record.specs.declared.packet.Row.{Row as RowValue};
+ghost use Rattle.mm_program.specs.Fates.{result_of};
+ghost use Rattle.mm_program.specs.Inputs.{IsRead, RefusesInput};
 ghost use Rattle.mm_program.specs.Jobs.{Run, job_of, delay_of};
 ghost use Rattle.mm_program.specs.Refusals.{refused_words};
 ghost use Rattle.mm_program.specs.View.{cause_in, cause_of, run_values};
@@ -14,7 +17,7 @@ use crate::input::read_input;
 use crate::job::{RunJob, read_delay};
 use crate::refusal::Refusal;
 use mm_base::{Disk, DiskError, save};
-use nest_spec::print_fates;
+use nest_spec::{FateRow, print_fates};
 use std::alloc::Global;
 
 // The horizon is at most so many milliseconds.
@@ -56,6 +59,27 @@ fn write_output<'a, D: Disk>(disk: &mut D, name: &'a str, text: &[u8]) -> Result
     }
 }
 
+// The fates of a job's run. The schedule is let go with it, before their text is made.
+fn fates_of<'a, D: Disk>(
+    alloc: Global,
+    job: &RunJob<'a>,
+    ms: u64,
+    disk: &mut D,
+) -> Result<Vec<FateRow>, Refusal<'a>>
+    requires short { ms ≤ 3600000 }
+    requires small { job.now.until ≤ 3600000 }
+    ensures found { IfOk result (λ fates. (rows : List RowValue)
+        × IsRead job.now.schedule.now (disk_view D.files D.read_faults D.write_faults D.absences disk.old) rows
+        × (fates.items ≡ result_of ms job.now.until rows)) }
+    ensures refused { IfErr result (λ refusal. RefusesInput job.now.schedule.now
+        (disk_view D.files D.read_faults D.write_faults D.absences disk.old)
+        (disk_view D.files D.read_faults D.write_faults D.absences disk.new) (cause_of refusal)) }
+    ensures only_reads { OnlyReads D.files D.read_faults D.write_faults D.absences D.never_fails disk.old disk.new }
+{
+    let schedule = read_input(alloc, disk, job.schedule)?;
+    Ok(run_delay(alloc, ms, job.until, schedule.rows())?)
+}
+
 // Runs the job: the schedule is read, its packets pass the delay, and then the fates are written.
 pub(crate) fn run<'a, D: Disk>(
     alloc: Global,
@@ -68,8 +92,7 @@ pub(crate) fn run<'a, D: Disk>(
     ensures counts { Counts D.read_faults D.write_faults D.absences D.never_fails disk.old disk.new }
 {
     let ms = check_words(job)?;
-    let schedule = read_input(alloc, disk, job.schedule)?;
-    let fates = run_delay(alloc, ms, job.until, schedule.rows())?;
+    let fates = fates_of(alloc, job, ms, disk)?;
     let text = print_fates(alloc, fates.as_slice())?;
     write_output(disk, job.out, text.as_slice())
 }
