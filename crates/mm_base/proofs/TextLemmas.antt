@@ -1,5 +1,5 @@
 -- What is printed line by line is read line by line.
-use Rattle.std.proofs.Common.{◌≡◌, ◌≢◌, ℕ, ◌+◌, ◌<◌, List, [], ◌∷◌, ◌++◌, length, map, Bool, true, false, cond, not, ◌&&◌, eqb, append_assoc, refl, ap, sym, ◌∙◌, arith, rules}
+use Rattle.std.proofs.Common.{◌≡◌, ◌≢◌, ℕ, ◌<◌, List, [], ◌∷◌, ◌++◌, length, map, Bool, true, false, cond, not, ◌&&◌, eqb, append_assoc, refl, ap, sym, ◌∙◌, arith, rules}
 use Rattle.std.specs.List.{onto_first, list_all, flat_map}
 use Rattle.mm_base.specs.Lines.{lines_of, is_one_line, is_ended, text_of_lines}
 

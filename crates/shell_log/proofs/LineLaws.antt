@@ -1,43 +1,27 @@
 -- A line of a log says the entry whose line it is, and no other.
-use Rattle.std.proofs.Common.{◌≡◌, ℕ, ◌+◌, ◌<◌, ◌≤◌, ◌++◌, ◌==◌, ◌&&◌, not, Bool, true, false, cond, List, [], ◌∷◌, length, take, drop, get_or, Option, Some, None, nat_le, codes, refl, ap, sym, subst, ◌∙◌, arith}
+use Rattle.std.proofs.Common.{◌≡◌, ℕ, ◌+◌, ◌<◌, ◌≤◌, ◌++◌, ◌==◌, ◌&&◌, Bool, true, false, cond, List, [], ◌∷◌, length, get_or, Option, Some, None, nat_le, codes, refl, ap, sym, subst, ◌∙◌, arith}
 use Rattle.std.specs.Fmt.{decimal}
 use Rattle.std.specs.Option.{option_and_then}
 use Rattle.std.specs.Str.{bytes_eq}
-use Rattle.std.specs.List.{position_or_len, list_all}
+use Rattle.std.specs.List.{position_or_len}
 use Rattle.std.proofs.lemmas.Bool.{le-leb, leb-true}
 use Rattle.std.proofs.lemmas.Bool.Decides.{nat_tests}
 use Rattle.std.proofs.lemmas.List.{drop_all}
 use Rattle.std.proofs.lemmas.List.Sums.{split_at_first, passes_at_first}
 use Rattle.std.proofs.lemmas.Slice.Eq.{bytes_eq-Decides}
-use Rattle.std.proofs.Math.Seq.{take-append_seam, drop-append-add}
 use Rattle.mm_base.specs.Numbers.{canonical_of}
 use Rattle.mm_base.proofs.NumbersLemmas.{canonical_of-decimal, canonical_of-Some, decimal-canonical_of, no_space-decimal}
 use Rattle.shell_log.specs.declared.entry.Entry.{Entry}
 use Rattle.shell_log.specs.declared.entry.Entry.TheVariants.{Arrival, Opportunity, Departure, Drop}
 use Rattle.shell_log.specs.Entries.{IsEntry, IsShort}
-use Rattle.shell_log.specs.Words.{first_word, other_words}
+use Rattle.mm_base.specs.Words.{first_word, other_words}
+use Rattle.mm_base.proofs.WordsLemmas.{first_word-spaced, other_words-spaced}
 use Rattle.shell_log.specs.LogText.{line_of}
 use Rattle.shell_log.specs.Reading.{is_between, if_fits, arrival_of, opportunity_of, departure_of, drop_of, entry_by_sign, entry_of}
 
 both : (a b : Bool) → (a && b) ≡ true → (a ≡ true) × (b ≡ true)
 both true b e = (refl, e)
 both false b e = cc
-
--- words that are parted by a space
-first_space : (a b : List ℕ) → list_all (λ byte. not (byte == 32)) a ≡ true → position_or_len (λ byte. byte == 32) (a ++ 32 ∷ b) ≡ length a
-first_space [] b none = refl
-first_space (x ∷ xs) b none =
-    let parts = both (not (x == 32)) (list_all (λ byte. not (byte == 32)) xs) none in
-    let ih = first_space xs b parts.1 in
-    let here : position_or_len (λ (byte : ℕ). byte == 32) (x ∷ xs ++ 32 ∷ b) ≡ 1 + position_or_len (λ (byte : ℕ). byte == 32) (xs ++ 32 ∷ b) =
-    ap (λ t. cond t (1 + position_or_len (λ (byte : ℕ). byte == 32) (xs ++ 32 ∷ b)) 0) parts.0 in
-    omega arith
-
-pub first_word-spaced : (a b : List ℕ) → list_all (λ byte. not (byte == 32)) a ≡ true → first_word (a ++ 32 ∷ b) ≡ a
-first_word-spaced a b none = ap (λ (n : ℕ). take n (a ++ 32 ∷ b)) (first_space a b none) ∙ take-append_seam a (32 ∷ b)
-
-pub other_words-spaced : (a b : List ℕ) → list_all (λ byte. not (byte == 32)) a ≡ true → other_words (a ++ 32 ∷ b) ≡ b
-other_words-spaced a b none = ap (λ (n : ℕ). drop (n + 1) (a ++ 32 ∷ b)) (first_space a b none) ∙ drop-append-add a (32 ∷ b) 1
 
 -- a text with more than one word
 pub spaced_again : (text : List ℕ) → 0 < length (other_words text) → text ≡ first_word text ++ 32 ∷ other_words text

@@ -8,7 +8,8 @@ use Rattle.shell_log.specs.declared.reading.LogError.{LogError}
 use Rattle.shell_log.specs.declared.reading.LogError.TheVariants as errors
 use Rattle.shell_log.specs.Entries.{moment_of}
 use Rattle.shell_log.specs.LogText.{header}
-use Rattle.shell_log.specs.Words.{first_word, other_words, parts_of}
+use Rattle.mm_base.specs.Words.{first_word, other_words}
+use Rattle.shell_log.specs.Words.{parts_of}
 
 infixl 10 ◌>>=◌
 abbrev pub ◌>>=◌ : {A B : Type 0} → Option A → (A → Option B) → Option B

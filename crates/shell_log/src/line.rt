@@ -1,18 +1,18 @@
 // One line of a log, read.
 ghost use Rattle.std.specs.Prelude.{◌≡◌, ◌<◌, ◌≤◌, ◌==◌, ◌∷◌, [], Option, MatchOption, IfSome, IfNone, All, false, position, length};
-ghost use Rattle.shell_log.specs.Words.{first_word, other_words, parts_of};
+ghost use Rattle.shell_log.specs.Words.{parts_of};
 ghost use Rattle.shell_log.specs.Reading.{arrival_of, opportunity_of, departure_of, drop_of, entry_of};
 
 use crate::Entry;
-use mm_base::read_canonical;
+use mm_base::{read_canonical, split_word};
 
-// The place of the first such byte.
-fn place_of(text: &[u8], wanted: u8) -> Option<usize>
-    ensures place { result ≡ position (λ byte. byte == wanted) text.now }
+// The place of the first line feed.
+fn line_end(text: &[u8]) -> Option<usize>
+    ensures place { result ≡ position (λ byte. byte == 10) text.now }
     ensures within { IfSome result (λ end. end < length text.now) }
-    ensures none { IfNone result (All (λ byte. (byte == wanted) ≡ false) text.now) }
+    ensures none { IfNone result (All (λ byte. (byte == 10) ≡ false) text.now) }
 {
-    text.iter().position(|byte| *byte == wanted)
+    text.iter().position(|byte| *byte == b'\n')
 }
 
 // The first line with its line feed taken off, and what follows it; None where no line feed is left.
@@ -20,20 +20,9 @@ pub(crate) fn split_line(text: &[u8]) -> Option<(&[u8], &[u8])>
     ensures parts { MatchOption result (parts_of text.now ≡ text.now ∷ []) (λ cut. parts_of text.now ≡ cut.0.now ∷ parts_of cut.1.now) }
     ensures shorter { IfSome result (λ cut. length cut.1.now < length text.now) }
 {
-    match place_of(text, b'\n') {
+    match line_end(text) {
         Some(end) => Some((&text[..end], &text[end + 1..])),
         None => None,
-    }
-}
-
-// The first word, and what follows its space.
-fn split_word(text: &[u8]) -> (&[u8], &[u8])
-    ensures first { result.0.now ≡ first_word text.now }
-    ensures others { result.1.now ≡ other_words text.now }
-{
-    match place_of(text, b' ') {
-        Some(end) => (&text[..end], &text[end + 1..]),
-        None => (text, &text[text.len()..]),
     }
 }
 

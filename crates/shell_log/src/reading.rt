@@ -82,7 +82,7 @@ fn read_text(alloc: Global, text: &[u8]) -> Result<Log, LogError>
         return Err(LogError::BadHeader);
     }
     let mut log = Log::new(alloc);
-    log.reserve(count_lines(after))?;
+    log.reserve(most_entries(after))?;
     let mut rest = after;
     let mut low = 0;
     'lines: while let Some((line, after)) = split_line(rest) {
@@ -100,9 +100,10 @@ fn read_text(alloc: Global, text: &[u8]) -> Result<Log, LogError>
     Ok(log)
 }
 
-// How many line feeds there are.
-fn count_lines(text: &[u8]) -> usize {
-    text.iter().filter(|byte| **byte == b'\n').count()
+// How many entries the text can have: each has a line feed, and the shortest line has six bytes with it.
+fn most_entries(text: &[u8]) -> usize {
+    let line_feeds = text.iter().filter(|byte| **byte == b'\n').count();
+    line_feeds.min(text.len() / 6)
 }
 
 // The entry of a line with this number, where the line before has this moment.

@@ -4,7 +4,6 @@ pub mod OrderLemmas
 pub mod Laps
 pub mod OppsLaws
 pub mod Counts
-pub mod WordsLemmas
 pub mod TextLaws
 pub mod TextFaults
 pub mod MadeLemmas

@@ -15,7 +15,8 @@ use Rattle.trace_reader.specs.declared.reading.TraceError.TheVariants as errors
 use Rattle.trace_reader.specs.Orders.{Each, AreRising}
 use Rattle.trace_reader.specs.Opps.{last_moment}
 use Rattle.trace_reader.specs.Traces.{TraceView, IsTrace, AreOfForm}
-use Rattle.trace_reader.specs.TraceText.{form_of, lines_before, stated, first_word, other_words, said_of, said, IsTraceText, trace_text}
+use Rattle.mm_base.specs.Words.{first_word, other_words}
+use Rattle.trace_reader.specs.TraceText.{form_of, lines_before, stated, said_of, said, IsTraceText, trace_text}
 use Rattle.trace_reader.specs.Reading.{fault_of, end_fault, moment_after, or_else, first_fault, trace_fault}
 use Rattle.trace_reader.proofs.OrderLemmas.{each_map, each_append, rising-append, last_latest}
 use Rattle.trace_reader.proofs.TextLaws.{printed_text, same_trace}

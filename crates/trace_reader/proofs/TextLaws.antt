@@ -15,10 +15,11 @@ use Rattle.trace_reader.specs.declared.opportunity.Form.TheVariants.{Moments, Mo
 use Rattle.trace_reader.specs.Orders.{Each}
 use Rattle.trace_reader.specs.Opps.{last_moment}
 use Rattle.trace_reader.specs.Traces.{TraceView, IsTrace, AreOfForm}
-use Rattle.trace_reader.specs.TraceText.{bytes_header, form_of, lines_before, stated, first_word, other_words, said_of, said, IsTraceText, line_of, trace_text}
+use Rattle.mm_base.specs.Words.{first_word, other_words}
+use Rattle.trace_reader.specs.TraceText.{bytes_header, form_of, lines_before, stated, said_of, said, IsTraceText, line_of, trace_text}
 use Rattle.trace_reader.proofs.Fields.{same_opportunity}
 use Rattle.trace_reader.proofs.OrderLemmas.{each_map, last_latest}
-use Rattle.trace_reader.proofs.WordsLemmas.{first_word-spaced, other_words-spaced}
+use Rattle.mm_base.proofs.WordsLemmas.{first_word-spaced, other_words-spaced}
 
 -- what a printed line states
 plain_said : (o : Opportunity) → o.moment ≤ 9999999999 → o.bytes ≡ 1504 → said_of Moments (line_of Moments o) ≡ Some (said o)

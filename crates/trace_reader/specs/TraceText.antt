@@ -1,9 +1,10 @@
 -- The texts of traces.
-use Rattle.std.specs.Prelude.{◌≡◌, ℕ, List, [], ◌∷◌, ◌++◌, Option, Some, option_and_then, ◌==◌, codes, decimal, drop, map, if◌then◌else◌}
-use Rattle.std.specs.List.{before_first, after_first, flat_map}
+use Rattle.std.specs.Prelude.{◌≡◌, ℕ, List, [], ◌∷◌, ◌++◌, Option, Some, option_and_then, codes, decimal, drop, map, if◌then◌else◌}
+use Rattle.std.specs.List.{flat_map}
 use Rattle.std.specs.Str.{bytes_eq}
 use Rattle.mm_base.specs.Lines.{lines_of}
 use Rattle.mm_base.specs.Numbers.{decimal_of}
+use Rattle.mm_base.specs.Words.{first_word, other_words}
 use Rattle.trace_reader.specs.declared.opportunity.Opportunity.{Opportunity}
 use Rattle.trace_reader.specs.declared.opportunity.Form.{Form}
 use Rattle.trace_reader.specs.declared.opportunity.Form.TheVariants.{Moments, MomentsAndBytes}
@@ -26,13 +27,6 @@ lines_before MomentsAndBytes = 1
 -- the lines of the opportunities
 abbrev pub stated : List (List ℕ) → List (List ℕ)
 stated lines = drop (lines_before (form_of lines)) lines
-
--- what stands before the first space of a line, and after it
-abbrev pub first_word : List ℕ → List ℕ
-first_word text = before_first (λ byte. byte == 32) text
-
-abbrev pub other_words : List ℕ → List ℕ
-other_words text = after_first (λ byte. byte == 32) text
 
 infixl 10 ◌>>=◌
 abbrev pub ◌>>=◌ : {A B : Type 0} → Option A → (A → Option B) → Option B

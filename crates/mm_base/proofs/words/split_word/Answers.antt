@@ -1,6 +1,6 @@
 use Rattle.std.proofs.Common.{◌==◌, ℕ, sym}
-use Rattle.shell_log.proofs.WordsLemmas.{before_cut, after_cut, before_none, after_none}
-use Rattle.shell_log.proofs.line.split_word.Goals as goal
+use Rattle.mm_base.proofs.WordsLemmas.{before_cut, after_cut, before_none, after_none}
+use Rattle.mm_base.proofs.words.split_word.Goals as goal
 
 pub returns-in-Some-clause-first : goal.returns-in-Some-clause-first
 returns-in-Some-clause-first c = before_cut (λ (byte : ℕ). byte == 32) c.args.text.now c.in-Some.end (sym c.in-Some.ensures.place)

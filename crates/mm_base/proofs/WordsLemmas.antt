@@ -1,10 +1,10 @@
--- A line cut at its first space.
+-- A text cut at its first byte that passes a test, and a line at its first space.
 use Rattle.std.proofs.Common.{◌≡◌, ℕ, ◌+◌, ◌-◌, ◌≤◌, ◌++◌, ◌==◌, ◌&&◌, not, Bool, true, false, cond, List, [], ◌∷◌, length, take, drop, Some, None, nat_lt, refl, ap, sym, ◌∙◌, arith}
-use Rattle.std.specs.List.{position, position_or_len, list_all}
+use Rattle.std.specs.List.{position, position_or_len, before_first, after_first, list_all}
 use Rattle.std.proofs.lemmas.List.{take_rest, take_all, drop_all}
 use Rattle.std.proofs.lemmas.Bool.Decides.{nat_tests}
 use Rattle.std.proofs.Math.Seq.{take-append_seam, drop-append-add}
-use Rattle.trace_reader.specs.TraceText.{first_word, other_words}
+use Rattle.mm_base.specs.Words.{first_word, other_words}
 
 by_test : (b : Bool) (m n : ℕ) → cond b (Some m) None ≡ Some n → (b ≡ true) × (m ≡ n)
 by_test true m n e = (refl, cc)
@@ -14,25 +14,27 @@ no_test : (b : Bool) (m : ℕ) → cond b (Some m) None ≡ None → b ≡ false
 no_test true m e = absurd cc
 no_test false m e = refl
 
-place_is : (xs : List ℕ) (n : ℕ) → position (λ byte. byte == 32) xs ≡ Some n → n ≡ position_or_len (λ byte. byte == 32) xs
-place_is xs n e = sym (by_test _ _ n e).1
+-- the first place that passes
+pub place_is : (test : ℕ → Bool) (xs : List ℕ) (n : ℕ) → position test xs ≡ Some n → n ≡ position_or_len test xs
+place_is test xs n e = sym (by_test _ _ n e).1
 
-no_place : (xs : List ℕ) → position (λ byte. byte == 32) xs ≡ None → length xs ≤ position_or_len (λ byte. byte == 32) xs
-no_place xs e = let no : nat_lt (position_or_len (λ (byte : ℕ). byte == 32) xs) (length xs) ≡ false = no_test _ _ e in grind (arith, nat_tests)
+pub no_place : (test : ℕ → Bool) (xs : List ℕ) → position test xs ≡ None → length xs ≤ position_or_len test xs
+no_place test xs e = let no : nat_lt (position_or_len test xs) (length xs) ≡ false = no_test _ _ e in grind (arith, nat_tests)
 
-pub before_cut : (xs : List ℕ) (n : ℕ) → position (λ byte. byte == 32) xs ≡ Some n → take n xs ≡ first_word xs
-before_cut xs n e = ap (λ (i : ℕ). take i xs) (place_is xs n e)
+-- a text is cut at its first such byte
+pub before_cut : (test : ℕ → Bool) (xs : List ℕ) (n : ℕ) → position test xs ≡ Some n → take n xs ≡ before_first test xs
+before_cut test xs n e = ap (λ (i : ℕ). take i xs) (place_is test xs n e)
 
-pub after_cut : (xs : List ℕ) (n : ℕ) → position (λ byte. byte == 32) xs ≡ Some n → take (length xs - (n + 1)) (drop (n + 1) xs) ≡ other_words xs
-after_cut xs n e = take_rest xs (n + 1) ∙ ap (λ (i : ℕ). drop (i + 1) xs) (place_is xs n e)
+pub after_cut : (test : ℕ → Bool) (xs : List ℕ) (n : ℕ) → position test xs ≡ Some n → take (length xs - (n + 1)) (drop (n + 1) xs) ≡ after_first test xs
+after_cut test xs n e = take_rest xs (n + 1) ∙ ap (λ (i : ℕ). drop (i + 1) xs) (place_is test xs n e)
 
-pub before_none : (xs : List ℕ) → position (λ byte. byte == 32) xs ≡ None → xs ≡ first_word xs
-before_none xs e = sym (take_all (position_or_len (λ (byte : ℕ). byte == 32) xs) xs (no_place xs e))
+pub before_none : (test : ℕ → Bool) (xs : List ℕ) → position test xs ≡ None → xs ≡ before_first test xs
+before_none test xs e = sym (take_all (position_or_len test xs) xs (no_place test xs e))
 
-pub after_none : (xs : List ℕ) → position (λ byte. byte == 32) xs ≡ None → take (length xs - length xs) (drop (length xs) xs) ≡ other_words xs
-after_none xs e =
-    let past = no_place xs e in
-    take_rest xs (length xs) ∙ drop_all (length xs) xs (omega arith) ∙ sym (drop_all (position_or_len (λ (byte : ℕ). byte == 32) xs + 1) xs (omega arith))
+pub after_none : (test : ℕ → Bool) (xs : List ℕ) → position test xs ≡ None → take (length xs - length xs) (drop (length xs) xs) ≡ after_first test xs
+after_none test xs e =
+    let past = no_place test xs e in
+    take_rest xs (length xs) ∙ drop_all (length xs) xs (omega arith) ∙ sym (drop_all (position_or_len test xs + 1) xs (omega arith))
 
 both : (a b : Bool) → (a && b) ≡ true → (a ≡ true) × (b ≡ true)
 both true b e = (refl, e)
