@@ -1,7 +1,17 @@
-// The text of each kind of fate.
-use crate::{Fate, FateRow, print_fates};
+// The text of each kind of fate, and the types that may cross threads.
+use crate::{Fate, FateRow, Nest, NestWords, RunResult, print_fates};
 use packet_record::Direction;
+use std::marker::{Send, Sync};
 use std::test::Fail;
+
+fn is_shared<T: Send + Sync>(_: &T) {}
+
+// The words of a nest, the nest and what its run gives may be sent to other threads and shared between them.
+fn cross(words: &NestWords, nest: &Nest, result: &RunResult) {
+    is_shared(words);
+    is_shared(nest);
+    is_shared(result);
+}
 
 #[test]
 fn each_fate_has_its_line(rt: HostRuntime) -> Result<(), Fail> {
