@@ -335,6 +335,12 @@ module _ {Tree Said Message : Type 0} (form : Form Tree Said Message)
       ((λ w g. fault_not_waits f w), (λ w g. clear (subst (FaultCause form old.ended old.unread) (ap (error_in f) g) now).1)))
   gives_more old new (Err faults.OutOfMemory) x cause is_open clear = tt
 
+  pub keeps_ended : (old new : Frames) (result : Result (Step Message) FrameFault) → NextSays form old result new → new.ended ≡ old.ended
+  keeps_ended old new (Ok (steps.Message m)) x = x.ended
+  keeps_ended old new (Ok steps.More) x = ap (λ s. s.ended) x.0.same
+  keeps_ended old new (Err (faults.Frame e)) x = x.ended
+  keeps_ended old new (Err faults.OutOfMemory) x = ap (λ s. s.ended) x.same
+
   pub answers_again : (old new : Frames) (result : Result (Step Message) FrameFault) (e : FrameError) → NextSays form old result new → old.failed ≡ Some e → result ≡ Err (faults.Frame e)
   answers_again old new (Ok (steps.Message m)) e x was = absurd (true≢false (ap is_some (sym was ∙ x.was)))
   answers_again old new (Ok steps.More) e x was = absurd (true≢false (ap is_some (sym was ∙ x.0.was)))

@@ -22,8 +22,13 @@ pub enum FrameError {
 }
 
 impl FrameError {
+    ghost use Rattle.std.specs.Prelude.{◌≡◌};
+    ghost use Rattle.http_frame.specs.Errors.{number_of};
+
     /// The number of the error, 1 to 8.
-    pub fn number(self) -> u64 {
+    pub fn number(self) -> u32
+        ensures { result ≡ number_of self }
+    {
         match self {
             FrameError::BadHead => 1,
             FrameError::HeadTooLong => 2,

@@ -130,6 +130,7 @@ impl ResponseFrames {
     /// HEAD request. One whose body ends by closing comes once the input has ended, and takes all.
     pub fn next(&mut self, head_request: bool) -> Result<Step<Response>, FrameFault>
         ensures says { NextSays (response_form head_request) self.old result self.new }
+        ensures input { self.new.ended ≡ self.old.ended }
         ensures first { (bytes after : List ℕ) (h : Answer) (r : IsResponse head_request bytes h) → self.old.unread ≡ bytes ++ after → MayStop r.framing self.old.ended after
             → self.old.failed ≡ None → GivesBytes (response_form head_request) bytes result }
         ensures fails { (e : ErrorValue) → FaultCause (response_form head_request) self.old.ended self.old.unread e → self.old.failed ≡ None → GivesFault e result }
