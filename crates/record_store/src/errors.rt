@@ -20,14 +20,30 @@ pub enum PairError {
 }
 
 impl PairError {
+    ghost use Rattle.record_store.specs.Refusals.{pair_number, request_named};
+
     /// The number of the error, 1 to 4; 0 for want of memory.
-    pub fn number(self) -> u64 {
+    pub fn number(self) -> u32
+        ensures { result ≡ pair_number self }
+    {
         match self {
-            PairError::BadRequest { n: _ } => 1,
-            PairError::BadResponse { n: _ } => 2,
-            PairError::Unanswered { n: _ } => 3,
+            PairError::BadRequest { .. } => 1,
+            PairError::BadResponse { .. } => 2,
+            PairError::Unanswered { .. } => 3,
             PairError::ExtraResponse => 4,
             PairError::OutOfMemory => 0,
+        }
+    }
+
+    /// The request that it names, or 0 where it names none.
+    pub fn request(self) -> u64
+        ensures { result ≡ request_named self }
+    {
+        match self {
+            PairError::BadRequest { n }
+            | PairError::BadResponse { n }
+            | PairError::Unanswered { n } => n,
+            PairError::ExtraResponse | PairError::OutOfMemory => 0,
         }
     }
 }

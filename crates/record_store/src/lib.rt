@@ -1,13 +1,23 @@
 //! Stores of recorded exchanges: requests, each with its response and the port that it was recorded from.
 #![tactic(auto)]
 
+mod cutting;
 mod errors;
+mod exchange;
+mod header;
 mod pairing;
+mod printing;
+mod reading;
 mod record;
 mod server;
+mod store_error;
 #[cfg(test)]
 mod tests;
+mod words;
 
 pub use errors::PairError;
 pub use pairing::pair;
+pub use printing::print_store;
+pub use reading::read_store;
 pub use record::{Record, Store};
+pub use store_error::StoreError;

@@ -1,6 +1,5 @@
-// Rows of pairing.
-use crate::errors::PairError;
-use crate::pairing::pair;
+//! Rows of pairing, reading and printing.
+use crate::{Store, pair, print_store, read_store};
 use std::alloc::Global;
 use std::test::Fail;
 
@@ -12,19 +11,13 @@ const INTERIM: &[u8] =
     b"HTTP/1.1 100 Continue\r\n\r\nHTTP/1.1 200 OK\r\nContent-Length: 2\r\n\r\nhi";
 
 /// The bytes of the one response, or the number of the error and its request.
-fn row(alloc: Global, client: &[u8], server: &[u8]) -> (u64, u64) {
+fn row(alloc: Global, client: &[u8], server: &[u8]) -> (u32, u64) {
     match pair(alloc, client, server, 80) {
         Ok(store) => match store.records() {
             [only] => (100, only.response.bytes.len() as u64),
             other => (200, other.len() as u64),
         },
-        Err(error) => match error {
-            PairError::BadRequest { n } => (error.number(), n),
-            PairError::BadResponse { n } => (error.number(), n),
-            PairError::Unanswered { n } => (error.number(), n),
-            PairError::ExtraResponse => (error.number(), 0),
-            PairError::OutOfMemory => (99, 99),
-        },
+        Err(error) => (error.number(), error.request()),
     }
 }
 
@@ -42,5 +35,64 @@ fn pairs_of_one_request(rt: HostRuntime) -> Result<(), Fail> {
         row(alloc, CLIENT, b"HTTP/1.1 200 OK\r\n\r\nall the rest"),
         (100, 31)
     );
+    Ok(())
+}
+
+const PRINTED: &[u8] =
+    b"MMSTORE 2\nrecord http 0 27 40\nGET / HTTP/1.1\r\nHost: a\r\n\r\nHTTP/1.1 200 OK\r\nContent-Length: 2\r\n\r\nhi\n";
+
+const OLD: &[u8] =
+    b"MMSTORE 1\nrecord 27 40\nGET / HTTP/1.1\r\nHost: a\r\n\r\nHTTP/1.1 200 OK\r\nContent-Length: 2\r\n\r\nhi\n";
+
+// A store may be sent and shared.
+fn crosses<T: Send + Sync>(_value: &T) {}
+
+/// 100 and how many records there are, or the number of the refusal and what it names.
+fn refusal(alloc: Global, text: &[u8]) -> (u32, u64) {
+    match read_store(alloc, text) {
+        Ok(store) => (100, store.records().len() as u64),
+        Err(error) => (error.number(), error.place()),
+    }
+}
+
+#[test]
+fn prints_and_reads(rt: HostRuntime) -> Result<(), Fail> {
+    let alloc = rt.alloc();
+    let store = pair(alloc, CLIENT, SERVER, 0)?;
+    crosses(&store);
+    let text = print_store(alloc, &store)?;
+    assert_eq!(rt; text.as_slice(), PRINTED);
+    assert_eq!(rt; text.len(), 98);
+    let again = print_store(alloc, &read_store(alloc, PRINTED)?)?;
+    assert_eq!(rt; again.as_slice(), PRINTED);
+    let migrated = print_store(alloc, &read_store(alloc, OLD)?)?;
+    assert_eq!(rt; migrated.as_slice(), PRINTED);
+    let empty = print_store(alloc, &Store::new(alloc))?;
+    assert_eq!(rt; empty.as_slice(), b"MMSTORE 2\n".as_slice());
+    Ok(())
+}
+
+#[test]
+fn refusals_of_texts(rt: HostRuntime) -> Result<(), Fail> {
+    let alloc = rt.alloc();
+    let rows: [(&[u8], (u32, u64)); 12] = [
+        (b"MMSTORE 3\n", (1, 0)),
+        (b"MMSTORE 2", (1, 0)),
+        (b"MMSTORE 1\nrecord 027 40\n..", (2, 10)),
+        (b"MMSTORE 1\nrecord http 0 27 40\n", (2, 10)),
+        (b"MMSTORE 2\nrecord 27 40\n", (2, 10)),
+        (b"MMSTORE 2\nrecord ftp 0 27 40\n", (5, 10)),
+        (b"MMSTORE 2\nrecord ftp 65536 27 40\n", (2, 10)),
+        (b"MMSTORE 2\nrecord http 0 27 40", (3, 10)),
+        (b"MMSTORE 1\nrecord 0 0\n\n", (4, 1)),
+        (b"MMSTORE 1\nrecord 0 0\n.", (2, 21)),
+        (b"MMSTORE 1\nrecord 100000000 0\n\n", (2, 10)),
+        (b"MMSTORE 1\n", (100, 0)),
+    ];
+    for (text, answer) in rows {
+        assert_eq!(rt; refusal(alloc, text), answer);
+    }
+    assert_eq!(rt; refusal(alloc, &OLD[..90]), (3, 10));
+    assert_eq!(rt; refusal(alloc, OLD), (100, 1));
     Ok(())
 }

@@ -1,0 +1,57 @@
+// Where the parts of a record stand.
+ghost use Rattle.std.specs.Prelude.{◌≡◌, ◌≤◌, ◌<◌, ◌+◌, ◌^◌, length, IfOk};
+ghost use Rattle.record_store.specs.Headers.{IsShort};
+ghost use Rattle.record_store.specs.Cuts.{IsInside, cut_at_header, cut_of};
+
+use crate::header::{Form, Header, read_header};
+use crate::store_error::StoreError;
+use crate::words::place_of;
+
+/// A record's port, and where its parts stand, counted from the record's place: the request begins, the response
+/// begins, and the response ends, before the line feed that ends the record.
+#[derive(Clone, Copy, Debug, PartialEq, Eq)]
+pub struct Cut {
+    pub port: u16,
+    pub request: usize,
+    pub response: usize,
+    pub end: usize,
+}
+
+/// The parts of the record that stands at a place, where these are the bytes from it on; or why none stands there.
+pub fn cut_record(form: Form, place: u64, bytes: &[u8]) -> Result<Cut, StoreError>
+    requires { place + length bytes.now < 2 ^ 64 }
+    ensures cut { result ≡ cut_of form place bytes.now }
+    ensures inside { IfOk result (IsInside bytes.now) }
+{
+    let Some(end) = place_of(bytes, b'\n') else {
+        return Err(StoreError::Truncated { place });
+    };
+    let header = read_header(form, place, &bytes[..end])?;
+    cut_at(place, bytes, end + 1, header)
+}
+
+// The parts after a header and its line feed.
+fn cut_at(place: u64, bytes: &[u8], start: usize, header: Header) -> Result<Cut, StoreError>
+    requires place { place + length bytes.now < 2 ^ 64 }
+    requires start { start ≤ length bytes.now }
+    requires short { IsShort header }
+    ensures cut { result ≡ cut_at_header place bytes.now start header }
+    ensures inside { IfOk result (IsInside bytes.now) }
+{
+    let response = start + header.request;
+    let end = response + header.response;
+    if end >= bytes.len() {
+        return Err(StoreError::Truncated { place });
+    }
+    if bytes[end] != b'\n' {
+        return Err(StoreError::BadHeader {
+            place: place + end as u64,
+        });
+    }
+    Ok(Cut {
+        port: header.port,
+        request: start,
+        response,
+        end,
+    })
+}
