@@ -1,8 +1,8 @@
 //! A bounded channel of items from one sender to one receiver, which loses and doubles nothing.
 //!
-//! What an end has carried is a stream that contracts see and that the program keeps nowhere: `sent` at
-//! the sender, `got` at the receiver. The receiver gets what was sent, in order. Nothing is promised of
-//! when a call that waits returns.
+//! What an end has carried is a stream that contracts see as its `flow`, and that the program keeps
+//! nowhere. The receiver gets what was sent, in order. Nothing is promised of when a call that waits
+//! returns.
 #![tactic(auto)]
 
 mod channel;

@@ -32,7 +32,8 @@ impl Model for Receiver {
 
 impl Receiver {
     /// Waits for an item and takes it. The item may follow what was received before and is within the
-    /// channel's horizon: a packet up to it, a mark up to one millisecond past it. It takes no memory.
+    /// channel's horizon: a packet up to it, a mark up to one millisecond past it. Nothing is received
+    /// after `End` or `Broken`. It takes no memory.
     pub fn recv<R: Wait>(&mut self, rt: &R) -> Item
         requires { self.old.flow.end ≡ Open }
         ensures follows { MayFollow self.old.flow result }

@@ -29,8 +29,10 @@ impl Model for Sender {
 }
 
 impl Sender {
-    /// Waits for room, and adds the item at the end of what was sent. It takes no memory. Nothing is
-    /// promised of how long it waits: a sender whose receiver is gone may wait for ever.
+    /// Waits for room, and adds the item at the end of what was sent. The item may follow what was sent
+    /// before and is within the channel's horizon: a packet up to it, a mark up to one millisecond past
+    /// it. It takes no memory. Nothing is promised of how long it waits: a sender whose receiver is gone
+    /// may wait for ever.
     pub fn send<R: Wait>(&mut self, rt: &R, item: Item)
         requires follows { MayFollow self.old.flow item }
         requires within { IsUpTo self.old.horizon item }

@@ -131,6 +131,9 @@ module _ (id : TableId) (before at now : Place) (word : ℕ) (y : State) (old : 
   pub take_broken_again : (most : ℕ) (answer : Taken) → answer ≡ answer_of y most → old.broken ≡ true → answer ≡ Gives Cut
   take_broken_again most answer gives knows = gives ∙ answer_broken y most (found_again knows)
 
+  pub take_keeps : (most : ℕ) (answer : Taken) → now ≡ (with_turn at.0 (Drains (Takes most answer)), []) → old.broken ≡ true → now.0.broken ≡ true
+  take_keeps most answer spent knows = drain_finds (Takes most answer) spent ∙ take_broken y most ∙ found_again knows
+
   pub take_leaves : (id' : TableId) → id' ≡ id → y.broken ≡ false → now ≡ (without_note at.0, []) → drain_seat id' now.0 ≡ old
   take_leaves id' same whole given =
       let b : y.broken ≡ before.0.broken = whole ∙ sym (not_found before.0.broken y.broken taken.broken whole) in

@@ -31,8 +31,9 @@ impl Model for ShellCell {
     ghost view = { cell_view };
 }
 
-/// Opens a cell over a state of which nothing was fed or taken, and gives its two seats. All the memory
-/// of the lock is taken here. On `OutOfMemory` the state is given up.
+/// Opens a cell over a state of which nothing was fed or taken, and gives its two seats, which have spent
+/// no turn and know of no broken state. All the memory of the lock is taken here. On `OutOfMemory` the
+/// state is given up.
 pub fn open(
     alloc: Global,
     state: ShellState,
@@ -74,8 +75,11 @@ impl ShellCell {
     ghost use Rattle.shell_cell.specs.declared.view.DrainCall.TheVariants.{Takes, Breaks};
     ghost use Rattle.shell_cell.specs.Seats.{MayFeedAt, SpendsFeed, FindsBroken, Fed, SpendsDrain, Found, Took, IsUnspent, IsSameSeat, HasHistory};
 
-    /// Waits for the turn and feeds the item. On a broken state it answers Ok and changes nothing.
-    /// `OutOfMemory` comes only for a packet, and changes neither the state nor the seat.
+    /// Waits for the turn and feeds the item, which spends the turn. The item may follow what the seat has
+    /// fed, unless the seat has found the state broken, and is within the horizon: a packet up to it, a
+    /// mark up to one millisecond past it. On a broken state it answers Ok, spends no turn, and changes
+    /// nothing but that the seat has then found it broken. `OutOfMemory` comes only for a packet, never
+    /// once the seat has found the state broken, and changes neither the state nor the seat.
     pub fn feed<R: Wait>(&self, rt: &R, seat: &mut FeedSeat, item: Item) -> Result<(), OutOfMemory>
         requires own { seat.old.cell ≡ self.now }
         requires follows { MayFeedAt seat.old item }
@@ -106,8 +110,10 @@ impl ShellCell {
         }
     }
 
-    /// Waits for the turn and takes what the state has to give, burning at most `most` opportunities.
-    /// `OutOfMemory` changes neither the state nor the seat, and never comes on a broken state.
+    /// Waits for the turn and takes what the state has to give, burning at most `most` opportunities, at
+    /// least 1; this spends the turn. Nothing is taken after `End` or `Broken`. A seat that has found the
+    /// state broken gets `Broken`. `OutOfMemory` changes neither the state nor the seat, and never comes
+    /// once the seat has found the state broken.
     pub fn take<R: Wait>(
         &self,
         rt: &R,
@@ -121,6 +127,7 @@ impl ShellCell {
         ensures found { IfOk result (λ answer. Found seat.old most answer seat.new) }
         ensures took { IfOk result (λ answer. Took seat.old answer seat.new) }
         ensures broken { seat.old.broken ≡ true → result ≡ Ok (Gives Broken) }
+        ensures keeps { seat.old.broken ≡ true → seat.new.broken ≡ true }
         ensures err { OnErr result (seat.new ≡ seat.old) }
         ensures same { IsSameSeat seat.old seat.new }
     {
@@ -141,7 +148,7 @@ impl ShellCell {
         }
     }
 
-    /// Waits for the turn and breaks the state. It takes no memory.
+    /// Waits for the turn and breaks the state, which spends the turn. It takes no memory.
     pub fn break_off<R: Wait>(&self, rt: &R, seat: &mut DrainSeat)
         requires own { seat.old.cell ≡ self.now }
         ensures turn { SpendsDrain seat.old Breaks seat.new }
@@ -168,7 +175,8 @@ impl ShellCell {
         }
     }
 
-    /// Gives the state back, once both seats are here again. It takes no memory.
+    /// Gives the state back, once both seats are here again: what the history of their turns leaves of the
+    /// state that the cell was opened with. Its flows are the seats' flows. It takes no memory.
     pub fn close(self, feed: FeedSeat, drain: DrainSeat) -> ShellState
         requires own { (feed.cell ≡ self) × (drain.cell ≡ self) }
         ensures history { HasHistory self.opening feed.turns drain.turns result }

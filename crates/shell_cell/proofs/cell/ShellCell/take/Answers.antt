@@ -1,7 +1,7 @@
 use Rattle.std.proofs.Common.{inr, Ok, ap}
 use Rattle.shell_cell.specs.declared.view.DrainCall.TheVariants.{Takes}
 use Rattle.shell_cell.proofs.Calls.{may_drain, may_give_up}
-use Rattle.shell_cell.proofs.Clauses.{drain_open, drain_spends, take_found, take_took, take_broken_again}
+use Rattle.shell_cell.proofs.Clauses.{drain_open, drain_spends, take_found, take_took, take_broken_again, take_keeps}
 use Rattle.shell_cell.proofs.cell.ShellCell.take.Goals as goal
 
 pub spend-requires-clause-spends : goal.spend-requires-clause-spends
@@ -23,3 +23,6 @@ returns-in-Ok-clause-took g c = take_took _ _ _ _ _ _ _ c.seat.view_is c.claim-w
 
 pub returns-in-Ok-clause-broken : goal.returns-in-Ok-clause-broken
 returns-in-Ok-clause-broken g c knows = ap Ok (take_broken_again _ _ _ c.claim-word.new.seat.me _ _ _ c.seat.view_is c.claim-word.ensures.taken _ _ c.in-Ok.ensures.ok.0 knows)
+
+pub returns-in-Ok-clause-keeps : goal.returns-in-Ok-clause-keeps
+returns-in-Ok-clause-keeps g c knows = take_keeps _ _ _ _ _ _ _ c.seat.view_is c.claim-word.ensures.taken _ _ c.spend.ensures.spent knows
