@@ -1,5 +1,5 @@
 -- The text of a record is cut into its parts, and what is cut so is the text of its parts.
-use Rattle.std.proofs.Common.{◌≡◌, ℕ, ◌+◌, ◌-◌, ◌<◌, ◌≤◌, ◌++◌, ◌==◌, Bool, true, false, cond, List, [], ◌∷◌, length, take, drop, get_or, Option, Some, None, Ok, Err, nat_lt, refl, ap, sym, subst, ◌∙◌, arith, append_assoc, length-append, length-drop, take-append-drop}
+use Rattle.std.proofs.Common.{◌≡◌, ℕ, ◌+◌, ◌-◌, ◌<◌, ◌≤◌, ◌++◌, ◌==◌, Bool, true, false, cond, List, ◌∷◌, length, take, drop, get_or, Option, Some, None, Ok, Err, nat_lt, refl, ap, sym, subst, ◌∙◌, arith, append_assoc, length-append, length-drop, take-append-drop}
 use Rattle.std.specs.Prelude.{Result, slice_index, position}
 use Rattle.std.proofs.Math.Seq.{take-append_seam, drop-append-add}
 use Rattle.std.proofs.lemmas.Bool.{ltb-true, lt-ltb}
@@ -7,14 +7,14 @@ use Rattle.std.proofs.lemmas.Bool.Decides.{nat_tests}
 use Rattle.std.proofs.lemmas.List.{drop-drop, drop_more, drop_at, take_at, get_or_at, length-take-le}
 use Rattle.mm_base.specs.Lines.{is_one_line}
 use Rattle.record_store.specs.Headers.{header_line, HasPort, header_of}
-use Rattle.record_store.specs.Cuts.{request_part, response_part, cut_by_end, cut_at_header, cut_by_header, cut_by_line, cut_of}
+use Rattle.record_store.specs.Cuts.{request_part, response_part, cut_at_header, cut_by_header, cut_by_line, cut_of}
 use Rattle.record_store.specs.declared.header.Form.{Form}
 use Rattle.record_store.specs.declared.header.Header.{Header}
 use Rattle.record_store.specs.declared.cutting.Cut.{Cut}
 use Rattle.record_store.specs.declared.store_error.StoreError.{StoreError}
 use Rattle.record_store.specs.declared.store_error.StoreError.TheVariants as errors
 use Rattle.record_store.proofs.WordLemmas.{position_such, cut_at_place}
-use Rattle.record_store.proofs.HeaderLaws.{IsHeader, is_header}
+use Rattle.record_store.proofs.HeaderLaws.{is_header}
 
 -- ---- a line, a request, a response and a line feed
 

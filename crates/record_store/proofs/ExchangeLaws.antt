@@ -1,10 +1,9 @@
 -- Whole requests and responses, and when bytes are none.
-use Rattle.std.proofs.Common.{Bool, true, ◌≡◌, ◌≢◌, ◌∙◌, ℕ, ◌+◌, ◌≤◌, List, [], ◌∷◌, ◌++◌, length, Some, None, Ok, refl, sym, ap, subst, arith, length-append, append-nil}
+use Rattle.std.proofs.Common.{Bool, true, ◌≡◌, ◌≢◌, ◌∙◌, ℕ, ◌≤◌, List, [], ◌++◌, length, Some, None, Ok, refl, sym, ap, subst, arith, length-append, append-nil}
 use Rattle.std.specs.Prelude.{Result}
 use Rattle.std.proofs.lemmas.List.{nil_from_length}
-use Rattle.httparse.specs.Grammar.{ResponseHead as Answer, print_request, print_response, status_code}
+use Rattle.httparse.specs.Grammar.{print_request, print_response, status_code}
 use Rattle.httparse.proofs.GrammarLemmas.{response_unique}
-use Rattle.http_frame.specs.Bodies.{most}
 use Rattle.http_frame.specs.Forms.{response_form, said_of_request, said_of_response}
 use Rattle.http_frame.specs.Framing.{response_framing}
 use Rattle.http_frame.specs.Messages.{MayStop}

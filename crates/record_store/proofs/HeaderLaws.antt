@@ -1,7 +1,6 @@
 -- A header line says the port and the lengths whose line it is, and no others.
-use Rattle.std.proofs.Common.{◌≡◌, ℕ, ◌<◌, ◌≤◌, ◌^◌, ◌++◌, ◌==◌, not, Bool, true, false, cond, List, [], ◌∷◌, length, Option, Some, None, Ok, Err, nat_le, codes, refl, ap, sym, subst, ◌∙◌, arith}
+use Rattle.std.proofs.Common.{◌≡◌, ℕ, ◌<◌, ◌≤◌, ◌^◌, ◌++◌, Bool, true, false, cond, List, [], ◌∷◌, length, Option, Some, None, Ok, Err, nat_le, codes, refl, ap, sym, subst, ◌∙◌, arith}
 use Rattle.std.specs.Prelude.{Result, decimal}
-use Rattle.std.specs.List.{list_all}
 use Rattle.std.specs.Option.{ok_or, option_and_then}
 use Rattle.std.specs.Str.{bytes_eq}
 use Rattle.std.proofs.lemmas.Bool.{le-leb, leb-true}
@@ -10,14 +9,15 @@ use Rattle.mm_base.specs.Numbers.{canonical_of}
 use Rattle.mm_base.specs.Lines.{is_one_line}
 use Rattle.mm_base.proofs.TextLemmas.{is_one_line-append}
 use Rattle.mm_base.proofs.NumbersLemmas.{canonical_of-decimal, canonical_of-Some, decimal-canonical_of, no_space-decimal, is_one_line-decimal}
-use Rattle.record_store.specs.Words.{first_word, other_words}
-use Rattle.record_store.specs.Headers.{header_line, HasPort, if_at_most, number_up_to, most_length, IsShort, lengths_of, port_and_lengths_of, is_scheme, check_scheme, with_scheme, header_by_form, header_of}
+use Rattle.mm_base.specs.Words.{first_word, other_words}
+use Rattle.record_store.specs.Headers.{header_line, HasPort, if_at_most, number_up_to, most_length, IsShort, lengths_of, port_and_lengths_of, is_scheme, with_scheme, header_by_form, header_of}
 use Rattle.record_store.specs.declared.header.Form.{Form}
 use Rattle.record_store.specs.declared.header.Form.TheVariants.{One, Two}
 use Rattle.record_store.specs.declared.header.Header.{Header}
 use Rattle.record_store.specs.declared.store_error.StoreError.{StoreError}
 use Rattle.record_store.specs.declared.store_error.StoreError.TheVariants as errors
-use Rattle.record_store.proofs.WordLemmas.{first_word-spaced, other_words-spaced, spaced_again}
+use Rattle.mm_base.proofs.WordsLemmas.{first_word-spaced, other_words-spaced}
+use Rattle.record_store.proofs.WordLemmas.{spaced_again}
 
 -- ---- numbers
 

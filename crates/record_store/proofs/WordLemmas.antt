@@ -1,12 +1,12 @@
 -- A text cut at its first such byte.
-use Rattle.std.proofs.Common.{◌≡◌, ℕ, ◌+◌, ◌-◌, ◌<◌, ◌≤◌, ◌++◌, ◌==◌, ◌&&◌, not, Bool, true, false, cond, List, [], ◌∷◌, length, take, drop, get_or, Some, None, nat_le, nat_lt, refl, ap, sym, subst, ◌∙◌, arith, length-append}
+use Rattle.std.proofs.Common.{◌≡◌, ℕ, ◌+◌, ◌<◌, ◌≤◌, ◌++◌, ◌==◌, ◌&&◌, not, Bool, true, false, cond, List, [], ◌∷◌, length, take, drop, get_or, Some, None, nat_le, nat_lt, refl, ap, sym, subst, ◌∙◌, arith, length-append}
 use Rattle.std.specs.List.{position, position_or_len, before_first, after_first, list_all}
 use Rattle.std.proofs.lemmas.Bool.{ltb-true, lt-ltb, leb-true}
 use Rattle.std.proofs.lemmas.Bool.Decides.{nat_tests}
-use Rattle.std.proofs.lemmas.List.{take_rest, take_all, drop_all}
+use Rattle.std.proofs.lemmas.List.{drop_all}
 use Rattle.std.proofs.lemmas.List.Sums.{split_at_first, passes_at_first}
-use Rattle.std.proofs.Math.Seq.{take-append_seam, drop-append-add}
-use Rattle.record_store.specs.Words.{first_word, other_words}
+use Rattle.mm_base.specs.Words.{first_word, other_words}
+use Rattle.mm_base.proofs.WordsLemmas.{place_is}
 
 pub both : (a b : Bool) → (a && b) ≡ true → (a ≡ true) × (b ≡ true)
 both true b e = (refl, e)
@@ -16,36 +16,10 @@ by_test : (b : Bool) (m n : ℕ) → cond b (Some m) None ≡ Some n → (b ≡ 
 by_test true m n e = (refl, cc)
 by_test false m n e = absurd cc
 
-no_test : (b : Bool) (m : ℕ) → cond b (Some m) None ≡ None → b ≡ false
-no_test true m e = absurd cc
-no_test false m e = refl
-
--- the first place that passes
-place_is : (test : ℕ → Bool) (xs : List ℕ) (n : ℕ) → position test xs ≡ Some n → n ≡ position_or_len test xs
-place_is test xs n e = sym (by_test _ _ n e).1
-
-no_place : (test : ℕ → Bool) (xs : List ℕ) → position test xs ≡ None → length xs ≤ position_or_len test xs
-no_place test xs e = let no : nat_lt (position_or_len test xs) (length xs) ≡ false = no_test _ _ e in grind (arith, nat_tests)
-
 pub place_within : (test : ℕ → Bool) (xs : List ℕ) (n : ℕ) → position test xs ≡ Some n → n < length xs
 place_within test xs n e =
     let t = by_test (nat_lt (position_or_len test xs) (length xs)) (position_or_len test xs) n e in
     subst (λ (i : ℕ). i < length xs) t.1 (ltb-true _ _ t.0)
-
--- a text is cut at its first such byte
-pub before_cut : (test : ℕ → Bool) (xs : List ℕ) (n : ℕ) → position test xs ≡ Some n → take n xs ≡ before_first test xs
-before_cut test xs n e = ap (λ (i : ℕ). take i xs) (place_is test xs n e)
-
-pub after_cut : (test : ℕ → Bool) (xs : List ℕ) (n : ℕ) → position test xs ≡ Some n → take (length xs - (n + 1)) (drop (n + 1) xs) ≡ after_first test xs
-after_cut test xs n e = take_rest xs (n + 1) ∙ ap (λ (i : ℕ). drop (i + 1) xs) (place_is test xs n e)
-
-pub before_none : (test : ℕ → Bool) (xs : List ℕ) → position test xs ≡ None → xs ≡ before_first test xs
-before_none test xs e = sym (take_all (position_or_len test xs) xs (no_place test xs e))
-
-pub after_none : (test : ℕ → Bool) (xs : List ℕ) → position test xs ≡ None → take (length xs - length xs) (drop (length xs) xs) ≡ after_first test xs
-after_none test xs e =
-    let past = no_place test xs e in
-    take_rest xs (length xs) ∙ drop_all (length xs) xs (omega arith) ∙ sym (drop_all (position_or_len test xs + 1) xs (omega arith))
 
 -- what stands round the first such byte
 pub cut_at_place : (c : ℕ) (xs : List ℕ) (n : ℕ) → position (λ byte. byte == c) xs ≡ Some n → xs ≡ take n xs ++ c ∷ drop (n + 1) xs
@@ -73,13 +47,6 @@ position_such c a b is none =
     let first = first_such c a b is none in
     let inside : nat_lt (length a) (length (a ++ c ∷ b)) ≡ true = lt-ltb _ _ (omega (arith, length-append a (c ∷ b))) in
     ap (λ (n : ℕ). cond (nat_lt n (length (a ++ c ∷ b))) (Some n) None) first ∙ ap (λ t. cond t (Some (length a)) None) inside
-
--- words that a space parts
-pub first_word-spaced : (a b : List ℕ) → list_all (λ byte. not (byte == 32)) a ≡ true → first_word (a ++ 32 ∷ b) ≡ a
-first_word-spaced a b none = ap (λ (n : ℕ). take n (a ++ 32 ∷ b)) (first_such 32 a b refl none) ∙ take-append_seam a (32 ∷ b)
-
-pub other_words-spaced : (a b : List ℕ) → list_all (λ byte. not (byte == 32)) a ≡ true → other_words (a ++ 32 ∷ b) ≡ b
-other_words-spaced a b none = ap (λ (n : ℕ). drop (n + 1) (a ++ 32 ∷ b)) (first_such 32 a b refl none) ∙ drop-append-add a (32 ∷ b) 1
 
 -- a text with more than one word
 pub spaced_again : (text : List ℕ) → 0 < length (other_words text) → text ≡ first_word text ++ 32 ∷ other_words text

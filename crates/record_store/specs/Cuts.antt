@@ -1,5 +1,5 @@
 -- The parts of the record that stands at a place.
-use Rattle.std.specs.Prelude.{ℕ, ◌+◌, ◌-◌, ◌≤◌, ◌<◌, ◌==◌, List, ◌∷◌, length, take, drop, Option, Some, None, Result, Ok, Err, nat_lt, position, slice_index, if◌then◌else◌}
+use Rattle.std.specs.Prelude.{ℕ, ◌+◌, ◌-◌, ◌≤◌, ◌<◌, ◌==◌, List, length, take, drop, Option, Some, None, Result, Ok, Err, nat_lt, position, slice_index, if◌then◌else◌}
 use Rattle.record_store.specs.Headers.{header_of}
 use Rattle.record_store.specs.declared.header.Form.{Form}
 use Rattle.record_store.specs.declared.header.Header.{Header}

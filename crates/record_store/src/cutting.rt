@@ -1,11 +1,10 @@
 // Where the parts of a record stand.
-ghost use Rattle.std.specs.Prelude.{◌≡◌, ◌≤◌, ◌<◌, ◌+◌, ◌^◌, length, IfOk};
+ghost use Rattle.std.specs.Prelude.{◌≡◌, ◌≤◌, ◌<◌, ◌+◌, ◌^◌, ◌==◌, length, position, IfOk, IfSome};
 ghost use Rattle.record_store.specs.Headers.{IsShort};
 ghost use Rattle.record_store.specs.Cuts.{IsInside, cut_at_header, cut_of};
 
 use crate::header::{Form, Header, read_header};
 use crate::store_error::StoreError;
-use crate::words::place_of;
 
 /// A record's port, and where its parts stand, counted from the record's place: the request begins, the response
 /// begins, and the response ends, before the line feed that ends the record.
@@ -17,13 +16,21 @@ pub struct Cut {
     pub end: usize,
 }
 
+// The place of the first line feed.
+fn line_end(text: &[u8]) -> Option<usize>
+    ensures place { result ≡ position (λ byte. byte == 10) text.now }
+    ensures within { IfSome result (λ end. end < length text.now) }
+{
+    text.iter().position(|byte| *byte == b'\n')
+}
+
 /// The parts of the record that stands at a place, where these are the bytes from it on; or why none stands there.
 pub fn cut_record(form: Form, place: u64, bytes: &[u8]) -> Result<Cut, StoreError>
     requires { place + length bytes.now < 2 ^ 64 }
     ensures cut { result ≡ cut_of form place bytes.now }
     ensures inside { IfOk result (IsInside bytes.now) }
 {
-    let Some(end) = place_of(bytes, b'\n') else {
+    let Some(end) = line_end(bytes) else {
         return Err(StoreError::Truncated { place });
     };
     let header = read_header(form, place, &bytes[..end])?;

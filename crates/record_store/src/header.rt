@@ -4,8 +4,7 @@ ghost use Rattle.std.specs.List.{list_all};
 ghost use Rattle.record_store.specs.Headers.{number_up_to, lengths_of, port_and_lengths_of, is_scheme, check_scheme, header_by_form, header_of, is_letter, IsShort};
 
 use crate::store_error::StoreError;
-use crate::words::split_word;
-use mm_base::read_canonical;
+use mm_base::{read_canonical, split_word};
 
 /// The two forms of a store's text. Records of form 1 have port 0.
 #[derive(Clone, Copy, Debug, PartialEq, Eq)]

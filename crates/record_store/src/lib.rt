@@ -13,7 +13,6 @@ mod server;
 mod store_error;
 #[cfg(test)]
 mod tests;
-mod words;
 
 pub use errors::PairError;
 pub use pairing::pair;
