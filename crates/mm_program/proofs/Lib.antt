@@ -1,7 +1,12 @@
-pub mod Departures
 pub mod WordLemmas
 pub mod SendLemmas
-pub mod EndLemmas
+pub mod NameLemmas
+pub mod NestLemmas
+pub mod TraceLemmas
+pub mod CauseLemmas
+pub mod GivenLemmas
 pub mod InputLemmas
+pub mod LoadLemmas
+pub mod OutputLemmas
+pub mod EndLemmas
 pub mod TopLemmas
-pub mod OneShell

@@ -1,74 +1,67 @@
 -- What a command line leaves, by what was answered.
-use Rattle.std.specs.Prelude.{◌≡◌, ◌⊎◌, ◌≤◌, ◌<◌, ℕ, take, List, Option, Some, None, length}
+use Rattle.std.specs.Prelude.{◌≡◌, ◌⊎◌, ◌<◌, ℕ, take, List, Option, Some, None, Ok, length}
 use Rattle.mm_base.specs.Counts.{Rose}
-use Rattle.mm_base.specs.Files.{Files, file, holding}
+use Rattle.mm_base.specs.Files.{Files}
 use Rattle.mm_base.specs.Sink.{sending}
-use Rattle.packet_record.specs.declared.packet.Row.{Row}
-use Rattle.packet_record.specs.Schedules.{IsScheduleText}
-use Rattle.nest_spec.specs.FateTexts.{fates_text}
+use Rattle.nest_spec.specs.Words.{NestPlan, nest_of}
 use Rattle.option_words.specs.Options.{Text}
-use Rattle.mm_program.specs.Jobs.{RunJob, Run, job_of, delay_of}
+use Rattle.mm_program.specs.Jobs.{RunJob, Run, job_of}
 use Rattle.mm_program.specs.Causes.{Cause, ReadFault, WriteFault, Memory, Absent, line_of, status_by}
-use Rattle.mm_program.specs.Refusals.{refused_early, refused_job, input_of}
-use Rattle.mm_program.specs.Fates.{result_of}
+use Rattle.mm_program.specs.Refusals.{refused_early, refused_job, traces_of, schedule_of}
+use Rattle.mm_program.specs.Disks.{DiskView, Gives, AreGiven}
+use Rattle.mm_program.specs.Inputs.{Inputs, HasInputs, IsNext, IsOnce, result_with}
+use Rattle.mm_program.specs.Outputs.{holding_all, HoldsFirst, run_files}
 
--- a disk as its callers see it
-pub record DiskView : Type 0 where
-  pub files : Option Files
-  pub read_faults : ℕ
-  pub write_faults : ℕ
-  pub absences : ℕ
-
-abbrev pub disk_view : {D : Type 0} → (D → Option Files) → (D → ℕ) → (D → ℕ) → (D → ℕ) → D → DiskView
-disk_view files read_faults write_faults absences disk =
-    record { files = files disk; read_faults = read_faults disk; write_faults = write_faults disk; absences = absences disk }
-
--- where the disk tells its files, the one of this name holds these bytes, or isn't there
-abbrev pub Gives : Option Files → Text → Option (List ℕ) → Type 0
-Gives told name given = (m : Files) → told ≡ Some m → file m name ≡ given
-
--- The words ask for a run of one delay that nothing refuses, whose schedule has these rows.
-pub record Runs (words : List Text) (before : Option Files) (job : RunJob) (ms : ℕ) (rows : List Row) : Type 0 where
-  pub bytes : List ℕ
+-- The words ask for a run of a nest, and refuse nothing: the names of outputs differ from each other and from those of inputs, and the
+-- horizon is at most an hour.
+pub record Asks (words : List Text) (job : RunJob) (plan : NestPlan) : Type 0 where
   pub has_job : job_of words ≡ Some (Run job)
-  pub shells : delay_of job.shells ≡ Some ms
-  pub held : Gives before job.schedule (Some bytes)
-  pub accepted : refused_job (Some (Run job)) (Some bytes) ≡ None
-  pub rows_are : IsScheduleText bytes rows
+  pub shells : nest_of job.shells ≡ Ok plan
+  pub accepted : refused_early (Some (Run job)) ≡ None
 
--- Status 0: the file of the fates has their text, and no other file is changed.
+-- They ask for a run whose traces and schedule are read and accepted, and are these.
+pub record Runs (words : List Text) (before : Option Files) (job : RunJob) (plan : NestPlan) (inputs : Inputs) : Type 0 where
+  pub asks : Asks words job plan
+  pub has_inputs : HasInputs before job plan inputs
+  pub once : IsOnce job plan inputs
+
+-- Status 0: each log's file has its text, and the file of the fates has theirs, and no other file is changed. Each row has one fate.
 pub record HasRun (words : List Text) (before after : Option Files) : Type 0 where
   pub job : RunJob
-  pub ms : ℕ
-  pub rows : List Row
-  pub runs : Runs words before job ms rows
-  pub written : after ≡ holding job.out (fates_text (result_of ms job.until rows)) before
+  pub plan : NestPlan
+  pub inputs : Inputs
+  pub runs : Runs words before job plan inputs
+  pub written : after ≡ holding_all (run_files job.out (result_with job plan inputs)) before
 
--- The run is finished, and its file of fates is as before or has a front of their text. No other file is changed.
+-- The run is finished. The files before this one are whole, and this one is as before or has a front of its text. No other file is
+-- changed.
 pub record HasPartlyRun (words : List Text) (before after : Option Files) (name : Text) : Type 0 where
   pub job : RunJob
-  pub ms : ℕ
-  pub rows : List Row
-  pub runs : Runs words before job ms rows
-  pub names : name ≡ job.out
-  pub written : (after ≡ before) ⊎ ((n : ℕ) × (after ≡ holding job.out (take n (fates_text (result_of ms job.until rows))) before))
+  pub plan : NestPlan
+  pub inputs : Inputs
+  pub runs : Runs words before job plan inputs
+  pub written : HoldsFirst (run_files job.out (result_with job plan inputs)) before after name
 
--- Statuses 2 to 5: the first refusal, by the words and by what the file holds that they name. No file is changed.
+-- Statuses 2 to 5: the first refusal, by the words and by what the files hold that they name. No file is changed.
 pub record IsRefused (words : List Text) (old new : DiskView) (cause : Cause) : Type 0 where
-  pub given : Option (List ℕ)
-  pub held : Gives old.files (input_of (job_of words)) given
-  pub first : refused_job (job_of words) given ≡ Some cause
+  pub traces : List (Option (List ℕ))
+  pub traces_held : AreGiven old.files (traces_of (job_of words)) traces
+  pub schedule : Option (List ℕ)
+  pub schedule_held : Gives old.files (schedule_of (job_of words)) schedule
+  pub first : refused_job (job_of words) traces schedule ≡ Some cause
   pub absent : (name : Text) → cause ≡ Absent name → Rose old.absences new.absences
   pub untouched : new.files ≡ old.files
 
--- Status 6: the words refuse nothing, and a fault was counted in reading the file. No file is changed.
+-- Status 6: the words and the files before this one refuse nothing, and a fault was counted in reading this one. No file is changed.
 pub record HasReadFault (words : List Text) (old new : DiskView) (name : Text) : Type 0 where
-  pub early : refused_early (job_of words) ≡ None
-  pub names : name ≡ input_of (job_of words)
+  pub job : RunJob
+  pub plan : NestPlan
+  pub asks : Asks words job plan
+  pub next : IsNext old.files job plan name
   pub rose : Rose old.read_faults new.read_faults
   pub untouched : new.files ≡ old.files
 
--- Status 7: the run is finished, and a fault was counted in writing its file.
+-- Status 7: the run is finished, and a fault was counted in writing this file.
 pub record HasWriteFault (words : List Text) (old new : DiskView) (name : Text) : Type 0 where
   pub partly : HasPartlyRun words old.files new.files name
   pub rose : Rose old.write_faults new.write_faults
@@ -86,13 +79,6 @@ pub record Writes (line : List ℕ) (written written' : Option (List ℕ)) (faul
   pub count : ℕ
   pub front : written' ≡ sending (take count line) written
   pub cut : count < length line → Rose faults faults'
-
--- Counts never fall, and those of a disk that never fails stand still but for its absences.
-pub record Counts {D : Type 0} (read_faults write_faults absences : D → ℕ) (never_fails : D → Type 0) (old new : D) : Type 0 where
-  pub reads : read_faults old ≤ read_faults new
-  pub writes : write_faults old ≤ write_faults new
-  pub lacks : absences old ≤ absences new
-  pub steady : never_fails old → never_fails new × (read_faults new ≡ read_faults old) × (write_faults new ≡ write_faults old)
 
 -- Nothing is written where nothing is refused, and else the line of the cause.
 abbrev pub Explains : Option Cause → Option (List ℕ) → Option (List ℕ) → ℕ → ℕ → Type 0

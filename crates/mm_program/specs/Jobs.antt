@@ -1,5 +1,5 @@
 -- The words that have a job.
-use Rattle.std.specs.Prelude.{ℕ, ◌+◌, Bool, List, [], ◌∷◌, Option, Some, None, codes, position, take, drop, nat_le, option_and_then, if◌then◌else◌}
+use Rattle.std.specs.Prelude.{ℕ, ◌+◌, Bool, List, [], ◌∷◌, Option, Some, None, codes, position, take, drop, option_and_then, if◌then◌else◌}
 use Rattle.std.specs.Option.{option_map}
 use Rattle.std.specs.Str.{bytes_eq}
 use Rattle.mm_base.specs.Numbers.{decimal_of}
@@ -51,13 +51,3 @@ run_of words = run_at (position ends_options words) words
 unfoldable pub job_of : List Text → Option Job
 job_of [] = None
 job_of (command ∷ words) = if bytes_eq command (codes "run") then option_map Run (run_of words) else None
-
--- a delay is at most an hour
-abbrev pub up_to_hour : Option ℕ → Option ℕ
-up_to_hour None = None
-up_to_hour (Some ms) = if nat_le ms 3600000 then Some ms else None
-
--- The delay of the shells' words, in milliseconds: they are exactly `mm-delay` and a decimal of at most 3,600,000.
-unfoldable pub delay_of : List Text → Option ℕ
-delay_of (shell ∷ number ∷ []) = if bytes_eq shell (codes "mm-delay") then up_to_hour (decimal_of number) else None
-delay_of words = None

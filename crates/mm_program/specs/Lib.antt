@@ -1,9 +1,11 @@
 pub mod Jobs
 pub mod Causes
+pub mod Names
+pub mod Traces
+pub mod Disks
 pub mod Refusals
-pub mod Fates
+pub mod Inputs
+pub mod Outputs
 pub mod Ends
 pub mod View
 pub mod Sends
-pub mod Inputs
-pub mod Shells

@@ -1,8 +1,8 @@
 // The job of a command line's words.
-ghost use Rattle.std.specs.Prelude.{◌≡◌, ◌<◌, ◌≤◌, IfOk, IfSome, map, string_bytes, position, length};
+ghost use Rattle.std.specs.Prelude.{◌≡◌, ◌<◌, IfOk, IfSome, map, string_bytes, position, length};
 ghost use Rattle.std.specs.Option.{option_map};
 ghost use Rattle.option_words.specs.View.{texts_of};
-ghost use Rattle.mm_program.specs.Jobs.{ends_options, run_with, run_of, job_of, delay_of};
+ghost use Rattle.mm_program.specs.Jobs.{ends_options, run_with, run_of, job_of};
 ghost use Rattle.mm_program.specs.View.{run_values, job_values};
 
 use mm_base::{OutOfMemory, read_decimal};
@@ -82,18 +82,4 @@ fn with_numbers<'a>(texts: RunWords<'a>, shells: &'a [String]) -> Option<RunJob<
         plain: texts.plain,
         shells,
     })
-}
-
-// The delay of the shells' words, if they are `mm-delay` and a decimal of at most an hour.
-#[tactic(auto, unfolding(crate::specs::Jobs::delay_of))]
-pub(crate) fn read_delay(shells: &[String]) -> Option<u64>
-    ensures delay { result ≡ delay_of (map string_bytes shells.now) }
-    ensures short { IfSome result (λ ms. ms ≤ 3600000) }
-{
-    match shells {
-        [shell, number] if shell.as_str() == "mm-delay" => {
-            read_decimal(number.as_bytes()).filter(|ms| *ms <= 3_600_000)
-        }
-        _ => None,
-    }
 }

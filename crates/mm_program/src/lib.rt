@@ -1,10 +1,12 @@
 //! The top call: what the words of a command line make of the files of a disk, and what it answers.
 #![tactic(auto)]
 
-mod delay;
 mod explain;
-mod input;
+mod inputs;
 mod job;
+mod names;
+mod nest;
+mod outputs;
 mod refusal;
 mod run;
 #[cfg(test)]

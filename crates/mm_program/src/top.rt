@@ -3,7 +3,8 @@ ghost use Rattle.std.specs.Prelude.{◌≡◌, ◌≢◌, ◌⊎◌, Option, Som
 ghost use Rattle.mm_base.specs.Counts.{Rose, CountsFaults};
 ghost use Rattle.mm_base.specs.Files.{Files};
 ghost use Rattle.mm_program.specs.Causes.{Cause, status_of, status_by};
-ghost use Rattle.mm_program.specs.Ends.{Ends, Counts, HasRun, Answers, StopsShort, disk_view};
+ghost use Rattle.mm_program.specs.Disks.{Counts, disk_view};
+ghost use Rattle.mm_program.specs.Ends.{Ends, HasRun, Answers, StopsShort};
 ghost use Rattle.mm_program.specs.Jobs.{job_of};
 ghost use Rattle.mm_program.specs.Refusals.{refused_early, refusal_of};
 ghost use Rattle.mm_program.specs.View.{cause_in};
@@ -16,7 +17,7 @@ use mm_base::{Disk, Sink};
 use std::alloc::Global;
 
 // Does what the words say.
-fn answer<'a, D: Disk>(alloc: Global, words: &'a [String], disk: &mut D) -> Result<(), Refusal<'a>>
+fn answer<D: Disk>(alloc: Global, words: &[String], disk: &mut D) -> Result<(), Refusal>
     ensures ends { Ends (map string_bytes words.now)
         (disk_view D.files D.read_faults D.write_faults D.absences disk.old)
         (disk_view D.files D.read_faults D.write_faults D.absences disk.new) (cause_in result) }
@@ -30,12 +31,13 @@ fn answer<'a, D: Disk>(alloc: Global, words: &'a [String], disk: &mut D) -> Resu
 
 /// Does what the words after the program's name say, and answers the exit status.
 ///
-/// `run --until MS --schedule FILE --out FILE [--seed N] [--plain] -- mm-delay D` passes the packets of a schedule
-/// through a delay of `D` milliseconds up to the horizon `MS`, and writes their fates. Nothing else has a job yet.
+/// `run --until MS --schedule FILE --out FILE [--seed N] [--plain] -- SHELLS` passes the packets of a schedule through
+/// a nest of 1 to 8 shells up to the horizon `MS` in milliseconds, and writes the logs that the shells' words name and
+/// then the fates of the packets. Nothing else has a job yet.
 ///
-/// 0: it is done. 2: the words have no job, or an output has an input's name. 3: an input isn't there. 4: an input
-/// doesn't meet its grammar. 5: a limit is passed. 6: reading failed. 7: writing failed. 9: memory was wanting.
-/// A status other than 0 is explained by one line on `out`.
+/// 0: it is done. 2: the words have no job, the shells' words are no nest, or an output has the name of an input or of
+/// an earlier output. 3: an input isn't there. 4: an input doesn't meet its grammar. 5: a limit is passed. 6: reading
+/// failed. 7: writing failed. 9: memory was wanting. A status other than 0 is explained by one line on `out`.
 pub fn mm_main<R, D: Disk, O: Sink>(
     _rt: &R,
     alloc: Global,
@@ -43,7 +45,8 @@ pub fn mm_main<R, D: Disk, O: Sink>(
     disk: &mut D,
     out: &mut O,
 ) -> u8
-    // 0: the files at exit are those at entry with the text of the fates, and nothing was written.
+    // 0: the files at exit are those at entry with the texts of the logs and of the fates, each packet has one fate, and nothing was
+    // written.
     ensures done { result ≡ 0 → HasRun (map string_bytes words.now) (D.files disk.old) (D.files disk.new) × (O.written out.new ≡ O.written out.old) }
 
     // Each status but 9 has its cause, what it leaves of the files, and its line.
@@ -79,6 +82,6 @@ pub fn mm_main<R, D: Disk, O: Sink>(
 {
     match answer(alloc, words, disk) {
         Ok(()) => 0,
-        Err(refusal) => explain(refusal, out),
+        Err(refusal) => explain(&refusal, out),
     }
 }

@@ -8,7 +8,7 @@ line name number place = flat_map (λ piece. piece) (codes "mm: bad input " ∷ 
 
 pub returns : goal.returns
 returns g c =
-    let name : c.as_bytes.result.now ≡ c.args.name.now = c.as_bytes.ensures.value in
+    let name : c.as_bytes.result.now ≡ c.args.name.now = c.as_bytes.ensures.value ∙ c.as_str.ensures in
     let number : c.as_bytes-2.result.now ≡ decimal c.args.number = c.as_bytes-2.ensures.value ∙ c.format.ensures.text in
     let place : c.as_bytes-3.result.now ≡ decimal c.args.place = c.as_bytes-3.ensures.value ∙ c.format-2.ensures.text in
     let same : line c.as_bytes.result.now c.as_bytes-2.result.now c.as_bytes-3.result.now ≡ line c.args.name.now (decimal c.args.number) (decimal c.args.place) =

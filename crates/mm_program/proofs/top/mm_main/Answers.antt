@@ -1,5 +1,5 @@
 use Rattle.std.proofs.Common.{inl, None, Some, map, string_bytes, refl, arith}
-use Rattle.mm_program.specs.Ends.{disk_view}
+use Rattle.mm_program.specs.Disks.{disk_view}
 use Rattle.mm_program.specs.View.{cause_of}
 use Rattle.mm_program.proofs.TopLemmas.{early_answer, told_answer, done_answer, status_or, told_by}
 use Rattle.mm_program.proofs.top.mm_main.Goals as goal

@@ -1,0 +1,84 @@
+// The files that a run writes: its logs, in order, and then its fates.
+ghost use Rattle.std.specs.Prelude.{◌≡◌, ◌∷◌, [], map, IfErr, OnOk, OnErr};
+ghost use Rattle.mm_base.specs.Disk.{OnlyWrites};
+ghost use Rattle.mm_base.specs.Files.{holding};
+ghost use Rattle.nest_spec.specs.FateTexts.{fates_text};
+ghost use Rattle.nest_spec.specs.RunViews.{all_named, named};
+ghost use Rattle.mm_program.specs.Outputs.{HoldsSome, RefusesWrite, StopsWriting, holding_all, log_file, named_text, run_files};
+ghost use Rattle.mm_program.specs.View.{cause_of};
+
+use crate::refusal::Refusal;
+use mm_base::{Disk, DiskError, Text, save};
+use nest_spec::{FateRow, NamedLog, RunResult, print_fates};
+use shell_log::print_log;
+use std::alloc::Global;
+
+// Writes the file of this name.
+fn write_file<D: Disk>(alloc: Global, disk: &mut D, name: &str, text: &[u8]) -> Result<(), Refusal>
+    ensures ok { OnOk result (D.files disk.new ≡ holding name.now text.now (D.files disk.old)) }
+    ensures partly { OnErr result (HoldsSome (named_text name.now text.now) (D.files disk.old) (D.files disk.new)) }
+    ensures cause { IfErr result (λ refusal. RefusesWrite name.now (D.write_faults disk.old) (D.write_faults disk.new) (cause_of refusal)) }
+    ensures only_writes { OnlyWrites D.read_faults D.write_faults D.absences D.never_fails disk.old disk.new }
+{
+    match save(disk, name, text) {
+        Ok(()) => Ok(()),
+        Err(DiskError::OutOfMemory) => Err(Refusal::OutOfMemory),
+        Err(_) => Err(Refusal::WriteFault(Text::from_text(alloc, name)?)),
+    }
+}
+
+// Writes the file of a log. Its text is let go.
+fn write_log<D: Disk>(alloc: Global, disk: &mut D, log: &NamedLog) -> Result<(), Refusal>
+    ensures ok { OnOk result (D.files disk.new ≡ holding_all (log_file (named log.now) ∷ []) (D.files disk.old)) }
+    ensures partly { OnErr result (HoldsSome (log_file (named log.now)) (D.files disk.old) (D.files disk.new)) }
+    ensures cause { IfErr result (λ refusal. RefusesWrite log.now.name (D.write_faults disk.old) (D.write_faults disk.new) (cause_of refusal)) }
+    ensures only_writes { OnlyWrites D.read_faults D.write_faults D.absences D.never_fails disk.old disk.new }
+{
+    let text = print_log(alloc, &log.log)?;
+    write_file(alloc, disk, log.name.as_str(), text.as_slice())
+}
+
+// Writes the files of the logs in order.
+fn write_logs<D: Disk>(alloc: Global, disk: &mut D, logs: &[NamedLog]) -> Result<(), Refusal>
+    ensures ok { OnOk result (D.files disk.new ≡ holding_all (map log_file (all_named logs.now)) (D.files disk.old)) }
+    ensures stopped { IfErr result (λ refusal. StopsWriting (map log_file (all_named logs.now))
+        (D.files disk.old) (D.files disk.new) (D.write_faults disk.old) (D.write_faults disk.new) (cause_of refusal)) }
+    ensures only_writes { OnlyWrites D.read_faults D.write_faults D.absences D.never_fails disk.old disk.new }
+{
+    for log in logs {
+        write_log(alloc, disk, log)?;
+    }
+    Ok(())
+}
+
+// Writes the file of the fates.
+fn write_fates<D: Disk>(
+    alloc: Global,
+    disk: &mut D,
+    name: &str,
+    fates: &[FateRow],
+) -> Result<(), Refusal>
+    ensures ok { OnOk result (D.files disk.new ≡ holding name.now (fates_text fates.now) (D.files disk.old)) }
+    ensures partly { OnErr result (HoldsSome (named_text name.now (fates_text fates.now)) (D.files disk.old) (D.files disk.new)) }
+    ensures cause { IfErr result (λ refusal. RefusesWrite name.now (D.write_faults disk.old) (D.write_faults disk.new) (cause_of refusal)) }
+    ensures only_writes { OnlyWrites D.read_faults D.write_faults D.absences D.never_fails disk.old disk.new }
+{
+    let text = print_fates(alloc, fates)?;
+    write_file(alloc, disk, name, text.as_slice())
+}
+
+// Writes the files of a run, each text made after the one before it was written and let go.
+pub(crate) fn write_outputs<D: Disk>(
+    alloc: Global,
+    disk: &mut D,
+    out: &str,
+    run: &RunResult,
+) -> Result<(), Refusal>
+    ensures ok { OnOk result (D.files disk.new ≡ holding_all (run_files out.now run.now) (D.files disk.old)) }
+    ensures stopped { IfErr result (λ refusal. StopsWriting (run_files out.now run.now)
+        (D.files disk.old) (D.files disk.new) (D.write_faults disk.old) (D.write_faults disk.new) (cause_of refusal)) }
+    ensures only_writes { OnlyWrites D.read_faults D.write_faults D.absences D.never_fails disk.old disk.new }
+{
+    write_logs(alloc, disk, run.logs())?;
+    write_fates(alloc, disk, out, run.fates())
+}
