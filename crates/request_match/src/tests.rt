@@ -1,7 +1,7 @@
 // Rows of matching.
 use crate::matching::best;
 use http_frame::{Request, first_request};
-use record_store::{Store, pair};
+use record_store::{Store, pair, read_store};
 use std::alloc::Global;
 use std::test::Fail;
 
@@ -43,14 +43,18 @@ fn greatest_score_first_of_equals(rt: HostRuntime) -> Result<(), Fail> {
     Ok(())
 }
 
+// Two records of one request, from the ports 80 and 8080.
+const TWO_PORTS: &[u8] =
+    b"MMSTORE 2\nrecord http 80 27 39\nGET / HTTP/1.1\r\nHost: a\r\n\r\nHTTP/1.1 200 OK\r\nContent-Length: 1\r\n\r\na\nrecord http 8080 27 39\nGET / HTTP/1.1\r\nHost: a\r\n\r\nHTTP/1.1 200 OK\r\nContent-Length: 1\r\n\r\nb\n";
+
 #[test]
 fn ports_agree(rt: HostRuntime) -> Result<(), Fail> {
     let alloc = rt.alloc();
     let client = b"GET / HTTP/1.1\r\nHost: a\r\n\r\n";
     let answer = b"HTTP/1.1 200 OK\r\nContent-Length: 1\r\n\r\na";
     let asked = request(alloc, client.as_slice())?;
-    let records = store(alloc, client.as_slice(), answer.as_slice(), 8080)?;
-    assert_eq!(rt; best(&records, &asked.head, Some(8080)), Some(0));
+    let records = read_store(alloc, TWO_PORTS)?;
+    assert_eq!(rt; best(&records, &asked.head, Some(8080)), Some(1));
     assert_eq!(rt; best(&records, &asked.head, Some(81)), None);
     assert_eq!(rt; best(&records, &asked.head, None), Some(0));
     let any = store(alloc, client.as_slice(), answer.as_slice(), 0)?;
