@@ -7,10 +7,10 @@ use std::test::Fail;
 fn is_shared<T: Send + Sync>(_: &T) {}
 
 // The words of a nest, the nest and what its run gives may be sent to other threads and shared between them.
-fn cross(words: &NestWords, nest: &Nest, result: &RunResult) {
+fn cross(words: &NestWords, nest: &Nest, run: &RunResult) {
     is_shared(words);
     is_shared(nest);
-    is_shared(result);
+    is_shared(run);
 }
 
 #[test]
