@@ -5,3 +5,4 @@ pub mod CutLaws
 pub mod ExchangeLaws
 pub mod StoreLaws
 pub mod PrintLemmas
+pub mod PairLaws

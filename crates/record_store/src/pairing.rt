@@ -1,5 +1,8 @@
 // Pairing a client's requests with a server's responses.
-ghost use Rattle.std.specs.Prelude.{◌≡◌, ◌≤◌, [], length, drop, IfOk, IfErr};
+ghost use Rattle.std.specs.Prelude.{◌≡◌, ◌≢◌, ◌≤◌, List, [], length, drop, Result, Err, IfOk, IfErr};
+ghost use Rattle.record_store.specs.declared.errors.PairError.{PairError as ErrorValue};
+ghost use Rattle.record_store.specs.declared.errors.PairError.TheVariants as errors;
+ghost use Rattle.record_store.specs.declared.record.Record.{Record as RecordValue};
 ghost use Rattle.http_frame.specs.Runs.{AreRequests};
 ghost use Rattle.record_store.specs.Pairs.{Pairs, RefusesRequests};
 
@@ -33,8 +36,16 @@ fn requests_of(alloc: Global, client: &[u8]) -> Result<Vec<Request>, PairError>
 }
 
 /// The store of a client's requests with a server's responses, each recorded from that port: the
-/// requests in order, each with the first response that is no interim one.
+/// requests in order, each with the first response that is no interim one. Two streams have one answer.
 pub fn pair(alloc: Global, client: &[u8], server: &[u8], port: u16) -> Result<Store, PairError>
+    ensures pairs { Pairs client.now server.now port result }
+    ensures exact { (other : Result (List RecordValue) ErrorValue) → Pairs client.now server.now port other
+        → other ≢ Err errors.OutOfMemory → result ≢ Err errors.OutOfMemory → result ≡ other }
+{
+    pair_streams(alloc, client, server, port)
+}
+
+fn pair_streams(alloc: Global, client: &[u8], server: &[u8], port: u16) -> Result<Store, PairError>
     ensures { Pairs client.now server.now port result }
 {
     let requests = requests_of(alloc, client)?;

@@ -1,7 +1,7 @@
 use Rattle.std.proofs.Common.{◌≡◌, ◌≤◌, ◌++◌, length, drop}
 use Rattle.std.specs.Vec.Iter.{into_iter_items, into_iter_len}
 use Rattle.record_store.specs.Pairs.{AreAnswers}
-use Rattle.record_store.proofs.pairing.pair.Given as goal
+use Rattle.record_store.proofs.pairing.pair_streams.Given as goal
 
 abbrev pub invariant-answers : goal.invariant-answers
 invariant-answers l = record {
