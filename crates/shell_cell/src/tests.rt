@@ -133,7 +133,8 @@ fn a_broken_cell_stays_broken(rt: HostRuntime) -> Result<(), Fail> {
     Ok(())
 }
 
-// Feeds a packet at each of the moments 1 to `count`, and then the end. False where it finds no memory.
+// Feeds a packet at each of the moments 1 to `count`, and then the end. Where it finds no memory it breaks the state, since the other
+// thread would wait for the end, and answers false.
 fn feed_all<R: Wait>(rt: &R, cell: &ShellCell, seat: &mut FeedSeat, count: u32) -> bool
     requires own { seat.old.cell ≡ cell.now }
     requires empty { seat.old.flow ≡ no_items }
@@ -143,7 +144,10 @@ fn feed_all<R: Wait>(rt: &R, cell: &ShellCell, seat: &mut FeedSeat, count: u32) 
     for number in 0..count {
         match cell.feed(rt, seat, Item::Packet(timed(number + 1, number as u64 + 1))) {
             Ok(()) => {}
-            Err(_) => return false,
+            Err(_) => {
+                let _ = cell.feed(rt, seat, Item::Broken);
+                return false;
+            }
         }
     }
     cell.feed(rt, seat, Item::End).is_ok()
