@@ -1,3 +1,5 @@
+ghost use Rattle.std.specs.Prelude.{◌++◌, ◌∷◌, [], decimal};
+
 use super::*;
 use std::alloc::Global;
 use std::fs;
@@ -13,6 +15,28 @@ fn disk_with(alloc: Global, name: &str, bytes: &[u8], fails: &[u64]) -> Result<M
         Bytes::from_slice(alloc, bytes)?,
     ))?;
     Ok(MemDisk::new(alloc, files, fails.to_vec(alloc)?))
+}
+
+// A number that is printed as a line.
+#[derive(Drop)]
+struct Number(u64);
+
+impl PrintLine for Number {
+    ghost line = { λ n. decimal n.0 ++ 10 ∷ [] };
+
+    fn put_line(&self, out: &mut LineBuffer) {
+        out.put_byte(b'\n');
+        out.put_decimal(self.0);
+    }
+}
+
+// So many numbers of 20 digits, so that each line has 21 bytes.
+fn numbers(alloc: Global, count: u64) -> Result<Vec<Number>, OutOfMemory> {
+    let mut numbers = Vec::new(alloc);
+    for less in 0..count {
+        numbers.push(Number(u64::MAX - less))?;
+    }
+    Ok(numbers)
 }
 
 #[test]
@@ -112,6 +136,50 @@ fn files_are_loaded_and_saved_whole(rt: HostRuntime) -> Result<(), Fail> {
     assert_eq!(rt; disk.file("f").ok_or("no f")?, b"12".as_slice());
     assert_eq!(rt; save(&mut disk, "f", b"34"), Err(DiskError::Failed));
     assert_eq!(rt; disk.file("f").ok_or("no f")?, b"".as_slice());
+    Ok(())
+}
+
+#[test]
+fn a_line_is_written_from_its_end(rt: HostRuntime) {
+    let mut line = LineBuffer::new();
+    assert_eq!(rt; line.as_slice(), b"".as_slice());
+    line.put_byte(b'\n');
+    line.put_decimal(18446744073709551615);
+    line.put(b" to ");
+    line.put_decimal(0);
+    assert_eq!(rt; line.as_slice(), b"0 to 18446744073709551615\n".as_slice());
+    line.clear();
+    assert_eq!(rt; line.as_slice(), b"".as_slice());
+}
+
+#[test]
+fn items_are_printed_line_by_line(rt: HostRuntime) -> Result<(), Fail> {
+    let alloc = rt.alloc();
+    let items = numbers(alloc, 2)?;
+    assert_eq!(rt;
+        print_lines(alloc, b"#\n", items.as_slice())?.as_slice(),
+        b"#\n18446744073709551615\n18446744073709551614\n".as_slice()
+    );
+    assert!(rt; print_lines::<Number>(alloc, b"", &[])?.is_empty());
+    Ok(())
+}
+
+// A text of 67,202 bytes is written in two pieces.
+#[test]
+fn lines_are_saved_in_pieces(rt: HostRuntime) -> Result<(), Fail> {
+    let alloc = rt.alloc();
+    let items = numbers(alloc, 3200)?;
+    let text = print_lines(alloc, b"#\n", items.as_slice())?;
+    let mut disk = disk_with(alloc, "f", b"before", &[6])?;
+    let saved = save_lines(alloc, &mut disk, "f", b"#\n", items.as_slice());
+    assert_eq!(rt; saved, Ok(()));
+    assert_eq!(rt; disk.file("f").ok_or("no f")?, text.as_slice());
+    assert_eq!(rt; text.len(), 67202);
+    let saved = save_lines(alloc, &mut disk, "f", b"#\n", items.as_slice());
+    assert_eq!(rt; saved, Err(DiskError::Failed));
+    let front = disk.file("f").ok_or("no f")?;
+    assert_eq!(rt; front.len(), 65543);
+    assert!(rt; text.as_slice().starts_with(front));
     Ok(())
 }
 
