@@ -1,4 +1,5 @@
-pub mod Words
+pub mod SpaceLemmas
+pub mod LineLemmas
 pub mod SaidLemmas
 pub mod Faults
 pub mod OneList

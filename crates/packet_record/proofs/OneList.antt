@@ -1,12 +1,10 @@
 -- A text has one list of rows.
-use Rattle.std.proofs.Common.{◌≡◌, ℕ, ◌+◌, ◌≤◌, List, [], ◌∷◌, Some, refl, ap, subst, sym, ◌∙◌}
+use Rattle.std.proofs.Common.{◌≡◌, ℕ, ◌+◌, ◌≤◌, List, [], ◌∷◌, refl, ap, subst, sym, ◌∙◌}
 use Rattle.std.proofs.Math.Bridge.{le_prop}
 use Rattle.mm_base.specs.Lines.{lines_of}
-use Rattle.packet_record.specs.Said.{said_of}
 use Rattle.packet_record.specs.Schedules.{AreRows, IsScheduleText, said}
 use Rattle.packet_record.specs.declared.packet.Direction.{Direction}
 use Rattle.packet_record.specs.declared.packet.Packet.{Packet}
-use Rattle.packet_record.specs.declared.packet.Timed.{Timed}
 use Rattle.packet_record.specs.declared.packet.Row.{Row}
 
 abbrev packet : (id size : ℕ) → 1 ≤ size → size ≤ 1504 → Packet

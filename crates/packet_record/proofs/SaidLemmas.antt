@@ -3,7 +3,7 @@ use Rattle.std.proofs.Common.{◌≡◌, ℕ, ◌+◌, ◌-◌, ◌*◌, ◌^◌
 use Rattle.std.specs.List.{list_all}
 use Rattle.std.specs.Option.{option_and_then}
 use Rattle.std.proofs.lemmas.Str.Parse.{IsNumeralModel, numerals_by_fold, digits_value_short}
-use Rattle.mm_base.specs.Numbers.{is_digit, is_decimal, value_of_digits, decimal_of}
+use Rattle.mm_base.specs.Numbers.{is_digit, value_of_digits, decimal_of}
 use Rattle.packet_record.specs.Said.{said_by_words, said_of, words_of, direction_of}
 use Rattle.packet_record.specs.declared.packet.Direction.{Direction}
 

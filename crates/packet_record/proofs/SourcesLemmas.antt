@@ -1,15 +1,14 @@
 -- What the source sends is honest, and its packets are those that enter.
-use Rattle.std.proofs.Common.{◌≡◌, ℕ, ◌+◌, ◌≤◌, ◌<◌, ◌&&◌, Bool, true, false, cond, nat_le, nat_lt, if◌then◌else◌, List, [], ◌∷◌, ◌++◌, Option, Some, None, option_to_list, filter, map, refl, ap, sym, subst, ◌∙◌, append_assoc, arith, rules, tests}
+use Rattle.std.proofs.Common.{◌≡◌, ℕ, ◌≤◌, ◌&&◌, Bool, true, false, cond, nat_le, nat_lt, if◌then◌else◌, List, [], ◌∷◌, ◌++◌, Option, Some, None, option_to_list, filter, map, refl, ap, sym, ◌∙◌, append_assoc, arith, rules, tests}
 use Rattle.std.proofs.lemmas.List.{append-nil}
 use Rattle.packet_record.specs.Rows.{goes, entering, Rises}
-use Rattle.packet_record.specs.Orders.{AreInOrder}
 use Rattle.packet_record.specs.Sources.{source_item, sent_after, items_from, source_items}
-use Rattle.packet_record.specs.Streams.{no_items, after, after_all, AllFollow, MayFollow, IsUpTo}
+use Rattle.packet_record.specs.Streams.{no_items, after, after_all, AllFollow}
 use Rattle.packet_record.specs.declared.packet.Direction.{Direction}
 use Rattle.packet_record.specs.declared.packet.Timed.{Timed}
 use Rattle.packet_record.specs.declared.packet.Row.{Row}
 use Rattle.packet_record.specs.declared.item.Item.{Item}
-use Rattle.packet_record.specs.declared.item.Item.TheVariants.{Packet, Mark, End}
+use Rattle.packet_record.specs.declared.item.Item.TheVariants.{Packet, Mark}
 use Rattle.packet_record.specs.declared.item.FlowEnd.TheVariants.{Open, Ended}
 use Rattle.packet_record.specs.declared.item.Stream.{Stream}
 

@@ -7,6 +7,7 @@ pub mod Printing
 pub mod Draws
 pub mod Loads
 pub mod Streams
+pub mod Reaches
 pub mod Rows
 pub mod Sources
 pub mod Moments

@@ -1,5 +1,5 @@
 -- The schedule that the generator makes of a number.
-use Rattle.std.specs.Prelude.{ℕ, suc, zero, ◌+◌, ◌%◌, ◌<◌, nat_lt, List, [], ◌∷◌, if◌then◌else◌}
+use Rattle.std.specs.Prelude.{ℕ, suc, zero, ◌+◌, ◌%◌, nat_lt, List, [], ◌∷◌, if◌then◌else◌}
 use Rattle.packet_record.specs.Draws.{draw_start, next_draw}
 use Rattle.packet_record.specs.declared.packet.Direction.{Direction}
 use Rattle.packet_record.specs.declared.packet.Direction.TheVariants.{Up, Down}

@@ -3,7 +3,7 @@ ghost use Rattle.std.specs.Prelude.{◌≡◌, ◌≤◌, ◌↔◌, max, IsTrue
 ghost use Rattle.packet_record.specs.Streams.{no_items, after, MayFollow};
 ghost use Rattle.packet_record.specs.Takes.{spare_after, NeedsRoom, HasRoomFor};
 
-use crate::{FlowEnd, Item, Timed};
+use crate::{FlowEnd, Item, Reach, Timed};
 use mm_base::OutOfMemory;
 use std::alloc::Global;
 use std::marker::Model;
@@ -13,8 +13,7 @@ use std::marker::Model;
 #[derive(Drop)]
 pub struct Flow {
     packets: Vec<Timed>,
-    bound: u64,
-    end: FlowEnd,
+    reach: Reach,
     spare: usize,
 }
 
@@ -37,8 +36,7 @@ impl Flow {
     {
         Flow {
             packets: Vec::new(alloc),
-            bound: 0,
-            end: FlowEnd::Open,
+            reach: Reach::new(),
             spare: 0,
         }
     }
@@ -54,28 +52,21 @@ impl Flow {
     pub fn bound(&self) -> u64
         ensures { result ≡ self.now.stream.bound }
     {
-        self.bound
+        self.reach.bound
     }
 
     /// How the stream ended, if it did.
     pub fn end(&self) -> FlowEnd
         ensures { result ≡ self.now.stream.end }
     {
-        self.end
+        self.reach.end
     }
 
     /// Whether the item may come next: the flow is open, and a packet's or a mark's moment is at least the bound.
     pub fn may_follow(&self, item: &Item) -> bool
         ensures { IsTrue result ↔ MayFollow self.now.stream item.now }
     {
-        if self.end != FlowEnd::Open {
-            return false;
-        }
-        match *item {
-            Item::Packet(t) => self.bound <= t.moment,
-            Item::Mark(m) => self.bound <= m,
-            Item::End | Item::Broken => true,
-        }
+        self.reach.may_follow(item)
     }
 
     /// Makes room for so many packets, and takes no memory where there is that room.
@@ -101,16 +92,11 @@ impl Flow {
         ensures stream { self.new.stream ≡ after self.old.stream item }
         ensures spare { self.new.spare ≡ spare_after self.old.spare item }
     {
-        match item {
-            Item::Packet(t) => {
-                self.spare -= 1;
-                self.packets.push_reserved(t);
-                self.bound = t.moment;
-            }
-            Item::Mark(m) => self.bound = m,
-            Item::End => self.end = FlowEnd::Ended,
-            Item::Broken => self.end = FlowEnd::Broken,
+        if let Item::Packet(t) = item {
+            self.spare -= 1;
+            self.packets.push_reserved(t);
         }
+        self.reach.add(item);
     }
 
     /// Adds an item. Only a packet takes memory, and only where there is no spare room; else it takes one of it.

@@ -1,37 +1,21 @@
 // What one line of a schedule says.
-ghost use Rattle.std.specs.Prelude.{◌≡◌, ◌<◌, ◌==◌, ◌∷◌, [], MatchOption, IfSome, IfNone, All, position, false, length};
-ghost use Rattle.packet_record.specs.Said.{words_of, direction_of, said_of};
+ghost use Rattle.std.specs.Prelude.{◌≡◌, ◌++◌, ℕ, List, IfSome, MatchOption};
+ghost use Rattle.packet_record.specs.Said.{said_of};
+ghost use Rattle.packet_record.specs.Printing.{direction_text};
+ghost use Rattle.packet_record.specs.declared.packet.Direction.{Direction as DirectionValue};
 
 use crate::Direction;
-use mm_base::read_decimal;
+use mm_base::split_decimal;
 
-fn space_at(text: &[u8]) -> Option<usize>
-    ensures place { result ≡ position (λ byte. byte == 32) text.now }
-    ensures within { IfSome result (λ end. end < length text.now) }
-    ensures none { IfNone result (All (λ byte. (byte == 32) ≡ false) text.now) }
+// The direction between two spaces at the front of a text, and what follows.
+fn split_direction(text: &[u8]) -> Option<(Direction, &[u8])>
+    ensures read { IfSome result (λ r. text.now ≡ direction_text r.0 ++ r.1.now) }
+    ensures every { (d : DirectionValue) (rest : List ℕ) → text.now ≡ direction_text d ++ rest → MatchOption result ⊥ (λ r. (r.0 ≡ d) × (r.1.now ≡ rest)) }
 {
-    text.iter().position(|byte| *byte == b' ')
-}
-
-// The first word, and what follows its space.
-fn split_word(text: &[u8]) -> (&[u8], Option<&[u8]>)
-    ensures { MatchOption result.1 (words_of text.now ≡ result.0.now ∷ []) (λ rest. words_of text.now ≡ result.0.now ∷ words_of rest.now) }
-{
-    match space_at(text) {
-        Some(end) => (&text[..end], Some(&text[end + 1..])),
-        None => (text, None),
-    }
-}
-
-fn read_direction(word: &[u8]) -> Option<Direction>
-    ensures { result ≡ direction_of word.now }
-{
-    if word == b"up".as_slice() {
-        Some(Direction::Up)
-    } else if word == b"down".as_slice() {
-        Some(Direction::Down)
-    } else {
-        None
+    match text {
+        [b' ', b'u', b'p', b' ', rest @ ..] => Some((Direction::Up, rest)),
+        [b' ', b'd', b'o', b'w', b'n', b' ', rest @ ..] => Some((Direction::Down, rest)),
+        _ => None,
     }
 }
 
@@ -39,14 +23,8 @@ fn read_direction(word: &[u8]) -> Option<Direction>
 pub(crate) fn read_line(line: &[u8]) -> Option<(u64, Direction, u64)>
     ensures { result ≡ said_of line.now }
 {
-    let (first, rest) = split_word(line);
-    let (second, rest) = split_word(rest?);
-    let (third, rest) = split_word(rest?);
-    let None = rest else {
-        return None;
-    };
-    let moment = read_decimal(first)?;
-    let direction = read_direction(second)?;
-    let size = read_decimal(third)?;
-    Some((moment, direction, size))
+    let (moment, rest) = split_decimal(line)?;
+    let (direction, rest) = split_direction(rest)?;
+    let (size, rest) = split_decimal(rest)?;
+    rest.is_empty().then_some((moment, direction, size))
 }

@@ -1,8 +1,7 @@
-use Rattle.std.proofs.Common.{◌≡◌, ℕ, ◌+◌, ◌%◌, ◌≤◌, ◌-◌, ◌∷◌, [], ◌++◌, List, length, map, ap, sym, subst, ◌∙◌, arith, length-append}
+use Rattle.std.proofs.Common.{◌≡◌, ◌+◌, ◌%◌, ◌-◌, ◌∷◌, [], ◌++◌, length, map, ap, sym, subst, ◌∙◌, arith, length-append}
 use Rattle.packet_record.specs.Draws.{next_draw}
 use Rattle.packet_record.specs.Loads.{load_from, load_of}
 use Rattle.packet_record.specs.Schedules.{said}
-use Rattle.packet_record.specs.declared.packet.Row.{Row}
 use Rattle.packet_record.proofs.LoadLemmas.{IsPart, part_more, whole_more, load_schedule}
 use Rattle.packet_record.proofs.load.make_load.Goals as goal
 

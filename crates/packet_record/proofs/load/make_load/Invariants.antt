@@ -1,6 +1,5 @@
 use Rattle.std.proofs.Common.{◌≡◌, ◌≤◌, ◌*◌, ◌-◌, ◌++◌, length, map}
 use Rattle.packet_record.specs.Loads.{load_from, load_of}
-use Rattle.packet_record.specs.Orders.{AreInOrder, AreWithin}
 use Rattle.packet_record.specs.Schedules.{said}
 use Rattle.packet_record.proofs.LoadLemmas.{IsPart}
 use Rattle.packet_record.proofs.load.make_load.Given as goal
