@@ -1,1 +1,2 @@
 pub mod Delaying
+pub mod Fronts

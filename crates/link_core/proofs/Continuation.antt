@@ -1,5 +1,5 @@
 -- What a link has done stays, whatever comes later.
-use Rattle.std.proofs.Common.{reverse, ◌≡◌, ℕ, ◌<◌, ◌≤◌, ◌++◌, List, [], ◌∷◌, map, arith, refl, ap, sym, ◌∙◌, inl, inr}
+use Rattle.std.proofs.Common.{reverse, ◌≡◌, ℕ, ◌<◌, ◌≤◌, ◌++◌, true, List, [], ◌∷◌, map, arith, refl, ap, sym, ◌∙◌, inl, inr}
 use Rattle.std.proofs.lemmas.Bool.{cases_lt}
 use Rattle.std.proofs.lemmas.List.{append-nil, append_assoc}
 use Rattle.packet_record.specs.declared.packet.Timed.{Timed}
@@ -60,14 +60,14 @@ moved_from low moment (t ∷ ts) le = (le, moved_from low moment ts le)
 
 tied_now : (q : QueueSpec) (opps : List Opportunity) (arrivals : List Timed) → Falling arrivals → AreFalling opps
     → Tied q opps arrivals (rest (sent (keep q opps arrivals) opps) (keep q opps arrivals)) (begun (sent (keep q opps arrivals) opps) (keep q opps arrivals))
-    (departures (keep q opps arrivals) opps) (losses q opps arrivals) (log_of q opps arrivals)
+    (departures (keep q opps arrivals) opps) (losses q opps arrivals) true (log_of q opps arrivals)
 tied_now q opps arrivals f g = record { inside_is = refl; used_is = refl; left_is = refl; lost_is = refl; log_is = refl; arrivals_fall = f; opps_fall = g }
 
 -- a later opportunity
 pub extends_burn : (low : ℕ) (q : QueueSpec) (o : Opportunity) (opps : List Opportunity) (arrivals : List Timed) → Falling arrivals → AreFalling opps
     → Each (λ t. t.moment < o.moment) arrivals → Each (λ p. p.moment ≤ o.moment) opps → low ≤ o.moment → GoesOnWhole low q opps arrivals (o ∷ opps) arrivals
 extends_burn low q o opps arrivals f g a b le =
-    let new = tied_burn q o opps arrivals _ _ _ _ _ (tied_now q opps arrivals f g) a b in
+    let new = tied_burn q o opps arrivals _ _ _ _ true _ (tied_now q opps arrivals f g) a b in
     record {
       left = record { more = _; is = new.left_is; later = moved_from low o.moment _ le };
       lost = goes_on_same _ _ new.lost_is;
@@ -78,7 +78,7 @@ extends_burn low q o opps arrivals f g a b le =
 pub extends_arrive : (low : ℕ) (q : QueueSpec) (t : Timed) (opps : List Opportunity) (arrivals : List Timed) → Falling arrivals → AreFalling opps
     → Each (λ u. u.moment ≤ t.moment) arrivals → Each (λ o. o.moment ≤ t.moment) opps → GoesOnWhole low q opps arrivals opps (t ∷ arrivals)
 extends_arrive low q t opps arrivals f g a b =
-    let new = tied_arrive q t opps arrivals _ _ _ _ _ _ _ (tied_now q opps arrivals f g) refl refl a b in
+    let new = tied_arrive q t opps arrivals _ _ _ _ true _ _ _ (tied_now q opps arrivals f g) refl refl a b in
     record {
       left = extends_same low _ _ new.left_is;
       lost = record { more = _; is = new.lost_is };

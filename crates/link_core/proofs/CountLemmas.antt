@@ -1,5 +1,5 @@
 -- How many opportunities come up to a moment.
-use Rattle.std.proofs.Common.{◌≡◌, ℕ, zero, suc, ◌<◌, ◌≤◌, All, List, [], ◌∷◌, length, take, drop, arith, refl, ap, inl, inr}
+use Rattle.std.proofs.Common.{◌≡◌, ℕ, zero, suc, ◌<◌, ◌≤◌, All, List, [], ◌∷◌, length, take, drop, Some, slice_get, arith, refl, ap, sym, subst, inl, inr}
 use Rattle.std.proofs.lemmas.Bool.{cases_lt, le-leb, lt-leb}
 use Rattle.trace_reader.specs.declared.opportunity.Opportunity.{Opportunity}
 use Rattle.trace_reader.specs.Orders.{Each, AreRising}
@@ -43,3 +43,18 @@ counted_start m (suc b) (o ∷ opps) le a =
 
 pub counted_all : (m b : ℕ) (opps : List Opportunity) → b ≤ length opps → All (λ o. o.moment ≤ m) (take b opps) → b ≤ length (up_to m opps)
 counted_all m b opps le a = counted_start m b opps le (each_from_all (λ o. o.moment ≤ m) (take b opps) a)
+
+-- no more are up to the moment where the next one is after it
+pub counted_end : (m b : ℕ) (opps : List Opportunity) (o : Opportunity) → AreRising opps → Some o ≡ slice_get opps b → m < o.moment → length (up_to m opps) ≤ b
+counted_end m b [] o r e lt = omega arith
+counted_end m zero (p ∷ opps) o r e lt =
+    let first : p ≡ o = cc in
+    let late : m < p.moment = subst (λ (q : Opportunity). m < q.moment) (sym first) lt in
+    let none : length (up_to m (p ∷ opps)) ≡ 0 = ap length (up_to_none m (p ∷ opps) (all_late m p opps late r)) in
+    omega arith
+counted_end m (suc b) (p ∷ opps) o r e lt =
+    let ih = counted_end m b opps o r.1 e lt in
+    elim (cases_lt m p.moment) [
+      | inr le ↦ let more : length (up_to m (p ∷ opps)) ≡ suc (length (up_to m opps)) = ap length (up_to_in m p opps le) in omega arith
+      | inl late ↦ let none : length (up_to m (p ∷ opps)) ≡ 0 = ap length (up_to_none m (p ∷ opps) (all_late m p opps late r)) in omega arith
+    ]

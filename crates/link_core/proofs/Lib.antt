@@ -1,3 +1,4 @@
+pub mod WrittenLemmas
 pub mod StreamLemmas
 pub mod SentLemmas
 pub mod KeepLemmas
@@ -17,6 +18,7 @@ pub mod FirstSent
 pub mod MergedLemmas
 pub mod SeenLemmas
 pub mod OppsLemmas
+pub mod LapLemmas
 pub mod LinkLaws
 pub mod FloorLaws
 pub mod OnlyLaws

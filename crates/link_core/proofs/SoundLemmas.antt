@@ -1,5 +1,5 @@
 -- The two steps keep what is true of the parts.
-use Rattle.std.proofs.Common.{◌≡◌, ℕ, zero, suc, ◌+◌, ◌<◌, ◌≤◌, ◌++◌, All, List, [], ◌∷◌, Option, Some, slice_get, length, take, drop, reverse, map, arith, ap, sym, subst, ◌∙◌, add-one}
+use Rattle.std.proofs.Common.{◌≡◌, ℕ, zero, suc, ◌+◌, ◌<◌, ◌≤◌, ◌++◌, All, Bool, List, [], ◌∷◌, Option, Some, slice_get, length, take, drop, reverse, map, arith, ap, sym, subst, ◌∙◌, add-one}
 use Rattle.std.proofs.lemmas.List.{reverse-append, take-append-drop}
 use Rattle.packet_record.specs.declared.packet.Timed.{Timed}
 use Rattle.packet_queue.specs.declared.spec.QueueSpec.{QueueSpec}
@@ -10,12 +10,14 @@ use Rattle.trace_reader.specs.declared.opportunity.Opportunity.{Opportunity}
 use Rattle.link_core.specs.Stream.{carried, rest, begun}
 use Rattle.trace_reader.specs.Orders.{Each, AreRising}
 use Rattle.link_core.specs.Orders.{AreFalling}
+use Rattle.link_core.specs.Written.{written}
 use Rattle.link_core.specs.Links.{drop_line}
 use Rattle.link_core.specs.Back.{sent, keep, departures, losses, log_of}
 use Rattle.link_core.specs.State.{pending, IsPart, Tied, served_lines}
 use Rattle.link_core.specs.Sound.{Sound}
 use Rattle.link_core.proofs.SentLemmas.{each_append, each_back, each_map}
 use Rattle.link_core.proofs.MomentLemmas.{log_up_to}
+use Rattle.link_core.proofs.WrittenLemmas.{written_up_to}
 use Rattle.shell_log.specs.Entries.{AreUpTo as EntriesUpTo}
 use Rattle.packet_record.specs.Moments.{AreUpTo}
 use Rattle.link_core.proofs.TiedLemmas.{tied_burn, tied_arrival}
@@ -48,16 +50,16 @@ rising_split [] ys o r = tt
 rising_split (x ∷ xs) ys o r = ((each_back (λ p. x.moment ≤ p.moment) xs (o ∷ ys) r.0).0, rising_split xs ys o r.1)
 
 pub sound_burn : (q : QueueSpec) (opps : List Opportunity) (b : ℕ) (arrivals : List Timed) (packet packet' : Option Timed) (used used' : ℕ)
-    (queue queue' left left' lost : List Timed) (log log' : List Entry) (o : Opportunity)
-    → Sound q opps b arrivals packet used queue left lost log
+    (queue queue' left left' lost : List Timed) (logged : Bool) (log log' : List Entry) (o : Opportunity)
+    → Sound q opps b arrivals packet used queue left lost logged log
     → slice_get opps b ≡ Some o
     → IsPart packet' used'
     → pending packet' queue' ≡ rest (used + o.bytes) (pending packet queue)
     → used' ≡ begun (used + o.bytes) (pending packet queue)
     → left' ≡ left ++ map (moved_to o.moment) (carried (used + o.bytes) (pending packet queue))
-    → log' ≡ log ++ served_lines o (carried (used + o.bytes) (pending packet queue))
-    → Sound q opps (b + 1) arrivals packet' used' queue' left' lost log'
-sound_burn q opps b arrivals packet packet' used used' queue queue' left left' lost log log' o s get part inside_e used_e left_e log_e =
+    → log' ≡ log ++ written logged (served_lines o (carried (used + o.bytes) (pending packet queue)))
+    → Sound q opps (b + 1) arrivals packet' used' queue' left' lost logged log'
+sound_burn q opps b arrivals packet packet' used used' queue queue' left left' lost logged log log' o s get part inside_e used_e left_e log_e =
     let one : take (b + 1) opps ≡ take b opps ++ o ∷ [] = ap (λ n. take n opps) (add-one b) ∙ take_one opps b o get in
     let front : reverse (take (b + 1) opps) ≡ o ∷ reverse (take b opps) = ap reverse one ∙ reverse_push (take b opps) o in
     let back : drop b opps ≡ o ∷ drop (suc b) opps = drop_one opps b o get in
@@ -66,7 +68,7 @@ sound_burn q opps b arrivals packet packet' used used' queue queue' left left' l
     let ahead : Each (λ p. Each (λ t. t.moment < p.moment) (reverse arrivals)) (o ∷ drop (suc b) opps)
     = subst (Each (λ p. Each (λ t. t.moment < p.moment) (reverse arrivals))) back s.later
     in
-    let new = tied_burn q o (reverse (take b opps)) (reverse arrivals) (pending packet queue) used left lost log s.tied ahead.0
+    let new = tied_burn q o (reverse (take b opps)) (reverse arrivals) (pending packet queue) used left lost logged log s.tied ahead.0
     (each_reverse (λ p. p.moment ≤ o.moment) (take b opps) before)
     in
     let few = few_one opps b o get in
@@ -76,7 +78,7 @@ sound_burn q opps b arrivals packet packet' used used' queue queue' left left' l
         used_is = ap (λ (os : List Opportunity). begun (sent (keep q os (reverse arrivals)) os) (keep q os (reverse arrivals))) front ∙ new.used_is ∙ sym used_e;
         left_is = ap (λ (os : List Opportunity). departures (keep q os (reverse arrivals)) os) front ∙ new.left_is ∙ sym left_e;
         lost_is = ap (λ (os : List Opportunity). losses q os (reverse arrivals)) front ∙ new.lost_is;
-        log_is = ap (λ (os : List Opportunity). log_of q os (reverse arrivals)) front ∙ new.log_is ∙ sym log_e;
+        log_is = ap (λ (os : List Opportunity). written logged (log_of q os (reverse arrivals))) front ∙ new.log_is ∙ sym log_e;
         arrivals_fall = new.arrivals_fall;
         opps_fall = subst AreFalling (sym front) new.opps_fall;
       };
@@ -103,25 +105,25 @@ each_both t arrivals [] a b = tt
 each_both t arrivals (o ∷ opps) a b = ((a.0, b.0), each_both t arrivals opps a.1 b.1)
 
 pub sound_enter : (q : QueueSpec) (opps : List Opportunity) (b : ℕ) (arrivals : List Timed) (packet : Option Timed) (used : ℕ)
-    (queue left lost : List Timed) (log : List Entry) (t : Timed)
-    → Sound q opps b arrivals packet used queue left lost log
+    (queue left lost : List Timed) (logged : Bool) (log : List Entry) (t : Timed)
+    → Sound q opps b arrivals packet used queue left lost logged log
     → AreUpTo t.moment arrivals
     → Each (λ o. o.moment ≤ t.moment) (take b opps)
     → Each (λ o. t.moment < o.moment) (drop b opps)
     → Sound q opps b (arrivals ++ t ∷ []) packet used (enqueued q queue t) left (lost ++ map (moved_to t.moment) (dropped q queue t))
-    (log ++ entries.Arrival t.moment t.packet.size ∷ drop_line t.moment (dropped q queue t))
-sound_enter q opps b arrivals packet used queue left lost log t s all early late =
+    logged (log ++ written logged (entries.Arrival t.moment t.packet.size ∷ drop_line t.moment (dropped q queue t)))
+sound_enter q opps b arrivals packet used queue left lost logged log t s all early late =
     let es = reverse arrivals in
     let os = reverse (take b opps) in
     let back : t ∷ es ≡ reverse (arrivals ++ t ∷ []) = sym (reverse_push arrivals t) in
-    let new = tied_arrival q t os es packet used queue left lost log s.tied s.part
+    let new = tied_arrival q t os es packet used queue left lost logged log s.tied s.part
     (each_reverse (λ u. u.moment ≤ t.moment) arrivals (each_up_to t.moment arrivals all))
     (each_reverse (λ o. o.moment ≤ t.moment) (take b opps) early)
     in
     let lost' = lost ++ map (moved_to t.moment) (dropped q queue t) in
-    let log' = log ++ entries.Arrival t.moment t.packet.size ∷ drop_line t.moment (dropped q queue t) in
+    let log' = log ++ written logged (entries.Arrival t.moment t.packet.size ∷ drop_line t.moment (dropped q queue t)) in
     record {
-      tied = subst (λ (xs : List Timed). Tied q os xs (pending packet (enqueued q queue t)) used left lost' log') back new;
+      tied = subst (λ (xs : List Timed). Tied q os xs (pending packet (enqueued q queue t)) used left lost' logged log') back new;
       part = s.part;
       few = s.few;
       order = s.order;
@@ -130,9 +132,9 @@ sound_enter q opps b arrivals packet used queue left lost log t s all early late
 
 -- the log before the next opportunity, and before an arrival
 pub log_before_burn : (q : QueueSpec) (opps : List Opportunity) (b : ℕ) (arrivals : List Timed) (packet : Option Timed) (used : ℕ)
-    (queue left lost : List Timed) (log : List Entry) (o : Opportunity)
-    → Sound q opps b arrivals packet used queue left lost log → slice_get opps b ≡ Some o → EntriesUpTo o.moment log
-log_before_burn q opps b arrivals packet used queue left lost log o s get =
+    (queue left lost : List Timed) (logged : Bool) (log : List Entry) (o : Opportunity)
+    → Sound q opps b arrivals packet used queue left lost logged log → slice_get opps b ≡ Some o → EntriesUpTo o.moment log
+log_before_burn q opps b arrivals packet used queue left lost logged log o s get =
     let back : drop b opps ≡ o ∷ drop (suc b) opps = drop_one opps b o get in
     let whole : opps ≡ take b opps ++ o ∷ drop (suc b) opps = sym (take-append-drop b opps) ∙ ap (λ (xs : List Opportunity). take b opps ++ xs) back in
     let before : Each (λ p. p.moment ≤ o.moment) (take b opps) = rising_split (take b opps) (drop (suc b) opps) o (subst AreRising whole s.order) in
@@ -140,14 +142,14 @@ log_before_burn q opps b arrivals packet used queue left lost log o s get =
     = subst (Each (λ p. Each (λ t. t.moment < p.moment) (reverse arrivals))) back s.later
     in
     subst (EntriesUpTo o.moment) s.tied.log_is
-    (log_up_to o.moment q (reverse (take b opps)) (reverse arrivals) (each_reverse (λ p. p.moment ≤ o.moment) (take b opps) before)
-    (each_map (λ t. t.moment < o.moment) (λ t. t.moment ≤ o.moment) (reverse arrivals) (λ t lt. omega arith) ahead.0))
+    (written_up_to o.moment logged _ (log_up_to o.moment q (reverse (take b opps)) (reverse arrivals) (each_reverse (λ p. p.moment ≤ o.moment) (take b opps) before)
+    (each_map (λ t. t.moment < o.moment) (λ t. t.moment ≤ o.moment) (reverse arrivals) (λ t lt. omega arith) ahead.0)))
 
 pub log_before_enter : (q : QueueSpec) (opps : List Opportunity) (b : ℕ) (arrivals : List Timed) (packet : Option Timed) (used : ℕ)
-    (queue left lost : List Timed) (log : List Entry) (t : Timed)
-    → Sound q opps b arrivals packet used queue left lost log
+    (queue left lost : List Timed) (logged : Bool) (log : List Entry) (t : Timed)
+    → Sound q opps b arrivals packet used queue left lost logged log
     → AreUpTo t.moment arrivals → Each (λ o. o.moment ≤ t.moment) (take b opps) → EntriesUpTo t.moment log
-log_before_enter q opps b arrivals packet used queue left lost log t s all early =
+log_before_enter q opps b arrivals packet used queue left lost logged log t s all early =
     subst (EntriesUpTo t.moment) s.tied.log_is
-    (log_up_to t.moment q (reverse (take b opps)) (reverse arrivals) (each_reverse (λ o. o.moment ≤ t.moment) (take b opps) early)
-    (each_reverse (λ u. u.moment ≤ t.moment) arrivals (each_up_to t.moment arrivals all)))
+    (written_up_to t.moment logged _ (log_up_to t.moment q (reverse (take b opps)) (reverse arrivals) (each_reverse (λ o. o.moment ≤ t.moment) (take b opps) early)
+    (each_reverse (λ u. u.moment ≤ t.moment) arrivals (each_up_to t.moment arrivals all))))

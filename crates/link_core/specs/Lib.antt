@@ -7,3 +7,5 @@ pub mod Sound
 pub mod View
 pub mod Numbers
 pub mod Promises
+pub mod Laps
+pub mod Written

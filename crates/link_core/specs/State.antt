@@ -1,5 +1,5 @@
 -- What the parts of a link hold, after these arrivals and opportunities, the latest first.
-use Rattle.std.specs.Prelude.{◌≡◌, ℕ, ◌<◌, List, [], ◌∷◌, Option, Some, None, map}
+use Rattle.std.specs.Prelude.{◌≡◌, ℕ, ◌<◌, Bool, List, [], ◌∷◌, Option, Some, None, map}
 use Rattle.packet_record.specs.declared.packet.Timed.{Timed}
 use Rattle.packet_queue.specs.declared.spec.QueueSpec.{QueueSpec}
 use Rattle.shell_log.specs.declared.entry.Entry.{Entry}
@@ -9,6 +9,7 @@ use Rattle.link_core.specs.declared.line.Line.{Line}
 use Rattle.link_core.specs.Stream.{carried, rest, begun}
 use Rattle.link_core.specs.Orders.{Falling, AreFalling}
 use Rattle.link_core.specs.Links.{departure_line}
+use Rattle.link_core.specs.Written.{written}
 use Rattle.link_core.specs.Back.{sent, keep, departures, losses, log_of}
 
 -- the packet in transit, if there is one, before those in the queue
@@ -33,11 +34,11 @@ abbrev pub served_lines : Opportunity → List Timed → List Entry
 served_lines o ts = entries.Opportunity o.moment o.bytes ∷ map (departure_line o.moment) ts
 
 pub record Tied (q : QueueSpec) (opps : List Opportunity) (arrivals : List Timed) (inside : List Timed) (used : ℕ)
-    (left lost : List Timed) (log : List Entry) : Type 0 where
+    (left lost : List Timed) (logged : Bool) (log : List Entry) : Type 0 where
   pub inside_is : rest (sent (keep q opps arrivals) opps) (keep q opps arrivals) ≡ inside
   pub used_is : begun (sent (keep q opps arrivals) opps) (keep q opps arrivals) ≡ used
   pub left_is : departures (keep q opps arrivals) opps ≡ left
   pub lost_is : losses q opps arrivals ≡ lost
-  pub log_is : log_of q opps arrivals ≡ log
+  pub log_is : written logged (log_of q opps arrivals) ≡ log
   pub arrivals_fall : Falling arrivals
   pub opps_fall : AreFalling opps

@@ -2,6 +2,8 @@
 #![tactic(auto)]
 
 mod direction;
+mod journal;
+mod lap;
 mod line;
 mod opportunities;
 mod parts;
@@ -11,4 +13,4 @@ mod slow;
 #[cfg(test)]
 mod tests;
 
-pub use direction::LinkCore;
+pub use direction::{LinkCore, LinkLists};

@@ -1,9 +1,10 @@
 // The opportunities of a trace up to a horizon. They are counted and looked up, and never listed.
-ghost use Rattle.std.specs.Prelude.{◌≡◌, ◌≤◌, length, slice_get, IfSome};
+ghost use Rattle.std.specs.Prelude.{◌≡◌, ◌≤◌, ◌<◌, Some, length, slice_get, IfSome};
 ghost use Rattle.trace_reader.specs.Orders.{AreRising};
 ghost use Rattle.trace_reader.specs.Opps.{up_to, opps};
 ghost use Rattle.link_core.specs.View.{span_opps};
 
+use crate::lap::Lap;
 use std::marker::Model;
 use trace_reader::{Opportunity, Trace};
 
@@ -13,19 +14,25 @@ pub struct Opportunities {
     once: bool,
     horizon: u64,
     number: u32,
+    lap: Lap,
 }
 
 impl Model for Opportunities {
     ghost use Rattle.std.specs.Prelude.{◌≡◌, ◌≤◌, length};
     ghost use Rattle.trace_reader.specs.Opps.{opps};
+    ghost use Rattle.link_core.specs.Laps.{IsLap};
     ghost use Rattle.link_core.specs.View.{Span};
 
     ghost Value = { Span };
 
     ghost view = { λ s. record { trace = s.trace; once = s.once; horizon = s.horizon } };
 
-    ghost invariant = { λ s. (s.number ≡ length (opps s.trace.opportunities s.once s.horizon)) × (s.number ≤ 16000000) × (s.horizon ≤ 3600000) };
+    ghost invariant = { λ s. (s.number ≡ length (opps s.trace.opportunities s.once s.horizon)) × (s.number ≤ 16000000) × (s.horizon ≤ 3600000)
+        × IsLap s.trace.opportunities s.lap.first s.lap.start };
 }
+
+// So many are looked at before the trace is searched.
+const NEAR: u32 = 4;
 
 impl Opportunities {
     pub fn new(trace: Trace, once: bool, horizon: u64) -> Self
@@ -39,7 +46,24 @@ impl Opportunities {
             once,
             horizon,
             number,
+            lap: Lap { first: 0, start: 0 },
         }
+    }
+
+    /// Opportunity number `j`, counted from 0, which is up to the horizon. It divides only where another lap begins.
+    pub fn take(&mut self, j: u32) -> Opportunity
+        requires { j < length (span_opps self.old) }
+        ensures at { Some result ≡ slice_get (span_opps self.old) j }
+        ensures within { result.moment ≤ 3600000 }
+        ensures few { length (span_opps self.old) ≤ 16000000 }
+        ensures order { AreRising (span_opps self.old) }
+        ensures same { self.new ≡ self.old }
+    {
+        let trace = self.trace.opportunities();
+        if !self.lap.has(j, trace.len()) {
+            self.lap = Lap::of(trace, j);
+        }
+        self.lap.opportunity(trace, j)
     }
 
     /// Opportunity number `j`, counted from 0, if it is up to the horizon.
@@ -52,6 +76,23 @@ impl Opportunities {
             return None;
         }
         self.trace.opportunity(u64::from(j), self.once)
+    }
+
+    /// How many are at this moment or earlier, where those below number `j` are. Near `j` it takes no search.
+    pub fn count_from(&mut self, j: u32, moment: u64) -> u32
+        requires { j ≤ length (up_to moment (span_opps self.old)) }
+        ensures count { result ≡ length (up_to moment (span_opps self.old)) }
+        ensures within { result ≤ length (span_opps self.old) }
+        ensures few { length (span_opps self.old) ≤ 16000000 }
+        ensures horizon { self.old.horizon ≤ 3600000 }
+        ensures same { self.new ≡ self.old }
+    {
+        for count in j..self.number.min(j + NEAR) {
+            if self.take(count).moment > moment {
+                return count;
+            }
+        }
+        self.count_to(moment)
     }
 
     /// How many are at this moment or earlier.

@@ -9,13 +9,13 @@ ghost use Rattle.packet_record.specs.Moments.{AreUpTo};
 ghost use Rattle.link_core.specs.View.{Span, span_opps};
 ghost use Rattle.link_core.specs.Sound.{Sound, IsSound};
 
+use crate::journal::Journal;
 use crate::line::Line;
 use crate::opportunities::Opportunities;
 use crate::serving::{note, serve};
 use mm_base::OutOfMemory;
 use packet_queue::{PacketQueue, QueueSpec};
 use packet_record::Timed;
-use shell_log::Log;
 use std::alloc::Global;
 
 #[derive(Drop)]
@@ -25,14 +25,16 @@ pub struct Parts {
     pub line: Line,
     pub arrived: Vec<Timed>,
     pub left: Vec<Timed>,
-    pub log: Log,
+    pub log: Journal,
 }
 
 impl Parts {
-    pub fn new(alloc: Global, opportunities: Opportunities, queue: QueueSpec) -> Self
+    /// The parts before any arrival, with a log or without.
+    pub fn new(alloc: Global, opportunities: Opportunities, queue: QueueSpec, logged: bool) -> Self
         ensures sound { IsSound result }
         ensures spec { result.line.queue.spec ≡ queue }
         ensures opportunities { result.opportunities ≡ opportunities }
+        ensures logged { result.log.kept ≡ logged }
         ensures burnt { result.burnt ≡ 0 }
         ensures arrived { result.arrived.items ≡ [] }
     {
@@ -47,7 +49,7 @@ impl Parts {
             },
             arrived: Vec::new(alloc),
             left: Vec::new(alloc),
-            log: Log::new(alloc),
+            log: Journal::new(alloc, logged),
         }
     }
 
@@ -59,6 +61,7 @@ impl Parts {
         requires spare { 1 + length (inside_line self.old.line) ≤ self.old.log.spare }
         ensures sound { IsSound self.new }
         ensures opportunities { self.new.opportunities ≡ self.old.opportunities }
+        ensures logged { self.new.log.kept ≡ self.old.log.kept }
         ensures burnt { self.new.burnt ≡ self.old.burnt + 1 }
         ensures arrived { self.new.arrived ≡ self.old.arrived }
         ensures queue { self.new.line.queue ≡ record self.old.line.queue { packets = self.new.line.queue.packets } }
@@ -66,8 +69,7 @@ impl Parts {
         ensures keeps { vec_capacity self.old.left ≤ vec_capacity self.new.left }
         ensures spare { self.old.log.spare + length (inside_line self.new.line) ≤ self.new.log.spare + 1 + length (inside_line self.old.line) }
     {
-        let next = self.opportunities.at(self.burnt);
-        let o = next.unwrap();
+        let o = self.opportunities.take(self.burnt);
         self.burnt += 1;
         serve(&mut self.line, o, &mut self.left, &mut self.log);
     }
@@ -81,6 +83,7 @@ impl Parts {
         requires spare { end + length (inside_line self.old.line) ≤ self.old.log.spare + self.old.burnt }
         ensures sound { IsSound self.new }
         ensures opportunities { self.new.opportunities ≡ self.old.opportunities }
+        ensures logged { self.new.log.kept ≡ self.old.log.kept }
         ensures burnt { self.new.burnt ≡ end }
         ensures arrived { self.new.arrived ≡ self.old.arrived }
         ensures queue { self.new.line.queue ≡ record self.old.line.queue { packets = self.new.line.queue.packets } }
@@ -103,11 +106,12 @@ impl Parts {
         requires spare { 2 ≤ self.old.log.spare }
         ensures sound { IsSound self.new }
         ensures opportunities { self.new.opportunities ≡ self.old.opportunities }
+        ensures logged { self.new.log.kept ≡ self.old.log.kept }
         ensures burnt { self.new.burnt ≡ self.old.burnt }
         ensures arrived { self.new.arrived.items ≡ self.old.arrived.items ++ t ∷ [] }
         ensures spec { self.new.line.queue.spec ≡ self.old.line.queue.spec }
     {
-        self.arrived.push(t).unwrap();
+        self.arrived.push_reserved(t);
         let dropped = self.line.queue.enqueue(t);
         note(&mut self.log, t, dropped);
     }
@@ -118,6 +122,7 @@ impl Parts {
         requires few { more ≤ 16000000 }
         ensures sound { IsSound self.new }
         ensures opportunities { self.new.opportunities ≡ self.old.opportunities }
+        ensures logged { self.new.log.kept ≡ self.old.log.kept }
         ensures burnt { self.new.burnt ≡ self.old.burnt }
         ensures line { inside_line self.new.line ≡ inside_line self.old.line }
         ensures arrived { self.new.arrived.items ≡ self.old.arrived.items }
@@ -142,12 +147,13 @@ impl Parts {
         requires burnt { self.old.burnt ≤ length (up_to t.moment (span_opps self.old.opportunities)) }
         ensures sound { IsSound self.new }
         ensures opportunities { self.new.opportunities ≡ self.old.opportunities }
+        ensures logged { self.new.log.kept ≡ self.old.log.kept }
         ensures spec { self.new.line.queue.spec ≡ self.old.line.queue.spec }
         ensures burnt { OnOk result (self.new.burnt ≡ length (up_to t.moment (span_opps self.old.opportunities))) }
         ensures arrived { OnOk result (self.new.arrived.items ≡ self.old.arrived.items ++ t ∷ []) }
         ensures err { OnErr result ((self.new.burnt ≡ self.old.burnt) × (self.new.arrived.items ≡ self.old.arrived.items)) }
     {
-        let end = self.opportunities.count_to(t.moment);
+        let end = self.opportunities.count_from(self.burnt, t.moment);
         self.reserve((end - self.burnt) as usize)?;
         self.burn_to(end);
         self.enter(t);
@@ -158,6 +164,7 @@ impl Parts {
         requires sound { IsSound self.old }
         ensures sound { IsSound self.new }
         ensures opportunities { self.new.opportunities ≡ self.old.opportunities }
+        ensures logged { self.new.log.kept ≡ self.old.log.kept }
         ensures spec { self.new.line.queue.spec ≡ self.old.line.queue.spec }
         ensures arrived { self.new.arrived.items ≡ self.old.arrived.items }
         ensures count { IfOk result (λ n. n ≡ min most (length (up_to bound (span_opps self.old.opportunities)) - self.old.burnt)) }

@@ -56,7 +56,19 @@ fn run(
     if horizon > 3_600_000 || trace.count_to(horizon, once) > 16_000_000 {
         return Err(Fail::new("too long"));
     }
-    let mut link = LinkCore::new(alloc, trace, once, queue, horizon)?;
+    run_link(
+        LinkCore::new(alloc, trace, once, queue, horizon)?,
+        horizon,
+        packets,
+    )
+}
+
+// A link before any arrival, over all that arrives.
+fn run_link(mut link: LinkCore, horizon: u64, packets: &[Timed]) -> Result<LinkCore, Fail>
+    requires horizon { link.horizon ≡ horizon }
+    requires arrivals { link.arrivals ≡ [] }
+    requires burnt { link.burnt ≡ 0 }
+{
     feed(&mut link, horizon, packets)?;
     link.burn(horizon, u32::MAX)?;
     Ok(link)
@@ -219,6 +231,30 @@ fn worked_cases(rt: HostRuntime) -> Result<(), Fail> {
         assert_eq!(rt; seen.inside.as_slice(), case.inside);
         assert_eq!(rt; seen.next, None);
     }
+    Ok(())
+}
+
+#[test]
+fn a_link_without_a_log_has_no_entry(rt: HostRuntime) -> Result<(), Fail> {
+    let alloc = rt.alloc();
+    let trace = read_trace(alloc, b"1\n".as_slice())?;
+    if trace.count_to(2, false) > 16_000_000 {
+        return Err(Fail::new("too long"));
+    }
+    let queue = read_queue("droptail", "packets=3")?;
+    let packets = packets_of(
+        alloc,
+        b"0 up 500\n0 up 500\n0 up 500\n0 up 500\n".as_slice(),
+    )?;
+    let link = LinkCore::without_log(alloc, trace, false, queue, 2);
+    let link = run_link(link, 2, &packets)?;
+    let lists = link.into_lists();
+    assert_eq!(rt;
+        listed(alloc, &lists.departed)?.as_slice(),
+        b"1 1\n2 1\n3 1\n".as_slice()
+    );
+    assert_eq!(rt; listed(alloc, &lists.lost)?.as_slice(), b"4 0\n".as_slice());
+    assert_eq!(rt; lists.log.entries().len(), 0);
     Ok(())
 }
 

@@ -1,2 +1,3 @@
 pub mod LossLaws
+pub mod Wholes
 pub mod RateTexts

@@ -5,8 +5,10 @@ mod loss;
 mod rate;
 #[cfg(test)]
 mod tests;
+mod whole;
 mod words;
 
 pub use loss::LossCore;
 pub use rate::{Rate, RateError, read_rate};
+pub use whole::{LossLists, lose_all};
 pub use words::{ChaWords, ListWords, Words};

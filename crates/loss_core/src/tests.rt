@@ -1,4 +1,4 @@
-use crate::{ChaWords, ListWords, LossCore, Rate, RateError, Words, read_rate};
+use crate::{ChaWords, ListWords, LossCore, Rate, RateError, Words, lose_all, read_rate};
 use packet_record::{Packet, Timed};
 
 #[test]
@@ -70,4 +70,17 @@ fn drops_by_words(rt: HostRuntime) {
     assert!(rt; core.arrivals() == [first, second, third].as_slice());
     assert!(rt; core.departed() == [second].as_slice());
     assert!(rt; core.lost() == [first, third].as_slice());
+}
+
+#[test]
+fn drops_a_whole_list_by_words(rt: HostRuntime) {
+    let alloc = rt.alloc();
+    let rate = read_rate("0.5").expect(&rt, "a rate");
+    let list = vec![in alloc; 2147483647, 2147483648].expect(&rt, "memory");
+    let packet = Packet { id: 1, size: 60 };
+    let packets = [4, 5, 6].map(|moment| Timed { moment, packet });
+    let lists = lose_all(alloc, rate, ListWords::new(list), packets.as_slice());
+    let lists = lists.expect(&rt, "memory");
+    assert!(rt; lists.departed.as_slice() == &packets[1..2]);
+    assert!(rt; lists.lost.as_slice() == [packets[0], packets[2]].as_slice());
 }

@@ -92,6 +92,13 @@ impl PacketQueue {
         self.gone.as_slice()
     }
 
+    /// Gives up the queue for the list of all packets dropped so far.
+    pub fn into_lost(self) -> Vec<Timed>
+        ensures { result.items ≡ self.lost }
+    {
+        self.gone
+    }
+
     /// Makes room for at least this many packets. Beyond 2^40 packets there is no memory.
     pub fn reserve(&mut self, n: usize) -> Result<(), OutOfMemory>
         ensures ok { OnOk result (n ≤ self.new.spare) }
@@ -103,12 +110,14 @@ impl PacketQueue {
             return Ok(());
         }
         let held = self.waiting.len();
-        if n > MOST - held {
+        let free = MOST - held;
+        if n > free {
             return Err(OutOfMemory);
         }
-        self.waiting.reserve(n)?;
-        self.gone.reserve(held + n)?;
-        self.spare = n;
+        let room = n.max(AT_ONCE).min(free);
+        self.waiting.reserve(room)?;
+        self.gone.reserve(held + room)?;
+        self.spare = room;
         Ok(())
     }
 
@@ -187,7 +196,7 @@ impl PacketQueue {
         ensures packets { result.packets ≡ 1 }
         ensures bytes { result.bytes ≡ t.packet.size }
     {
-        self.gone.push(t).unwrap();
+        self.gone.push_reserved(t);
         self.spare -= 1;
         Dropped {
             packets: 1,
@@ -224,6 +233,9 @@ impl PacketQueue {
 }
 
 const MOST: usize = 1 << 40;
+
+// Room is made for so many packets at once.
+const AT_ONCE: usize = 64;
 
 const NOTHING: Dropped = Dropped {
     packets: 0,
@@ -277,11 +289,10 @@ fn shed(
                 *size -= less;
                 packets += 1;
                 dropped_bytes += less;
-                gone.push(Timed {
+                gone.push_reserved(Timed {
                     moment,
                     packet: t.packet,
-                })
-                .unwrap();
+                });
             }
         }
     }

@@ -1,5 +1,5 @@
 -- The laws of the shells, which the state above rests on. Each is one statement for all kinds.
-use Rattle.std.proofs.Common.{◌≡◌, ℕ, ◌+◌, ◌≤◌, ◌<◌, List, [], ◌∷◌, ◌++◌, length, min, ap, sym, ◌∙◌, refl, arith}
+use Rattle.std.proofs.Common.{◌≡◌, ℕ, ◌+◌, ◌≤◌, ◌<◌, List, [], ◌∷◌, ◌++◌, length, min, sym, refl, arith}
 use Rattle.std.proofs.lemmas.List.{append-nil}
 use Rattle.packet_record.specs.declared.packet.Timed.{Timed}
 use Rattle.packet_record.specs.Moments.{AreFrom, AreUpTo, Rise}
@@ -8,9 +8,7 @@ use Rattle.shell_log.specs.declared.entry.Entry.{Entry}
 use Rattle.delay_core.specs.Delays.{delayed}
 use Rattle.loss_core.specs.Losses.{cha_word, passed}
 use Rattle.loss_core.proofs.LossLaws.{passed-append, from-passed, up_to-passed, rise-passed}
-use Rattle.trace_reader.specs.declared.opportunity.Opportunity.{Opportunity}
 use Rattle.trace_reader.specs.Opps.{opps}
-use Rattle.trace_reader.specs.Orders.{Each}
 use Rattle.trace_reader.proofs.OppsLaws.{opps_rising}
 use Rattle.link_core.proofs.LinkLaws.{link_out_fed, link_out_burnt, link_log_fed, link_log_burnt}
 use Rattle.link_core.proofs.FloorLaws.{link_out_rises, link_out_within, link_out_up_to, link_floor_within, link_floor_grows, link_floor_rises, link_all_at_horizon}

@@ -1,3 +1,4 @@
+pub mod Feeding
 pub mod Counting
 pub mod Laws
 pub mod Once

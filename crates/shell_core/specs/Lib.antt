@@ -1,3 +1,4 @@
 pub mod Shells
 pub mod CoreParts
 pub mod CoreInside
+pub mod Wholes

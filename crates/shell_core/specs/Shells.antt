@@ -1,6 +1,6 @@
 -- The functions of a shell over the whole list of its arrivals, by what the direction does, the horizon, and the number of
 -- opportunities that were burnt. They are the meaning of each shell; nothing else here says what a shell does.
-use Rattle.std.specs.Prelude.{◌≡◌, ◌≤◌, ◌+◌, ℕ, List, [], ◌∷◌, length, take, min}
+use Rattle.std.specs.Prelude.{◌≤◌, ◌+◌, ℕ, List, [], length, take, min}
 use Rattle.packet_record.specs.declared.packet.Timed.{Timed}
 use Rattle.trace_reader.specs.declared.opportunity.Opportunity.{Opportunity}
 use Rattle.shell_log.specs.declared.entry.Entry.{Entry}

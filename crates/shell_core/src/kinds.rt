@@ -17,7 +17,7 @@ use std::alloc::Global;
 use std::marker::Model;
 
 #[derive(Drop)]
-enum Inner {
+pub(crate) enum Inner {
     Pass(Vec<Timed>),
     Delay {
         core: DelayCore,
@@ -37,10 +37,10 @@ enum Inner {
 /// opportunities are burnt. Everything else that it answers is a function of these.
 #[derive(Drop)]
 pub struct Core {
-    alloc: Global,
+    pub(crate) alloc: Global,
     until: u64,
-    inner: Inner,
-    no_log: Log,
+    pub(crate) inner: Inner,
+    pub(crate) no_log: Log,
 }
 
 impl Model for Core {
@@ -133,6 +133,18 @@ impl Core {
         match &mut self.inner {
             Inner::Pass(_) | Inner::Delay { .. } | Inner::Loss { .. } => Ok(0),
             Inner::Link(core) => core.burn(bound, most),
+        }
+    }
+
+    /// The packets that arrived, in order.
+    pub fn arrivals(&self) -> &[Timed]
+        ensures { result.now ≡ self.now.arrivals }
+    {
+        match &self.inner {
+            Inner::Pass(arrived) => arrived.as_slice(),
+            Inner::Delay { core, .. } => core.arrivals(),
+            Inner::Loss { core, .. } => core.arrivals(),
+            Inner::Link(core) => core.arrivals(),
         }
     }
 

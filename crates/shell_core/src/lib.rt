@@ -3,6 +3,10 @@
 
 mod kinds;
 mod spec;
+#[cfg(test)]
+mod tests;
+mod whole;
 
 pub use kinds::Core;
 pub use spec::DirSpec;
+pub use whole::{Passage, run_whole};

@@ -17,7 +17,7 @@ each_slice_get P (x ∷ xs) zero o a e = let same : x ≡ o = cc in subst P same
 each_slice_get P (x ∷ xs) (suc j) o a e = each_slice_get P xs j o a.1 e
 
 -- a place of a rising list up to a moment is counted
-counted_place : (m : ℕ) (opps : List Opportunity) (j : ℕ) (o : Opportunity) → AreRising opps → slice_get opps j ≡ Some o → o.moment ≤ m → j < length (up_to m opps)
+pub counted_place : (m : ℕ) (opps : List Opportunity) (j : ℕ) (o : Opportunity) → AreRising opps → slice_get opps j ≡ Some o → o.moment ≤ m → j < length (up_to m opps)
 counted_place m [] j o r e le = cc
 counted_place m (x ∷ xs) zero o r e le =
     let same : x ≡ o = cc in

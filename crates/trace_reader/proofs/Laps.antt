@@ -17,7 +17,7 @@ laps trace zero = []
 laps trace (suc k) = laps trace k ++ map (later (k * last_moment trace)) trace
 
 -- number i of lap k
-entry_in_lap : (trace : List Opportunity) (k i : ℕ) (o : Opportunity) → i < length trace → slice_get trace i ≡ Some o
+pub entry_in_lap : (trace : List Opportunity) (k i : ℕ) (o : Opportunity) → i < length trace → slice_get trace i ≡ Some o
     → entry trace (k * length trace + i) ≡ Some (later (k * last_moment trace) o)
 entry_in_lap trace k i o lt e =
     ap (λ (q : ℕ). option_map (later (q * last_moment trace)) (slice_get trace ((k * length trace + i) % length trace))) (div-mul-add k (length trace) i lt)

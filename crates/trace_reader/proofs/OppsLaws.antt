@@ -128,3 +128,10 @@ slice_get-opps t once horizon j is lt =
     ∙ slice_get-take all (length (opps t.opportunities once horizon)) j lt
     ∙ slice_get-entries t.opportunities (enough t.opportunities once horizon) j is.some (omega arith)
     ∙ sym (within t.opportunities once horizon j (omega arith))
+
+-- each of them is the entry of its number
+pub entry-opps : (t : TraceView) (once : Bool) (horizon j : ℕ) → IsTrace t → j < length (opps t.opportunities once horizon)
+    → entry t.opportunities j ≡ slice_get (opps t.opportunities once horizon) j
+entry-opps t once horizon j is lt =
+    let few : length (opps t.opportunities once horizon) ≤ enough t.opportunities once horizon = fewer_than_enough t once horizon is in
+    sym (slice_get-opps t once horizon j is lt ∙ within t.opportunities once horizon j (omega arith))

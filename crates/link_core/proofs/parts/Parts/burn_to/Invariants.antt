@@ -7,6 +7,7 @@ abbrev pub invariant-burning : goal.invariant-burning
 invariant-burning l = record {
   well : IsSound l.self;
   same : l.self.opportunities ≡ l.fn.self.opportunities;
+  logged : l.self.log.kept ≡ l.fn.self.log.kept;
   so_far : l.self.burnt ≤ l.end;
   entered : l.self.arrived ≡ l.fn.self.arrived;
   others : l.self.line.queue ≡ record l.fn.self.line.queue { packets = l.self.line.queue.packets };

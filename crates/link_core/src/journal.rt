@@ -1,0 +1,76 @@
+// The log of a link that keeps one, or of one that keeps none.
+ghost use Rattle.std.specs.Prelude.{◌≡◌, ◌+◌, ◌≤◌, ◌++◌, ◌∷◌, [], OnOk};
+ghost use Rattle.shell_log.specs.Entries.{AreUpTo, IsEntry, moment_of};
+ghost use Rattle.link_core.specs.Written.{written};
+
+use mm_base::OutOfMemory;
+use shell_log::{Entry, Log};
+use std::alloc::Global;
+use std::marker::Model;
+
+/// What a link writes down. Where it keeps no log, nothing is kept and no memory is taken.
+#[derive(Drop)]
+pub struct Journal {
+    kept: bool,
+    log: Log,
+}
+
+impl Model for Journal {
+    ghost use Rattle.link_core.specs.Written.{KeptLog, room_of};
+
+    ghost Value = { KeptLog };
+
+    ghost view = { λ j. record { kept = j.kept; entries = j.log.entries; spare = room_of j.kept j.log.spare } };
+}
+
+impl Journal {
+    pub fn new(alloc: Global, kept: bool) -> Self
+        ensures kept { result.kept ≡ kept }
+        ensures entries { result.entries ≡ [] }
+    {
+        Journal {
+            kept,
+            log: Log::new(alloc),
+        }
+    }
+
+    /// Makes room for at least this many entries.
+    pub fn reserve(&mut self, n: usize) -> Result<(), OutOfMemory>
+        ensures kept { self.new.kept ≡ self.old.kept }
+        ensures same { self.new.entries ≡ self.old.entries }
+        ensures ok { OnOk result (n ≤ self.new.spare) }
+    {
+        if !self.kept {
+            return Ok(());
+        }
+        self.log.reserve(n)
+    }
+
+    /// Writes an entry down, for which there is room, and which isn't before the last one.
+    pub fn add(&mut self, e: Entry)
+        requires spare { 1 ≤ self.old.spare }
+        requires form { IsEntry e }
+        requires order { AreUpTo (moment_of e) self.old.entries }
+        ensures kept { self.new.kept ≡ self.old.kept }
+        ensures entries { self.new.entries ≡ self.old.entries ++ written self.old.kept (e ∷ []) }
+        ensures spare { self.old.spare ≤ self.new.spare + 1 }
+        ensures latest { AreUpTo (moment_of e) self.new.entries }
+    {
+        if self.kept {
+            self.log.add(e);
+        }
+    }
+
+    /// The entries that were kept, in order.
+    pub fn log(&self) -> &Log
+        ensures { result.now.entries ≡ self.now.entries }
+    {
+        &self.log
+    }
+
+    pub fn into_log(self) -> Log
+        ensures { result.entries ≡ self.entries }
+    {
+        self.log
+    }
+}

@@ -1,0 +1,29 @@
+use Rattle.std.proofs.Common.{◌≡◌, ◌+◌, true, false, ap, sym, ◌∙◌, arith, rules}
+use Rattle.loss_core.specs.Losses.{drops}
+use Rattle.loss_core.proofs.Wholes.{one_lost, one_passes}
+use Rattle.loss_core.proofs.whole.lose_all.Goals as goal
+use Rattle.loss_core.proofs.whole.lose_all.Goals.{then-word-least, else-word-least}
+
+pub loop-t-preserved : goal.loop-t-preserved
+loop-t-preserved g c =
+    let word = g.W.Words.word c.args.words in
+    let rate = c.args.rate.billionths in
+    let n = c.loop-t.t-index in
+    let draws = c.loop-t.invariant.draws in
+    let here : g.W.Words.word c.loop-t.words 0 ≡ word n = draws.next 0 ∙ ap word (let e : n + 0 ≡ n = omega arith in e) in
+    elim c.if-word-least.branch [
+      | then-word-least w ↦
+          let test : drops rate (g.W.Words.word c.loop-t.words 0) ≡ true = search rules in
+          record {
+            draws = one_lost rate word _ _ _ n c.t-item.result _ _ _ _ (omega arith) c.t-item.is draws c.next.ensures.after (ap (drops rate) (sym here) ∙ test) (search rules) (search rules);
+            departed_room = search rules;
+            lost_room = search rules;
+          }
+      | else-word-least w ↦
+          let test : drops rate (g.W.Words.word c.loop-t.words 0) ≡ false = search rules in
+          record {
+            draws = one_passes rate word _ _ _ n c.t-item.result _ _ _ _ (omega arith) c.t-item.is draws c.next.ensures.after (ap (drops rate) (sym here) ∙ test) (search rules) (search rules);
+            departed_room = search rules;
+            lost_room = search rules;
+          }
+    ]
