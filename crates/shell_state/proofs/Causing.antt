@@ -1,5 +1,5 @@
 -- When a take gives which answer.
-use Rattle.std.proofs.Common.{◌≡◌, ◌≢◌, ◌↔◌, ℕ, zero, suc, ◌+◌, ◌-◌, ◌≤◌, ◌<◌, ◌==◌, ◌&&◌, Bool, true, false, cond, List, [], ◌∷◌, ◌++◌, length, min, nat_le, nat_lt, ap, sym, subst, ◌∙◌, refl, arith, rules, tests, eq-eqb, ne_eqb}
+use Rattle.std.proofs.Common.{◌≡◌, ◌≢◌, ℕ, zero, suc, ◌+◌, ◌-◌, ◌≤◌, ◌<◌, ◌==◌, ◌&&◌, Bool, true, false, cond, List, [], ◌∷◌, ◌++◌, length, min, nat_le, nat_lt, ap, sym, subst, ◌∙◌, refl, arith, rules, tests, eq-eqb, ne_eqb}
 use Rattle.packet_record.specs.declared.packet.Timed.{Timed}
 use Rattle.packet_record.specs.declared.item.Item.TheVariants.{Packet, Mark, End, Broken}
 use Rattle.packet_record.specs.declared.item.FlowEnd.{FlowEnd}
@@ -9,11 +9,10 @@ use Rattle.shell_core.specs.Shells.{floor}
 use Rattle.shell_core.proofs.Laws.{floor_rises}
 use Rattle.shell_state.specs.declared.taken.Taken.{Taken}
 use Rattle.shell_state.specs.declared.taken.Taken.TheVariants.{Item as Gives, Again, NotYet}
-use Rattle.shell_state.specs.States.{State, opps_of, departures, ready, floor_of}
+use Rattle.shell_state.specs.States.{State, opps_of, ready, floor_of}
 use Rattle.shell_state.specs.Steps.{is_ended, licensed, burns, burns_where, with_burnt, with_answer, answer_where, answer_after, answer_of, after_take}
 use Rattle.shell_state.specs.Standing.{Stands}
 use Rattle.shell_state.specs.Causes.{Waits, BurnsAll, HasCauses}
-use Rattle.shell_state.proofs.Keeping.{licensed-le}
 use Rattle.shell_state.proofs.Progress.{ready_more}
 
 -- what an answer of a state that isn't broken says, of the state after burning

@@ -2,5 +2,6 @@ pub mod States
 pub mod Steps
 pub mod Standing
 pub mod Causes
+pub mod Fronts
 pub mod Inside
 pub mod StateInside

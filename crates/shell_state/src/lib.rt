@@ -1,12 +1,15 @@
 //! One direction of a shell, which is fed items and from which items are taken.
 #![tactic(auto)]
 
+mod front;
 mod parts;
 mod state;
+mod stream;
 mod taken;
 #[cfg(test)]
 mod tests;
 
 pub use shell_core::DirSpec;
 pub use state::ShellState;
+pub use stream::StreamView;
 pub use taken::Taken;

@@ -9,10 +9,12 @@ ghost use Rattle.shell_state.specs.Steps.{after_feed, after_take, after_break, a
 ghost use Rattle.shell_state.specs.Standing.{Stands, ForetellsAll};
 ghost use Rattle.shell_state.specs.Causes.{HasCauses};
 
+use crate::front::Front;
 use crate::parts;
+use crate::stream::StreamView;
 use crate::taken::Taken;
 use mm_base::OutOfMemory;
-use packet_record::{Flow, Item, Timed};
+use packet_record::{Item, Reach, Timed};
 use shell_core::{Core, DirSpec};
 use shell_log::Log;
 use std::alloc::Global;
@@ -22,13 +24,15 @@ use std::marker::Model;
 ///
 /// What is taken is always a front of what the whole shell would let out, whatever is fed later, and
 /// a mark that is taken is at or before every departure still to come.
-/// Contracts see what the direction does, its horizon, the two flows, how many opportunities were
+/// Contracts see what the direction does, its horizon, the two streams, how many opportunities were
 /// burnt, and whether it is broken. Everything else that it answers is a function of these.
 #[derive(Drop)]
 pub struct ShellState {
     core: Core,
-    fed: Flow,
-    taken: Flow,
+    // How far what was fed has come; its packets are the core's arrivals.
+    fed: Reach,
+    // What was taken of the core's departures.
+    taken: Front,
     broken: bool,
 }
 
@@ -57,8 +61,8 @@ impl ShellState {
         let core = Core::new(alloc, spec, horizon)?;
         Ok(ShellState {
             core,
-            fed: Flow::new(alloc),
-            taken: Flow::new(alloc),
+            fed: Reach::new(),
+            taken: Front::new(),
             broken: false,
         })
     }
@@ -104,9 +108,8 @@ impl ShellState {
             self.taken.add(Item::Broken);
             return Ok(Taken::Item(Item::Broken));
         }
-        self.taken.reserve(1)?;
-        let burnt = parts::burn(&mut self.core, &self.fed, &self.taken, most)?;
-        let answer = parts::answer(&self.core, &self.fed, &self.taken, burnt, most);
+        let burnt = parts::burn(&mut self.core, self.fed, self.taken, most)?;
+        let answer = parts::answer(&self.core, self.fed, self.taken, burnt, most);
         parts::put(&mut self.taken, answer);
         Ok(answer)
     }
@@ -126,17 +129,18 @@ impl ShellState {
     }
 
     /// What was fed.
-    pub fn fed(&self) -> &Flow
-        ensures { result.now.stream ≡ self.now.fed }
+    pub fn fed(&self) -> StreamView<'_>
+        ensures { result ≡ self.now.fed }
     {
-        &self.fed
+        StreamView::new(self.core.arrivals(), self.fed)
     }
 
     /// What was taken.
-    pub fn taken(&self) -> &Flow
-        ensures { result.now.stream ≡ self.now.taken }
+    pub fn taken(&self) -> StreamView<'_>
+        ensures { result ≡ self.now.taken }
     {
-        &self.taken
+        let departed = self.core.departed();
+        StreamView::new(&departed[..self.taken.count], self.taken.reach)
     }
 
     /// The log of a link; empty for shells that aren't links.

@@ -106,29 +106,53 @@ fn a_delay(rt: HostRuntime) -> Result<(), Fail> {
     Ok(())
 }
 
+// The words of seed 0 and stream 0 begin with 0.679 and 0.563 of all 32-bit words.
 #[test]
 #[tactic(auto, unfolding(shell_core::specs::Shells::opportunities))]
-fn a_loss_and_a_broken_state(rt: HostRuntime) -> Result<(), Fail> {
-    let rate = read_rate("1").expect(&rt, "a rate");
+fn a_loss(rt: HostRuntime) -> Result<(), Fail> {
     let spec = DirSpec::Loss {
-        rate,
+        rate: read_rate("0.6").expect(&rt, "a rate"),
         seed: 0,
-        stream: 2,
+        stream: 0,
     };
     let mut state = ShellState::new(rt.alloc(), spec, 9)?;
     let steps = [
         Step::Feed(packet(4, 1)),
-        give(Item::Mark(4)),
+        give(packet(4, 1)),
+        Step::Feed(packet(7, 2)),
+        give(Item::Mark(7)),
         Step::Feed(Item::Mark(10)),
         give(Item::Mark(10)),
+        Step::Take(Taken::NotYet { bound: 10 }),
+        Step::Feed(Item::End),
+        give(Item::End),
     ];
     play(&rt, &mut state, 9, 4, &steps)?;
+    assert_eq!(rt; state.fed().packets().len(), 2);
+    assert_eq!(rt; state.taken().packets().len(), 1);
     assert_eq!(rt; state.lost().len(), 1);
+    assert_eq!(rt; state.inside()?.len(), 0);
+    assert!(rt; state.taken().end() == FlowEnd::Ended);
     assert!(rt; !state.is_broken());
+    Ok(())
+}
+
+#[test]
+#[tactic(auto, unfolding(shell_core::specs::Shells::opportunities))]
+fn a_broken_state(rt: HostRuntime) -> Result<(), Fail> {
+    let mut state = ShellState::new(rt.alloc(), DirSpec::Pass, 9)?;
+    let steps = [
+        Step::Feed(packet(4, 1)),
+        Step::Feed(packet(4, 2)),
+        give(packet(4, 1)),
+    ];
+    play(&rt, &mut state, 9, 4, &steps)?;
     state.break_off();
     assert!(rt; state.is_broken());
     assert!(rt; state.taken().end() == FlowEnd::Open);
     assert_eq!(rt; state.take(4)?, Taken::Item(Item::Broken));
+    assert!(rt; state.taken().end() == FlowEnd::Broken);
+    assert_eq!(rt; state.taken().packets().len(), 1);
     Ok(())
 }
 

@@ -1,32 +1,44 @@
-use Rattle.std.proofs.Common.{rules, subst, sym, ap, ◌∙◌, ◌≡◌, refl}
-use Rattle.packet_record.specs.declared.item.Stream.{Stream}
+use Rattle.std.proofs.Common.{subst, sym, ap, ◌∙◌, ◌≡◌}
 use Rattle.packet_record.specs.declared.item.FlowEnd.TheVariants.{Open}
 use Rattle.shell_state.specs.States.{State}
-use Rattle.shell_state.specs.Inside.{IsWhole}
+use Rattle.shell_state.specs.Inside.{state_of, IsWhole}
 use Rattle.shell_state.specs.Standing.{Stands}
 use Rattle.shell_state.specs.Steps.{after_take, answer_of}
 use Rattle.shell_state.proofs.Causing.{caused}
-use Rattle.shell_state.proofs.Answering.{whole_taken, take_follows, not_broken, whole_more_room}
+use Rattle.shell_state.proofs.Answering.{Steps, whole_taken, take_follows, take_is, not_broken}
 use Rattle.shell_state.proofs.state.ShellState.take.Goals as goal
 
 pub put-requires-clause-follows : goal.put-requires-clause-follows
 put-requires-clause-follows c =
     let s = c.self.inside in
-    let room = c.reserve.new.self in
-    let whole = whole_more_room s.core s.fed s.taken s.fed room _ (not_broken s.core s.fed s.taken s.broken c.if-self.false c.self.invariant.whole) refl c.reserve.ensures.same in
-    let open' : room.stream.end ≡ Open = ap (λ (f : Stream). f.end) c.reserve.ensures.same ∙ ap (λ (v : State). v.taken.end) c.self.view_is ∙ c.requires.open in
-    take_follows s.core s.fed room c.burn.new.core c.in_ok-burnt.burnt c.args.most c.answer-answer.result whole open' c.in_ok-burnt.ensures.count c.in_ok-burnt.ensures.core c.answer-answer.ensures
+    let whole = not_broken s.core s.fed s.taken s.broken c.if-self.false c.self.invariant.whole in
+    let open' : s.taken.reach.end ≡ Open = ap (λ (v : State). v.taken.end) c.self.view_is ∙ c.requires.open in
+    take_follows s.core s.fed s.taken c.burn.new.core c.in_ok-burnt.burnt c.args.most c.answer-answer.result whole open' c.in_ok-burnt.ensures.count c.in_ok-burnt.ensures.core c.answer-answer.ensures.is
+
+steps : (c : goal.After-put) → Steps c.self.inside.core c.self.inside.fed c.self.inside.taken c.burn.new.core c.put.new.taken c.in_ok-burnt.burnt c.args.most c.answer-answer.result
+steps c = record {
+  open' = ap (λ (v : State). v.taken.end) c.self.view_is ∙ c.requires.open;
+  burnt = c.in_ok-burnt.ensures.count;
+  core_is = c.in_ok-burnt.ensures.core;
+  answer_is = c.answer-answer.ensures.is;
+  taken_is = c.put.ensures;
+}
 
 pub invariant_of-self-2 : goal.invariant_of-self-2
 invariant_of-self-2 c =
     let s = c.self.inside in
-    let room = c.reserve.new.self in
-    let whole = whole_more_room s.core s.fed s.taken s.fed room _ (not_broken s.core s.fed s.taken s.broken c.if-self.false c.self.invariant.whole) refl c.reserve.ensures.same in
-    let open' : room.stream.end ≡ Open = ap (λ (f : Stream). f.end) c.reserve.ensures.same ∙ ap (λ (v : State). v.taken.end) c.self.view_is ∙ c.requires.open in
-    let done = whole_taken s.core s.fed room c.burn.new.core c.put.new.taken c.in_ok-burnt.burnt c.args.most c.answer-answer.result whole open' c.in_ok-burnt.ensures.count c.in_ok-burnt.ensures.core c.answer-answer.ensures c.put.ensures in
+    let whole = not_broken s.core s.fed s.taken s.broken c.if-self.false c.self.invariant.whole in
+    let done = whole_taken s.core s.fed s.taken c.burn.new.core c.put.new.taken c.in_ok-burnt.burnt c.args.most c.answer-answer.result whole (steps c) in
     record { whole = subst (IsWhole c.burn.new.core s.fed c.put.new.taken) (sym c.if-self.false) done }
 
+pub returns-clause-ok : goal.returns-clause-ok
+returns-clause-ok c =
+    let s = c.self.inside in
+    let new = state_of c.burn.new.core s.fed c.put.new.taken s.broken in
+    let Is : State → Type 0 = λ v. (c.answer-answer.result ≡ answer_of v c.args.most) × (new ≡ after_take v c.args.most) in
+    subst Is c.self.view_is (take_is s.core s.fed s.taken s.broken c.burn.new.core c.put.new.taken c.in_ok-burnt.burnt c.args.most c.answer-answer.result c.if-self.false c.self.invariant.whole (steps c))
+
 pub returns-clause-causes : goal.returns-clause-causes
-unfolding after_take answer_of
 returns-clause-causes c =
-    caused c.args.self.now _ c.args.most c.answer-answer.result (subst Stands c.self.view_is c.self.invariant.whole.stands) c.requires.most (search rules) (search rules)
+    let done = returns-clause-ok c in
+    caused c.args.self.now _ c.args.most c.answer-answer.result (subst Stands c.self.view_is c.self.invariant.whole.stands) c.requires.most done.0 done.1
