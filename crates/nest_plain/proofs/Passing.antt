@@ -1,39 +1,26 @@
--- States that have run have passed their packets on.
-use Rattle.std.proofs.Common.{◌≡◌, ◌≢◌, ℕ, zero, suc, ◌+◌, ◌≤◌, ◌<◌, List, [], ◌∷◌, length, get_or, map, refl, ap, sym, subst, ◌∙◌, arith}
+-- From one shell to the next.
+use Rattle.std.proofs.Common.{◌≡◌, ℕ, suc, ◌≤◌, List, length, sym, subst, arith}
+use Rattle.packet_record.specs.declared.packet.Direction.{Direction}
+use Rattle.packet_record.specs.declared.packet.Direction.TheVariants.{Up, Down}
 use Rattle.packet_record.specs.declared.packet.Timed.{Timed}
-use Rattle.packet_record.specs.declared.packet.Row.{Row}
-use Rattle.packet_record.specs.Orders.{AreInOrder}
+use Rattle.packet_record.specs.Moments.{AreUpTo, Rise}
 use Rattle.shell_core.specs.declared.spec.DirSpec.{DirSpec}
-use Rattle.shell_state.specs.States.{State}
-use Rattle.nest_spec.specs.Fates.{AreApart}
-use Rattle.nest_spec.specs.Passing.{HavePassed}
-use Rattle.nest_plain.specs.Runs.{IsFresh, HasRun, AreFresh, AreOpened}
+use Rattle.shell_core.specs.Shells.{IsBuilt, opportunities, whole_out}
+use Rattle.shell_core.proofs.Laws.{out_rises, out_within}
+use Rattle.nest_spec.specs.Fates.{IsFew, next_number}
+use Rattle.nest_spec.specs.Passing.{first_number}
 
-pub one_passed : (h : ℕ) (packets : List Timed) (old new : State) (olds news : List State) → old.horizon ≡ h → HasRun old packets new
-    → HavePassed h (map (λ (s : State). s.spec) olds) new.taken.packets news → HavePassed h (map (λ (s : State). s.spec) (old ∷ olds)) packets (new ∷ news)
-one_passed h packets old new olds news e run rest = (run.spec, run.horizon ∙ e, run.fed, run.taken_ended, rest)
+pub few_first : (d : Direction) (n shells count : ℕ) → n ≡ first_number d shells → shells ≤ 8 → count ≤ 8 → IsFew d n count
+few_first Up n shells count e le few = omega arith
+few_first Down n shells count e le few = omega arith
 
--- opened states are new, and have these directions
-pub opened_fresh : (h : ℕ) (specs : List DirSpec) (states : List State) → AreOpened h specs states → AreFresh h states
-opened_fresh h [] [] o = tt
-opened_fresh h [] (s ∷ states) o = absurd o
-opened_fresh h (c ∷ specs) [] o = absurd o
-opened_fresh h (c ∷ specs) (s ∷ states) o = (subst IsFresh (sym o.0) refl, ap (λ (x : State). x.horizon) o.0, opened_fresh h specs states o.1)
+pub few_after : (d : Direction) (n m count : ℕ) → m ≡ next_number d n → IsFew d n (suc count) → IsFew d m count
+few_after Up n m count e few = omega arith
+few_after Down n m count e few = omega arith
 
-pub opened_specs : (h : ℕ) (specs : List DirSpec) (states : List State) → AreOpened h specs states → map (λ (s : State). s.spec) states ≡ specs
-opened_specs h [] [] o = refl
-opened_specs h [] (s ∷ states) o = absurd o
-opened_specs h (c ∷ specs) [] o = absurd o
-opened_specs h (c ∷ specs) (s ∷ states) o = ap (λ (x : State). x.spec ∷ map (λ (y : State). y.spec) states) o.0 ∙ ap (λ l. c ∷ l) (opened_specs h specs states o.1)
+-- what departs may arrive at the next shell
+pub departed_rise : (c : DirSpec) (h : ℕ) (l departed : List Timed) → IsBuilt c → departed ≡ whole_out c h l → Rise l → Rise departed
+departed_rise c h l departed built e rises = subst Rise (sym e) (out_rises c h (length (opportunities c h)) l built rises)
 
-id_at : (place low : ℕ) (rows : List Row) (i : ℕ) (d : Row) → AreInOrder place low rows → i < length rows → (get_or rows i d).timed.packet.id ≡ place + i
-id_at place low [] i d order lt = absurd (omega arith)
-id_at place low (row ∷ rows) zero d order lt = omega (arith, order.0)
-id_at place low (row ∷ rows) (suc i) d order lt = let rest = id_at (place + 1) row.timed.moment rows i d order.2 (omega arith) in omega arith
-
--- the rows of a schedule have distinct numbers
-pub apart : (rows : List Row) → AreInOrder 1 0 rows → AreApart rows
-apart rows order i j d lt lt' same =
-    let one = id_at 1 0 rows i d order lt in
-    let two = id_at 1 0 rows j d order lt' in
-    omega arith
+pub departed_within : (c : DirSpec) (h : ℕ) (l departed : List Timed) → IsBuilt c → departed ≡ whole_out c h l → AreUpTo h l → AreUpTo h departed
+departed_within c h l departed built e within = subst (AreUpTo h) (sym e) (out_within c h (length (opportunities c h)) l built within)

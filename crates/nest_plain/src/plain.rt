@@ -1,17 +1,19 @@
 // A run of a nest shell by shell.
-ghost use Rattle.std.specs.Prelude.{◌≡◌, ◌≤◌, map, IfOk, OnOk};
+ghost use Rattle.std.specs.Prelude.{◌≡◌, ◌≤◌, length, map, IfOk, OnOk};
+ghost use Rattle.packet_record.specs.declared.packet.Row.{Row as RowValue};
 ghost use Rattle.packet_record.specs.Rows.{entering, Rises};
-ghost use Rattle.nest_spec.specs.Nests.{AllFit, directions_of, result_of};
-ghost use Rattle.nest_spec.specs.Passing.{HavePassed};
+ghost use Rattle.nest_spec.specs.declared.fate.Fate.{Fate as FateValue};
+ghost use Rattle.nest_spec.specs.Fates.{stage_fates};
+ghost use Rattle.nest_spec.specs.Passing.{AreBuilt, first_number, fated, whole_stages, whole_departed};
+ghost use Rattle.nest_spec.specs.Nests.{directions_of, logged_of, kept_logs, whole_logs, result_of};
 ghost use Rattle.nest_spec.specs.Once.{HaveOneFate};
-ghost use Rattle.nest_plain.specs.Runs.{AreOpened};
+ghost use Rattle.nest_spec.specs.RunViews.{entries_of};
 
 use crate::shell::run_shells;
 use mm_base::OutOfMemory;
-use nest_spec::{Nest, RunResult, gather};
+use nest_spec::{Marking, Nest, RunResult, first_number, name_logs};
 use packet_record::{Direction, Row, Schedule, Timed};
-use shell_core::DirSpec;
-use shell_state::ShellState;
+use shell_log::Log;
 use std::alloc::Global;
 
 // The packets of a direction up to the horizon.
@@ -31,38 +33,40 @@ fn entering(
     Ok(packets)
 }
 
-// New states of these directions.
-fn open_states(
-    alloc: Global,
-    specs: Vec<DirSpec>,
-    horizon: u64,
-) -> Result<Vec<ShellState>, OutOfMemory>
-    requires fit { AllFit horizon specs.items }
-    requires horizon { horizon ≤ 3600000 }
-    ensures { IfOk result (λ states. AreOpened horizon specs.items states.items) }
-{
-    let mut states = Vec::new(alloc);
-    for spec in specs {
-        states.push(ShellState::new(alloc, spec, horizon)?)?;
-    }
-    Ok(states)
-}
-
-// The states of a direction's shells after its whole run, in passing order.
+// A direction's packets through its shells, their fates marked: the logs of its shells in passing order, empty where they aren't logged.
 fn run_direction(
     alloc: Global,
     nest: &Nest,
     direction: Direction,
     rows: &[Row],
-) -> Result<Vec<ShellState>, OutOfMemory>
-    requires { Rises 0 rows.now }
-    ensures { IfOk result (λ states. HavePassed nest.now.horizon (directions_of direction nest.now) (entering direction nest.now.horizon rows.now) states.items) }
+    marking: &mut Marking<'_>,
+) -> Result<Vec<Log>, OutOfMemory>
+    requires rises { Rises 0 rows.now }
+    requires horizon { marking.old.horizon ≡ nest.now.horizon }
+    ensures rows { marking.new.rows ≡ marking.old.rows }
+    ensures horizon { marking.new.horizon ≡ marking.old.horizon }
+    ensures fates { OnOk result ((f : RowValue → FateValue) → marking.old.fates ≡ fated f marking.old.rows
+        → marking.new.fates ≡ fated (stage_fates direction marking.old.horizon
+        (whole_stages direction marking.old.horizon (first_number direction (length (directions_of direction nest.now))) (directions_of direction nest.now) (entering direction marking.old.horizon rows.now))
+        (whole_departed marking.old.horizon (directions_of direction nest.now) (entering direction marking.old.horizon rows.now)) f) marking.old.rows) }
+    ensures logs { IfOk result (λ logs. entries_of logs.items ≡ kept_logs (logged_of direction nest.now) (whole_logs nest.now.horizon (directions_of direction nest.now) (entering direction nest.now.horizon rows.now))) }
+    ensures built { OnOk result (AreBuilt (directions_of direction nest.now)) }
 {
-    let horizon = nest.horizon();
-    let packets = entering(alloc, direction, horizon, rows)?;
-    let mut states = open_states(alloc, nest.directions(direction)?, horizon)?;
-    run_shells(states.as_mut_slice(), packets.as_slice(), horizon)?;
-    Ok(states)
+    let packets = entering(alloc, direction, nest.horizon(), rows)?;
+    let specs = nest.directions(direction)?.into_iter();
+    let flags = nest.logged(direction)?;
+    let number = first_number(direction, nest.shells());
+    let mut logs = Vec::new(alloc);
+    run_shells(
+        marking,
+        &mut logs,
+        direction,
+        number,
+        specs,
+        flags.as_slice(),
+        packets,
+    )?;
+    Ok(logs)
 }
 
 /// Runs the schedule through the nest, each shell over its whole list of arrivals and then the next: the fate of each packet and the
@@ -72,7 +76,9 @@ pub fn run_plain(alloc: Global, nest: &Nest, schedule: &Schedule) -> Result<RunR
     ensures once { OnOk result (HaveOneFate nest.now schedule.now) }
 {
     let rows = schedule.rows();
-    let up = run_direction(alloc, nest, Direction::Up, rows)?;
-    let down = run_direction(alloc, nest, Direction::Down, rows)?;
-    gather(alloc, nest, rows, up.as_slice(), down.as_slice())
+    let mut marking = Marking::new(alloc, rows, nest.horizon(), nest.shells())?;
+    let up = run_direction(alloc, nest, Direction::Up, rows, &mut marking)?;
+    let down = run_direction(alloc, nest, Direction::Down, rows, &mut marking)?;
+    let logs = name_logs(alloc, nest, up, down)?;
+    Ok(RunResult::new(marking.into_rows(), logs))
 }

@@ -1,80 +1,93 @@
 // Each shell over its whole list of arrivals, then the next.
-ghost use Rattle.std.specs.Prelude.{◌≡◌, false, map, OnOk};
+ghost use Rattle.std.specs.Prelude.{◌≡◌, ◌≤◌, ◌++◌, [], if◌then◌else◌, length, OnOk, IfOk};
+ghost use Rattle.std.specs.Vec.Iter.{into_iter_items};
+ghost use Rattle.packet_record.specs.declared.packet.Row.{Row as RowValue};
 ghost use Rattle.packet_record.specs.Moments.{AreUpTo, Rise};
-ghost use Rattle.nest_spec.specs.Passing.{HavePassed};
-ghost use Rattle.nest_plain.specs.Ends.{is_end};
-ghost use Rattle.nest_plain.specs.Runs.{IsFresh, KeepsTaking, IsFed, HasRun, AreFresh};
+ghost use Rattle.shell_core.specs.Shells.{IsInRange, IsBuilt, opportunities, whole_out, whole_log};
+ghost use Rattle.nest_spec.specs.declared.fate.Fate.{Fate as FateValue};
+ghost use Rattle.nest_spec.specs.Fates.{IsFew, stopped, stage_fates};
+ghost use Rattle.nest_spec.specs.Passing.{AreBuilt, fated, whole_stage, whole_stages, whole_departed};
+ghost use Rattle.nest_spec.specs.Nests.{AllFit, kept_logs, whole_logs};
+ghost use Rattle.nest_spec.specs.RunViews.{entries_of};
 
 use mm_base::OutOfMemory;
-use packet_record::{FlowEnd, Item, Timed};
-use shell_state::{ShellState, Taken};
+use nest_spec::{Marking, next_number};
+use packet_record::{Direction, Timed};
+use shell_core::{DirSpec, Passage, run_whole};
+use shell_log::Log;
+use std::alloc::Global;
+use std::vec::IntoIter;
 
-fn is_end(answer: Taken) -> bool
-    ensures { result ≡ is_end answer }
+// One shell over all packets, whose fates in it are marked: what departs, and the log, which is empty where it isn't
+// asked for.
+fn run_shell(
+    alloc: Global,
+    marking: &mut Marking<'_>,
+    direction: Direction,
+    number: u32,
+    spec: DirSpec,
+    packets: Vec<Timed>,
+    logged: bool,
+) -> Result<(Vec<Timed>, Log), OutOfMemory>
+    requires range { IsInRange spec }
+    requires horizon { marking.old.horizon ≤ 3600000 }
+    requires few { length (opportunities spec marking.old.horizon) ≤ 16000000 }
+    requires rises { Rise packets.items }
+    requires within { AreUpTo marking.old.horizon packets.items }
+    ensures rows { marking.new.rows ≡ marking.old.rows }
+    ensures horizon { marking.new.horizon ≡ marking.old.horizon }
+    ensures fates { OnOk result ((f : RowValue → FateValue) → marking.old.fates ≡ fated f marking.old.rows
+        → marking.new.fates ≡ fated (stopped direction marking.old.horizon (whole_stage marking.old.horizon number spec packets.items) f) marking.old.rows) }
+    ensures departed { IfOk result (λ r. r.0.items ≡ whole_out spec marking.old.horizon packets.items) }
+    ensures log { IfOk result (λ r. r.1.entries ≡ (if logged then whole_log spec marking.old.horizon packets.items else [])) }
+    ensures built { OnOk result (IsBuilt spec) }
 {
-    match answer {
-        Taken::Item(Item::End) => true,
-        _ => false,
-    }
+    let Passage {
+        departed,
+        lost,
+        held,
+        log,
+    } = run_whole(alloc, spec, marking.horizon(), packets, logged)?;
+    marking.pass(direction, number, lost.as_slice(), held.as_slice());
+    Ok((departed, log))
 }
 
-// Takes until the end.
-fn drain(state: &mut ShellState) -> Result<(), OutOfMemory>
-    requires ended { state.old.fed.end ≡ FlowEnd.Ended }
-    requires open { state.old.taken.end ≡ FlowEnd.Open }
-    requires whole { state.old.broken ≡ false }
-    ensures { OnOk result (KeepsTaking state.old state.new × (state.new.taken.end ≡ FlowEnd.Ended)) }
-{
-    'takes: loop {
-        state.stands();
-        let answer = state.take(u32::MAX)?;
-        if is_end(answer) {
-            return Ok(());
-        }
-    }
-}
-
-// Feeds all packets.
-fn feed_all(state: &mut ShellState, packets: &[Timed]) -> Result<(), OutOfMemory>
-    requires fresh { IsFresh state.old }
-    requires rises { Rise packets.now }
-    requires within { AreUpTo state.old.horizon packets.now }
-    ensures { OnOk result (IsFed state.old packets.now state.new) }
-{
-    for t in packets {
-        state.feed(Item::Packet(*t))?;
-    }
-    Ok(())
-}
-
-// One shell over all packets.
-fn run_shell(state: &mut ShellState, packets: &[Timed]) -> Result<(), OutOfMemory>
-    requires fresh { IsFresh state.old }
-    requires rises { Rise packets.now }
-    requires within { AreUpTo state.old.horizon packets.now }
-    ensures { OnOk result (HasRun state.old packets.now state.new) }
-{
-    feed_all(state, packets)?;
-    state.feed(Item::End)?;
-    drain(state)?;
-    state.stands();
-    Ok(())
-}
-
-// Each shell over what the one before it passed on, in passing order.
+// Each shell over what the one before it passed on, in passing order, the first with this number. Adds the log of each that is logged,
+// and an empty log for each that is not.
 pub(crate) fn run_shells(
-    states: &mut [ShellState],
-    packets: &[Timed],
-    horizon: u64,
+    marking: &mut Marking<'_>,
+    logs: &mut Vec<Log>,
+    direction: Direction,
+    number: u32,
+    specs: IntoIter<DirSpec>,
+    flags: &[bool],
+    packets: Vec<Timed>,
 ) -> Result<(), OutOfMemory>
-    requires fresh { AreFresh horizon states.old }
-    requires rises { Rise packets.now }
-    requires within { AreUpTo horizon packets.now }
-    ensures { OnOk result (HavePassed horizon (map (λ s. s.spec) states.old) packets.now states.new) }
+    requires fit { AllFit marking.old.horizon (into_iter_items specs) }
+    requires horizon { marking.old.horizon ≤ 3600000 }
+    requires few { IsFew direction number (length (into_iter_items specs)) }
+    requires flags { length flags.now ≡ length (into_iter_items specs) }
+    requires rises { Rise packets.items }
+    requires within { AreUpTo marking.old.horizon packets.items }
+    ensures rows { marking.new.rows ≡ marking.old.rows }
+    ensures horizon { marking.new.horizon ≡ marking.old.horizon }
+    ensures fates { OnOk result ((f : RowValue → FateValue) → marking.old.fates ≡ fated f marking.old.rows
+        → marking.new.fates ≡ fated (stage_fates direction marking.old.horizon (whole_stages direction marking.old.horizon number (into_iter_items specs) packets.items)
+        (whole_departed marking.old.horizon (into_iter_items specs) packets.items) f) marking.old.rows) }
+    ensures logs { OnOk result (entries_of logs.new.items ≡ entries_of logs.old.items ++ kept_logs flags.now (whole_logs marking.old.horizon (into_iter_items specs) packets.items)) }
+    ensures built { OnOk result (AreBuilt (into_iter_items specs)) }
 {
-    let Some((first, rest)) = states.split_first_mut() else {
+    let mut specs = specs;
+    let Some(spec) = specs.next() else {
+        marking.depart(direction, packets.as_slice());
         return Ok(());
     };
-    run_shell(first, packets)?;
-    run_shells(rest, first.taken().packets(), horizon)
+    let Some((is_logged, flags)) = flags.split_first() else {
+        return Ok(());
+    };
+    let alloc = *logs.allocator();
+    let (packets, log) = run_shell(alloc, marking, direction, number, spec, packets, *is_logged)?;
+    logs.push(log)?;
+    let next = next_number(direction, number);
+    run_shells(marking, logs, direction, next, specs, flags, packets)
 }

@@ -1,5 +1,5 @@
 -- A trace has at most so many opportunities up to an hour.
-use Rattle.std.proofs.Common.{◌≡◌, ℕ, zero, suc, ◌+◌, ◌*◌, ◌/◌, ◌≤◌, ◌<◌, Bool, true, false, cond, List, [], ◌∷◌, ◌++◌, Option, Some, None, option_to_list, length, filter, nat_le, arith, length-append}
+use Rattle.std.proofs.Common.{ℕ, zero, suc, ◌+◌, ◌*◌, ◌/◌, ◌≤◌, Bool, true, false, cond, List, [], ◌∷◌, Option, Some, None, option_to_list, length, nat_le, arith, length-append}
 use Rattle.std.proofs.Math.Nat.{mul-le-mul, div-le_self}
 use Rattle.trace_reader.specs.declared.opportunity.Opportunity.{Opportunity}
 use Rattle.trace_reader.specs.declared.trace.Trace.{Trace}

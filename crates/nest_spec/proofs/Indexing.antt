@@ -1,5 +1,5 @@
 -- The index of the rows.
-use Rattle.std.proofs.Common.{◌≡◌, ◌≢◌, ◌⊎◌, inl, inr, ℕ, ◌+◌, ◌-◌, ◌<◌, ◌≤◌, Bool, true, false, cond, eqb, List, length, get_or, Option, Some, None, ap, sym, subst, ◌∙◌, refl, arith, nat_eq, eq-eqb, ne_eqb, MatchOption, ⊎_elim, [], ◌∷◌, zero, suc}
+use Rattle.std.proofs.Common.{◌≡◌, ◌≢◌, ◌⊎◌, inl, inr, ℕ, ◌+◌, ◌-◌, ◌<◌, ◌≤◌, cond, List, length, get_or, Option, Some, None, ap, sym, ◌∙◌, arith, nat_eq, eq-eqb, ne_eqb, MatchOption, ⊎_elim, [], ◌∷◌, zero, suc}
 use Rattle.std.proofs.lemmas.Bool.{cases_eq}
 use Rattle.std.specs.declared.hash.FoldHasher.{FoldHasher}
 use Rattle.std.specs.declared.hash.BuildHasherDefault.{BuildHasherDefault}

@@ -10,3 +10,4 @@ pub mod PassedLemmas
 pub mod Natural
 pub mod Results
 pub mod OnceLemmas
+pub mod KeptLemmas

@@ -1,5 +1,5 @@
 -- The fates by overwriting are the fates through the shells.
-use Rattle.std.proofs.Common.{◌≡◌, ℕ, Bool, true, false, cond, List, [], ◌∷◌, Option, Some, None, length, ap, sym, subst, ◌∙◌, refl}
+use Rattle.std.proofs.Common.{◌≡◌, ℕ, ◌≤◌, ◌&&◌, Bool, true, cond, List, [], ◌∷◌, Option, Some, None, map, ap, sym, ◌∙◌, refl}
 use Rattle.packet_record.specs.declared.packet.Timed.{Timed}
 use Rattle.packet_record.specs.declared.packet.Row.{Row}
 use Rattle.packet_record.specs.declared.packet.Direction.{Direction}
@@ -8,59 +8,64 @@ use Rattle.shell_core.specs.declared.spec.DirSpec.{DirSpec}
 use Rattle.shell_core.specs.Shells.{whole_out, whole_lost}
 use Rattle.nest_spec.specs.declared.fate.Fate.{Fate}
 use Rattle.nest_spec.specs.declared.fate.Fate.TheVariants as fates
-use Rattle.nest_spec.specs.declared.mark.Mark.{Mark}
-use Rattle.nest_spec.specs.declared.mark.Mark.TheVariants.{Drops, Enters, Leaves}
-use Rattle.nest_spec.specs.Fates.{Stage, mark_fate, found_fate, is_sent, marked, next_number, passes, stage_fates}
-use Rattle.nest_spec.specs.Passing.{find_id, passed_fate, fate_in}
-use Rattle.nest_spec.proofs.NumberLemmas.{is_id, none_found, without_found, out_without, lost_without}
+use Rattle.nest_spec.specs.declared.mark.Mark.TheVariants.{Drops, Leaves}
+use Rattle.nest_spec.specs.Fates.{Stage, found_fate, is_sent, is_among, marked, stopped, next_number, stage_fates}
+use Rattle.nest_spec.specs.Passing.{find_id, passed_fate, fate_in, whole_inside}
+use Rattle.nest_spec.proofs.NumberLemmas.{is_id, none_found, without_found, some_number, some_found, none_among, some_among, out_without, lost_without, inside_without, stays_inside}
 use Rattle.nest_spec.proofs.PassedLemmas.{ArePassed}
 
--- where the packets are that enter these shells
-abbrev pub enters : ℕ → List DirSpec → Mark
-enters n [] = Leaves
-enters n (c ∷ specs) = Enters n
-
--- one shell's two markings, at a row that is sent
-step : (d : Direction) (h : ℕ) (s : Stage) (m : Mark) (f : Row → Fate) (r : Row) (l o : List Timed) → is_sent d h r ≡ true → s.lost ≡ l → s.taken ≡ o
-    → marked d h s.taken m (marked d h s.lost (Drops s.number) f) r
-    ≡ found_fate (find_id r.timed.packet.id o) m (found_fate (find_id r.timed.packet.id l) (Drops s.number) (f r))
-step d h s m f r l o sent el eo =
+-- one shell's markings, at a row that is sent
+step : (d : Direction) (h n : ℕ) (s : Stage) (f : Row → Fate) (r : Row) (l : List Timed) (ids : List ℕ) → is_sent d h r ≡ true → s.number ≡ n → s.lost ≡ l → s.held ≡ ids
+    → stopped d h s f r ≡ found_fate (find_id r.timed.packet.id l) (Drops n) (cond (is_among r.timed.packet.id ids) (fates.Inside n) (f r))
+step d h n s f r l ids sent en el ei =
     let id = r.timed.packet.id in
-    ap (λ b. cond b (found_fate (find_id id s.taken) m (cond b (found_fate (find_id id s.lost) (Drops s.number) (f r)) (f r))) (cond b (found_fate (find_id id s.lost) (Drops s.number) (f r)) (f r))) sent
-    ∙ ap (λ ts. found_fate (find_id id ts) m (found_fate (find_id id s.lost) (Drops s.number) (f r))) eo
-    ∙ ap (λ ts. found_fate (find_id id o) m (found_fate (find_id id ts) (Drops s.number) (f r))) el
+    let inner : Bool → Fate = λ b. cond (b && is_among id s.held) (fates.Inside s.number) (f r) in
+    ap (λ b. cond b (found_fate (find_id id s.lost) (Drops s.number) (inner b)) (inner b)) sent
+    ∙ ap (λ m. found_fate (find_id id s.lost) (Drops m) (cond (is_among id s.held) (fates.Inside m) (f r))) en
+    ∙ ap (λ ts. found_fate (find_id id ts) (Drops n) (cond (is_among id s.held) (fates.Inside n) (f r))) el
+    ∙ ap (λ is. found_fate (find_id id l) (Drops n) (cond (is_among id is) (fates.Inside n) (f r))) ei
 
-passes_is : (d : Direction) (h n : ℕ) (shells : List DirSpec) (arrivals : List Timed) (stages : List Stage) → ArePassed d h n shells arrivals stages → passes stages ≡ enters n shells
-passes_is d h n [] arrivals [] p = refl
-passes_is d h n [] arrivals (s ∷ stages) p = absurd p
-passes_is d h n (q ∷ shells) arrivals [] p = absurd p
-passes_is d h n (q ∷ shells) arrivals (s ∷ stages) p = ap (λ m. Enters m) p.0
+-- what passes all shells has departed
+last : (d : Direction) (h : ℕ) (departed arrivals : List Timed) (f : Row → Fate) (r : Row) → is_sent d h r ≡ true → departed ≡ arrivals
+    → marked d h departed Leaves f r ≡ found_fate (find_id r.timed.packet.id arrivals) Leaves (f r)
+last d h departed arrivals f r sent e =
+    let id = r.timed.packet.id in
+    ap (λ b. cond b (found_fate (find_id id departed) Leaves (f r)) (f r)) sent ∙ ap (λ ts. found_fate (find_id id ts) Leaves (f r)) e
 
 -- a packet that does not arrive is not touched
-untouched : (d : Direction) (h n : ℕ) (shells : List DirSpec) (arrivals : List Timed) (stages : List Stage) (f : Row → Fate) (r : Row) → is_sent d h r ≡ true
-    → ArePassed d h n shells arrivals stages → number (is_id r.timed.packet.id) arrivals ≡ 0 → stage_fates d h stages f r ≡ f r
-untouched d h n [] arrivals [] f r sent p w = refl
-untouched d h n [] arrivals (s ∷ stages) f r sent p w = absurd p
-untouched d h n (q ∷ shells) arrivals [] f r sent p w = absurd p
-untouched d h n (q ∷ shells) arrivals (s ∷ stages) f r sent p w =
+untouched : (d : Direction) (h n : ℕ) (shells : List DirSpec) (arrivals : List Timed) (stages : List Stage) (departed : List Timed) (f : Row → Fate) (r : Row) → is_sent d h r ≡ true
+    → ArePassed d h n shells arrivals stages departed → number (is_id r.timed.packet.id) arrivals ≡ 0 → stage_fates d h stages departed f r ≡ f r
+untouched d h n [] arrivals [] departed f r sent p w =
+    last d h departed arrivals f r sent p ∙ ap (λ x. found_fate x Leaves (f r)) (none_found r.timed.packet.id arrivals w)
+untouched d h n [] arrivals (s ∷ stages) departed f r sent p w = absurd p
+untouched d h n (q ∷ shells) arrivals [] departed f r sent p w = absurd p
+untouched d h n (q ∷ shells) arrivals (s ∷ stages) departed f r sent p w =
     let id = r.timed.packet.id in
     let o = whole_out q h arrivals in
     let l = whole_lost q h arrivals in
-    let wo = out_without id q h arrivals p.4 w in
-    let wl = lost_without id q h arrivals p.4 w in
-    untouched d h (next_number d n) shells o stages (marked d h s.taken (passes stages) (marked d h s.lost (Drops s.number) f)) r sent p.3 wo
-    ∙ step d h s (passes stages) f r l o sent p.1 p.2
-    ∙ ap (λ x. found_fate x (passes stages) (found_fate (find_id id l) (Drops s.number) (f r))) (none_found id o wo)
-    ∙ ap (λ x. found_fate x (Drops s.number) (f r)) (none_found id l wl)
+    let ids = map (λ (t : Timed). t.packet.id) (whole_inside q h arrivals) in
+    untouched d h (next_number d n) shells o stages departed (stopped d h s f) r sent p.3 (out_without id q h arrivals p.4 w)
+    ∙ step d h n s f r l ids sent p.0 p.1 p.2
+    ∙ ap (λ x. found_fate x (Drops n) (cond (is_among id ids) (fates.Inside n) (f r))) (none_found id l (lost_without id q h arrivals p.4 w))
+    ∙ ap (λ b. cond b (fates.Inside n) (f r)) (none_among id (whole_inside q h arrivals) (inside_without id q h arrivals p.4 w))
 
-pub natural : (d : Direction) (h n : ℕ) (shells : List DirSpec) (arrivals : List Timed) (stages : List Stage) (f : Row → Fate) (r : Row) (t : Timed) → is_sent d h r ≡ true
-    → ArePassed d h n shells arrivals stages → find_id r.timed.packet.id arrivals ≡ Some t → f r ≡ mark_fate (enters n shells) t
-    → stage_fates d h stages f r ≡ fate_in d h n shells arrivals r.timed.packet.id
-natural d h n [] arrivals [] f r t sent p found e = e ∙ sym (ap (λ x. found_fate x Leaves fates.Unsent) found)
-natural d h n [] arrivals (s ∷ stages) f r t sent p found e = absurd p
-natural d h n (q ∷ shells) arrivals [] f r t sent p found e = absurd p
-natural d h n (q ∷ shells) arrivals (s ∷ stages) f r t sent p found e =
-    by (find_id r.timed.packet.id (whole_out q h arrivals)) refl (λ g u fo eg. natural d h (next_number d n) shells (whole_out q h arrivals) stages g r u sent p.3 fo eg)
+-- what arrives and is not passed on is lost, or stays inside
+ends_here : (n : ℕ) (o : Option Timed) (a : Bool) (x : Fate) → (o ≡ None → a ≡ true) → found_fate o (Drops n) (cond a (fates.Inside n) x) ≡ found_fate o (Drops n) (fates.Inside n)
+ends_here n None a x stays = ap (λ b. cond b (fates.Inside n) x) (stays refl)
+ends_here n (Some t) a x stays = refl
+
+pub natural : (d : Direction) (h n : ℕ) (shells : List DirSpec) (arrivals : List Timed) (stages : List Stage) (departed : List Timed) (f : Row → Fate) (r : Row) → is_sent d h r ≡ true
+    → ArePassed d h n shells arrivals stages departed → 1 ≤ number (is_id r.timed.packet.id) arrivals
+    → stage_fates d h stages departed f r ≡ fate_in d h n shells arrivals r.timed.packet.id
+natural d h n [] arrivals [] departed f r sent p some =
+    let found = some_found r.timed.packet.id arrivals some in
+    last d h departed arrivals f r sent p
+    ∙ ap (λ x. found_fate x Leaves (f r)) found.1
+    ∙ sym (ap (λ x. found_fate x Leaves fates.Unsent) found.1)
+natural d h n [] arrivals (s ∷ stages) departed f r sent p some = absurd p
+natural d h n (q ∷ shells) arrivals [] departed f r sent p some = absurd p
+natural d h n (q ∷ shells) arrivals (s ∷ stages) departed f r sent p some =
+    by (find_id r.timed.packet.id (whole_out q h arrivals)) refl (λ more. natural d h (next_number d n) shells (whole_out q h arrivals) stages departed (stopped d h s f) r sent p.3 more)
   where
     id : ℕ
     id = r.timed.packet.id
@@ -71,21 +76,20 @@ natural d h n (q ∷ shells) arrivals (s ∷ stages) f r t sent p found e =
     l : List Timed
     l = whole_lost q h arrivals
 
-    g : Row → Fate
-    g = marked d h s.taken (passes stages) (marked d h s.lost (Drops s.number) f)
+    ids : List ℕ
+    ids = map (λ (t : Timed). t.packet.id) (whole_inside q h arrivals)
 
-    is : g r ≡ found_fate (find_id id o) (passes stages) (found_fate (find_id id l) (Drops s.number) (f r))
-    is = step d h s (passes stages) f r l o sent p.1 p.2
+    here : Fate
+    here = found_fate (find_id id l) (Drops n) (fates.Inside n)
 
-    by : (x : Option Timed) → find_id id o ≡ x
-        → ((k : Row → Fate) (u : Timed) → find_id id o ≡ Some u → k r ≡ mark_fate (enters (next_number d n) shells) u → stage_fates d h stages k r ≡ fate_in d h (next_number d n) shells o id)
-        → stage_fates d h stages g r ≡ passed_fate (find_id id o) (fate_in d h (next_number d n) shells o id) (found_fate (find_id id l) (Drops n) (fates.Inside n))
-    by (Some u) ex rest =
-        rest g u ex (is ∙ ap (λ x. found_fate x (passes stages) (found_fate (find_id id l) (Drops s.number) (f r))) ex ∙ ap (λ m. mark_fate m u) (passes_is d h (next_number d n) shells o stages p.3))
-        ∙ sym (ap (λ x. passed_fate x (fate_in d h (next_number d n) shells o id) (found_fate (find_id id l) (Drops n) (fates.Inside n))) ex)
+    next : Fate
+    next = fate_in d h (next_number d n) shells o id
+
+    by : (x : Option Timed) → find_id id o ≡ x → (1 ≤ number (is_id id) o → stage_fates d h stages departed (stopped d h s f) r ≡ next)
+        → stage_fates d h stages departed (stopped d h s f) r ≡ passed_fate (find_id id o) next here
+    by (Some u) ex rest = rest (some_number id o u ex) ∙ sym (ap (λ x. passed_fate x next here) ex)
     by None ex rest =
-        untouched d h (next_number d n) shells o stages g r sent p.3 (without_found id o ex)
-        ∙ is ∙ ap (λ x. found_fate x (passes stages) (found_fate (find_id id l) (Drops s.number) (f r))) ex
-        ∙ ap (λ m. found_fate (find_id id l) (Drops m) (f r)) p.0
-        ∙ ap (λ x. found_fate (find_id id l) (Drops n) x) e
-        ∙ sym (ap (λ x. passed_fate x (fate_in d h (next_number d n) shells o id) (found_fate (find_id id l) (Drops n) (fates.Inside n))) ex)
+        untouched d h (next_number d n) shells o stages departed (stopped d h s f) r sent p.3 (without_found id o ex)
+        ∙ step d h n s f r l ids sent p.0 p.1 p.2
+        ∙ ends_here n (find_id id l) (is_among id ids) (f r) (λ none. some_among id (whole_inside q h arrivals) (stays_inside id q h arrivals p.4 some ex none))
+        ∙ sym (ap (λ x. passed_fate x next here) ex)

@@ -1,6 +1,6 @@
 -- The directions of a nest.
 use Rattle.std.proofs.Common.{◌≡◌, ℕ, suc, ◌+◌, ◌≤◌, Bool, true, false, cond, List, [], ◌∷◌, ◌++◌, length, map, reverse, refl, ap, sym, subst, ◌∙◌, arith}
-use Rattle.std.proofs.lemmas.List.{reverse-append, map-append, length-reverse}
+use Rattle.std.proofs.lemmas.List.{reverse-append, length-map, length-reverse}
 use Rattle.packet_record.specs.declared.packet.Direction.{Direction}
 use Rattle.packet_record.specs.declared.packet.Direction.TheVariants.{Up, Down}
 use Rattle.packet_record.specs.declared.packet.Timed.{Timed}
@@ -8,16 +8,15 @@ use Rattle.packet_record.specs.Rows.{goes}
 use Rattle.trace_reader.specs.declared.trace.Trace.{Trace}
 use Rattle.trace_reader.specs.Opps.{opps}
 use Rattle.loss_core.specs.declared.rate.Rate.{Rate}
-use Rattle.shell_log.specs.declared.entry.Entry.{Entry}
 use Rattle.shell_core.specs.declared.spec.DirSpec.{DirSpec}
 use Rattle.shell_core.specs.declared.spec.DirSpec.TheVariants as specs
-use Rattle.shell_core.specs.Shells.{IsInRange, opportunities, shell_log}
+use Rattle.shell_core.specs.Shells.{opportunities}
 use Rattle.shell_state.specs.States.{State}
 use Rattle.nest_spec.specs.declared.shell_words.ShellWords.{ShellWords}
 use Rattle.nest_spec.specs.declared.shell_words.ShellWords.TheVariants.{Delay, Loss, Link}
 use Rattle.nest_spec.specs.declared.shell_words.LinkSide.{LinkSide}
-use Rattle.nest_spec.specs.Plans.{IsShell, AreShells, traces_in, trace_count}
-use Rattle.nest_spec.specs.Nests.{NestParts, IsNest, AllFit, stream_of, link_spec, specs_from, in_passing_order, directions_of, opportunities_of, state_logs}
+use Rattle.nest_spec.specs.Plans.{AreShells, trace_count}
+use Rattle.nest_spec.specs.Nests.{NestParts, IsNest, AllFit, stream_of, link_spec, specs_from, in_passing_order, directions_of, is_logged, logged_of, opportunities_of}
 use Rattle.nest_spec.specs.Passing.{HavePassed}
 
 loss_fits : (b : Bool) (rate : Rate) (seed stream h : ℕ) (rest : List DirSpec) → AllFit h rest → AllFit h (cond b (specs.Loss rate seed stream) specs.Pass ∷ rest)
@@ -67,9 +66,15 @@ specs_long d seed n (Link once up down ∷ shells) (t ∷ []) e = absurd (let no
 specs_long d seed n (Link once up down ∷ shells) (t ∷ u ∷ traces) e =
     ap suc (specs_long d seed (n + 1) shells traces (let long : length (t ∷ u ∷ traces) ≡ 2 + trace_count shells = e in omega arith))
 
-in_order_long : (d : Direction) (list : List DirSpec) → length (in_passing_order d list) ≡ length list
+in_order_long : {A : Type 0} (d : Direction) (list : List A) → length (in_passing_order d list) ≡ length list
 in_order_long Up list = length-reverse list
 in_order_long Down list = refl
+
+pub directions_long : (d : Direction) (nest : NestParts) → IsNest nest → length (directions_of d nest) ≡ length nest.shells
+directions_long d nest is = in_order_long d (specs_from d nest.seed 1 nest.shells nest.traces) ∙ specs_long d nest.seed 1 nest.shells nest.traces is.traces
+
+pub logged_long : (d : Direction) (nest : NestParts) → length (logged_of d nest) ≡ length nest.shells
+logged_long d nest = in_order_long d (map (is_logged d) nest.shells) ∙ length-map nest.shells (is_logged d)
 
 passed_long : (h : ℕ) (list : List DirSpec) (arrivals : List Timed) (states : List State) → HavePassed h list arrivals states → length states ≡ length list
 passed_long h [] arrivals [] have = refl
@@ -81,14 +86,4 @@ passed_long h (c ∷ list) arrivals (s ∷ states) have = ap suc (passed_long h 
 pub have_long : (d : Direction) (nest : NestParts) (arrivals : List Timed) (states : List State) → IsNest nest → HavePassed nest.horizon (directions_of d nest) arrivals states
     → length states ≡ length nest.shells
 have_long d nest arrivals states is have =
-    passed_long nest.horizon (directions_of d nest) arrivals states have
-    ∙ in_order_long d (specs_from d nest.seed 1 nest.shells nest.traces)
-    ∙ specs_long d nest.seed 1 nest.shells nest.traces is.traces
-
--- the last of the states is the first of their logs turned round
-pub last_log : (states rest : List State) (last : State) → states ≡ rest ++ last ∷ []
-    → reverse (state_logs states) ≡ shell_log last.spec last.horizon last.burnt last.fed.packets ∷ reverse (state_logs rest)
-last_log states rest last is =
-    ap (λ l. reverse (state_logs l)) is
-    ∙ ap reverse (map-append (λ (s : State). shell_log s.spec s.horizon s.burnt s.fed.packets) rest (last ∷ []))
-    ∙ reverse-append (state_logs rest) (shell_log last.spec last.horizon last.burnt last.fed.packets ∷ [])
+    passed_long nest.horizon (directions_of d nest) arrivals states have ∙ directions_long d nest is

@@ -1,35 +1,21 @@
 -- Every row has one fate, and only one.
-use Rattle.std.proofs.Common.{◌≡◌, ◌≢◌, ℕ, zero, suc, ◌+◌, ◌<◌, ◌≤◌, ◌&&◌, Bool, true, false, cond, eqb, List, [], ◌∷◌, length, get_or, map, filter, nat_le, nat_lt, refl, ap, sym, subst, ◌∙◌, arith, rules, tests, eq-eqb, ne_eqb}
+use Rattle.std.proofs.Common.{◌≡◌, ◌≢◌, ℕ, zero, suc, ◌+◌, ◌<◌, ◌≤◌, ◌&&◌, Bool, true, false, cond, eqb, List, [], ◌∷◌, length, get_or, map, filter, nat_le, nat_lt, refl, ap, ◌∙◌, arith, rules, tests, eq-eqb, ne_eqb}
 use Rattle.packet_record.specs.declared.packet.Packet.{Packet}
 use Rattle.packet_record.specs.declared.packet.Timed.{Timed}
 use Rattle.packet_record.specs.declared.packet.Row.{Row}
 use Rattle.packet_record.specs.declared.packet.Direction.{Direction}
 use Rattle.packet_record.specs.declared.packet.Direction.TheVariants.{Up, Down}
 use Rattle.packet_record.specs.Rows.{goes, entering}
-use Rattle.link_core.specs.Numbers.{number}
 use Rattle.shell_core.specs.declared.spec.DirSpec.{DirSpec}
-use Rattle.shell_core.specs.Shells.{IsBuilt, opportunities, whole_out, whole_lost}
+use Rattle.shell_core.specs.Shells.{opportunities, whole_out}
 use Rattle.shell_core.proofs.Once.{number_once}
-use Rattle.shell_state.specs.States.{State}
-use Rattle.nest_spec.specs.Fates.{AreApart, AllStand, is_sent}
-use Rattle.nest_spec.specs.Passing.{HavePassed, whole_inside}
+use Rattle.nest_spec.specs.Fates.{AreApart, is_sent}
+use Rattle.nest_spec.specs.Passing.{AreBuilt}
 use Rattle.nest_spec.specs.Nests.{NestParts, directions_of}
-use Rattle.nest_spec.specs.Once.{number_in, ends_in, fates_in, HaveOneFate}
-
-AreBuilt : List DirSpec → Type 0
-AreBuilt [] = Unit {0}
-AreBuilt (c ∷ specs) = IsBuilt c × AreBuilt specs
-
-passed_built : (h : ℕ) (specs : List DirSpec) (arrivals : List Timed) (states : List State) → AllStand states → HavePassed h specs arrivals states → AreBuilt specs
-unfolding AreBuilt
-passed_built h [] arrivals [] stand have = tt
-passed_built h [] arrivals (s ∷ states) stand have = absurd have
-passed_built h (c ∷ specs) arrivals [] stand have = absurd have
-passed_built h (c ∷ specs) arrivals (s ∷ states) stand have = (subst IsBuilt have.0 stand.0.built, passed_built h specs s.taken.packets states stand.1 have.4)
+use Rattle.nest_spec.specs.Once.{number_in, ends_in, HaveOneFate}
 
 -- what arrives ends in one of the lists, as often as it arrives
 ends_once : (h : ℕ) (specs : List DirSpec) (arrivals : List Timed) (id : ℕ) → AreBuilt specs → ends_in h specs arrivals id ≡ number_in id arrivals
-unfolding AreBuilt
 ends_once h [] arrivals id built = refl
 ends_once h (c ∷ specs) arrivals id built =
     let rest = ends_once h specs (whole_out c h arrivals) id built.1 in
@@ -88,17 +74,13 @@ one_weight : (h : ℕ) (r : Row) → late h r + weigh Up h r + weigh Down h r �
 unfolding weigh late
 one_weight h r = early_or_late r.timed.moment h (nat_le r.timed.moment h) (nat_lt h r.timed.moment) refl refl r.direction
 
-pub one_fate : (nest : NestParts) (rows : List Row) (ups downs : List State) → AreApart rows → AllStand ups → AllStand downs
-    → HavePassed nest.horizon (directions_of Up nest) (entering Up nest.horizon rows) ups → HavePassed nest.horizon (directions_of Down nest) (entering Down nest.horizon rows) downs
-    → HaveOneFate nest rows
+pub one_fate : (nest : NestParts) (rows : List Row) → AreApart rows → AreBuilt (directions_of Up nest) → AreBuilt (directions_of Down nest) → HaveOneFate nest rows
 unfolding late
-one_fate nest rows ups downs apart stand_up stand_down up down i d lt =
+one_fate nest rows apart built_up built_down i d lt =
     let h = nest.horizon in
     let r = get_or rows i d in
     let id = r.timed.packet.id in
-    let a = ends_once h (directions_of Up nest) (entering Up h rows) id (passed_built h (directions_of Up nest) (entering Up h rows) ups stand_up up)
-    ∙ entering_total Up h id rows ∙ one_total (weigh Up h) rows i d apart lt in
-    let b = ends_once h (directions_of Down nest) (entering Down h rows) id (passed_built h (directions_of Down nest) (entering Down h rows) downs stand_down down)
-    ∙ entering_total Down h id rows ∙ one_total (weigh Down h) rows i d apart lt in
+    let a = ends_once h (directions_of Up nest) (entering Up h rows) id built_up ∙ entering_total Up h id rows ∙ one_total (weigh Up h) rows i d apart lt in
+    let b = ends_once h (directions_of Down nest) (entering Down h rows) id built_down ∙ entering_total Down h id rows ∙ one_total (weigh Down h) rows i d apart lt in
     let all = one_weight h r in
     ap (λ n. late h r + n + ends_in h (directions_of Down nest) (entering Down h rows) id) a ∙ ap (λ n. late h r + weigh Up h r + n) b ∙ all

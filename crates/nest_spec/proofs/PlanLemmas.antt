@@ -1,12 +1,10 @@
 -- What words state as a nest is a plan of 1 to 8 shells.
-use Rattle.std.proofs.Common.{◌≡◌, ℕ, zero, suc, ◌+◌, ◌-◌, ◌≤◌, ◌<◌, Bool, true, false, cond, List, [], ◌∷◌, ◌++◌, length, Option, Some, None, Result, Ok, Err, option_to_list, is_some, nat_le, refl, ap, sym, subst, ◌∙◌, append_assoc, arith, rules, tests, length-append}
-use Rattle.std.proofs.lemmas.List.{append-nil}
-use Rattle.packet_queue.specs.declared.spec.QueueSpec.{QueueSpec}
+use Rattle.std.proofs.Common.{◌≡◌, ℕ, zero, suc, ◌+◌, ◌-◌, ◌≤◌, ◌<◌, Bool, true, false, cond, List, [], ◌∷◌, ◌++◌, length, Option, Some, None, Result, Ok, Err, option_to_list, is_some, nat_le, refl, ap, sym, subst, ◌∙◌, arith, rules, tests, length-append}
 use Rattle.packet_record.specs.declared.packet.Direction.{Direction}
 use Rattle.mm_base.specs.Numbers.{decimal_of}
 use Rattle.nest_spec.specs.RateValues.{rate_value}
-use Rattle.nest_spec.specs.Words.{Text, next, and_then, ShellRead, shell_read, delay_ms, delay_words, loss_direction, loss_rate, rate_words, loss_words, SideGiven, LinkGiven, nothing_given, LinkRead, link_from, queue_given, side_words, queues_read, traces_read, link_end, link_words, kind_of, shell_words, NestPlan, no_shells, with_shell, next_shell, begun, passed_over, followed, shells_from, nest_of}
-use Rattle.nest_spec.specs.Plans.{IsShell, AreShells, traces_in, log_in, logs_in, trace_count, log_count, IsPart, IsPlan, IsShellRead}
+use Rattle.nest_spec.specs.Words.{Text, next, and_then, ShellRead, shell_read, delay_ms, delay_words, loss_direction, loss_rate, rate_words, loss_words, nothing_given, LinkRead, link_from, queue_given, side_words, queues_read, traces_read, link_end, link_words, kind_of, shell_words, NestPlan, no_shells, with_shell, next_shell, begun, passed_over, followed, shells_from, nest_of}
+use Rattle.nest_spec.specs.Plans.{IsShell, AreShells, traces_in, logs_in, trace_count, log_count, IsPart, IsPlan, IsShellRead}
 use Rattle.nest_spec.specs.declared.error.NestError.{NestError}
 use Rattle.nest_spec.specs.declared.error.NestError.TheVariants as errors
 use Rattle.nest_spec.specs.declared.shell_words.ShellKind.{ShellKind}

@@ -1,11 +1,11 @@
 -- A rate that was read is the rate of its text.
-use Rattle.std.proofs.Common.{◌≡◌, ℕ, ◌≤◌, Bool, true, false, List, Option, Some, None, Result, Ok, Err, nat_le, refl, ap, subst, sym, ◌∙◌, cond, rules, tests}
+use Rattle.std.proofs.Common.{◌≡◌, ℕ, ◌≤◌, Bool, true, false, List, Option, Some, None, Ok, Err, nat_le, refl, ap, subst, cond}
 use Rattle.std.proofs.Math.Bridge.{le_prop}
 use Rattle.std.proofs.lemmas.Bool.{leb-true}
 use Rattle.loss_core.specs.Rates.{rate_of, in_range, billionths_of, parts_of}
 use Rattle.loss_core.specs.declared.rate.Rate.{Rate}
 use Rattle.loss_core.specs.declared.rate.RateError.{RateError}
-use Rattle.loss_core.specs.declared.rate.RateError.TheVariants.{BadRate, AboveOne}
+use Rattle.loss_core.specs.declared.rate.RateError.TheVariants.{AboveOne}
 use Rattle.nest_spec.specs.RateValues.{rate_within, rate_from, rate_value}
 
 abbrev rate : (b : ℕ) → b ≤ 1000000000 → Rate

@@ -1,17 +1,18 @@
--- The fates of rows by overwriting: each list that a shell lost or passed on marks the rows of its packets.
+-- The fates of rows by overwriting: what each shell lost, what stays inside it, and what the last passed on mark the rows of their packets.
 use Rattle.std.specs.Prelude.{◌≡◌, ◌<◌, ◌≤◌, ◌+◌, ◌-◌, ℕ, ◌==◌, ◌&&◌, Bool, List, [], ◌∷◌, Option, Some, None, length, map, find, get_or, nat_le, nat_lt, if◌then◌else◌}
+use Rattle.std.specs.List.{list_any}
 use Rattle.packet_record.specs.declared.packet.Timed.{Timed}
 use Rattle.packet_record.specs.declared.packet.Row.{Row}
 use Rattle.packet_record.specs.declared.packet.Direction.{Direction}
 use Rattle.packet_record.specs.declared.packet.Direction.TheVariants.{Up, Down}
 use Rattle.packet_record.specs.Rows.{goes}
-use Rattle.shell_core.specs.Shells.{lost}
+use Rattle.shell_core.specs.Shells.{lost, inside}
 use Rattle.shell_state.specs.States.{State}
 use Rattle.shell_state.specs.Standing.{Stands}
 use Rattle.nest_spec.specs.declared.fate.Fate.{Fate}
 use Rattle.nest_spec.specs.declared.fate.Fate.TheVariants as fates
 use Rattle.nest_spec.specs.declared.mark.Mark.{Mark}
-use Rattle.nest_spec.specs.declared.mark.Mark.TheVariants.{Drops, Enters, Leaves}
+use Rattle.nest_spec.specs.declared.mark.Mark.TheVariants.{Drops, Leaves}
 
 -- no two rows have one number
 abbrev pub AreApart : List Row → Type 0
@@ -19,7 +20,6 @@ AreApart rows = (i j : ℕ) (d : Row) → i < length rows → j < length rows �
 
 abbrev pub mark_fate : Mark → Timed → Fate
 mark_fate (Drops shell) t = fates.Dropped shell t.moment
-mark_fate (Enters shell) t = fates.Inside shell
 mark_fate Leaves t = fates.Departed t.moment
 
 -- the row is one of this direction, up to the horizon
@@ -30,22 +30,35 @@ abbrev pub found_fate : Option Timed → Mark → Fate → Fate
 found_fate None mark so_far = so_far
 found_fate (Some t) mark so_far = mark_fate mark t
 
+-- the fates where the row of this number has this one
+abbrev pub put : Direction → ℕ → ℕ → Fate → (Row → Fate) → Row → Fate
+put d horizon id fate f row = if is_sent d horizon row && (id == row.timed.packet.id) then fate else f row
+
 -- the fates where the rows of these packets are marked
 abbrev pub marked : Direction → ℕ → List Timed → Mark → (Row → Fate) → Row → Fate
 marked d horizon packets mark f row =
     if is_sent d horizon row then found_fate (find (λ t. t.packet.id == row.timed.packet.id) packets) mark (f row) else f row
 
-abbrev pub marked_one : Direction → ℕ → Timed → Mark → (Row → Fate) → Row → Fate
-marked_one d horizon t mark f row = if is_sent d horizon row && (t.packet.id == row.timed.packet.id) then mark_fate mark t else f row
+-- the number stands among these
+abbrev pub is_among : ℕ → List ℕ → Bool
+is_among id ids = list_any (λ i. i == id) ids
 
--- a shell's number, and what it lost and passed on
+-- the fates where the rows of these numbers are inside a shell
+abbrev pub held_in : Direction → ℕ → List ℕ → ℕ → (Row → Fate) → Row → Fate
+held_in d horizon ids shell f row = if is_sent d horizon row && is_among row.timed.packet.id ids then fates.Inside shell else f row
+
+-- a shell's number, what it lost, and the numbers of the packets that stay inside it
 pub record Stage : Type 0 where
   pub number : ℕ
   pub lost : List Timed
-  pub taken : List Timed
+  pub held : List ℕ
 
 abbrev pub stage_of : ℕ → State → Stage
-stage_of number s = record { number = number; lost = lost s.spec s.horizon s.burnt s.fed.packets; taken = s.taken.packets }
+stage_of number s = record {
+  number = number;
+  lost = lost s.spec s.horizon s.burnt s.fed.packets;
+  held = map (λ t. t.packet.id) (inside s.spec s.horizon s.burnt s.fed.packets);
+}
 
 -- the number of the shell that packets pass next
 abbrev pub next_number : Direction → ℕ → ℕ
@@ -57,15 +70,19 @@ abbrev pub stages_of : Direction → ℕ → List State → List Stage
 stages_of d n [] = []
 stages_of d n (s ∷ states) = stage_of n s ∷ stages_of d (next_number d n) states
 
-abbrev pub passes : List Stage → Mark
-passes [] = Leaves
-passes (next ∷ stages) = Enters next.number
+-- what was taken from the last of some shells, which these packets entered
+abbrev pub last_taken : List Timed → List State → List Timed
+last_taken packets [] = packets
+last_taken packets (s ∷ states) = last_taken s.taken.packets states
 
--- through the shells in passing order: what a shell lost is dropped, and what it passed on is in the next shell, or departed
-abbrev pub stage_fates : Direction → ℕ → List Stage → (Row → Fate) → Row → Fate
-stage_fates d horizon [] f = f
-stage_fates d horizon (stage ∷ stages) f =
-    stage_fates d horizon stages (marked d horizon stage.taken (passes stages) (marked d horizon stage.lost (Drops stage.number) f))
+-- the fates of the packets that end in a shell
+abbrev pub stopped : Direction → ℕ → Stage → (Row → Fate) → Row → Fate
+stopped d horizon stage f = marked d horizon stage.lost (Drops stage.number) (held_in d horizon stage.held stage.number f)
+
+-- through the shells in passing order, the last of which passed these packets on
+abbrev pub stage_fates : Direction → ℕ → List Stage → List Timed → (Row → Fate) → Row → Fate
+stage_fates d horizon [] departed f = marked d horizon departed Leaves f
+stage_fates d horizon (stage ∷ stages) departed f = stage_fates d horizon stages departed (stopped d horizon stage f)
 
 abbrev pub by_direction : Direction → Fate → Fate → Fate
 by_direction Up up down = up
@@ -73,9 +90,6 @@ by_direction Down up down = down
 
 abbrev pub first_fate : ℕ → ℕ → ℕ → Row → Fate
 first_fate horizon up down row = if nat_lt horizon row.timed.moment then fates.Unsent else by_direction row.direction (fates.Inside up) (fates.Inside down)
-
-abbrev pub overwritten : ℕ → ℕ → ℕ → List Stage → List Stage → Row → Fate
-overwritten horizon first_up first_down up down = stage_fates Down horizon down (stage_fates Up horizon up (first_fate horizon first_up first_down))
 
 -- numbers of at most eight shells, the first with this one
 abbrev pub IsFew : Direction → ℕ → ℕ → Type 0

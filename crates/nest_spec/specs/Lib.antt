@@ -16,3 +16,5 @@ pub mod Once
 pub mod ResultViews
 pub mod PlanViews
 pub mod DraftViews
+pub mod Marks
+pub mod MarkingViews

@@ -1,5 +1,5 @@
 -- What a link's words gave, as contracts see it.
-use Rattle.std.specs.Prelude.{ℕ, List, Option, Some, None, map, string_bytes}
+use Rattle.std.specs.Prelude.{Option, Some, None, map, string_bytes}
 use Rattle.std.specs.Borrow.{Bor}
 use Rattle.nest_spec.specs.Words.{Text, SideGiven, LinkGiven, OptionRead, option_read, LinkRead, link_read}
 use Rattle.nest_spec.specs.declared.link_words.SideWords.{SideWords}

@@ -1,5 +1,5 @@
 -- A nest: what its shells do in each direction, and its logs by name.
-use Rattle.std.specs.Prelude.{ℕ, ◌+◌, ◌*◌, ◌≤◌, ◌≡◌, Bool, true, false, List, [], ◌∷◌, ◌++◌, length, map, reverse, if◌then◌else◌}
+use Rattle.std.specs.Prelude.{ℕ, ◌+◌, ◌*◌, ◌≤◌, ◌≡◌, Bool, true, false, List, [], ◌∷◌, length, map, reverse, if◌then◌else◌}
 use Rattle.packet_record.specs.declared.packet.Direction.{Direction}
 use Rattle.packet_record.specs.declared.packet.Direction.TheVariants.{Up, Down}
 use Rattle.packet_record.specs.declared.packet.Row.{Row}
@@ -94,6 +94,23 @@ whole_logs h (c ∷ specs) arrivals = whole_log c h arrivals ∷ whole_logs h sp
 -- the logs of states
 abbrev pub state_logs : List State → List (List Entry)
 state_logs states = map (λ (s : State). shell_log s.spec s.horizon s.burnt s.fed.packets) states
+
+-- whether the log of a shell's direction has a name
+abbrev pub is_logged : Direction → ShellWords → Bool
+is_logged d (Delay ms) = false
+is_logged d (Loss named rate) = false
+is_logged Up (Link once up down) = up.logged
+is_logged Down (Link once up down) = down.logged
+
+-- of each shell in passing order
+abbrev pub logged_of : Direction → NestParts → List Bool
+logged_of d nest = in_passing_order d (map (is_logged d) nest.shells)
+
+-- the logs that are marked so, and an empty one in place of each other
+abbrev pub kept_logs : List Bool → List (List Entry) → List (List Entry)
+kept_logs [] logs = []
+kept_logs (kept ∷ flags) [] = []
+kept_logs (kept ∷ flags) (log ∷ logs) = (if kept then log else []) ∷ kept_logs flags logs
 
 -- a log and its name
 pub record NamedEntries : Type 0 where

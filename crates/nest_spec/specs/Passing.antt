@@ -7,13 +7,12 @@ use Rattle.packet_record.specs.declared.packet.Direction.TheVariants.{Up, Down}
 use Rattle.packet_record.specs.declared.item.FlowEnd.TheVariants.{Ended}
 use Rattle.packet_record.specs.Rows.{entering}
 use Rattle.shell_core.specs.declared.spec.DirSpec.{DirSpec}
-use Rattle.shell_core.specs.Shells.{opportunities, inside, whole_out, whole_lost}
+use Rattle.shell_core.specs.Shells.{IsBuilt, opportunities, inside, whole_out, whole_lost}
 use Rattle.shell_state.specs.States.{State}
 use Rattle.nest_spec.specs.declared.fate.Fate.{Fate}
 use Rattle.nest_spec.specs.declared.fate.Fate.TheVariants as fates
 use Rattle.nest_spec.specs.declared.fate.FateRow.{FateRow}
-use Rattle.nest_spec.specs.declared.mark.Mark.{Mark}
-use Rattle.nest_spec.specs.declared.mark.Mark.TheVariants.{Drops, Enters, Leaves}
+use Rattle.nest_spec.specs.declared.mark.Mark.TheVariants.{Drops, Leaves}
 use Rattle.nest_spec.specs.Fates.{Stage, found_fate, by_direction, next_number}
 
 -- Chain: the arrivals of each shell, and what the last passes on; shells stand in passing order
@@ -31,6 +30,23 @@ passed_fate None next here = here
 -- the packets that neither departed nor were dropped
 abbrev pub whole_inside : DirSpec → ℕ → List Timed → List Timed
 whole_inside c h arrivals = inside c h (length (opportunities c h)) arrivals
+
+-- what the shell of this number lost and kept inside
+abbrev pub whole_stage : ℕ → ℕ → DirSpec → List Timed → Stage
+whole_stage h n c arrivals = record { number = n; lost = whole_lost c h arrivals; held = map (λ (t : Timed). t.packet.id) (whole_inside c h arrivals) }
+
+-- each shell in passing order, the first with this number, and what the last passed on
+abbrev pub whole_stages : Direction → ℕ → ℕ → List DirSpec → List Timed → List Stage
+whole_stages d h n [] arrivals = []
+whole_stages d h n (c ∷ specs) arrivals = whole_stage h n c arrivals ∷ whole_stages d h (next_number d n) specs (whole_out c h arrivals)
+
+abbrev pub whole_departed : ℕ → List DirSpec → List Timed → List Timed
+whole_departed h [] arrivals = arrivals
+whole_departed h (c ∷ specs) arrivals = whole_departed h specs (whole_out c h arrivals)
+
+abbrev pub AreBuilt : List DirSpec → Type 0
+AreBuilt [] = Unit {0}
+AreBuilt (c ∷ specs) = IsBuilt c × AreBuilt specs
 
 -- The fate of the packet of this number that arrives at these shells, the first with its number: where the shell passes it on, its fate
 -- is that in the shells after it; where it is lost, it is dropped there; else it is inside. What passes all shells has departed.
@@ -55,9 +71,13 @@ fate_of h up down rows row =
 abbrev pub fate_row : Row → Fate → FateRow
 fate_row row fate = record { id = row.timed.packet.id; direction = row.direction; fate = fate }
 
+-- each row's fate, given as a function of the row
+abbrev pub fated : (Row → Fate) → List Row → List FateRow
+fated f rows = map (λ (row : Row). fate_row row (f row)) rows
+
 -- the fates of a run, one for each row
 abbrev pub fates_of : ℕ → List DirSpec → List DirSpec → List Row → List FateRow
-fates_of h up down rows = map (λ (row : Row). fate_row row (fate_of h up down rows row)) rows
+fates_of h up down rows = fated (fate_of h up down rows) rows
 
 -- the states of shells in passing order that have run: each was fed what the one before it passed on, the first these packets, and was taken to its end
 abbrev pub HavePassed : ℕ → List DirSpec → List Timed → List State → Type 0

@@ -2,8 +2,8 @@
 use Rattle.std.specs.Prelude.{List}
 use Rattle.packet_record.specs.declared.packet.Row.{Row}
 use Rattle.nest_spec.specs.Index.{IsIndex, AreFromOne}
-use Rattle.nest_spec.specs.declared.marking.Places.{Places}
-use Rattle.nest_spec.specs.declared.marking.Places.TheVariants.{Numbered, Indexed}
+use Rattle.nest_spec.specs.declared.places.Places.{Places}
+use Rattle.nest_spec.specs.declared.places.Places.TheVariants.{Numbered, Indexed}
 
 abbrev pub ArePlaces : List Row → Places → Type 0
 ArePlaces rows Numbered = AreFromOne rows

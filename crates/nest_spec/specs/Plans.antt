@@ -1,5 +1,5 @@
 -- What holds of every nest that words state.
-use Rattle.std.specs.Prelude.{◌≡◌, ℕ, ◌+◌, ◌≤◌, Bool, List, [], ◌∷◌, length, if◌then◌else◌}
+use Rattle.std.specs.Prelude.{◌≡◌, ℕ, ◌+◌, ◌≤◌, List, [], ◌∷◌, length, if◌then◌else◌}
 use Rattle.nest_spec.specs.Words.{NestPlan, ShellRead}
 use Rattle.nest_spec.specs.declared.shell_words.ShellWords.{ShellWords}
 use Rattle.nest_spec.specs.declared.shell_words.ShellWords.TheVariants.{Delay, Loss, Link}

@@ -1,5 +1,5 @@
 -- The rate that a text stands for.
-use Rattle.std.specs.Prelude.{◌≡◌, ℕ, ◌≤◌, Bool, true, false, List, Option, Some, None, Result, Ok, Err, nat_le, refl}
+use Rattle.std.specs.Prelude.{◌≡◌, ℕ, Bool, true, false, List, Option, Some, None, Result, Ok, Err, nat_le, refl}
 use Rattle.std.proofs.lemmas.Bool.{leb-true}
 use Rattle.loss_core.specs.Rates.{billionths_of, parts_of}
 use Rattle.loss_core.specs.declared.rate.Rate.{Rate}

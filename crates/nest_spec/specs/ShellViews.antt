@@ -1,5 +1,5 @@
 -- What was read of one shell, as contracts see it.
-use Rattle.std.specs.Prelude.{ℕ, List, ◌++◌, map, string_bytes, option_to_list}
+use Rattle.std.specs.Prelude.{◌++◌, map, string_bytes, option_to_list}
 use Rattle.nest_spec.specs.Words.{ShellRead, shell_read}
 use Rattle.nest_spec.specs.LinkViews.{text_of}
 use Rattle.nest_spec.specs.declared.shell_reading.ShellRead.{ShellRead as ShellInside}

@@ -1,39 +1,34 @@
 // The text of fates.
-ghost use Rattle.std.specs.Prelude.{◌≡◌, ◌++◌, IfOk, OnOk};
+ghost use Rattle.std.specs.Prelude.{◌≡◌, ◌+◌, ◌≤◌, ◌++◌, length, IfOk};
 ghost use Rattle.nest_spec.specs.FateTexts.{direction_text, fate_text, fate_line, fates_text};
 
 use crate::{Fate, FateRow};
-use mm_base::{Bytes, OutOfMemory, write_decimal};
+use mm_base::{Bytes, LineBuffer, OutOfMemory, PrintLine, print_lines};
 use packet_record::Direction;
 use std::alloc::Global;
-
-// As many bytes as a line has in a run of at most 1,000,000 packets, 8 shells and an hour.
-const LINE: usize = 32;
 
 /// The text of these fates: a line for each, in their order. `OutOfMemory` is want of memory.
 pub fn print_fates(alloc: Global, fates: &[FateRow]) -> Result<Bytes, OutOfMemory>
     ensures { IfOk result (λ text. text ≡ fates_text fates.now) }
 {
-    let room = fates.len().saturating_mul(LINE);
-    let mut text = Bytes::from_vec(Vec::with_capacity(alloc, room)?);
-    for row in fates {
-        write_line(&mut text, row)?;
-    }
-    Ok(text)
+    print_lines(alloc, b"", fates)
 }
 
-fn write_line(text: &mut Bytes, row: &FateRow) -> Result<(), OutOfMemory>
-    ensures { OnOk result (text.new ≡ text.old ++ fate_line row.now) }
-{
-    write_decimal(text, u64::from(row.id))?;
-    text.append(direction_words(row.direction))?;
-    write_fate(text, row.fate)?;
-    text.push(b'\n')
+impl PrintLine for FateRow {
+    ghost line = { fate_line };
+
+    fn put_line(&self, out: &mut LineBuffer) {
+        out.put_byte(b'\n');
+        put_fate(out, self.fate);
+        out.put(direction_words(self.direction));
+        out.put_decimal(u64::from(self.id));
+    }
 }
 
 // The direction between two spaces.
 fn direction_words(direction: Direction) -> &'static [u8]
-    ensures { result.now ≡ direction_text direction }
+    ensures words { result.now ≡ direction_text direction }
+    ensures length { length result.now ≤ 6 }
 {
     match direction {
         Direction::Up => b" up ".as_slice(),
@@ -41,24 +36,27 @@ fn direction_words(direction: Direction) -> &'static [u8]
     }
 }
 
-fn write_fate(text: &mut Bytes, fate: Fate) -> Result<(), OutOfMemory>
-    ensures { OnOk result (text.new ≡ text.old ++ fate_text fate) }
+// Puts the text of a fate, of at most 39 bytes, in front.
+fn put_fate(out: &mut LineBuffer, fate: Fate)
+    requires { length out.old + 41 ≤ 72 }
+    ensures bytes { out.new ≡ fate_text fate ++ out.old }
+    ensures length { length out.new ≤ length out.old + 39 }
 {
     match fate {
         Fate::Departed { moment } => {
-            text.append(b"departed ".as_slice())?;
-            write_decimal(text, moment)
+            out.put_decimal(moment);
+            out.put(b"departed ");
         }
         Fate::Dropped { shell, moment } => {
-            text.append(b"dropped ".as_slice())?;
-            write_decimal(text, u64::from(shell))?;
-            text.push(b' ')?;
-            write_decimal(text, moment)
+            out.put_decimal(moment);
+            out.put_byte(b' ');
+            out.put_decimal(u64::from(shell));
+            out.put(b"dropped ");
         }
         Fate::Inside { shell } => {
-            text.append(b"inside ".as_slice())?;
-            write_decimal(text, u64::from(shell))
+            out.put_decimal(u64::from(shell));
+            out.put(b"inside ");
         }
-        Fate::Unsent => text.append(b"unsent".as_slice()),
+        Fate::Unsent => out.put(b"unsent"),
     }
 }

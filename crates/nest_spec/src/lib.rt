@@ -1,6 +1,7 @@
 //! Nests of shells: their words, what becomes of their packets, and its text.
 #![tactic(auto)]
 
+mod copying;
 mod error;
 mod fate;
 mod fates_text;
@@ -11,6 +12,8 @@ mod marking;
 mod naming;
 mod nest;
 mod nest_words;
+mod passing_order;
+mod places;
 mod run_result;
 mod shell_reading;
 mod shell_words;
@@ -23,7 +26,10 @@ pub use error::NestError;
 pub use fate::{Fate, FateRow};
 pub use fates_text::print_fates;
 pub use gathering::gather;
+pub use marking::Marking;
+pub use naming::name_logs;
 pub use nest::{Nest, build};
 pub use nest_words::{NestWords, read_nest};
+pub use passing_order::{first_number, next_number};
 pub use run_result::{NamedLog, RunResult};
 pub use shell_words::{LinkSide, ShellKind, ShellWords};

@@ -8,7 +8,6 @@ use packet_record::Timed;
 #[derive(Clone, Copy)]
 pub(crate) enum Mark {
     Drops { shell: u32 },
-    Enters { shell: u32 },
     Leaves,
 }
 
@@ -20,7 +19,6 @@ pub(crate) fn fate_by(mark: Mark, t: Timed) -> Fate
             shell,
             moment: t.moment,
         },
-        Mark::Enters { shell } => Fate::Inside { shell },
         Mark::Leaves => Fate::Departed { moment: t.moment },
     }
 }

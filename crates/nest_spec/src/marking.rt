@@ -1,90 +1,123 @@
-// The fates of rows, marked list by list.
-ghost use Rattle.std.specs.Prelude.{◌≡◌, ◌≤◌, ◌-◌, ◌+◌, ℕ, length, map, MatchOption, IfOk};
+// The fates of rows while their packets pass the shells.
+ghost use Rattle.std.specs.Prelude.{◌≡◌, ◌≤◌, length, map, IfOk};
 ghost use Rattle.packet_record.specs.declared.packet.Row.{Row as RowValue};
 ghost use Rattle.nest_spec.specs.declared.fate.Fate.{Fate as FateValue};
-ghost use Rattle.nest_spec.specs.Fates.{is_sent, marked, marked_one, next_number, stages_of, stage_fates, passes, first_fate, AreApart, IsFew, AllStand};
-ghost use Rattle.nest_spec.specs.Index.{IsIndex, IsNowhere, IsOnlyAt, AreFromOne};
+ghost use Rattle.nest_spec.specs.Fates.{is_sent, put, marked, held_in, stopped, first_fate, AreApart};
+ghost use Rattle.nest_spec.specs.Passing.{fate_row, fated};
 ghost use Rattle.nest_spec.specs.Places.{ArePlaces};
-ghost use Rattle.std.specs.Bool.{OnTrue};
+ghost use Rattle.nest_spec.specs.Marks.{marks};
 
-use crate::Fate;
 use crate::mark::{Mark, fate_by};
+use crate::places::{Places, place_of, places_of};
+use crate::{Fate, FateRow};
 use mm_base::OutOfMemory;
 use packet_record::{Direction, Row, Timed};
-use shell_state::ShellState;
 use std::alloc::Global;
-use std::collections::HashMap;
+use std::marker::Model;
 
-// Where the row of each number stands: in order from 1, as in a schedule, or as an index says.
+/// The fates of a run's rows while its packets pass the shells. Contracts see the rows, the horizon and the fates, one for each row.
 #[derive(Drop)]
-pub(crate) enum Places {
-    Numbered,
-    Indexed(HashMap<u32, usize>),
+pub struct Marking<'a> {
+    rows: &'a [Row],
+    places: Places,
+    until: u64,
+    list: Vec<FateRow>,
 }
 
-// Whether the numbers are 1, 2, 3 and on.
-fn are_numbered(rows: &[Row]) -> bool
-    ensures { OnTrue result (AreFromOne rows.now) }
-{
-    for (i, row) in rows.iter().enumerate() {
-        if row.timed.packet.id as usize != i + 1 {
-            return false;
-        }
+impl<'a> Model for Marking<'a> {
+    ghost use Rattle.nest_spec.specs.Marks.{Marks};
+
+    ghost Value = { Marks };
+
+    ghost use Rattle.nest_spec.specs.MarkingViews.{marking_view, IsMarking};
+
+    ghost view = { marking_view };
+
+    ghost invariant = { IsMarking };
+}
+
+impl<'a> Marking<'a> {
+    /// The fates before any packet has passed a shell: each row is unsent, where its moment is past the horizon, or inside the first
+    /// shell of its direction. `OutOfMemory` is want of memory.
+    pub fn new(
+        alloc: Global,
+        rows: &'a [Row],
+        horizon: u64,
+        shells: u32,
+    ) -> Result<Marking<'a>, OutOfMemory>
+        requires apart { AreApart rows.now }
+        ensures { IfOk result (λ m. m ≡ marks rows.now horizon (fated (first_fate horizon shells 1) rows.now)) }
+    {
+        let places = places_of(alloc, rows)?;
+        let list = first_fates(alloc, rows, horizon, shells)?;
+        Ok(Marking {
+            rows,
+            places,
+            until: horizon,
+            list,
+        })
     }
-    true
-}
 
-fn index_of(alloc: Global, rows: &[Row]) -> Result<HashMap<u32, usize>, OutOfMemory>
-    requires apart { AreApart rows.now }
-    ensures { IfOk result (λ m. IsIndex rows.now m) }
-{
-    let mut index = HashMap::new(alloc);
-    for (i, row) in rows.iter().enumerate() {
-        match index.insert(row.timed.packet.id, i) {
-            Ok(_) => {}
-            Err(_) => return Err(OutOfMemory),
-        }
+    /// The packets have passed the shell of this number: those that it lost are dropped there, and those of these numbers are still
+    /// inside it.
+    pub fn pass(&mut self, direction: Direction, number: u32, lost: &[Timed], held: &[u32])
+        ensures rows { self.new.rows ≡ self.old.rows }
+        ensures horizon { self.new.horizon ≡ self.old.horizon }
+        ensures fates { (f : RowValue → FateValue) → self.old.fates ≡ fated f self.old.rows
+            → self.new.fates ≡ fated (stopped direction self.old.horizon (record { number = number; lost = lost.now; held = held.now }) f) self.old.rows }
+    {
+        let list = &mut self.list;
+        hold_all(
+            &self.places,
+            self.rows,
+            direction,
+            self.until,
+            held,
+            number,
+            list,
+        );
+        let drops = Mark::Drops { shell: number };
+        mark_all(
+            &self.places,
+            self.rows,
+            direction,
+            self.until,
+            lost,
+            drops,
+            list,
+        );
     }
-    Ok(index)
-}
 
-pub(crate) fn places_of(alloc: Global, rows: &[Row]) -> Result<Places, OutOfMemory>
-    requires apart { AreApart rows.now }
-    ensures { IfOk result (λ places. ArePlaces rows.now places) }
-{
-    if are_numbered(rows) {
-        return Ok(Places::Numbered);
+    /// These packets have passed the last shell of their direction.
+    pub fn depart(&mut self, direction: Direction, departed: &[Timed])
+        ensures rows { self.new.rows ≡ self.old.rows }
+        ensures horizon { self.new.horizon ≡ self.old.horizon }
+        ensures fates { (f : RowValue → FateValue) → self.old.fates ≡ fated f self.old.rows
+            → self.new.fates ≡ fated (marked direction self.old.horizon departed.now Mark.Leaves f) self.old.rows }
+    {
+        mark_all(
+            &self.places,
+            self.rows,
+            direction,
+            self.until,
+            departed,
+            Mark::Leaves,
+            &mut self.list,
+        );
     }
-    let index = index_of(alloc, rows)?;
-    Ok(Places::Indexed(index))
-}
 
-fn place_by_number(rows: &[Row], id: u32) -> Option<usize>
-    requires { AreFromOne rows.now }
-    ensures { MatchOption result (IsNowhere rows.now id) (λ i. IsOnlyAt rows.now id i) }
-{
-    let number = id as usize;
-    if number == 0 || number > rows.len() {
-        return None;
+    /// The horizon in milliseconds.
+    pub fn horizon(&self) -> u64
+        ensures { result ≡ self.now.horizon }
+    {
+        self.until
     }
-    Some(number - 1)
-}
 
-fn place_by_index(index: &HashMap<u32, usize>, rows: &[Row], id: u32) -> Option<usize>
-    requires { IsIndex rows.now index.now }
-    ensures { MatchOption result (IsNowhere rows.now id) (λ i. IsOnlyAt rows.now id i) }
-{
-    let _ = rows;
-    index.get(&id).copied()
-}
-
-fn place_of(places: &Places, rows: &[Row], id: u32) -> Option<usize>
-    requires { ArePlaces rows.now places.now }
-    ensures { MatchOption result (IsNowhere rows.now id) (λ i. IsOnlyAt rows.now id i) }
-{
-    match places {
-        Places::Numbered => place_by_number(rows, id),
-        Places::Indexed(index) => place_by_index(index, rows, id),
+    /// The fate of each row, in their order.
+    pub fn into_rows(self) -> Vec<FateRow>
+        ensures { result.items ≡ self.entry.fates }
+    {
+        self.list
     }
 }
 
@@ -94,24 +127,25 @@ fn sent(direction: Direction, horizon: u64, row: Row) -> bool
     row.direction == direction && row.timed.moment <= horizon
 }
 
-// One packet's row is marked, where the packet is one of its direction.
-fn mark_one(
+// The row of a number gets this fate, where it is one of the direction.
+fn put(
     places: &Places,
     rows: &[Row],
     direction: Direction,
     horizon: u64,
-    t: Timed,
-    mark: Mark,
-    fates: &mut Vec<Fate>,
+    id: u32,
+    fate: Fate,
+    list: &mut Vec<FateRow>,
 )
     requires places { ArePlaces rows.now places.now }
-    requires length { length fates.old.items ≡ length rows.now }
-    ensures length { length fates.new.items ≡ length rows.now }
-    ensures fates { (f : RowValue → FateValue) → fates.old.items ≡ map f rows.now → fates.new.items ≡ map (marked_one direction horizon t mark f) rows.now }
+    requires length { length list.old.items ≡ length rows.now }
+    ensures length { length list.new.items ≡ length rows.now }
+    ensures fates { (f : RowValue → FateValue) → list.old.items ≡ fated f rows.now → list.new.items ≡ fated (put direction horizon id fate f) rows.now }
 {
-    if let Some(place) = place_of(places, rows, t.packet.id) {
-        if sent(direction, horizon, rows[place]) {
-            fates[place] = fate_by(mark, t);
+    if let Some(place) = place_of(places, rows, id) {
+        let row = rows[place];
+        if sent(direction, horizon, row) {
+            list[place] = row_with(row, fate);
         }
     }
 }
@@ -124,83 +158,66 @@ fn mark_all(
     horizon: u64,
     packets: &[Timed],
     mark: Mark,
-    fates: &mut Vec<Fate>,
+    list: &mut Vec<FateRow>,
 )
     requires places { ArePlaces rows.now places.now }
-    requires length { length fates.old.items ≡ length rows.now }
-    ensures length { length fates.new.items ≡ length rows.now }
-    ensures fates { (f : RowValue → FateValue) → fates.old.items ≡ map f rows.now → fates.new.items ≡ map (marked direction horizon packets.now mark f) rows.now }
+    requires length { length list.old.items ≡ length rows.now }
+    ensures length { length list.new.items ≡ length rows.now }
+    ensures fates { (f : RowValue → FateValue) → list.old.items ≡ fated f rows.now → list.new.items ≡ fated (marked direction horizon packets.now mark f) rows.now }
 {
     let mut left = packets.len();
     'packets: while left > 0 {
         left -= 1;
-        mark_one(places, rows, direction, horizon, packets[left], mark, fates);
+        let t = packets[left];
+        put(
+            places,
+            rows,
+            direction,
+            horizon,
+            t.packet.id,
+            fate_by(mark, t),
+            list,
+        );
     }
 }
 
-fn next_number(direction: Direction, number: u32) -> u32
-    requires { number ≤ 8 }
-    ensures { result ≡ next_number direction number }
-{
-    match direction {
-        Direction::Up => number.saturating_sub(1),
-        Direction::Down => number + 1,
-    }
-}
-
-// What the next shell, or the end, makes of the packets that are passed on.
-fn mark_after(direction: Direction, number: u32, rest: &[ShellState]) -> Mark
-    requires { number ≤ 8 }
-    ensures { result ≡ passes (stages_of direction (next_number direction number) rest.now) }
-{
-    match rest {
-        [] => Mark::Leaves,
-        [_, ..] => Mark::Enters {
-            shell: next_number(direction, number),
-        },
-    }
-}
-
-// Marks the rows of what each shell lost and passed on, in passing order, the first with this number.
-pub(crate) fn walk(
+// The rows of these numbers are inside a shell.
+fn hold_all(
     places: &Places,
     rows: &[Row],
     direction: Direction,
     horizon: u64,
-    number: u32,
-    states: &[ShellState],
-    fates: &mut Vec<Fate>,
+    ids: &[u32],
+    shell: u32,
+    list: &mut Vec<FateRow>,
 )
     requires places { ArePlaces rows.now places.now }
-    requires length { length fates.old.items ≡ length rows.now }
-    requires few { IsFew direction number (length states.now) }
-    ensures length { length fates.new.items ≡ length rows.now }
-    ensures fates { (f : RowValue → FateValue) → fates.old.items ≡ map f rows.now → fates.new.items ≡ map (stage_fates direction horizon (stages_of direction number states.now) f) rows.now }
-    ensures stand { AllStand states.now }
+    requires length { length list.old.items ≡ length rows.now }
+    ensures length { length list.new.items ≡ length rows.now }
+    ensures fates { (f : RowValue → FateValue) → list.old.items ≡ fated f rows.now → list.new.items ≡ fated (held_in direction horizon ids.now shell f) rows.now }
 {
-    if let Some((state, rest)) = states.split_first() {
-        mark_all(
+    let mut left = ids.len();
+    'ids: while left > 0 {
+        left -= 1;
+        put(
             places,
             rows,
             direction,
             horizon,
-            state.lost(),
-            Mark::Drops { shell: number },
-            fates,
+            ids[left],
+            Fate::Inside { shell },
+            list,
         );
-        state.stands();
-        let after = mark_after(direction, number, rest);
-        mark_all(
-            places,
-            rows,
-            direction,
-            horizon,
-            state.taken().packets(),
-            after,
-            fates,
-        );
-        let next = next_number(direction, number);
-        walk(places, rows, direction, horizon, next, rest, fates);
+    }
+}
+
+fn row_with(row: Row, fate: Fate) -> FateRow
+    ensures { result ≡ fate_row row fate }
+{
+    FateRow {
+        id: row.timed.packet.id,
+        direction: row.direction,
+        fate,
     }
 }
 
@@ -217,18 +234,17 @@ fn first(horizon: u64, up: u32, down: u32, row: Row) -> Fate
 }
 
 // Every row unsent, or inside the first shell of its direction.
-pub(crate) fn first_fates(
+fn first_fates(
     alloc: Global,
     rows: &[Row],
     horizon: u64,
-    up: u32,
-    down: u32,
-) -> Result<Vec<Fate>, OutOfMemory>
-    ensures { IfOk result (λ v. v.items ≡ map (first_fate horizon up down) rows.now) }
+    shells: u32,
+) -> Result<Vec<FateRow>, OutOfMemory>
+    ensures { IfOk result (λ v. v.items ≡ fated (first_fate horizon shells 1) rows.now) }
 {
-    let fates = rows
+    let list = rows
         .iter()
-        .map(|row| first(horizon, up, down, *row))
+        .map(|row| row_with(*row, first(horizon, shells, 1, *row)))
         .collect(alloc)?;
-    Ok(fates)
+    Ok(list)
 }

@@ -1,7 +1,7 @@
 // A nest of shells.
-ghost use Rattle.std.specs.Prelude.{◌≡◌, ◌≤◌, ◌+◌, ◌++◌, if◌then◌else◌, length, OnOk, IfOk};
+ghost use Rattle.std.specs.Prelude.{◌≡◌, ◌≤◌, ◌+◌, ◌++◌, if◌then◌else◌, length, map, OnOk, IfOk};
 ghost use Rattle.packet_record.specs.Rows.{goes};
-ghost use Rattle.nest_spec.specs.Nests.{built, directions_of, in_passing_order, specs_from, opportunities_of, stream_of, link_spec, IsNest, AllFit};
+ghost use Rattle.nest_spec.specs.Nests.{built, directions_of, in_passing_order, specs_from, opportunities_of, stream_of, link_spec, is_logged, logged_of, IsNest, AllFit};
 
 use crate::{LinkSide, NestWords, ShellWords};
 use loss_core::Rate;
@@ -94,6 +94,15 @@ impl Nest {
         Ok(in_passing_order(direction, list))
     }
 
+    /// Which shells have a direction whose log has a name, in the order in which its packets pass them.
+    pub fn logged(&self, direction: Direction) -> Result<Vec<bool>, OutOfMemory>
+        ensures { IfOk result (λ flags. flags.items ≡ logged_of direction self.now) }
+    {
+        let alloc = *self.shells.allocator();
+        let flags = flags_of(alloc, direction, self.shells.as_slice())?;
+        Ok(in_passing_order(direction, flags))
+    }
+
     pub(crate) fn shell_words(&self) -> &[ShellWords]
         ensures words { result.now ≡ self.now.shells }
         ensures nest { IsNest self.now }
@@ -108,7 +117,33 @@ impl Nest {
     }
 }
 
-fn in_passing_order(direction: Direction, list: Vec<DirSpec>) -> Vec<DirSpec>
+fn is_logged(direction: Direction, words: ShellWords) -> bool
+    ensures { result ≡ is_logged direction words }
+{
+    match words {
+        ShellWords::Delay { .. } | ShellWords::Loss { .. } => false,
+        ShellWords::Link { up, down, .. } => match direction {
+            Direction::Up => up.logged,
+            Direction::Down => down.logged,
+        },
+    }
+}
+
+fn flags_of(
+    alloc: Global,
+    direction: Direction,
+    shells: &[ShellWords],
+) -> Result<Vec<bool>, OutOfMemory>
+    ensures { IfOk result (λ flags. flags.items ≡ map (is_logged direction) shells.now) }
+{
+    let flags = shells
+        .iter()
+        .map(|words| is_logged(direction, *words))
+        .collect(alloc)?;
+    Ok(flags)
+}
+
+fn in_passing_order<T>(direction: Direction, list: Vec<T>) -> Vec<T>
     ensures { result.items ≡ in_passing_order direction list.items }
 {
     match direction {

@@ -33,7 +33,8 @@ impl Model for RunResult {
 }
 
 impl RunResult {
-    pub(crate) fn new(fates: Vec<FateRow>, logs: Vec<NamedLog>) -> Self
+    /// The result with these fates and logs.
+    pub fn new(fates: Vec<FateRow>, logs: Vec<NamedLog>) -> Self
         ensures { result ≡ record { fates = fates.items; logs = all_named logs.items } }
     {
         RunResult { fates, logs }

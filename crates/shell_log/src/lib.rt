@@ -11,5 +11,5 @@ mod tests;
 
 pub use entry::Entry;
 pub use log::Log;
-pub use printing::print_log;
+pub use printing::{HEADER, print_log};
 pub use reading::{LogError, read_log};

@@ -1,14 +1,23 @@
-use Rattle.nest_plain.proofs.Feeding.{end_fed, has_run}
+use Rattle.std.proofs.Common.{◌∙◌, ℕ, List, length, map, ap}
+use Rattle.packet_record.specs.declared.packet.Timed.{Timed}
+use Rattle.shell_core.specs.Shells.{inside, opportunities, whole_lost}
+use Rattle.nest_spec.specs.Fates.{Stage, stopped}
+use Rattle.nest_spec.specs.Passing.{fated}
 use Rattle.nest_plain.proofs.shell.run_shell.Goals as goal
 
-pub drain-requires-clause-ended : goal.drain-requires-clause-ended
-drain-requires-clause-ended c = (end_fed c.args.state.now c.feed_all.new.state c.feed.new.self c.args.packets.now c.requires.fresh c.in_ok-feed_all.ensures c.in_ok-feed.ensures.ok).0
+abbrev stage : ℕ → List Timed → List ℕ → Stage
+stage number lost held = record { number = number; lost = lost; held = held }
 
-pub drain-requires-clause-open : goal.drain-requires-clause-open
-drain-requires-clause-open c = (end_fed c.args.state.now c.feed_all.new.state c.feed.new.self c.args.packets.now c.requires.fresh c.in_ok-feed_all.ensures c.in_ok-feed.ensures.ok).1
-
-pub drain-requires-clause-whole : goal.drain-requires-clause-whole
-drain-requires-clause-whole c = (end_fed c.args.state.now c.feed_all.new.state c.feed.new.self c.args.packets.now c.requires.fresh c.in_ok-feed_all.ensures c.in_ok-feed.ensures.ok).2
-
-pub returns : goal.returns
-returns c = has_run c.args.state.now c.feed_all.new.state c.feed.new.self c.drain.new.state c.args.packets.now c.in_ok-feed_all.ensures c.in_ok-feed.ensures.ok c.in_ok-drain.ensures.0 c.in_ok-drain.ensures.1 c.stands.ensures.stands
+pub returns-clause-fates : goal.returns-clause-fates
+returns-clause-fates c =
+    let a = c.args in
+    let h = c.args.marking.now.horizon in
+    let rows = c.args.marking.now.rows in
+    let arrivals = c.args.packets.items in
+    let went = c.in_ok-departed.ensures in
+    let gone = c.as_slice.ensures.value ∙ went.lost ∙ ap (λ n. whole_lost a.spec n arrivals) c.horizon.ensures in
+    let held = c.as_slice-2.ensures.value ∙ went.held ∙ ap (λ n. map (λ (t : Timed). t.packet.id) (inside a.spec n (length (opportunities a.spec n)) arrivals)) c.horizon.ensures in
+    λ f e.
+    c.pass.ensures.fates f e
+    ∙ ap (λ ts. fated (stopped a.direction h (stage a.number ts c.as_slice-2.result.now) f) rows) gone
+    ∙ ap (λ ids. fated (stopped a.direction h (stage a.number (whole_lost a.spec h arrivals) ids) f) rows) held

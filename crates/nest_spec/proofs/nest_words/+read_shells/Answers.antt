@@ -1,8 +1,8 @@
-use Rattle.std.proofs.Common.{◌≡◌, ℕ, ◌+◌, ◌-◌, ◌<◌, ◌∷◌, Some, Ok, Err, map, string_bytes, option_map, length, ap, sym, subst, ◌∙◌, arith, rules}
+use Rattle.std.proofs.Common.{◌≡◌, ◌+◌, ◌-◌, ◌<◌, ◌∷◌, Some, Ok, Err, map, string_bytes, ap, sym, subst, ◌∙◌, arith, rules}
 use Rattle.std.specs.Result.{MatchResult}
 use Rattle.std.proofs.lemmas.Result.{err_from_is_err_and}
-use Rattle.nest_spec.specs.Words.{Text, next, next_shell, kind_of, shell_words, passed_over, followed, shells_from}
-use Rattle.nest_spec.specs.DraftViews.{draft_plan, place_and_words}
+use Rattle.nest_spec.specs.Words.{next_shell, kind_of, shell_words, followed, shells_from}
+use Rattle.nest_spec.specs.DraftViews.{draft_plan}
 use Rattle.nest_spec.specs.ShellViews.{shell_given}
 use Rattle.nest_spec.specs.declared.error.NestError.TheVariants as errors
 use Rattle.nest_spec.proofs.PlanLemmas.{goes_on, stops}

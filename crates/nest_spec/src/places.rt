@@ -1,0 +1,84 @@
+// The places of rows by their numbers.
+ghost use Rattle.std.specs.Prelude.{◌≡◌, ◌≤◌, ◌-◌, ◌+◌, ℕ, length, MatchOption, IfOk};
+ghost use Rattle.nest_spec.specs.Fates.{AreApart};
+ghost use Rattle.nest_spec.specs.Index.{IsIndex, IsNowhere, IsOnlyAt, AreFromOne};
+ghost use Rattle.nest_spec.specs.Places.{ArePlaces};
+ghost use Rattle.std.specs.Bool.{OnTrue};
+
+use mm_base::OutOfMemory;
+use packet_record::Row;
+use std::alloc::Global;
+use std::collections::HashMap;
+
+// Where the row of each number stands: in order from 1, as in a schedule, or as an index says.
+#[derive(Drop)]
+pub(crate) enum Places {
+    Numbered,
+    Indexed(HashMap<u32, usize>),
+}
+
+// Whether the numbers are 1, 2, 3 and on.
+fn are_numbered(rows: &[Row]) -> bool
+    ensures { OnTrue result (AreFromOne rows.now) }
+{
+    for (i, row) in rows.iter().enumerate() {
+        if row.timed.packet.id as usize != i + 1 {
+            return false;
+        }
+    }
+    true
+}
+
+fn index_of(alloc: Global, rows: &[Row]) -> Result<HashMap<u32, usize>, OutOfMemory>
+    requires apart { AreApart rows.now }
+    ensures { IfOk result (λ m. IsIndex rows.now m) }
+{
+    let mut index = HashMap::new(alloc);
+    for (i, row) in rows.iter().enumerate() {
+        match index.insert(row.timed.packet.id, i) {
+            Ok(_) => {}
+            Err(_) => return Err(OutOfMemory),
+        }
+    }
+    Ok(index)
+}
+
+pub(crate) fn places_of(alloc: Global, rows: &[Row]) -> Result<Places, OutOfMemory>
+    requires apart { AreApart rows.now }
+    ensures { IfOk result (λ places. ArePlaces rows.now places) }
+{
+    if are_numbered(rows) {
+        return Ok(Places::Numbered);
+    }
+    let index = index_of(alloc, rows)?;
+    Ok(Places::Indexed(index))
+}
+
+fn place_by_number(rows: &[Row], id: u32) -> Option<usize>
+    requires { AreFromOne rows.now }
+    ensures { MatchOption result (IsNowhere rows.now id) (λ i. IsOnlyAt rows.now id i) }
+{
+    let number = id as usize;
+    if number == 0 || number > rows.len() {
+        return None;
+    }
+    Some(number - 1)
+}
+
+fn place_by_index(index: &HashMap<u32, usize>, rows: &[Row], id: u32) -> Option<usize>
+    requires { IsIndex rows.now index.now }
+    ensures { MatchOption result (IsNowhere rows.now id) (λ i. IsOnlyAt rows.now id i) }
+{
+    let _ = rows;
+    index.get(&id).copied()
+}
+
+pub(crate) fn place_of(places: &Places, rows: &[Row], id: u32) -> Option<usize>
+    requires { ArePlaces rows.now places.now }
+    ensures { MatchOption result (IsNowhere rows.now id) (λ i. IsOnlyAt rows.now id i) }
+{
+    match places {
+        Places::Numbered => place_by_number(rows, id),
+        Places::Indexed(index) => place_by_index(index, rows, id),
+    }
+}
