@@ -32,6 +32,22 @@ memory_or (Packets name) = inr (λ e. cc e)
 memory_or (ReadFault name) = inr (λ e. cc e)
 memory_or (WriteFault name) = inr (λ e. cc e)
 
+-- memory alone has status 9
+pub nine_is_memory : (cause : Cause) → status_of cause ≡ 9 → cause ≡ Memory
+nine_is_memory Memory e = refl
+nine_is_memory Usage e = absurd (omega (arith, e))
+nine_is_memory (Nest error) e = absurd (omega (arith, e))
+nine_is_memory (Name name) e = absurd (omega (arith, e))
+nine_is_memory Horizon e = absurd (omega (arith, e))
+nine_is_memory (Absent name) e = absurd (omega (arith, e))
+nine_is_memory (BadInput name number place) e = absurd (omega (arith, e))
+nine_is_memory (FileSize name) e = absurd (omega (arith, e))
+nine_is_memory (Lines name) e = absurd (omega (arith, e))
+nine_is_memory Opportunities e = absurd (omega (arith, e))
+nine_is_memory (Packets name) e = absurd (omega (arith, e))
+nine_is_memory (ReadFault name) e = absurd (omega (arith, e))
+nine_is_memory (WriteFault name) e = absurd (omega (arith, e))
+
 -- the first of two refusals
 pub either_refuses : (first later : Option Cause) (cause : Cause) → or_later first later ≡ Some cause → (first ≡ Some cause) ⊎ ((first ≡ None) × (later ≡ Some cause))
 either_refuses None later cause e = inr (refl, e)

@@ -38,8 +38,9 @@ pub early_first : (j : Option Job) (traces : List (Option (List ℕ))) (schedule
 early_first None traces schedule cause e = e
 early_first (Some (Run job)) traces schedule cause e = ap (λ o. or_later o (refused_files job (nest_of job.shells) traces schedule)) e
 
-early_is : (words : List Text) (old new : DiskView) (cause : Cause) → refused_early (job_of words) ≡ Some cause → status_of cause ≢ 3 → new.files ≡ old.files → IsRefused words old new cause
-early_is words old new cause refused there same = record {
+early_is : (words : List Text) (old new : DiskView) (cause : Cause) → refused_early (job_of words) ≡ Some cause → status_of cause ≢ 3 → new.files ≡ old.files
+    → new.write_faults ≡ old.write_faults → IsRefused words old new cause
+early_is words old new cause refused there same still = record {
   traces = given_all old.files (traces_of (job_of words));
   traces_held = gives_all old.files (traces_of (job_of words));
   schedule = given_of old.files (schedule_of (job_of words));
@@ -47,31 +48,32 @@ early_is words old new cause refused there same = record {
   first = early_first (job_of words) _ _ cause refused;
   absent = λ name e. absurd (there (ap status_of e));
   untouched = same;
+  unwritten = still;
 }
 
 -- words that refuse
 ends_early : (words : List Text) (job : RunJob) (old new : DiskView) (cause : Cause) → job_of words ≡ Some (Run job) → refused_early (Some (Run job)) ≡ Some cause
-    → new.files ≡ old.files → Ends words old new (Some cause)
-ends_early words job old new cause has refused same =
+    → new.files ≡ old.files → new.write_faults ≡ old.write_faults → Ends words old new (Some cause)
+ends_early words job old new cause has refused same still =
     let status = words_status job (nest_of job.shells) cause refused in
-    plain_ends words old new cause status.plain (early_is words old new cause (ap refused_early has ∙ refused) status.not_absent same)
+    plain_ends words old new cause status.plain (early_is words old new cause (ap refused_early has ∙ refused) status.not_absent same still)
 
 pub ends_words : (words : List Text) (job : RunJob) (old new : DiskView) (cause : Cause) → job_of words ≡ Some (Run job)
-    → (cause ≢ Memory → refused_early (Some (Run job)) ≡ Some cause) → new.files ≡ old.files → Ends words old new (Some cause)
-ends_words words job old new cause has refused same =
+    → (cause ≢ Memory → refused_early (Some (Run job)) ≡ Some cause) → new.files ≡ old.files → new.write_faults ≡ old.write_faults → Ends words old new (Some cause)
+ends_words words job old new cause has refused same still =
     elim (memory_or cause) [
       | inl e ↦ subst (λ (k : Cause). Ends words old new (Some k)) (sym e) (inl same)
-      | inr ne ↦ ends_early words job old new cause has (refused ne) same
+      | inr ne ↦ ends_early words job old new cause has (refused ne) same still
     ]
 
 -- words without a job
 pub ends_usage : (words : List Text) (old : DiskView) → job_of words ≡ None → Ends words old old (Some Usage)
-ends_usage words old none = early_is words old old Usage (ap refused_early none) (λ e. omega arith) refl
+ends_usage words old none = early_is words old old Usage (ap refused_early none) (λ e. omega arith) refl refl
 
 -- what the inputs are refused for is what the command line is refused for
 inputs_is : (words : List Text) (job : RunJob) (plan : NestPlan) (old new : DiskView) (cause : Cause) → Asks words job plan → new.files ≡ old.files
-    → HasRefusedInput job plan old new cause → IsRefused words old new cause
-inputs_is words job plan old new cause asks same r =
+    → new.write_faults ≡ old.write_faults → HasRefusedInput job plan old new cause → IsRefused words old new cause
+inputs_is words job plan old new cause asks same still r =
     let names : traces_of (job_of words) ≡ plan.traces = ap traces_of asks.has_job ∙ ap nest_traces asks.shells in
     let schedule : schedule_of (job_of words) ≡ job.schedule = ap schedule_of asks.has_job in
     record {
@@ -85,19 +87,20 @@ inputs_is words job plan old new cause asks same r =
           ∙ r.first;
       absent = r.absent;
       untouched = same;
+      unwritten = still;
     }
 
 pub ends_unread : (words : List Text) (job : RunJob) (plan : NestPlan) (old new : DiskView) (cause : Cause) → Asks words job plan → new.files ≡ old.files
-    → RefusesInputs job plan old new cause → Ends words old new (Some cause)
-ends_unread words job plan old new cause asks same refused =
+    → new.write_faults ≡ old.write_faults → RefusesInputs job plan old new cause → Ends words old new (Some cause)
+ends_unread words job plan old new cause asks same still refused =
     elim refused [
       | inl e ↦ subst (λ (k : Cause). Ends words old new (Some k)) (sym e) (inl same)
       | inr h ↦ elim h [
         | inl f ↦
-            let fault : HasReadFault words old new f.name = record { job = job; plan = plan; asks = asks; next = f.next; rose = f.fault.rose; untouched = same } in
+            let fault : HasReadFault words old new f.name = record { job = job; plan = plan; asks = asks; next = f.next; rose = f.fault.rose; untouched = same; unwritten = still } in
             subst (λ (k : Cause). Ends words old new (Some k)) (sym f.fault.cause_is) fault
         | inr r ↦
-            plain_ends words old new cause (files_status job (Ok plan) r.traces r.schedule cause r.first).plain (inputs_is words job plan old new cause asks same r)
+            plain_ends words old new cause (files_status job (Ok plan) r.traces r.schedule cause r.first).plain (inputs_is words job plan old new cause asks same still r)
       ]
     ]
 

@@ -1,5 +1,5 @@
 -- One file more is written.
-use Rattle.std.proofs.Common.{◌≡◌, ◌≢◌, ◌⊎◌, inl, inr, ℕ, ◌<◌, ◌≤◌, ◌+◌, ◌++◌, List, [], ◌∷◌, Option, Result, Ok, Err, OnOk, OnErr, IfErr, map, take, drop, length, get_or, subst, refl, ap, sym, ◌∙◌, arith}
+use Rattle.std.proofs.Common.{◌≡◌, inl, inr, ℕ, ◌<◌, ◌≤◌, ◌+◌, ◌++◌, List, [], ◌∷◌, Option, Result, Ok, Err, OnOk, OnErr, IfErr, map, take, drop, length, get_or, subst, refl, ap, sym, ◌∙◌, arith}
 use Rattle.std.proofs.lemmas.List.{take_more, drop_more, take-append-drop, map-append, append_assoc}
 use Rattle.mm_base.specs.Files.{Files, holding}
 use Rattle.nest_spec.specs.FateTexts.{fates_text}
@@ -9,7 +9,7 @@ use Rattle.nest_spec.specs.declared.fate.FateRow.{FateRow}
 use Rattle.nest_spec.specs.declared.run_result.NamedLog.{NamedLog}
 use Rattle.option_words.specs.Options.{Text}
 use Rattle.mm_program.specs.Causes.{Cause}
-use Rattle.mm_program.specs.Outputs.{NamedText, holding_all, log_file, named_text, HoldsFirst, HoldsSome, RefusesWrite, StopsWriting, run_files}
+use Rattle.mm_program.specs.Outputs.{NamedText, holding_all, log_file, named_text, HoldsSome, RefusesWrite, StopsWriting, run_files}
 use Rattle.mm_program.specs.View.{cause_of}
 use Rattle.mm_program.specs.declared.refusal.Refusal.{Refusal}
 

@@ -163,6 +163,7 @@ pub record Tells (words : List Text) (old new : DiskView) (status : ℕ) : Type 
   pub read_fault : status ≡ 6 → Rose old.read_faults new.read_faults
   pub write_fault : status ≡ 7 → Rose old.write_faults new.write_faults
   pub untouched : status ≢ 0 → status ≢ 7 → status ≢ 9 → new.files ≡ old.files
+  pub unwritten : status ≢ 0 → status ≢ 7 → status ≢ 9 → new.write_faults ≡ old.write_faults
 
 done_tells : (words : List Text) (old new : DiskView) → Tells words old new 0
 done_tells words old new = record {
@@ -171,6 +172,7 @@ done_tells words old new = record {
   read_fault = λ e. absurd (omega arith);
   write_fault = λ e. absurd (omega arith);
   untouched = λ h _ _. absurd (h refl);
+  unwritten = λ h _ _. absurd (h refl);
 }
 
 read_tells : (words : List Text) (old new : DiskView) (name : Text) → HasReadFault words old new name → Tells words old new 6
@@ -180,6 +182,7 @@ read_tells words old new name fault = record {
   read_fault = λ e. fault.rose;
   write_fault = λ e. absurd (omega arith);
   untouched = λ _ _ _. fault.untouched;
+  unwritten = λ _ _ _. fault.unwritten;
 }
 
 write_tells : (words : List Text) (old new : DiskView) (name : Text) → HasWriteFault words old new name → Tells words old new 7
@@ -189,6 +192,7 @@ write_tells words old new name fault = record {
   read_fault = λ e. absurd (omega arith);
   write_fault = λ e. fault.rose;
   untouched = λ _ h _. absurd (h refl);
+  unwritten = λ _ h _. absurd (h refl);
 }
 
 memory_tells : (words : List Text) (old new : DiskView) → Tells words old new 9
@@ -198,6 +202,7 @@ memory_tells words old new = record {
   read_fault = λ e. absurd (omega arith);
   write_fault = λ e. absurd (omega arith);
   untouched = λ _ _ h. absurd (h refl);
+  unwritten = λ _ _ h. absurd (h refl);
 }
 
 refused_tells : (words : List Text) (old new : DiskView) (cause : Cause) → IsOther cause → IsRefused words old new cause → Tells words old new (status_of cause)
@@ -207,6 +212,7 @@ refused_tells words old new cause plain refused = record {
   read_fault = λ six. absurd (plain.not_read six);
   write_fault = λ seven. absurd (plain.not_write seven);
   untouched = λ _ _ _. refused.untouched;
+  unwritten = λ _ _ _. refused.unwritten;
 }
 
 kind_tells : (words : List Text) (old new : DiskView) (found : Cause) → Kind words old new found → Tells words old new (status_of found)

@@ -1,5 +1,5 @@
 -- What a command line leaves, by what was answered.
-use Rattle.std.specs.Prelude.{◌≡◌, ◌⊎◌, ◌<◌, ℕ, take, List, Option, Some, None, Ok, length}
+use Rattle.std.specs.Prelude.{◌≡◌, ◌≢◌, ◌⊎◌, ◌<◌, ℕ, take, List, Option, Some, None, Ok, length}
 use Rattle.mm_base.specs.Counts.{Rose}
 use Rattle.mm_base.specs.Files.{Files}
 use Rattle.mm_base.specs.Sink.{sending}
@@ -42,7 +42,8 @@ pub record HasPartlyRun (words : List Text) (before after : Option Files) (name 
   pub runs : Runs words before job plan inputs
   pub written : HoldsFirst (run_files job.out (result_with job plan inputs)) before after name
 
--- Statuses 2 to 5: the first refusal, by the words and by what the files hold that they name. No file is changed.
+-- Statuses 2 to 5: the first refusal, by the words and by what the files hold that they name. No file is changed, and no fault of writing
+-- is counted.
 pub record IsRefused (words : List Text) (old new : DiskView) (cause : Cause) : Type 0 where
   pub traces : List (Option (List ℕ))
   pub traces_held : AreGiven old.files (traces_of (job_of words)) traces
@@ -51,8 +52,10 @@ pub record IsRefused (words : List Text) (old new : DiskView) (cause : Cause) : 
   pub first : refused_job (job_of words) traces schedule ≡ Some cause
   pub absent : (name : Text) → cause ≡ Absent name → Rose old.absences new.absences
   pub untouched : new.files ≡ old.files
+  pub unwritten : new.write_faults ≡ old.write_faults
 
--- Status 6: the words and the files before this one refuse nothing, and a fault was counted in reading this one. No file is changed.
+-- Status 6: the words and the files before this one refuse nothing, and a fault of reading was counted in this call. No file is changed,
+-- and no fault of writing is counted.
 pub record HasReadFault (words : List Text) (old new : DiskView) (name : Text) : Type 0 where
   pub job : RunJob
   pub plan : NestPlan
@@ -60,6 +63,7 @@ pub record HasReadFault (words : List Text) (old new : DiskView) (name : Text) :
   pub next : IsNext old.files job plan name
   pub rose : Rose old.read_faults new.read_faults
   pub untouched : new.files ≡ old.files
+  pub unwritten : new.write_faults ≡ old.write_faults
 
 -- Status 7: the run is finished, and a fault was counted in writing this file.
 pub record HasWriteFault (words : List Text) (old new : DiskView) (name : Text) : Type 0 where
@@ -92,9 +96,10 @@ pub record Answers (words : List Text) (old new : DiskView) (written written' : 
   pub ends : Ends words old new answer
   pub explains : Explains answer written written' faults faults'
 
--- Memory ran out, in what was asked for or in its line: a front of a cause's line was written.
+-- Memory ran out, in what was asked for or in its line: a front of a cause's line was written, and not all of it where the cause is another.
 pub record StopsShort (words : List Text) (old new : DiskView) (written written' : Option (List ℕ)) : Type 0 where
   pub cause : Cause
   pub ends : Ends words old new (Some cause)
   pub count : ℕ
   pub front : written' ≡ sending (take count (line_of cause)) written
+  pub cut : cause ≢ Memory → count < length (line_of cause)

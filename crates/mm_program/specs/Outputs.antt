@@ -1,5 +1,5 @@
 -- Files that are written in order.
-use Rattle.std.specs.Prelude.{◌≡◌, ◌⊎◌, ℕ, List, [], ◌∷◌, ◌++◌, Option, map, take}
+use Rattle.std.specs.Prelude.{◌≡◌, ◌⊎◌, ◌≤◌, ◌-◌, ℕ, List, [], ◌∷◌, ◌++◌, Option, length, map, take}
 use Rattle.mm_base.specs.Counts.{Rose}
 use Rattle.mm_base.specs.Files.{Files, holding}
 use Rattle.shell_log.specs.LogText.{log_text}
@@ -28,9 +28,9 @@ abbrev pub holding_all : List NamedText → Option Files → Option Files
 holding_all [] told = told
 holding_all (entry ∷ entries) told = holding_all entries (holding entry.name entry.text told)
 
--- the file is as before, or has a front of its text
+-- the file is as before, or has a front of its text: none of it, or not all
 abbrev pub HoldsSome : NamedText → Option Files → Option Files → Type 0
-HoldsSome entry before after = (after ≡ before) ⊎ ((n : ℕ) × (after ≡ holding entry.name (take n entry.text) before))
+HoldsSome entry before after = (after ≡ before) ⊎ ((n : ℕ) × (n ≤ length entry.text - 1) × (after ≡ holding entry.name (take n entry.text) before))
 
 -- The first of the entries are whole, the next is as before or a front of it, and later ones are as before.
 pub record HoldsFirst (entries : List NamedText) (before after : Option Files) (name : Text) : Type 0 where

@@ -1,9 +1,9 @@
 // The one line that explains a refusal. It is written in pieces that take no memory.
-ghost use Rattle.std.specs.Prelude.{◌≡◌, ◌≢◌, ◌⊎◌, ◌∷◌, [], ℕ, Some, take, codes};
+ghost use Rattle.std.specs.Prelude.{◌≡◌, ◌≢◌, ◌⊎◌, ◌<◌, ◌∷◌, [], ℕ, Some, length, take, codes};
 ghost use Rattle.std.specs.List.{flat_map};
 ghost use Rattle.mm_base.specs.Counts.{CountsFaults};
 ghost use Rattle.mm_base.specs.Sink.{sending};
-ghost use Rattle.mm_program.specs.Causes.{BadInput, Nest, inner_pieces, line_of, status_of};
+ghost use Rattle.mm_program.specs.Causes.{BadInput, Memory, Nest, inner_pieces, line_of, status_of};
 ghost use Rattle.mm_program.specs.Ends.{Writes};
 ghost use Rattle.mm_program.specs.Sends.{Sends};
 ghost use Rattle.mm_program.specs.View.{cause_of};
@@ -114,7 +114,8 @@ fn write_bad_input<O: Sink>(
 pub(crate) fn explain<O: Sink>(refusal: &Refusal, out: &mut O) -> u8
     ensures status { (result ≡ status_of (cause_of refusal.now)) ⊎ (result ≡ 9) }
     ensures line { result ≢ 9 → Writes (line_of (cause_of refusal.now)) (O.written out.old) (O.written out.new) (O.faults out.old) (O.faults out.new) }
-    ensures front { (n : ℕ) × (O.written out.new ≡ sending (take n (line_of (cause_of refusal.now))) (O.written out.old)) }
+    ensures front { (n : ℕ) × (O.written out.new ≡ sending (take n (line_of (cause_of refusal.now))) (O.written out.old))
+        × (result ≡ 9 → cause_of refusal.now ≢ Memory → n < length (line_of (cause_of refusal.now))) }
     ensures counts { CountsFaults O.faults O.never_fails out.old out.new }
 {
     match write_line(refusal, out) {

@@ -1,5 +1,6 @@
 // The files that a run writes: its logs, in order, and then its fates.
-ghost use Rattle.std.specs.Prelude.{◌≡◌, ◌∷◌, [], map, IfErr, OnOk, OnErr};
+ghost use Rattle.std.specs.Prelude.{◌≡◌, ◌∷◌, ◌++◌, [], map, IfErr, OnOk, OnErr};
+ghost use Rattle.std.specs.List.{flat_map};
 ghost use Rattle.mm_base.specs.Disk.{OnlyWrites};
 ghost use Rattle.mm_base.specs.Files.{holding};
 ghost use Rattle.nest_spec.specs.FateTexts.{fates_text};
@@ -8,34 +9,39 @@ ghost use Rattle.mm_program.specs.Outputs.{HoldsSome, RefusesWrite, StopsWriting
 ghost use Rattle.mm_program.specs.View.{cause_of};
 
 use crate::refusal::Refusal;
-use mm_base::{Disk, DiskError, Text, save};
-use nest_spec::{FateRow, NamedLog, RunResult, print_fates};
-use shell_log::print_log;
+use mm_base::{Disk, DiskError, PrintLine, Text, save_lines};
+use nest_spec::{FateRow, NamedLog, RunResult};
+use shell_log::HEADER;
 use std::alloc::Global;
 
-// Writes the file of this name.
-fn write_file<D: Disk>(alloc: Global, disk: &mut D, name: &str, text: &[u8]) -> Result<(), Refusal>
-    ensures ok { OnOk result (D.files disk.new ≡ holding name.now text.now (D.files disk.old)) }
-    ensures partly { OnErr result (HoldsSome (named_text name.now text.now) (D.files disk.old) (D.files disk.new)) }
+// Writes the file of this name: a first line, and a line for each item.
+fn write_lines<D: Disk, T: PrintLine>(
+    alloc: Global,
+    disk: &mut D,
+    name: &str,
+    first: &[u8],
+    items: &[T],
+) -> Result<(), Refusal>
+    ensures ok { OnOk result (D.files disk.new ≡ holding name.now (first.now ++ flat_map T.line items.now) (D.files disk.old)) }
+    ensures partly { OnErr result (HoldsSome (named_text name.now (first.now ++ flat_map T.line items.now)) (D.files disk.old) (D.files disk.new)) }
     ensures cause { IfErr result (λ refusal. RefusesWrite name.now (D.write_faults disk.old) (D.write_faults disk.new) (cause_of refusal)) }
     ensures only_writes { OnlyWrites D.read_faults D.write_faults D.absences D.never_fails disk.old disk.new }
 {
-    match save(disk, name, text) {
+    match save_lines(alloc, disk, name, first, items) {
         Ok(()) => Ok(()),
         Err(DiskError::OutOfMemory) => Err(Refusal::OutOfMemory),
         Err(_) => Err(Refusal::WriteFault(Text::from_text(alloc, name)?)),
     }
 }
 
-// Writes the file of a log. Its text is let go.
+// Writes the file of a log.
 fn write_log<D: Disk>(alloc: Global, disk: &mut D, log: &NamedLog) -> Result<(), Refusal>
     ensures ok { OnOk result (D.files disk.new ≡ holding_all (log_file (named log.now) ∷ []) (D.files disk.old)) }
     ensures partly { OnErr result (HoldsSome (log_file (named log.now)) (D.files disk.old) (D.files disk.new)) }
     ensures cause { IfErr result (λ refusal. RefusesWrite log.now.name (D.write_faults disk.old) (D.write_faults disk.new) (cause_of refusal)) }
     ensures only_writes { OnlyWrites D.read_faults D.write_faults D.absences D.never_fails disk.old disk.new }
 {
-    let text = print_log(alloc, &log.log)?;
-    write_file(alloc, disk, log.name.as_str(), text.as_slice())
+    write_lines(alloc, disk, log.name.as_str(), HEADER, log.log.entries())
 }
 
 // Writes the files of the logs in order.
@@ -63,11 +69,10 @@ fn write_fates<D: Disk>(
     ensures cause { IfErr result (λ refusal. RefusesWrite name.now (D.write_faults disk.old) (D.write_faults disk.new) (cause_of refusal)) }
     ensures only_writes { OnlyWrites D.read_faults D.write_faults D.absences D.never_fails disk.old disk.new }
 {
-    let text = print_fates(alloc, fates)?;
-    write_file(alloc, disk, name, text.as_slice())
+    write_lines(alloc, disk, name, b"", fates)
 }
 
-// Writes the files of a run, each text made after the one before it was written and let go.
+// Writes the files of a run in order.
 pub(crate) fn write_outputs<D: Disk>(
     alloc: Global,
     disk: &mut D,

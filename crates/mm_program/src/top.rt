@@ -65,8 +65,9 @@ pub fn mm_main<R, D: Disk, O: Sink>(
     ensures read_fault { result ≡ 6 → Rose (D.read_faults disk.old) (D.read_faults disk.new) }
     ensures write_fault { result ≡ 7 → Rose (D.write_faults disk.old) (D.write_faults disk.new) }
 
-    // No file is changed before the run is finished.
+    // No file is changed before the run is finished, and no fault of writing is counted.
     ensures untouched { result ≢ 0 → result ≢ 7 → result ≢ 9 → D.files disk.new ≡ D.files disk.old }
+    ensures unwritten { result ≢ 0 → result ≢ 7 → result ≢ 9 → D.write_faults disk.new ≡ D.write_faults disk.old }
 
     // Words that refuse give their status, and so do files that are told, unless reading fails. Nothing refused gives 0.
     ensures by_words { (cause : Cause) → refused_early (job_of (map string_bytes words.now)) ≡ Some cause

@@ -11,7 +11,7 @@ pub returns-in_err-words-clause-ends : goal.returns-in_err-words-clause-ends
 returns-in_err-words-clause-ends g c = λ words has.
     let p = err_from_is_err_and c.from_residual.result c.from_residual.ensures.1 in
     let old = disk_view g.D.Disk.files g.D.Disk.read_faults g.D.Disk.write_faults g.D.Disk.absences c.args.disk.now in
-    rw p.1 (subst (λ (k : Refusal). Ends words old old (Some (cause_of k))) (sym p.2) (ends_words words (run_values c.args.job.now) old old _ has c.in_err-words.ensures.first refl))
+    rw p.1 (subst (λ (k : Refusal). Ends words old old (Some (cause_of k))) (sym p.2) (ends_words words (run_values c.args.job.now) old old _ has c.in_err-words.ensures.first refl refl))
 
 pub returns-in_err-run-clause-ends : goal.returns-in_err-run-clause-ends
 returns-in_err-run-clause-ends g c = λ words has.
@@ -22,7 +22,7 @@ returns-in_err-run-clause-ends g c = λ words has.
     let new = disk_view g.D.Disk.files g.D.Disk.read_faults g.D.Disk.write_faults g.D.Disk.absences c.run_nest.new.disk in
     let asks : Asks words job plan = record { has_job = has; shells = c.in_ok-words.ensures.first.0; accepted = c.in_ok-words.ensures.first.1 } in
     rw p.1 (subst (λ (k : Refusal). Ends words old new (Some (cause_of k))) (sym p.2)
-    (ends_unread words job plan old new _ asks c.run_nest.ensures.only_reads.same_files c.in_err-run.ensures.refused))
+    (ends_unread words job plan old new _ asks c.run_nest.ensures.only_reads.same_files c.run_nest.ensures.only_reads.writes c.in_err-run.ensures.refused))
 
 pub returns-clause-ends : goal.returns-clause-ends
 returns-clause-ends g c = λ words has.

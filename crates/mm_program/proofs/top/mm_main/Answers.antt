@@ -34,6 +34,12 @@ returns-in-Err-clause-untouched g c = λ not_done not_partly not_stopped.
     let new = disk_view g.D.Disk.files g.D.Disk.read_faults g.D.Disk.write_faults g.D.Disk.absences c.answer.new.disk in
     (told_by (map string_bytes c.args.words.now) old new (Some (cause_of c.in-Err.refusal)) c.explain.result c.in-Err.ensures.ends c.explain.ensures.status not_stopped).untouched not_done not_partly not_stopped
 
+pub returns-in-Err-clause-unwritten : goal.returns-in-Err-clause-unwritten
+returns-in-Err-clause-unwritten g c = λ not_done not_partly not_stopped.
+    let old = disk_view g.D.Disk.files g.D.Disk.read_faults g.D.Disk.write_faults g.D.Disk.absences c.args.disk.now in
+    let new = disk_view g.D.Disk.files g.D.Disk.read_faults g.D.Disk.write_faults g.D.Disk.absences c.answer.new.disk in
+    (told_by (map string_bytes c.args.words.now) old new (Some (cause_of c.in-Err.refusal)) c.explain.result c.in-Err.ensures.ends c.explain.ensures.status not_stopped).unwritten not_done not_partly not_stopped
+
 pub returns-in-Err-clause-by_words : goal.returns-in-Err-clause-by_words
 returns-in-Err-clause-by_words g c = λ cause refused.
     let old = disk_view g.D.Disk.files g.D.Disk.read_faults g.D.Disk.write_faults g.D.Disk.absences c.args.disk.now in
