@@ -11,3 +11,4 @@ pub mod Natural
 pub mod Results
 pub mod OnceLemmas
 pub mod KeptLemmas
+pub mod FeedingLemmas

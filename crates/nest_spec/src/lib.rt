@@ -18,6 +18,8 @@ mod run_result;
 mod shell_reading;
 mod shell_words;
 #[cfg(test)]
+mod states_tests;
+#[cfg(test)]
 mod tests;
 #[cfg(test)]
 mod words_tests;
