@@ -4,7 +4,8 @@ use Rattle.std.specs.List.Sorted.{IsNonDecreasingBy, IsPartitionedBy}
 use Rattle.std.proofs.lemmas.List.{append-nil, drop_all, drop_more, get_or_at, length-append, length-drop, length-map, length-take-le, map-append, set_at, take_all, take_more}
 use Rattle.std.proofs.lemmas.List.Sorted.{IsPartitionedBy-leb}
 use Rattle.packet_record.specs.declared.packet.Timed.{Timed}
-use Rattle.packet_record.specs.Moments.{AreFrom, AreUpTo, Rise}
+use Rattle.packet_record.specs.Moments.{AreUpTo, Rise}
+use Rattle.packet_record.proofs.MomentsLemmas.{from_at}
 use Rattle.delay_core.specs.Delays.{later}
 
 -- a list of which the first i pass a test, and no others
@@ -33,11 +34,6 @@ module _ {X : Type 0} (p : X → Bool) where
       let others = filter (λ x. not (p x)) xs in
       ap (λ b. cond (not b) (x ∷ others) others) (passes 0 x (omega arith)) ∙ rest
 
-from_at : (m : ℕ) (ts : List Timed) (k : ℕ) (d : Timed) → k < length ts → AreFrom m ts → m ≤ (get_or ts k d).moment
-from_at m [] k d lt f = absurd (omega arith)
-from_at m (t ∷ ts) zero d lt f = f.0
-from_at m (t ∷ ts) (suc k) d lt f = from_at m ts k d (omega arith) f.1
-
 in_order : (ms : ℕ) (ts : List Timed) → Rise ts → IsNonDecreasingBy (λ t. t.moment + ms) ts
 in_order ms [] r i j d le lt = absurd (omega arith)
 in_order ms (t ∷ ts) r zero zero d le lt = omega arith
@@ -48,12 +44,6 @@ in_order ms (t ∷ ts) r (suc i) (suc j) d le lt = in_order ms ts r.1 i j d (ome
 -- no packet departs after one that doesn't
 pub parted : (ms h : ℕ) (ts : List Timed) → Rise ts → IsPartitionedBy (λ t. nat_le (t.moment + ms) h) ts
 parted ms h ts r = IsPartitionedBy-leb (λ t. t.moment + ms) ts h (in_order ms ts r)
-
--- a packet of a list is as early as all
-pub up_at : (m : ℕ) (ts : List Timed) (k : ℕ) (d : Timed) → k < length ts → AreUpTo m ts → (get_or ts k d).moment ≤ m
-up_at m [] k d lt u = absurd (omega arith)
-up_at m (t ∷ ts) zero d lt u = u.0
-up_at m (t ∷ ts) (suc k) d lt u = up_at m ts k d (omega arith) u.1
 
 -- the first i of the packets are late, the others not yet
 unfoldable pub partly : ℕ → List Timed → ℕ → List Timed

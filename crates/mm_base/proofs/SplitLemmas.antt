@@ -58,9 +58,10 @@ front_every text word rest n value k cut e other =
     subst (λ t. k ≤ length t → list_all is_digit (take k t) ≡ true → value ≡ value_of_digits (take k t) → (k < length t → k < 10 → is_digit (get_or t k 0) ≡ false) → (value ≡ n) × (drop k t ≡ rest))
     (sym cut) (front_of word rest n value k e other)
 
-none_is : (o : Option ℕ) → ((n : ℕ) → o ≡ Some n → ⊥) → None ≡ o
+-- an answer that is none
+pub none_is : {A : Type 0} (o : Option A) → ((x : A) → o ≡ Some x → ⊥) → None ≡ o
 none_is None never = refl
-none_is (Some n) never = absurd (never n refl)
+none_is (Some x) never = absurd (never x refl)
 
 -- a text is no decimal where it is none with nothing after it
 pub no_decimal : (text : List ℕ) → ((n : ℕ) → text ≡ text ++ [] → decimal_of text ≡ Some n → ⊥) → None ≡ decimal_of text

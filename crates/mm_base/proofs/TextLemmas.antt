@@ -118,3 +118,9 @@ is_one_line-append [] b p q = q
 is_one_line-append (byte ∷ bytes) b p q =
     let parts = both_true (not (eqb byte 10)) (is_one_line bytes) p in
     both_are (not (eqb byte 10)) (is_one_line (bytes ++ b)) parts.0 (is_one_line-append bytes b parts.1 q)
+
+-- what a line feed ends
+pub is_ended_line : (line : List ℕ) → is_ended (line ++ 10 ∷ []) ≡ true
+is_ended_line [] = refl
+is_ended_line (byte ∷ []) = refl
+is_ended_line (byte ∷ next ∷ rest) = is_ended_line (next ∷ rest)

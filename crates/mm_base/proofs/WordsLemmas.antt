@@ -1,7 +1,9 @@
 -- A text cut at its first byte that passes a test, and a line at its first space.
-use Rattle.std.proofs.Common.{◌≡◌, ℕ, ◌+◌, ◌-◌, ◌≤◌, ◌++◌, ◌==◌, ◌&&◌, not, Bool, true, false, cond, List, [], ◌∷◌, length, take, drop, Some, None, nat_lt, refl, ap, sym, ◌∙◌, arith}
+use Rattle.std.proofs.Common.{◌≡◌, ℕ, ◌+◌, ◌-◌, ◌<◌, ◌≤◌, ◌++◌, ◌==◌, ◌&&◌, not, Bool, true, false, cond, List, [], ◌∷◌, length, take, drop, get_or, Some, None, nat_le, nat_lt, refl, ap, sym, ◌∙◌, arith}
 use Rattle.std.specs.List.{position, position_or_len, before_first, after_first, list_all}
 use Rattle.std.proofs.lemmas.List.{take_rest, take_all, drop_all}
+use Rattle.std.proofs.lemmas.List.Sums.{split_at_first, passes_at_first}
+use Rattle.std.proofs.lemmas.Bool.{leb-true}
 use Rattle.std.proofs.lemmas.Bool.Decides.{nat_tests}
 use Rattle.std.proofs.Math.Seq.{take-append_seam, drop-append-add}
 use Rattle.mm_base.specs.Words.{first_word, other_words}
@@ -55,3 +57,19 @@ first_word-spaced a b none = ap (λ (n : ℕ). take n (a ++ 32 ∷ b)) (first_sp
 
 pub other_words-spaced : (a b : List ℕ) → list_all (λ byte. not (byte == 32)) a ≡ true → other_words (a ++ 32 ∷ b) ≡ b
 other_words-spaced a b none = ap (λ (n : ℕ). drop (n + 1) (a ++ 32 ∷ b)) (first_space a b none) ∙ drop-append-add a (32 ∷ b) 1
+
+-- a text with more than one word
+pub spaced_again : (text : List ℕ) → 0 < length (other_words text) → text ≡ first_word text ++ 32 ∷ other_words text
+spaced_again text some =
+    elim (nat_le (length text) (position_or_len (λ (byte : ℕ). byte == 32) text)) as (λ b. nat_le (length text) (position_or_len (λ (byte : ℕ). byte == 32) text) ≡ b → text ≡ first_word text ++ 32 ∷ other_words text) [
+      | true ↦ λ e.
+          let past : length text ≤ position_or_len (λ (byte : ℕ). byte == 32) text = leb-true _ _ e in
+          let none : other_words text ≡ [] = drop_all (position_or_len (λ (byte : ℕ). byte == 32) text + 1) text (omega arith) in
+          let zero_long : length (other_words text) ≡ 0 = ap length none in
+          absurd (omega arith)
+      | false ↦ λ e.
+          let within : position_or_len (λ (byte : ℕ). byte == 32) text < length text = grind (arith, nat_tests) in
+          let here : (get_or text (position_or_len (λ (byte : ℕ). byte == 32) text) 0 == 32) ≡ true = passes_at_first (λ (byte : ℕ). byte == 32) text 0 within in
+          let same : get_or text (position_or_len (λ (byte : ℕ). byte == 32) text) 0 ≡ 32 = grind (arith, nat_tests) in
+          split_at_first (λ (byte : ℕ). byte == 32) text 0 within ∙ ap (λ (x : ℕ). first_word text ++ x ∷ other_words text) same
+    ] refl

@@ -1,36 +1,41 @@
-// A line written from its end to its front.
-ghost use Rattle.std.specs.Prelude.{◌≡◌, ◌+◌, ◌^◌, ◌≤◌, ◌<◌, ◌∷◌, ◌++◌, ℕ, List, [], length, drop, decimal};
+// Lines written from their end to their front.
+ghost use Rattle.std.specs.Prelude.{◌≡◌, ◌+◌, ◌^◌, ◌≤◌, ◌<◌, ◌∷◌, ◌++◌, ℕ, List, [], length, drop, decimal, IfOk};
 
+use crate::OutOfMemory;
 use itoa::write_digits;
+use std::alloc::Global;
 use std::marker::Model;
 
-// How many bytes there is room for.
-const ROOM: usize = 72;
+// How many bytes there is room for: 2048 lines of 72 bytes.
+const ROOM: usize = 147_456;
 
-/// A line of up to 72 bytes that is written from its end, which contracts see as the list of its bytes. It takes no memory.
+/// Up to 147,456 bytes that are written from their end, the last line first, which contracts see as the list of the
+/// bytes. It has room for 2048 lines of 72 bytes, and takes no memory after it was made.
 #[derive(Drop)]
 pub struct LineBuffer {
-    bytes: [u8; ROOM],
+    bytes: Vec<u8>,
     start: usize,
 }
 
 impl Model for LineBuffer {
+    ghost use Rattle.std.specs.Prelude.{◌≡◌, ◌≤◌, ℕ, List, length, drop};
+
     ghost Value = { List ℕ };
 
-    ghost view = { λ line. drop line.start line.bytes };
+    ghost view = { λ lines. drop lines.start lines.bytes.items };
 
-    ghost invariant = { λ line. line.start ≤ 72 };
+    ghost invariant = { λ lines. (length lines.bytes.items ≡ 147456) × (lines.start ≤ 147456) };
 }
 
 impl LineBuffer {
-    /// An empty line.
-    pub fn new() -> Self
-        ensures { result ≡ [] }
+    /// A buffer without bytes. `OutOfMemory` is want of memory.
+    pub fn new(alloc: Global) -> Result<Self, OutOfMemory>
+        ensures { IfOk result (λ lines. lines ≡ []) }
     {
-        LineBuffer {
-            bytes: [0; ROOM],
+        Ok(LineBuffer {
+            bytes: vec![in alloc; 0u8; ROOM]?,
             start: ROOM,
-        }
+        })
     }
 
     /// Leaves none of the bytes.
@@ -42,7 +47,7 @@ impl LineBuffer {
 
     /// Puts a byte in front.
     pub fn put_byte(&mut self, byte: u8)
-        requires { length self.old < 72 }
+        requires { length self.old < 147456 }
         ensures bytes { self.new ≡ byte ∷ self.old }
         ensures length { length self.new ≡ length self.old + 1 }
     {
@@ -52,25 +57,23 @@ impl LineBuffer {
 
     /// Puts these bytes in front.
     pub fn put(&mut self, piece: &[u8])
-        requires { length piece.now + length self.old ≤ 72 }
+        requires { length piece.now + length self.old ≤ 147456 }
         ensures bytes { self.new ≡ piece.now ++ self.old }
         ensures length { length self.new ≡ length self.old + length piece.now }
     {
-        let mut left = piece.len();
-        while left > 0 {
-            left -= 1;
-            self.put_byte(piece[left]);
-        }
+        let start = self.start - piece.len();
+        self.bytes[start..self.start].copy_from_slice(piece);
+        self.start = start;
     }
 
     /// Puts a number in front, in digits, without a leading zero.
     pub fn put_decimal(&mut self, n: u64)
-        requires { length self.old + 20 ≤ 72 }
+        requires { length self.old + 20 ≤ 147456 }
         ensures bytes { self.new ≡ decimal n ++ self.old }
         ensures length { length self.new ≤ length self.old + 20 }
         ensures short { n < 10 ^ 10 → length self.new ≤ length self.old + 10 }
     {
-        self.start = write_digits(n, &mut self.bytes, self.start);
+        self.start = write_digits(n, self.bytes.as_mut_slice(), self.start);
     }
 
     /// The bytes.

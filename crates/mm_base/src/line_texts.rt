@@ -1,26 +1,51 @@
 // Texts of lines, made whole or written to a file piece by piece.
-ghost use Rattle.std.specs.Prelude.{◌≡◌, ◌⊎◌, ◌-◌, ◌≤◌, ◌<◌, ◌++◌, ℕ, List, [], length, take, IfOk, OnOk, OnErr};
+ghost use Rattle.std.specs.Prelude.{◌≡◌, ◌⊎◌, ◌+◌, ◌-◌, ◌≤◌, ◌<◌, ◌++◌, ℕ, List, [], length, take, true, IfOk, OnOk, OnErr};
 ghost use Rattle.std.specs.List.{flat_map};
-ghost use Rattle.mm_base.specs.Files.{holding};
+ghost use Rattle.mm_base.specs.Lines.{is_ended};
+ghost use Rattle.mm_base.specs.Files.{holding, lengthened};
 ghost use Rattle.mm_base.specs.Disk.{OnlyWrites, HasWriteCause};
 
-use crate::whole::append_all;
+use crate::whole::{append_all, save};
 use crate::{Bytes, Disk, DiskError, LineBuffer, OutOfMemory};
 use std::alloc::Global;
 
-// How many bytes of a text are written to a file at once, or a line more.
-const PIECE: usize = 65536;
+// How many lines are made at once.
+const LINES: usize = 2048;
 
-/// What is printed as one line.
+/// What is printed as one line of at most 72 bytes.
 pub trait PrintLine {
     /// The line, with its line feed.
     ghost line: { Self → List ℕ };
 
-    /// Puts the line, with its line feed, into an empty buffer.
+    /// Puts the line, with its line feed, in front of what a buffer holds.
     fn put_line(&self, out: &mut LineBuffer)
-        requires { out.old ≡ [] }
-        ensures line { out.new ≡ line self.now }
-        ensures some { 0 < length out.new };
+        requires { length out.old + 72 ≤ 147456 }
+        ensures line { out.new ≡ line self.now ++ out.old }
+        ensures some { 0 < length (line self.now) }
+        ensures short { length (line self.now) ≤ 72 }
+        ensures ended { is_ended (line self.now) ≡ true };
+}
+
+// Makes the buffer hold a line for each item.
+fn put_lines<T: PrintLine>(lines: &mut LineBuffer, items: &[T])
+    requires { length items.now ≤ 2048 }
+    ensures { lines.new ≡ flat_map T.line items.now }
+{
+    lines.clear();
+    let mut left = items.len();
+    'lines: while left > 0 {
+        left -= 1;
+        items[left].put_line(lines);
+    }
+}
+
+// The first items, as many as are made at once, and the others.
+fn split_lines<T>(items: &[T]) -> (&[T], &[T])
+    ensures all { items.now ≡ result.0.now ++ result.1.now }
+    ensures few { length result.0.now ≤ 2048 }
+    ensures some { 0 < length items.now → 0 < length result.0.now }
+{
+    items.split_at(items.len().min(LINES))
 }
 
 /// The text of a first line and of a line for each item.
@@ -32,17 +57,47 @@ pub fn print_lines<T: PrintLine>(
     ensures { IfOk result (λ text. text ≡ first.now ++ flat_map T.line items.now) }
 {
     let mut text = Bytes::from_slice(alloc, first)?;
-    let mut line = LineBuffer::new();
-    for item in items {
-        line.clear();
-        item.put_line(&mut line);
-        text.append(line.as_slice())?;
+    let mut lines = LineBuffer::new(alloc)?;
+    let mut left = items;
+    'pieces: while !left.is_empty() {
+        let (piece, others) = split_lines(left);
+        put_lines(&mut lines, piece);
+        text.append(lines.as_slice())?;
+        left = others;
     }
     Ok(text)
 }
 
+/// Adds a line for each item at the end of a file. A file that isn't there counts as an empty one, and no file is
+/// changed where there is no item. Other files stay as they were. The lines are made in the buffer, some 2048 at once;
+/// what it held is lost. It takes no memory of its own.
+///
+/// `Failed` comes only where a fault of writing was counted, and `Absent` never. After a refusal the files are as
+/// before, or a front of the text was added: none of it, or not all.
+pub fn append_lines<D: Disk, T: PrintLine>(
+    disk: &mut D,
+    name: &str,
+    lines: &mut LineBuffer,
+    items: &[T],
+) -> Result<(), DiskError>
+    ensures ok { OnOk result (D.files disk.new ≡ lengthened name.now (flat_map T.line items.now) (D.files disk.old)) }
+    ensures err { OnErr result ((n : ℕ) × (n < length (flat_map T.line items.now))
+        × (D.files disk.new ≡ lengthened name.now (take n (flat_map T.line items.now)) (D.files disk.old))) }
+    ensures only_writes { OnlyWrites D.read_faults D.write_faults D.absences D.never_fails disk.old disk.new }
+    ensures cause { HasWriteCause (D.write_faults disk.old) (D.write_faults disk.new) result }
+{
+    let mut left = items;
+    'pieces: while !left.is_empty() {
+        let (piece, others) = split_lines(left);
+        put_lines(lines, piece);
+        append_all(disk, name, lines.as_slice())?;
+        left = others;
+    }
+    Ok(())
+}
+
 /// Makes the file hold the text of a first line and of a line for each item. Other files stay as they were. It takes
-/// memory for a piece of the text alone.
+/// memory for 2048 lines of the text alone.
 ///
 /// `Failed` comes only where a fault of writing was counted, and `Absent` never. After a refusal the file is as
 /// before, or it holds a front of the text: none, or not all.
@@ -59,18 +114,7 @@ pub fn save_lines<D: Disk, T: PrintLine>(
     ensures only_writes { OnlyWrites D.read_faults D.write_faults D.absences D.never_fails disk.old disk.new }
     ensures cause { HasWriteCause (D.write_faults disk.old) (D.write_faults disk.new) result }
 {
-    let mut piece = Bytes::with_capacity(alloc, PIECE + 128)?;
-    let mut line = LineBuffer::new();
-    disk.create(name)?;
-    piece.append(first)?;
-    for item in items {
-        line.clear();
-        item.put_line(&mut line);
-        piece.append(line.as_slice())?;
-        if piece.len() >= PIECE {
-            append_all(disk, name, piece.as_slice())?;
-            piece.clear();
-        }
-    }
-    append_all(disk, name, piece.as_slice())
+    let mut lines = LineBuffer::new(alloc)?;
+    save(disk, name, first)?;
+    append_lines(disk, name, &mut lines, items)
 }

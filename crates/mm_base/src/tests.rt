@@ -24,6 +24,7 @@ struct Number(u64);
 impl PrintLine for Number {
     ghost line = { λ n. decimal n.0 ++ 10 ∷ [] };
 
+    #[tactic(auto, using(crate::proofs::TextLemmas::is_ended_line))]
     fn put_line(&self, out: &mut LineBuffer) {
         out.put_byte(b'\n');
         out.put_decimal(self.0);
@@ -140,8 +141,8 @@ fn files_are_loaded_and_saved_whole(rt: HostRuntime) -> Result<(), Fail> {
 }
 
 #[test]
-fn a_line_is_written_from_its_end(rt: HostRuntime) {
-    let mut line = LineBuffer::new();
+fn lines_are_written_from_their_end(rt: HostRuntime) -> Result<(), Fail> {
+    let mut line = LineBuffer::new(rt.alloc())?;
     assert_eq!(rt; line.as_slice(), b"".as_slice());
     line.put_byte(b'\n');
     line.put_decimal(18446744073709551615);
@@ -150,6 +151,7 @@ fn a_line_is_written_from_its_end(rt: HostRuntime) {
     assert_eq!(rt; line.as_slice(), b"0 to 18446744073709551615\n".as_slice());
     line.clear();
     assert_eq!(rt; line.as_slice(), b"".as_slice());
+    Ok(())
 }
 
 #[test]
@@ -164,13 +166,13 @@ fn items_are_printed_line_by_line(rt: HostRuntime) -> Result<(), Fail> {
     Ok(())
 }
 
-// A text of 67,202 bytes is written in two pieces.
+// A text of 67,202 bytes: the first line, 2048 lines and the others are written one after another.
 #[test]
 fn lines_are_saved_in_pieces(rt: HostRuntime) -> Result<(), Fail> {
     let alloc = rt.alloc();
     let items = numbers(alloc, 3200)?;
     let text = print_lines(alloc, b"#\n", items.as_slice())?;
-    let mut disk = disk_with(alloc, "f", b"before", &[6])?;
+    let mut disk = disk_with(alloc, "f", b"before", &[8])?;
     let saved = save_lines(alloc, &mut disk, "f", b"#\n", items.as_slice());
     assert_eq!(rt; saved, Ok(()));
     assert_eq!(rt; disk.file("f").ok_or("no f")?, text.as_slice());
@@ -178,8 +180,28 @@ fn lines_are_saved_in_pieces(rt: HostRuntime) -> Result<(), Fail> {
     let saved = save_lines(alloc, &mut disk, "f", b"#\n", items.as_slice());
     assert_eq!(rt; saved, Err(DiskError::Failed));
     let front = disk.file("f").ok_or("no f")?;
-    assert_eq!(rt; front.len(), 65543);
+    assert_eq!(rt; front.len(), 43010);
     assert!(rt; text.as_slice().starts_with(front));
+    Ok(())
+}
+
+// What is appended has 3200 lines of 21 bytes, in two pieces.
+#[test]
+fn lines_are_appended_in_pieces(rt: HostRuntime) -> Result<(), Fail> {
+    let alloc = rt.alloc();
+    let items = numbers(alloc, 3200)?;
+    let text = print_lines(alloc, b"#\n", items.as_slice())?;
+    let mut disk = disk_with(alloc, "f", b"#\n", &[4])?;
+    let mut lines = LineBuffer::new(alloc)?;
+    let none = append_lines::<MemDisk, Number>(&mut disk, "g", &mut lines, &[]);
+    assert_eq!(rt; none, Ok(()));
+    assert_eq!(rt; disk.file("g"), None);
+    let added = append_lines(&mut disk, "f", &mut lines, items.as_slice());
+    assert_eq!(rt; added, Ok(()));
+    assert_eq!(rt; disk.file("f").ok_or("no f")?, text.as_slice());
+    let added = append_lines(&mut disk, "g", &mut lines, items.as_slice());
+    assert_eq!(rt; added, Err(DiskError::Failed));
+    assert_eq!(rt; disk.file("g").ok_or("no g")?.len(), 43008);
     Ok(())
 }
 

@@ -16,8 +16,7 @@ use Rattle.record_store.specs.declared.header.Form.TheVariants.{One, Two}
 use Rattle.record_store.specs.declared.header.Header.{Header}
 use Rattle.record_store.specs.declared.store_error.StoreError.{StoreError}
 use Rattle.record_store.specs.declared.store_error.StoreError.TheVariants as errors
-use Rattle.mm_base.proofs.WordsLemmas.{first_word-spaced, other_words-spaced}
-use Rattle.record_store.proofs.WordLemmas.{spaced_again}
+use Rattle.mm_base.proofs.WordsLemmas.{spaced_again, first_word-spaced, other_words-spaced}
 
 -- ---- numbers
 

@@ -1,11 +1,9 @@
 -- A text cut at its first such byte.
-use Rattle.std.proofs.Common.{◌≡◌, ℕ, ◌+◌, ◌<◌, ◌≤◌, ◌++◌, ◌==◌, ◌&&◌, not, Bool, true, false, cond, List, [], ◌∷◌, length, take, drop, get_or, Some, None, nat_le, nat_lt, refl, ap, sym, subst, ◌∙◌, arith, length-append}
+use Rattle.std.proofs.Common.{◌≡◌, ℕ, ◌+◌, ◌<◌, ◌++◌, ◌==◌, ◌&&◌, not, Bool, true, false, cond, List, [], ◌∷◌, length, take, drop, get_or, Some, None, nat_lt, refl, ap, sym, subst, ◌∙◌, arith, length-append}
 use Rattle.std.specs.List.{position, position_or_len, before_first, after_first, list_all}
-use Rattle.std.proofs.lemmas.Bool.{ltb-true, lt-ltb, leb-true}
+use Rattle.std.proofs.lemmas.Bool.{ltb-true, lt-ltb}
 use Rattle.std.proofs.lemmas.Bool.Decides.{nat_tests}
-use Rattle.std.proofs.lemmas.List.{drop_all}
 use Rattle.std.proofs.lemmas.List.Sums.{split_at_first, passes_at_first}
-use Rattle.mm_base.specs.Words.{first_word, other_words}
 use Rattle.mm_base.proofs.WordsLemmas.{place_is}
 
 pub both : (a b : Bool) → (a && b) ≡ true → (a ≡ true) × (b ≡ true)
@@ -47,19 +45,3 @@ position_such c a b is none =
     let first = first_such c a b is none in
     let inside : nat_lt (length a) (length (a ++ c ∷ b)) ≡ true = lt-ltb _ _ (omega (arith, length-append a (c ∷ b))) in
     ap (λ (n : ℕ). cond (nat_lt n (length (a ++ c ∷ b))) (Some n) None) first ∙ ap (λ t. cond t (Some (length a)) None) inside
-
--- a text with more than one word
-pub spaced_again : (text : List ℕ) → 0 < length (other_words text) → text ≡ first_word text ++ 32 ∷ other_words text
-spaced_again text some =
-    elim (nat_le (length text) (position_or_len (λ (byte : ℕ). byte == 32) text)) as (λ b. nat_le (length text) (position_or_len (λ (byte : ℕ). byte == 32) text) ≡ b → text ≡ first_word text ++ 32 ∷ other_words text) [
-      | true ↦ λ e.
-          let past : length text ≤ position_or_len (λ (byte : ℕ). byte == 32) text = leb-true _ _ e in
-          let none : other_words text ≡ [] = drop_all (position_or_len (λ (byte : ℕ). byte == 32) text + 1) text (omega arith) in
-          let zero_long : length (other_words text) ≡ 0 = ap length none in
-          absurd (omega arith)
-      | false ↦ λ e.
-          let within : position_or_len (λ (byte : ℕ). byte == 32) text < length text = grind (arith, nat_tests) in
-          let here : (get_or text (position_or_len (λ (byte : ℕ). byte == 32) text) 0 == 32) ≡ true = passes_at_first (λ (byte : ℕ). byte == 32) text 0 within in
-          let same : get_or text (position_or_len (λ (byte : ℕ). byte == 32) text) 0 ≡ 32 = grind (arith, nat_tests) in
-          split_at_first (λ (byte : ℕ). byte == 32) text 0 within ∙ ap (λ (x : ℕ). first_word text ++ x ∷ other_words text) same
-    ] refl

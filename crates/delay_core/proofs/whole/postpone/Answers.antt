@@ -1,6 +1,7 @@
 use Rattle.std.proofs.Common.{◌≡◌, ◌<◌, length, get_or, set, ap, ◌∙◌, refl, arith}
+use Rattle.packet_record.proofs.MomentsLemmas.{up_at}
 use Rattle.delay_core.specs.Delays.{later}
-use Rattle.delay_core.proofs.Fronts.{partly, partly_more, partly_all, read_partly, up_at}
+use Rattle.delay_core.proofs.Fronts.{partly, partly_more, partly_all, read_partly}
 use Rattle.delay_core.proofs.whole.postpone.Goals as goal
 
 pub loop-t-init : goal.loop-t-init
