@@ -9,3 +9,8 @@ pub mod LoadLemmas
 pub mod RowsLemmas
 pub mod SourcesLemmas
 pub mod MomentsLemmas
+pub mod GatheringLemmas
+pub mod CutLemmas
+pub mod PartLemmas
+pub mod LongLines
+pub mod Told

@@ -1,5 +1,5 @@
 -- A line by its parts: a decimal, a direction between two spaces, and a decimal.
-use Rattle.std.proofs.Common.{◌≡◌, ℕ, Bool, true, false, cond, List, [], ◌∷◌, ◌++◌, length, Option, Some, None, codes, refl, ap, sym, ◌∙◌, append_assoc, ◌==◌, ne_eqb, arith}
+use Rattle.std.proofs.Common.{◌≡◌, ℕ, Bool, true, false, not, ◌&&◌, cond, List, [], ◌∷◌, ◌++◌, length, take, drop, get_or, ◌-◌, ◌≤◌, Option, Some, None, codes, refl, ap, sym, ◌∙◌, append_assoc, ◌==◌, ne_eqb, arith}
 use Rattle.std.specs.Option.{option_and_then}
 use Rattle.std.specs.Str.{bytes_eq}
 use Rattle.std.specs.Bool.{then_some}
@@ -7,12 +7,16 @@ use Rattle.std.proofs.lemmas.List.{append-nil}
 use Rattle.std.specs.List.{join_with_byte}
 use Rattle.std.proofs.lemmas.List.Splits.{join_with_byte-slice_split}
 use Rattle.std.proofs.lemmas.Slice.Eq.{bytes_eq-Decides}
+use Rattle.mm_base.specs.Lines.{is_one_line}
 use Rattle.mm_base.specs.Numbers.{decimal_of, BeginsOtherwise}
 use Rattle.mm_base.proofs.NumbersLemmas.{decimal_of-Some}
+use Rattle.mm_base.proofs.SplitLemmas.{none_is}
+use Rattle.mm_base.proofs.TextLemmas.{is_one_line-append}
 use Rattle.packet_record.specs.Said.{words_of, direction_of, said_by_words, said_of}
 use Rattle.packet_record.specs.Printing.{direction_text}
 use Rattle.packet_record.specs.declared.packet.Direction.{Direction}
 use Rattle.packet_record.specs.declared.packet.Direction.TheVariants.{Up, Down}
+use Rattle.packet_record.proofs.CutLemmas.{feed_first}
 use Rattle.packet_record.proofs.SpaceLemmas.{Lacks, digits_lack, words_of-append, words_of-one}
 
 abbrev pub word_of : Direction → List ℕ
@@ -94,10 +98,6 @@ by_words (a ∷ b ∷ c ∷ d ∷ words) line s joined e = absurd cc
 pub has_parts : (line : List ℕ) (s : ℕ × Direction × ℕ) → said_of line ≡ Some s → HasParts line s.0 s.1 s.2
 has_parts line s e = by_words (words_of line) line s (join_with_byte-slice_split 32 line) e
 
-none_is : (o : Option (ℕ × Direction × ℕ)) → ((s : ℕ × Direction × ℕ) → o ≡ Some s → ⊥) → None ≡ o
-none_is None never = refl
-none_is (Some s) never = absurd (never s refl)
-
 -- a line says nothing where it has no such parts
 pub says_nothing : (line : List ℕ) → ((m s : ℕ) (d : Direction) → HasParts line m d s → ⊥) → None ≡ said_of line
 says_nothing line never = none_is (said_of line) (λ s e. never s.0 s.2 s.1 (has_parts line s e))
@@ -108,21 +108,58 @@ direction_begins Up rest = refl
 direction_begins Down rest = refl
 
 -- a line says what was read of it where nothing follows, and else nothing
-pub whole_line : (line rest : List ℕ) (s : ℕ × Direction × ℕ) (empty : Bool) → (rest ≡ [] → said_of line ≡ Some s) → ((m z : ℕ) (d : Direction) → HasParts line m d z → rest ≡ [])
-    → empty ≡ (length rest == 0) → then_some empty s ≡ said_of line
-whole_line line [] s empty says only is = ap (λ b. then_some b s) is ∙ sym (says refl)
-whole_line line (byte ∷ bytes) s empty says only is =
+pub whole_line : (line rest : List ℕ) (s : ℕ × Direction × ℕ) (empty : Bool) → (word : List ℕ) × (line ≡ word ++ rest) × (said_of word ≡ Some s)
+    → ((z : ℕ × Direction × ℕ) → said_of line ≡ Some z → rest ≡ []) → empty ≡ (length rest == 0) → then_some empty s ≡ said_of line
+whole_line line [] s empty (word, cut, e) only is = ap (λ b. then_some b s) is ∙ sym (ap said_of (cut ∙ append-nil word) ∙ e)
+whole_line line (byte ∷ bytes) s empty read only is =
     ap (λ b. then_some b s) (is ∙ ne_eqb (length (byte ∷ bytes)) 0 (λ (e : length (byte ∷ bytes) ≡ 0). absurd (omega arith)))
-    ∙ says_nothing line (λ m z d p. absurd (omega (arith, ap length (only m z d p))))
+    ∙ none_is (said_of line) (λ z e. absurd (omega (arith, ap length (only z e))))
 
--- a line cut at its decimal, its direction and its decimal again
-pub said_of_cuts : (line first third rest rest' rest'' : List ℕ) (d : Direction) (m s : ℕ) → line ≡ first ++ rest → decimal_of first ≡ Some m → rest ≡ direction_text d ++ rest'
-    → rest' ≡ third ++ rest'' → decimal_of third ≡ Some s → rest'' ≡ [] → said_of line ≡ Some (m, d, s)
-said_of_cuts line first third rest rest' rest'' d m s cut em cut' cut'' es none =
-    ap said_of
-    (cut ∙ ap (λ l. first ++ l) (cut' ∙ ap (λ l. direction_text d ++ l) (cut'' ∙ ap (λ l. third ++ l) none ∙ append-nil third)) ∙ sym (append_assoc first (direction_text d) third))
-    ∙ said_of_parts d first third m s em es
+-- a text cut behind a decimal, a direction and a decimal begins with a line that says them
+pub said_in_front : (text first third rest rest' rest'' : List ℕ) (d : Direction) (m s : ℕ) → text ≡ first ++ rest → decimal_of first ≡ Some m → rest ≡ direction_text d ++ rest'
+    → rest' ≡ third ++ rest'' → decimal_of third ≡ Some s → (line : List ℕ) × (text ≡ line ++ rest'') × (said_of line ≡ Some (m, d, s))
+said_in_front text first third rest rest' rest'' d m s cut em cut' cut'' es = (
+  first ++ direction_text d ++ third,
+  cut
+      ∙ ap (λ l. first ++ l) (cut' ∙ ap (λ l. direction_text d ++ l) cut'')
+      ∙ sym (append_assoc first (direction_text d) (third ++ rest''))
+      ∙ sym (append_assoc (first ++ direction_text d) third rest''),
+  said_of_parts d first third m s em es,
+)
 
--- a line's cut behind its first decimal
-pub cut_first : (line : List ℕ) (m s : ℕ) (d : Direction) (p : HasParts line m d s) → line ≡ p.first ++ (direction_text d ++ p.third)
-cut_first line m s d p = p.cut ∙ append_assoc p.first (direction_text d) p.third
+-- the cut behind the first decimal of a text that begins with such a line
+pub cut_first : (text line rest : List ℕ) (m s : ℕ) (d : Direction) (p : HasParts line m d s) → text ≡ line ++ rest → text ≡ p.first ++ (direction_text d ++ (p.third ++ rest))
+cut_first text line rest m s d p cut =
+    cut
+    ∙ ap (λ l. l ++ rest) p.cut
+    ∙ append_assoc (p.first ++ direction_text d) p.third rest
+    ∙ append_assoc p.first (direction_text d) (p.third ++ rest)
+
+pub same_said : (m s : ℕ) (d : Direction) (says : ℕ × Direction × ℕ) → m ≡ says.0 → d ≡ says.1 → s ≡ says.2 → (m, d, s) ≡ says
+same_said m s d (m', d', s') em ed es = rw (em, ed, es) refl
+
+one_line_lacks : (xs : List ℕ) → Lacks 10 xs → is_one_line xs ≡ true
+one_line_lacks [] h = refl
+one_line_lacks (x ∷ xs) h = ap (λ b. not b && is_one_line xs) h.0 ∙ one_line_lacks xs h.1
+
+decimal_one_line : (word : List ℕ) (n : ℕ) → decimal_of word ≡ Some n → is_one_line word ≡ true
+decimal_one_line word n e = one_line_lacks word (digits_lack 10 word (omega arith) (decimal_of-Some word n e).digits)
+
+direction_one_line : (d : Direction) → is_one_line (direction_text d) ≡ true
+direction_one_line Up = refl
+direction_one_line Down = refl
+
+-- what says something has no line feed
+pub said_one_line : (line : List ℕ) (s : ℕ × Direction × ℕ) → said_of line ≡ Some s → is_one_line line ≡ true
+said_one_line line s e =
+    let p = has_parts line s e in
+    ap is_one_line p.cut
+    ∙ is_one_line-append (p.first ++ direction_text s.1) p.third
+    (is_one_line-append p.first (direction_text s.1) (decimal_one_line p.first s.0 p.moment) (direction_one_line s.1))
+    (decimal_one_line p.third s.2 p.size)
+
+-- where a line feed follows what is said, it ends the line
+pub line_in_front : (text rest : List ℕ) (s : ℕ × Direction × ℕ) → (word : List ℕ) × (text ≡ word ++ rest) × (said_of word ≡ Some s) → 1 ≤ length rest → get_or rest 0 0 ≡ 10
+    → (line : List ℕ) × (text ≡ line ++ 10 ∷ take (length rest - 1) (drop 1 rest)) × (is_one_line line ≡ true) × (said_of line ≡ Some s)
+line_in_front text rest s (word, cut, e) some feed =
+    (word, cut ∙ ap (λ r. word ++ r) (feed_first rest (omega (arith, some)) feed), said_one_line word s e, e)

@@ -1,5 +1,5 @@
 -- Lists of packets in the order of their moments.
-use Rattle.std.proofs.Common.{ℕ, ◌≤◌, List, [], ◌∷◌, ◌++◌, arith}
+use Rattle.std.proofs.Common.{◌≡◌, ℕ, zero, suc, ◌<◌, ◌≤◌, List, [], ◌∷◌, ◌++◌, length, get_or, subst, sym, arith}
 use Rattle.packet_record.specs.declared.packet.Timed.{Timed}
 use Rattle.packet_record.specs.Moments.{AreFrom, AreUpTo, Rise}
 
@@ -39,3 +39,21 @@ rise_back (x ∷ xs) t ts r = rise_back xs t ts r.1
 pub rise_rest : (xs ys : List Timed) → Rise (xs ++ ys) → Rise ys
 rise_rest [] ys r = r
 rise_rest (x ∷ xs) ys r = rise_rest xs ys r.1
+
+-- a packet of a list is as early as all, or as late
+pub up_at : (m : ℕ) (ts : List Timed) (k : ℕ) (d : Timed) → k < length ts → AreUpTo m ts → (get_or ts k d).moment ≤ m
+up_at m [] k d lt u = absurd (omega arith)
+up_at m (t ∷ ts) zero d lt u = u.0
+up_at m (t ∷ ts) (suc k) d lt u = up_at m ts k d (omega arith) u.1
+
+pub from_at : (m : ℕ) (ts : List Timed) (k : ℕ) (d : Timed) → k < length ts → AreFrom m ts → m ≤ (get_or ts k d).moment
+from_at m [] k d lt f = absurd (omega arith)
+from_at m (t ∷ ts) zero d lt f = f.0
+from_at m (t ∷ ts) (suc k) d lt f = from_at m ts k d (omega arith) f.1
+
+-- the same of a packet that was read at its place
+pub up_to_read : (m : ℕ) (ts : List Timed) (i : ℕ) (t : Timed) → i < length ts → t ≡ get_or ts i t → AreUpTo m ts → t.moment ≤ m
+up_to_read m ts i t lt read u = subst (λ (v : Timed). v.moment ≤ m) (sym read) (up_at m ts i t lt u)
+
+pub from_read : (m : ℕ) (ts : List Timed) (i : ℕ) (t : Timed) → i < length ts → t ≡ get_or ts i t → AreFrom m ts → m ≤ t.moment
+from_read m ts i t lt read f = subst (λ (v : Timed). m ≤ v.moment) (sym read) (from_at m ts i t lt f)

@@ -14,3 +14,7 @@ pub mod Moments
 pub mod Flows
 pub mod Views
 pub mod Takes
+pub mod Gathered
+pub mod Gatherers
+pub mod PartsRead
+pub mod TextReaders

@@ -1,8 +1,10 @@
 //! Packets, rows and schedules, and the items and flows that pass between shells.
 #![tactic(auto)]
 
+mod cut;
 mod draws;
 mod flow;
+mod gathering;
 mod item;
 mod line;
 mod load;
@@ -12,6 +14,7 @@ mod reach;
 mod reading;
 mod rows;
 mod source;
+mod text;
 
 pub use draws::Draws;
 pub use flow::Flow;
@@ -23,6 +26,7 @@ pub use reach::Reach;
 pub use reading::{ScheduleError, ScheduleReader, read_schedule};
 pub use rows::Schedule;
 pub use source::source_item;
+pub use text::ScheduleText;
 
 #[cfg(test)]
 mod tests;

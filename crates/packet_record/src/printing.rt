@@ -1,42 +1,28 @@
 // Schedules printed.
-ghost use Rattle.std.specs.Prelude.{◌≡◌, ◌++◌, IfOk, OnOk};
-ghost use Rattle.packet_record.specs.Printing.{direction_text, row_text, schedule_text};
+ghost use Rattle.std.specs.Prelude.{◌≡◌, IfOk};
+ghost use Rattle.packet_record.specs.Printing.{row_text, schedule_text};
 ghost use Rattle.packet_record.specs.Schedules.{IsScheduleText};
 
-use crate::{Direction, Row, Schedule};
-use mm_base::{Bytes, OutOfMemory, write_decimal};
+use crate::{Row, Schedule};
+use mm_base::{Bytes, LineBuffer, OutOfMemory, PrintLine, print_lines};
 use std::alloc::Global;
-
-// The most bytes of a printed line, as in `9999999999 down 1504`.
-const LONGEST_LINE: usize = 21;
 
 /// The text of a schedule. Reading it gives the schedule again.
 pub fn print_schedule(alloc: Global, schedule: &Schedule) -> Result<Bytes, OutOfMemory>
     ensures text { IfOk result (λ text. text ≡ schedule_text schedule.now) }
     ensures read { IfOk result (λ text. IsScheduleText text schedule.now) }
 {
-    let rows = schedule.rows();
-    let mut text = Bytes::from_vec(Vec::with_capacity(alloc, rows.len() * LONGEST_LINE)?);
-    for row in rows {
-        write_row(&mut text, row)?;
-    }
-    Ok(text)
+    print_lines(alloc, b"", schedule.rows())
 }
 
-fn write_row(out: &mut Bytes, row: &Row) -> Result<(), OutOfMemory>
-    ensures { OnOk result (out.new ≡ out.old ++ row_text row.now) }
-{
-    write_decimal(out, row.timed.moment)?;
-    write_direction(out, row.direction)?;
-    write_decimal(out, u64::from(row.timed.packet.size))?;
-    out.push(b'\n')
-}
+impl PrintLine for Row {
+    ghost line = { row_text };
 
-fn write_direction(out: &mut Bytes, direction: Direction) -> Result<(), OutOfMemory>
-    ensures { OnOk result (out.new ≡ out.old ++ direction_text direction) }
-{
-    match direction {
-        Direction::Up => out.append(b" up "),
-        Direction::Down => out.append(b" down "),
+    #[tactic(auto, using(mm_base::proofs::TextLemmas::is_ended_line))]
+    fn put_line(&self, out: &mut LineBuffer) {
+        out.put_byte(b'\n');
+        out.put_decimal(u64::from(self.timed.packet.size));
+        out.put(self.direction.between_spaces());
+        out.put_decimal(self.timed.moment);
     }
 }

@@ -1,8 +1,9 @@
 // Worked values, and what no clause says.
 use crate::{
-    Direction, Draws, Flow, FlowEnd, Item, Packet, Row, ScheduleError, ScheduleReader, Timed,
-    make_load, print_schedule, read_schedule, source_item,
+    Direction, Draws, Flow, FlowEnd, Item, Packet, Row, ScheduleError, ScheduleReader,
+    ScheduleText, Timed, make_load, print_schedule, read_schedule, source_item,
 };
+use mm_base::Bytes;
 use std::test::Fail;
 
 fn moves<T: Send + Drop>(_value: T) {}
@@ -48,6 +49,56 @@ fn refuses_the_first(rt: HostRuntime) {
             }
         }
     }
+}
+
+// What is read of a text that is cut into these pieces: what is printed of its rows, or the number of its refusal and the line that it names.
+fn read_pieces(rt: &HostRuntime, pieces: [&[u8]; 3]) -> Result<Bytes, Fail> {
+    let alloc = rt.alloc();
+    let mut reading = ScheduleText::new(alloc, 0)?;
+    for piece in pieces {
+        reading.push(piece);
+    }
+    match reading.finish() {
+        Ok(schedule) => Ok(print_schedule(alloc, &schedule)?),
+        Err(fault) => {
+            let said = format!(in alloc; "{} at {}", fault.number(), fault.line())?;
+            Ok(Bytes::from_slice(alloc, said.as_bytes())?)
+        }
+    }
+}
+
+#[test]
+fn reads_a_text_wherever_it_is_cut(rt: HostRuntime) -> Result<(), Fail> {
+    for (text, said) in [
+        (
+            b"05 up 0100\n7 down 1504\n7 up 1".as_slice(),
+            b"5 up 100\n7 down 1504\n7 up 1\n".as_slice(),
+        ),
+        (
+            b"0000000001 down 0000000002\n1 up 3\n",
+            b"1 down 2\n1 up 3\n",
+        ),
+        (b"", b""),
+        (b"5 up 1\n\n6 up 1\n", b"1 at 2"),
+        (b"5 up 1\n4 up 1\n0 up 0\n", b"3 at 2"),
+        (b"5 up 1\n6 up 1505", b"2 at 2"),
+        (b"0000000001 down 0000000002 \n1 up 3\n", b"1 at 1"),
+        (
+            b"1 up 1\n0000000001 down 00000000020000000002 down 2",
+            b"1 at 2",
+        ),
+    ] {
+        for first in 0..text.len() + 1 {
+            for second in first..text.len() + 1 {
+                let read = read_pieces(
+                    &rt,
+                    [&text[..first], &text[first..second], &text[second..]],
+                )?;
+                assert_eq!(rt; read.as_slice(), said);
+            }
+        }
+    }
+    Ok(())
 }
 
 #[test]

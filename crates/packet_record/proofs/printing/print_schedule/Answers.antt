@@ -1,5 +1,5 @@
-use Rattle.std.proofs.Common.{◌≡◌, subst, sym, ap, ◌∙◌}
-use Rattle.std.proofs.lemmas.List.{take_all}
+use Rattle.std.proofs.Common.{subst, sym, ◌∙◌, ap}
+use Rattle.std.proofs.lemmas.Result.{IfOk-weaker}
 use Rattle.packet_record.specs.Printing.{schedule_text}
 use Rattle.packet_record.specs.Schedules.{IsScheduleText}
 use Rattle.packet_record.proofs.PrintingLemmas.{printed}
@@ -7,5 +7,6 @@ use Rattle.packet_record.proofs.printing.print_schedule.Goals as goal
 
 pub returns-clause-read : goal.returns-clause-read
 returns-clause-read c =
-    let all : c.loop-row.text ≡ schedule_text c.args.schedule.now = c.loop-row.invariant ∙ ap schedule_text (take_all c.loop-row.row-index c.rows-rows.result.now c.loop-row-test.false ∙ c.rows-rows.ensures.rows) in
-    subst (λ text. IsScheduleText text c.args.schedule.now) (sym all) (printed c.args.schedule.now c.rows-rows.ensures.schedule)
+    IfOk-weaker c.print_lines.result _ _
+    (λ text is. subst (λ t. IsScheduleText t c.args.schedule.now) (sym (is ∙ ap schedule_text c.rows.ensures.rows)) (printed c.args.schedule.now c.rows.ensures.schedule))
+    c.print_lines.ensures

@@ -1,0 +1,31 @@
+use Rattle.std.proofs.Common.{◌≡◌, ◌-◌, ◌++◌, Result, Ok, Err, OnOk, length, take, true, false, ap, sym, subst, ◌∙◌}
+use Rattle.std.specs.Result.{is_err}
+use Rattle.mm_base.specs.Lines.{lines_of, is_one_line}
+use Rattle.mm_base.proofs.TextLemmas.{is_one_line-append}
+use Rattle.packet_record.specs.Gathered.{Awaits}
+use Rattle.packet_record.specs.PartsRead.{IsLeft}
+use Rattle.packet_record.proofs.LongLines.{one_line_take, enough_kept}
+use Rattle.packet_record.proofs.text.ScheduleText.keep.Goals as goal
+
+no_error : {A B P : Type 0} (result : Result A B) → false ≡ is_err result → OnOk result P → P
+no_error (Ok a) e p = p
+no_error (Err b) e p = absurd cc
+
+pub invariant_of-self-else-is_err : goal.invariant_of-self-else-is_err
+invariant_of-self-else-is_err c =
+    let kept = c.self.inside.kept in
+    let part = c.args.part.now in
+    let added = no_error c.append.result (sym c.if-is_err.false ∙ c.is_err.ensures.value) c.append.ensures.ok in
+    let front = c.kept_front-front.ensures ∙ ap (λ n. take (27 - n) part) c.len.ensures in
+    subst (λ t. is_one_line t ≡ true) (sym (added ∙ ap (λ l. kept ++ l) front))
+    (is_one_line-append kept (take (27 - length kept) part) c.self.invariant (one_line_take (27 - length kept) part c.requires))
+
+pub returns-else-is_err : goal.returns-else-is_err
+returns-else-is_err c = λ whole rest left.
+    let kept = c.self.inside.kept in
+    let part = c.args.part.now in
+    let inside = subst (IsLeft whole (part ++ rest)) (sym c.self.view_is) left in
+    let added = no_error c.append.result (sym c.if-is_err.false ∙ c.is_err.ensures.value) c.append.ensures.ok in
+    let front = c.kept_front-front.ensures ∙ ap (λ n. take (27 - n) part) c.len.ensures in
+    subst (λ t. Awaits (lines_of whole) (lines_of (t ++ rest)) c.self.inside.rows) (sym (added ∙ ap (λ l. kept ++ l) front))
+    (enough_kept (lines_of whole) kept part rest c.self.inside.rows c.self.invariant c.requires inside)

@@ -1,0 +1,93 @@
+// The rows of a schedule, gathered line by line.
+ghost use Rattle.std.specs.Prelude.{◌≡◌, ◌≢◌, ◌≤◌, ◌∷◌, ℕ, List, [], None, Some, IfSome, IfOk, IfErr, OnOk, MatchResult};
+ghost use Rattle.packet_record.specs.Said.{said_of};
+ghost use Rattle.packet_record.specs.Schedules.{AreRows, first_fault};
+
+use crate::reading::row_of;
+use crate::{Direction, Row, Schedule, ScheduleError};
+use mm_base::OutOfMemory;
+use std::alloc::Global;
+use std::marker::Model;
+
+// The rows of the lines so far, the moment of the last (0 at first), and the first refusal, also for want of memory.
+#[derive(Drop)]
+pub(crate) struct ScheduleRows {
+    rows: Vec<Row>,
+    low: u64,
+    refused: Option<ScheduleError>,
+}
+
+impl Model for ScheduleRows {
+    ghost use Rattle.packet_record.specs.Gathered.{Gathered};
+
+    ghost Value = { Gathered };
+
+    ghost use Rattle.packet_record.specs.Gatherers.{rows_view, CanGather};
+
+    ghost view = { rows_view };
+
+    ghost invariant = { CanGather };
+}
+
+impl ScheduleRows {
+    ghost use Rattle.packet_record.specs.Gathered.{none_gathered, refusing, Awaits};
+
+    // No rows, with room for so many.
+    pub(crate) fn with_room(alloc: Global, most: usize) -> Result<Self, OutOfMemory>
+        ensures { IfOk result (λ r. r ≡ none_gathered) }
+    {
+        Ok(ScheduleRows {
+            rows: Vec::with_capacity(alloc, most)?,
+            low: 0,
+            refused: None,
+        })
+    }
+
+    // Adds the row of what a line says.
+    #[inline]
+    fn add(&mut self, says: Option<(u64, Direction, u64)>) -> Result<(), ScheduleError>
+        requires going { self.old.refused ≡ None }
+        requires within { IfSome says (λ s. s.0 ≤ 9999999999) }
+        ensures ok { OnOk result ((all rest : List (List ℕ)) (line : List ℕ) → said_of line ≡ says → Awaits all (line ∷ rest) self.old → Awaits all rest self.new) }
+        ensures err { IfErr result (λ e. (all rest : List (List ℕ)) (line : List ℕ) → said_of line ≡ says → Awaits all (line ∷ rest) self.old
+            → Awaits all rest (refusing e self.new)) }
+    {
+        let row = row_of(self.rows.len() as u32, self.low, says)?;
+        self.rows.push(row)?;
+        self.low = row.timed.moment;
+        Ok(())
+    }
+
+    // Takes what the next line says, or that it says nothing. After a refusal it is passed over.
+    #[inline]
+    pub(crate) fn take(&mut self, says: Option<(u64, Direction, u64)>)
+        requires within { IfSome says (λ s. s.0 ≤ 9999999999) }
+        ensures { (all rest : List (List ℕ)) (line : List ℕ) → said_of line ≡ says → Awaits all (line ∷ rest) self.old → Awaits all rest self.new }
+    {
+        if self.refused.is_some() {
+            return;
+        }
+        if let Err(fault) = self.add(says) {
+            self.refused = Some(fault);
+        }
+    }
+
+    // Memory is wanting.
+    pub(crate) fn want_memory(&mut self)
+        ensures { self.new ≡ refusing ScheduleError.OutOfMemory self.old }
+    {
+        self.refused = Some(ScheduleError::OutOfMemory);
+    }
+
+    // The schedule, or the first refusal.
+    pub(crate) fn finish(self) -> Result<Schedule, ScheduleError>
+        ensures found { (all : List (List ℕ)) → Awaits all [] self → IfOk result (λ rows. AreRows 1 0 all rows) }
+        ensures exact { (all : List (List ℕ)) → Awaits all [] self → MatchResult result (λ _. first_fault 1 0 all ≡ None)
+            (λ e. (e ≢ ScheduleError.OutOfMemory) → first_fault 1 0 all ≡ Some e) }
+    {
+        match self.refused {
+            Some(fault) => Err(fault),
+            None => Ok(Schedule::from_rows(self.rows)),
+        }
+    }
+}

@@ -1,0 +1,136 @@
+// A schedule read from its text piece by piece.
+ghost use Rattle.std.specs.Prelude.{◌≡◌, ◌≢◌, ◌<◌, ◌∷◌, ◌++◌, ◌-◌, ℕ, List, [], length, take, None, Some, true, IfSome, IfNone, IfOk, IfErr, MatchResult};
+ghost use Rattle.mm_base.specs.Lines.{is_one_line, lines_of};
+ghost use Rattle.packet_record.specs.Schedules.{IsScheduleText, first_fault};
+
+use crate::cut::cut_line;
+use crate::gathering::ScheduleRows;
+use crate::line::{read_line, split_line};
+use crate::{Schedule, ScheduleError};
+use mm_base::{Bytes, OutOfMemory};
+use std::alloc::Global;
+use std::marker::Model;
+
+// A byte more than the longest line that says something: two decimals of ten digits, and a direction between two spaces.
+const MOST_KEPT: usize = 27;
+
+/// A schedule that is read from its text piece by piece, wherever the text is cut. Of the text no more is kept than the first 27 bytes of
+/// a line that a piece has begun.
+#[derive(Drop)]
+pub struct ScheduleText {
+    rows: ScheduleRows,
+    kept: Bytes,
+}
+
+impl Model for ScheduleText {
+    ghost use Rattle.packet_record.specs.PartsRead.{PartRead};
+
+    ghost Value = { PartRead };
+
+    ghost use Rattle.packet_record.specs.TextReaders.{text_view, KeepsOneLine};
+
+    ghost view = { text_view };
+
+    ghost invariant = { KeepsOneLine };
+}
+
+impl ScheduleText {
+    ghost use Rattle.packet_record.specs.Gathered.{Awaits};
+    ghost use Rattle.packet_record.specs.PartsRead.{HasRead, IsLeft};
+
+    /// Nothing is read so far. Room is made for the rows of a text of so many bytes.
+    pub fn new(alloc: Global, bytes: usize) -> Result<Self, OutOfMemory>
+        ensures { IfOk result (λ text. HasRead [] text) }
+    {
+        Ok(ScheduleText {
+            rows: ScheduleRows::with_room(alloc, most_rows(bytes))?,
+            kept: Bytes::new(alloc),
+        })
+    }
+
+    // Keeps a part of a line.
+    fn keep(&mut self, part: &[u8])
+        requires { is_one_line part.now ≡ true }
+        ensures { (whole rest : List ℕ) → IsLeft whole (part.now ++ rest) self.old → IsLeft whole rest self.new }
+    {
+        let front = kept_front(self.kept.len(), part);
+        if self.kept.append(front).is_err() {
+            self.rows.want_memory();
+        }
+    }
+
+    // Reads the last part of a line, which a line feed follows.
+    fn end_line(&mut self, part: &[u8])
+        requires { is_one_line part.now ≡ true }
+        ensures { (whole rest : List ℕ) → IsLeft whole (part.now ++ 10 ∷ rest) self.old → IsLeft whole rest self.new }
+    {
+        if self.kept.is_empty() {
+            self.rows.take(read_line(part));
+            return;
+        }
+        self.keep(part);
+        self.rows.take(read_line(self.kept.as_slice()));
+        self.kept.clear();
+    }
+
+    // Reads a text up to its first line feed, and answers what follows. None where it has no line feed: then nothing is read.
+    #[inline]
+    fn next_line<'a>(&mut self, text: &'a [u8]) -> Option<&'a [u8]>
+        ensures some { IfSome result (λ after. (whole rest : List ℕ) → IsLeft whole (text.now ++ rest) self.old → IsLeft whole (after.now ++ rest) self.new) }
+        ensures shorter { IfSome result (λ after. length after.now < length text.now) }
+        ensures none { IfNone result ((self.new ≡ self.old) × (is_one_line text.now ≡ true)) }
+    {
+        if self.kept.is_empty() {
+            if let Some((says, after)) = split_line(text) {
+                self.rows.take(Some(says));
+                return Some(after);
+            }
+        }
+        let (line, after) = cut_line(text)?;
+        self.end_line(line);
+        Some(after)
+    }
+
+    /// Reads the next piece of the text. After a refusal it is passed over.
+    pub fn push(&mut self, piece: &[u8])
+        ensures { (text : List ℕ) → HasRead text self.old → HasRead (text ++ piece.now) self.new }
+    {
+        let mut rest = piece;
+        'lines: while let Some(after) = self.next_line(rest) {
+            rest = after;
+        }
+        self.keep(rest);
+    }
+
+    // What all lines gave, where the text is read: the last one may have no line feed.
+    fn into_rows(self) -> ScheduleRows
+        ensures { (text : List ℕ) → HasRead text self → Awaits (lines_of text) [] result }
+    {
+        let ScheduleText { mut rows, kept } = self;
+        if !kept.is_empty() {
+            rows.take(read_line(kept.as_slice()));
+        }
+        rows
+    }
+
+    /// The schedule of the text that was read, or its first refusal, as `read_schedule` answers for the text.
+    pub fn finish(self) -> Result<Schedule, ScheduleError>
+        ensures found { (text : List ℕ) → HasRead text self → IfOk result (λ rows. IsScheduleText text rows) }
+        ensures exact { (text : List ℕ) → HasRead text self → MatchResult result (λ _. first_fault 1 0 (lines_of text) ≡ None)
+            (λ e. (e ≢ ScheduleError.OutOfMemory) → first_fault 1 0 (lines_of text) ≡ Some e) }
+    {
+        self.into_rows().finish()
+    }
+}
+
+// What is kept of a part of a line, after so many bytes of the line: a line that has more than 26 bytes says nothing, however it goes on.
+fn kept_front(kept: usize, part: &[u8]) -> &[u8]
+    ensures { result.now ≡ take (27 - kept) part.now }
+{
+    &part[..part.len().min(MOST_KEPT.saturating_sub(kept))]
+}
+
+// No schedule of so many bytes has more rows: the shortest line has six bytes and its line feed.
+fn most_rows(bytes: usize) -> usize {
+    (bytes / 7 + 1).min(1_000_000)
+}
