@@ -5,12 +5,10 @@ use Rattle.std.specs.List.Sorted.{IsNonDecreasingBy, IsPartitionedBy}
 use Rattle.std.specs.Option.{option_map}
 use Rattle.std.proofs.lemmas.Bool.{lt-leb}
 use Rattle.std.proofs.lemmas.List.Sorted.{IsPartitionedBy-leb}
-use Rattle.std.proofs.lemmas.Option.{slice_get-get_or}
 use Rattle.std.proofs.Math.Nat.{mul-le-mul_right, div-le_self}
 use Rattle.trace_reader.specs.declared.opportunity.Opportunity.{Opportunity}
 use Rattle.trace_reader.specs.Orders.{Each, AreRising}
 use Rattle.trace_reader.specs.Opps.{up_to, last_moment, later, entry, opportunity_at, opps}
-use Rattle.trace_reader.specs.Traces.{TraceView}
 use Rattle.trace_reader.proofs.Fields.{same_opportunity}
 use Rattle.trace_reader.proofs.OrderLemmas.{last_latest}
 use Rattle.trace_reader.proofs.OppsLaws.{opps_once, length-opps}
@@ -62,14 +60,17 @@ count_fits horizon last k n h few le =
 
 -- the opportunity that stands at this place
 abbrev pub StandsAt : List Opportunity → ℕ → ℕ → Opportunity → Type 0
-StandsAt trace j count o = o ≡ get_or trace (j % count) o
+StandsAt trace j count o = slice_get trace (j % count) ≡ Some o
 
-pub moment_fits : (trace : List Opportunity) (j count last : ℕ) (o : Opportunity) → j < 2 ^ 30 → 0 < length trace → AreRising trace → last_moment trace ≤ 9999999999
-    → count ≡ length trace → last ≡ last_moment trace → StandsAt trace j count o → Fits w64 (o.moment + j / count * last)
-moment_fits trace j count last o few some r most e f at =
-    let place : j % count < length trace = omega arith in
-    let here : (get_or trace (j % count) o).moment ≤ last_moment trace = each_at (λ p. p.moment ≤ last_moment trace) trace (j % count) o (last_latest trace r) place in
-    let same : o.moment ≡ (get_or trace (j % count) o).moment = ap (λ (p : Opportunity). p.moment) at in
+each_some : (P : Opportunity → Type 0) (opps : List Opportunity) (i : ℕ) (o : Opportunity) → Each P opps → slice_get opps i ≡ Some o → P o
+each_some P [] i o a e = cc
+each_some P (p ∷ opps) zero o a e = let same : p ≡ o = cc in subst P same a.0
+each_some P (p ∷ opps) (suc i) o a e = each_some P opps i o a.1 e
+
+pub moment_fits : (trace : List Opportunity) (j count last : ℕ) (o : Opportunity) → j < 2 ^ 30 → AreRising trace → last_moment trace ≤ 9999999999
+    → last ≡ last_moment trace → StandsAt trace j count o → Fits w64 (o.moment + j / count * last)
+moment_fits trace j count last o few r most f at =
+    let here : o.moment ≤ last_moment trace = each_some (λ p. p.moment ≤ last_moment trace) trace (j % count) o (last_latest trace r) at in
     let q : j / count ≤ j = div-le_self j count in
     let a : j / count * last ≤ 1073741823 * last = mul-le-mul_right last (omega arith) in
     omega arith
@@ -78,15 +79,12 @@ not_past : (trace : List Opportunity) (once : Bool) (j : ℕ) → (IsTrue once �
 not_past trace true j within = let lt : j < length trace = within refl in rw (lt-leb (length trace) j lt)
 not_past trace false j within = refl
 
-pub at_value : (t : TraceView) (trace : List Opportunity) (once : Bool) (j count last : ℕ) (o : Opportunity) (p : 1 ≤ o.bytes) (q : o.bytes ≤ 1000000)
-    → trace ≡ t.opportunities → 0 < length trace → (IsTrue once → j < count) → count ≡ length trace → last ≡ last_moment trace → StandsAt trace j count o
-    → Some (record { moment = o.moment + j / count * last; bytes = o.bytes; some = p; most = q }) ≡ opportunity_at t.opportunities once j
-at_value t trace once j count last o p q view some within e f at =
+pub at_value : (trace : List Opportunity) (once : Bool) (j count last : ℕ) (o : Opportunity) (p : 1 ≤ o.bytes) (q : o.bytes ≤ 1000000)
+    → (IsTrue once → j < count) → count ≡ length trace → last ≡ last_moment trace → StandsAt trace j count o
+    → Some (record { moment = o.moment + j / count * last; bytes = o.bytes; some = p; most = q }) ≡ opportunity_at trace once j
+at_value trace once j count last o p q within e f at =
     let by = j / length trace * last_moment trace in
-    let there = get_or trace (j % length trace) o in
-    let stands : o ≡ there = at ∙ ap (λ (n : ℕ). get_or trace (j % n) o) e in
-    let get : slice_get trace (j % length trace) ≡ Some there = slice_get-get_or trace (j % length trace) o (omega arith) in
-    let moment : o.moment + j / count * last ≡ there.moment + by =
-    ap (λ (n : ℕ). o.moment + j / n * last) e ∙ ap (λ (l : ℕ). o.moment + j / length trace * l) f ∙ ap (λ (x : Opportunity). x.moment + by) stands in
-    let same = same_opportunity (later by there) (o.moment + j / count * last) o.bytes p q moment (ap (λ (x : Opportunity). x.bytes) stands) in
-    ap Some same ∙ sym (ap (option_map (later by)) get) ∙ sym (not_past trace once j (λ t. subst (λ n. j < n) e (within t))) ∙ ap (λ (l : List Opportunity). opportunity_at l once j) view
+    let get : slice_get trace (j % length trace) ≡ Some o = ap (λ (n : ℕ). slice_get trace (j % n)) (sym e) ∙ at in
+    let moment : o.moment + j / count * last ≡ o.moment + by = ap (λ (n : ℕ). o.moment + j / n * last) e ∙ ap (λ (l : ℕ). o.moment + j / length trace * l) f in
+    let same = same_opportunity (later by o) (o.moment + j / count * last) o.bytes p q moment refl in
+    ap Some same ∙ sym (ap (option_map (later by)) get) ∙ sym (not_past trace once j (λ t. subst (λ n. j < n) e (within t)))

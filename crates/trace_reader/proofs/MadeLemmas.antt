@@ -1,9 +1,10 @@
 -- The moments that the generator makes, one by one.
-use Rattle.std.proofs.Common.{◌≡◌, ℕ, suc, ◌+◌, ◌-◌, ◌%◌, ◌<◌, ◌++◌, List, [], ◌∷◌, map, ap, sym, ◌∙◌, arith, append_assoc}
+use Rattle.std.proofs.Common.{◌≡◌, ℕ, suc, ◌+◌, ◌-◌, ◌%◌, ◌<◌, ◌++◌, List, [], ◌∷◌, map, IfOk, Result, Ok, Err, ap, sym, subst, ◌∙◌, arith, append_assoc}
 use Rattle.std.proofs.lemmas.List.{map-append, append-nil}
 use Rattle.packet_record.specs.Draws.{next_draw}
 use Rattle.trace_reader.specs.declared.opportunity.Opportunity.{Opportunity}
 use Rattle.trace_reader.specs.Made.{moments_from}
+use Rattle.trace_reader.specs.Traces.{TraceView}
 
 abbrev pub moments : List Opportunity → List ℕ
 moments opps = map (λ o. o.moment) opps
@@ -26,3 +27,8 @@ pub moments_end : (x moment n : ℕ) (opps : List Opportunity) (all : List ℕ) 
 moments_end x moment n opps all end before =
     let e : 0 ≡ 100 - n = omega arith in
     sym (append-nil (moments opps)) ∙ ap (λ (k : ℕ). moments opps ++ moments_from x moment k) e ∙ before
+
+-- what holds of the trace that was made, if one was
+pub if_made : {E : Type 0} (P : TraceView → Type 0) (t : TraceView) (result : Result TraceView E) → IfOk result (λ s. s ≡ t) → P t → IfOk result P
+if_made P t (Ok s) e p = subst P (sym e) p
+if_made P t (Err fault) e p = tt

@@ -123,7 +123,7 @@ and_then : {X Y : Type 0} (o : Option X) (f : X → Option Y) (y : Y) → option
 and_then None f y e = cc
 and_then (Some x) f y e = (x, refl, e)
 
-said_short : (form : Form) (line : List ℕ) (o : Opportunity) → said_of form line ≡ Some (said o) → o.moment ≤ 9999999999
+pub said_short : (form : Form) (line : List ℕ) (o : Opportunity) → said_of form line ≡ Some (said o) → o.moment ≤ 9999999999
 said_short Moments line o e =
     let m = and_then (decimal_of line) (λ (m : ℕ). Some (m, 1504)) (said o) e in
     let pair : (m.0, 1504) ≡ said o = cc in

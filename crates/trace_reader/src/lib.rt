@@ -4,6 +4,7 @@
 mod line;
 mod making;
 mod opportunity;
+mod packed;
 mod printing;
 mod reading;
 #[cfg(test)]

@@ -4,6 +4,7 @@ ghost use Rattle.packet_record.specs.Draws.{next_draw};
 ghost use Rattle.trace_reader.specs.Made.{made_moments};
 ghost use Rattle.trace_reader.specs.declared.opportunity.Form.TheVariants as forms;
 
+use crate::packed::PackedOpportunity;
 use crate::{Form, Opportunity, Trace};
 use mm_base::OutOfMemory;
 use packet_record::Draws;
@@ -20,10 +21,10 @@ pub fn make_trace(alloc: Global, number: u64) -> Result<Trace, OutOfMemory>
     let mut moment = 0;
     for _ in 0..100u32 {
         moment += 1 + u64::from(draws.draw() % 3);
-        list.push(Opportunity {
+        list.push(PackedOpportunity::new(Opportunity {
             moment,
             bytes: 1504,
-        })?;
+        }))?;
     }
-    Ok(Trace::from_list(Form::Moments, list))
+    Trace::from_list(Form::Moments, list)
 }

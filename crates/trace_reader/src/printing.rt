@@ -2,6 +2,7 @@
 ghost use Rattle.std.specs.Prelude.{◌≡◌, ◌≤◌, ◌++◌, ◌∷◌, [], IfOk, OnOk, decimal};
 ghost use Rattle.trace_reader.specs.TraceText.{line_of, header_text, trace_text, IsTraceText};
 
+use crate::packed::PackedOpportunity;
 use crate::{Form, Opportunity, Trace};
 use mm_base::{Bytes, OutOfMemory, write_decimal};
 use std::alloc::Global;
@@ -13,10 +14,10 @@ pub fn print_trace(alloc: Global, trace: &Trace) -> Result<Bytes, OutOfMemory>
     ensures read { IfOk result (λ text. IsTraceText text trace.now) }
 {
     let form = trace.form();
-    let mut out = Bytes::with_capacity(alloc, length_of(trace.opportunities()))?;
+    let mut out = Bytes::with_capacity(alloc, length_of(trace.list()))?;
     write_header(&mut out, form)?;
-    for o in trace.opportunities() {
-        write_line(&mut out, form, *o)?;
+    for packed in trace.list() {
+        write_line(&mut out, form, packed.opportunity())?;
     }
     Ok(out)
 }
@@ -42,9 +43,10 @@ fn write_line(out: &mut Bytes, form: Form, o: Opportunity) -> Result<(), OutOfMe
 }
 
 // No fewer bytes than the text has.
-fn length_of(list: &[Opportunity]) -> usize {
+fn length_of(list: &[PackedOpportunity]) -> usize {
     let mut length = 13usize;
-    for o in list {
+    for packed in list {
+        let o = packed.opportunity();
         length = length.saturating_add(digits(o.moment) + 1 + digits(u64::from(o.bytes)) + 1);
     }
     length

@@ -9,6 +9,7 @@ ghost use Rattle.mm_base.specs.Lines.{lines_of};
 ghost use Rattle.mm_base.specs.LinesLeft.{lines_left};
 
 use crate::line::read_line;
+use crate::packed::PackedOpportunity;
 use crate::{Form, Opportunity, Trace};
 use mm_base::{Lines, OutOfMemory};
 use std::alloc::{AllocError, AllocFailed, Global};
@@ -111,12 +112,12 @@ fn read_text(alloc: Global, text: &[u8]) -> Result<Trace, TraceError>
         (λ e. e ≢ TraceError.OutOfMemory → trace_fault text.now ≡ Some e) }
 {
     let (form, lines) = open(text);
-    let mut list = Vec::new(alloc);
+    let mut list = Vec::with_capacity(alloc, most_lines(text.len()))?;
     let mut low = 0;
     for line in lines {
         let o = next_opportunity(form, list.len(), low, line)?;
         low = o.moment;
-        list.push(o)?;
+        list.push(PackedOpportunity::new(o))?;
     }
     if list.is_empty() {
         return Err(TraceError::Empty);
@@ -124,7 +125,13 @@ fn read_text(alloc: Global, text: &[u8]) -> Result<Trace, TraceError>
     if low == 0 {
         return Err(TraceError::ZeroLength);
     }
-    Ok(Trace::from_list(form, list))
+    Ok(Trace::from_list(form, list)?)
+}
+
+// No text of so many bytes has more lines of opportunities, of which there are at most 1000000: the shortest has one
+// byte and its line feed.
+fn most_lines(bytes: usize) -> usize {
+    (bytes / 2 + 1).min(1_000_000)
 }
 
 // The form of a text, and the lines of its opportunities.

@@ -1,41 +1,47 @@
 // A trace, and the formula of its opportunities.
-ghost use Rattle.std.specs.Prelude.{◌≡◌, ◌<◌, ◌≤◌, ◌^◌, ◌↔◌, ℕ, Option, Some, None, IsTrue, length, IfOk};
+ghost use Rattle.std.specs.Prelude.{◌≡◌, ◌<◌, ◌≤◌, ◌^◌, ◌↔◌, ℕ, Option, Some, None, IsTrue, length, slice_get, IfOk};
 ghost use Rattle.trace_reader.specs.Orders.{AreRising};
 ghost use Rattle.trace_reader.specs.Opps.{up_to, last_moment, opportunity_at, opps};
 ghost use Rattle.trace_reader.specs.Traces.{IsTrace};
 
+use crate::packed::PackedOpportunity;
 use crate::{Form, Opportunity};
 use mm_base::OutOfMemory;
 use std::alloc::Global;
 use std::marker::Model;
+use std::sync::ArcSlice;
 
 /// A packet delivery trace (mm-link): 1 to 1000000 opportunities whose moments never decrease, the last above 0 and
 /// at most 9999999999. The trace begins again at its last moment, unless it is played once.
-/// Contracts see its form and its list of opportunities.
+/// Its list of opportunities is shared by its copies. Contracts see its form and its list of opportunities.
 #[derive(Drop)]
 pub struct Trace {
     form: Form,
-    list: Vec<Opportunity>,
+    list: ArcSlice<PackedOpportunity>,
 }
 
 impl Model for Trace {
+    ghost use Rattle.std.specs.Arc.{arc_slice_items};
     ghost use Rattle.trace_reader.specs.Traces.{TraceView, IsTrace};
 
     ghost Value = { TraceView };
 
-    ghost view = { λ t. record { form = t.form; opportunities = t.list.items } };
+    ghost view = { λ t. record { form = t.form; opportunities = arc_slice_items t.list } };
 
-    ghost invariant = { λ t. IsTrace (record { form = t.form; opportunities = t.list.items }) };
+    ghost invariant = { λ t. IsTrace (record { form = t.form; opportunities = arc_slice_items t.list }) };
 }
 
 impl Trace {
     ghost use Rattle.trace_reader.specs.declared.opportunity.Opportunity.{Opportunity as OpportunityValue};
 
-    pub(crate) fn from_list(form: Form, list: Vec<Opportunity>) -> Self
+    pub(crate) fn from_list(form: Form, list: Vec<PackedOpportunity>) -> Result<Self, OutOfMemory>
         requires { IsTrace (record { form = form; opportunities = list.items }) }
-        ensures { result ≡ record { form = form; opportunities = list.items } }
+        ensures { IfOk result (λ t. t ≡ record { form = form; opportunities = list.items }) }
     {
-        Trace { form, list }
+        Ok(Trace {
+            form,
+            list: ArcSlice::from_vec(list)?,
+        })
     }
 
     /// What the trace's text states.
@@ -46,9 +52,35 @@ impl Trace {
         self.form
     }
 
-    /// The opportunities of one lap, in order.
-    pub fn opportunities(&self) -> &[Opportunity]
-        ensures opportunities { result.now ≡ self.now.opportunities }
+    /// How many opportunities one lap has.
+    pub fn len(&self) -> usize
+        ensures len { result ≡ length self.now.opportunities }
+        ensures trace { IsTrace self.now }
+    {
+        self.list.len()
+    }
+
+    /// Opportunity number `i` of the first lap, counted from 0.
+    pub fn at(&self, i: usize) -> Opportunity
+        requires { i < length self.now.opportunities }
+        ensures at { slice_get self.now.opportunities i ≡ Some result }
+        ensures trace { IsTrace self.now }
+    {
+        self.list()[i].opportunity()
+    }
+
+    /// The moment of the last opportunity of the first lap, at which the trace begins again.
+    pub fn last_moment(&self) -> u64
+        ensures last { result ≡ last_moment self.now.opportunities }
+        ensures trace { IsTrace self.now }
+    {
+        let list = self.list();
+        list[list.len() - 1].moment()
+    }
+
+    // The opportunities of one lap, in order.
+    pub(crate) fn list(&self) -> &[PackedOpportunity]
+        ensures list { result.now ≡ self.now.opportunities }
         ensures trace { IsTrace self.now }
     {
         self.list.as_slice()
@@ -62,13 +94,13 @@ impl Trace {
         ensures none { (result ≡ None) ↔ (IsTrue once × (length self.now.opportunities ≤ j)) }
         ensures trace { IsTrace self.now }
     {
-        let count = self.list.len() as u64;
+        let count = self.len() as u64;
         if once && j >= count {
             return None;
         }
-        let first = self.list[(j % count) as usize];
+        let first = self.at((j % count) as usize);
         Some(Opportunity {
-            moment: first.moment + j / count * last_of(&self.list),
+            moment: first.moment + j / count * self.last_moment(),
             bytes: first.bytes,
         })
     }
@@ -81,37 +113,31 @@ impl Trace {
         ensures which { (j : ℕ) (o : OpportunityValue) → opportunity_at self.now.opportunities once j ≡ Some o → (j < result) ↔ (o.moment ≤ h) }
         ensures trace { IsTrace self.now }
     {
+        let list = self.list();
         if once {
-            return count_up_to(&self.list, h);
+            return count_up_to(list, h);
         }
-        let lap = last_of(&self.list);
-        h / lap * self.list.len() as u64 + count_up_to(&self.list, h % lap)
+        let lap = self.last_moment();
+        h / lap * list.len() as u64 + count_up_to(list, h % lap)
     }
 
-    /// The same trace.
-    pub fn copy(&self, alloc: Global) -> Result<Trace, OutOfMemory>
+    /// The same trace, which shares its list and copies none of it. `OutOfMemory` comes only beyond the greatest number
+    /// of owners that a list can count.
+    pub fn copy(&self, _alloc: Global) -> Result<Trace, OutOfMemory>
         ensures { IfOk result (λ t. t ≡ self.now) }
     {
         Ok(Trace {
             form: self.form,
-            list: Vec::from_slice(alloc, &self.list)?,
+            list: self.list.clone()?,
         })
     }
 }
 
-// The moment of the last of them.
-fn last_of(list: &[Opportunity]) -> u64
-    requires { 0 < length list.now }
-    ensures { result ≡ last_moment list.now }
-{
-    list[list.len() - 1].moment
-}
-
 // How many of them have moments up to this one.
-fn count_up_to(list: &[Opportunity], moment: u64) -> u64
+fn count_up_to(list: &[PackedOpportunity], moment: u64) -> u64
     requires { AreRising list.now }
     ensures count { result ≡ length (up_to moment list.now) }
     ensures within { result ≤ length list.now }
 {
-    list.partition_point(|o| o.moment <= moment) as u64
+    list.partition_point(|packed| packed.moment() <= moment) as u64
 }

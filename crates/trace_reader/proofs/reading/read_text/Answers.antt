@@ -4,15 +4,18 @@ use Rattle.mm_base.specs.LinesLeft.{lines_left}
 use Rattle.trace_reader.specs.declared.opportunity.Opportunity.{Opportunity}
 use Rattle.trace_reader.specs.TraceText.{stated, said_of, said}
 use Rattle.trace_reader.specs.Reading.{first_fault}
-use Rattle.trace_reader.proofs.TextFaults.{read_more, said_more}
+use Rattle.trace_reader.proofs.TextFaults.{said_short, read_more, said_more}
 use Rattle.trace_reader.proofs.reading.read_text.Goals as goal
+
+pub new-requires : goal.new-requires
+new-requires c = said_short c.open-form.result.0 c.in-Some.line.now c.in_ok-o.o c.in_ok-o.ensures.said
 
 pub loop-line-preserved : goal.loop-line-preserved
 loop-line-preserved c =
     let form = c.open-form.result.0 in
     let list = c.loop-line.list.items in
     let rest = lines_left c.next.new.self in
-    let more : c.push.new.self.items ≡ c.loop-line.list.items ++ c.in_ok-o.o ∷ [] = c.in_ok-push.ensures.items in
+    let more : c.push.new.self.items ≡ c.loop-line.list.items ++ c.in_ok-o.o ∷ [] = c.in_ok-push.ensures.items ∙ ap (λ (p : Opportunity). list ++ p ∷ []) c.new.ensures in
     let step : lines_left c.loop-line.line-iterator ≡ c.in-Some.line.now ∷ lines_left c.next.new.self = search rules in
     let len : c.len.result ≡ length c.loop-line.list.items = search rules in
     let count : length c.push.new.self.items ≡ c.len.result + 1 =
