@@ -2,8 +2,8 @@
 use Rattle.std.proofs.Common.{◌≡◌, ℕ, ◌≤◌, ◌++◌, List, [], ◌∷◌, Result, Ok, Err, OnOk, length, arith, ap, sym, subst}
 use Rattle.mm_base.specs.declared.errors.OutOfMemory.{OutOfMemory}
 use Rattle.packet_record.specs.declared.packet.Timed.{Timed}
-use Rattle.packet_record.specs.Moments.{AreUpTo}
-use Rattle.packet_record.proofs.MomentsLemmas.{up_to_higher, up_to-append}
+use Rattle.packet_record.specs.Moments.{AreUpTo, Rise}
+use Rattle.packet_record.proofs.MomentsLemmas.{up_to_higher, up_to-append, rise-append}
 use Rattle.trace_reader.specs.declared.opportunity.Opportunity.{Opportunity}
 use Rattle.trace_reader.specs.Opps.{up_to}
 use Rattle.trace_reader.proofs.OrderLemmas.{up_to_lower, length-up_to}
@@ -39,3 +39,6 @@ order_after old new t last (Err u) e a le = tt
 pub burnt_after : (old new : Link) (t : Timed) (r : Result (Unit {0}) OutOfMemory) → OnOk r (IsFed old new t) → OnOk r (new.burnt ≤ count_to (opps_of new) t.moment)
 burnt_after old new t (Ok u) e = fed_burnt old new t e
 burnt_after old new t (Err u) e = tt
+
+pub rise_push : (last : ℕ) (ts : List Timed) (t : Timed) → Rise ts → AreUpTo last ts → last ≤ t.moment → Rise (ts ++ t ∷ [])
+rise_push last ts t r a le = rise-append t.moment ts (t ∷ []) r (up_to_higher last t.moment ts le a) (omega arith, tt) (tt, tt)

@@ -1,6 +1,5 @@
 -- The opportunities of one lap, and the lap of an opportunity.
-use Rattle.std.proofs.Common.{◌≡◌, ℕ, ◌+◌, ◌-◌, ◌*◌, ◌/◌, ◌<◌, ◌≤◌, List, length, Option, Some, slice_get, get_or, IfSome, Fits, w64, ap, sym, subst, ◌∙◌, arith}
-use Rattle.std.proofs.lemmas.Option.{slice_get-get_or}
+use Rattle.std.proofs.Common.{◌≡◌, ℕ, ◌+◌, ◌-◌, ◌*◌, ◌/◌, ◌<◌, ◌≤◌, List, length, Option, Some, slice_get, IfSome, Fits, w64, ap, sym, subst, ◌∙◌, arith}
 use Rattle.std.proofs.Math.Nat.{mul-div_cancel, div-le_self, mul-le-mul_right, zero-div}
 use Rattle.trace_reader.specs.declared.opportunity.Opportunity.{Opportunity}
 use Rattle.trace_reader.specs.Opps.{last_moment, later, entry}
@@ -27,14 +26,13 @@ start_fits j count last lt most =
 
 -- opportunity number j, in its lap
 pub entry_at : (trace : List Opportunity) (first start j : ℕ) (o : Opportunity) → IsLap trace first start → first ≤ j → j < first + length trace
-    → o ≡ get_or trace (j - first) o → entry trace j ≡ Some (later start o)
-entry_at trace first start j o lap low high at =
+    → slice_get trace (j - first) ≡ Some o → entry trace j ≡ Some (later start o)
+entry_at trace first start j o lap low high here =
     let k = first / length trace in
     let i = j - first in
     let whole : k * length trace ≡ first = lap.whole in
     let place : j ≡ k * length trace + i = omega arith in
     let within : i < length trace = omega arith in
-    let here : slice_get trace i ≡ Some o = slice_get-get_or trace i o within ∙ ap Some (sym at) in
     ap (entry trace) place ∙ entry_in_lap trace k i o within here ∙ ap (λ (by : ℕ). Some (later by o)) lap.begins
 
 pub moment_within : (found : Option Opportunity) (start : ℕ) (o : Opportunity) → found ≡ Some (later start o) → IfSome found (λ p. p.moment ≤ 3600000) → o.moment + start ≤ 3600000

@@ -6,6 +6,8 @@ pub mod LogLemmas
 pub mod TiedLemmas
 pub mod IdleLemmas
 pub mod SoundLemmas
+pub mod Fronts
+pub mod IdleBurns
 pub mod CountLemmas
 pub mod LeastLaws
 pub mod InOrder
@@ -22,5 +24,8 @@ pub mod LapLemmas
 pub mod LinkLaws
 pub mod FloorLaws
 pub mod OnlyLaws
+pub mod PlayLemmas
+pub mod LogSize
+pub mod WholeLemmas
 pub mod Rows
 pub mod FeedLemmas

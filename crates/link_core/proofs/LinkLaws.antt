@@ -107,16 +107,16 @@ turn_opps ps [] a = tt
 turn_opps ps (o ∷ os) a = (each_reverse (λ p. p.moment ≤ o.moment) ps a.0, turn_opps ps os a.1)
 
 -- no later arrival is before an earlier one
-rise_split : (xs : List Timed) (t : Timed) (ts : List Timed) → Rise (xs ++ t ∷ ts) → Each (λ u. u.moment ≤ t.moment) xs
+pub rise_split : (xs : List Timed) (t : Timed) (ts : List Timed) → Rise (xs ++ t ∷ ts) → Each (λ u. u.moment ≤ t.moment) xs
 rise_split [] t ts r = tt
 rise_split (x ∷ xs) t ts r = ((each_back (λ u. x.moment ≤ u.moment) xs (t ∷ ts) (rise_is x.moment (xs ++ t ∷ ts) r.0)).0, rise_split xs t ts r.1)
 
-each_le : (xs ts : List Timed) (m : ℕ) → Each (λ u. u.moment ≤ m) xs → AreFrom m ts → Each (λ t. Each (λ u. u.moment ≤ t.moment) (reverse xs)) ts
+pub each_le : (xs ts : List Timed) (m : ℕ) → Each (λ u. u.moment ≤ m) xs → AreFrom m ts → Each (λ t. Each (λ u. u.moment ≤ t.moment) (reverse xs)) ts
 each_le xs [] m a f = tt
 each_le xs (t ∷ ts) m a f =
     (each_reverse (λ u. u.moment ≤ t.moment) xs (each_map (λ u. u.moment ≤ m) (λ u. u.moment ≤ t.moment) xs (λ u le. let h = f.0 in omega arith) a), each_le xs ts m a f.1)
 
-opps_le : (ps : List Opportunity) (ts : List Timed) (m : ℕ) → Each (λ p. p.moment ≤ m) ps → AreFrom m ts → Each (λ t. Each (λ p. p.moment ≤ t.moment) (reverse ps)) ts
+pub opps_le : (ps : List Opportunity) (ts : List Timed) (m : ℕ) → Each (λ p. p.moment ≤ m) ps → AreFrom m ts → Each (λ t. Each (λ p. p.moment ≤ t.moment) (reverse ps)) ts
 opps_le ps [] m a f = tt
 opps_le ps (t ∷ ts) m a f =
     (each_reverse (λ p. p.moment ≤ t.moment) ps (each_map (λ p. p.moment ≤ m) (λ p. p.moment ≤ t.moment) ps (λ p le. let h = f.0 in omega arith) a), opps_le ps ts m a f.1)

@@ -17,8 +17,8 @@ use Rattle.link_core.proofs.SoundLemmas.{each_reverse, each_up_to}
 use Rattle.link_core.proofs.Turned.{reverse_cons}
 use Rattle.link_core.proofs.LinkLaws.{LinkGoesOn, goes_on, early_burnt}
 
-abbrev pub made : QueueSpec → Span → Bool → ℕ → List Timed → Link
-made q s k b l = record { trace = s.trace; once = s.once; queue = q; horizon = s.horizon; logged = k; burnt = b; arrivals = l }
+abbrev pub made : QueueSpec → Span → ℕ → List Timed → Link
+made q s b l = record { trace = s.trace; once = s.once; queue = q; horizon = s.horizon; burnt = b; arrivals = l }
 
 -- what is true of a link at all times, as far as these laws need it
 pub record IsReady (os : List Opportunity) (b : ℕ) (l : List Timed) : Type 0 where
@@ -30,7 +30,7 @@ pub ready : (q : QueueSpec) (os : List Opportunity) (b : ℕ) (arrivals : List T
     → Sound q os b arrivals packet used queue left lost logged log → IsReady os b arrivals
 ready q os b arrivals packet used queue left lost logged log s = record { order = s.order; falls = s.tied.arrivals_fall; later = s.later }
 
-up_to_each : (m : ℕ) (ts : List Timed) → Each (λ u. u.moment ≤ m) ts → AreUpTo m ts
+pub up_to_each : (m : ℕ) (ts : List Timed) → Each (λ u. u.moment ≤ m) ts → AreUpTo m ts
 up_to_each m [] a = tt
 up_to_each m (t ∷ ts) a = (a.0, up_to_each m ts a.1)
 
@@ -43,9 +43,9 @@ rise_turned (t ∷ earlier) f =
 rise_now : (l : List Timed) → Falling (reverse l) → Rise l
 rise_now l f = subst Rise (reverse-reverse l) (rise_turned (reverse l) f)
 
-prefixes : (q : QueueSpec) (s : Span) (k : Bool) (b b' : ℕ) (l l' : List Timed) (low : ℕ) → LinkGoesOn low q (take b (span_opps s)) l (take b' (span_opps s)) l'
-    → OnlyGoesOn (made q s k b l) (made q s k b' l')
-prefixes q s k b b' l l' low g = record {
+prefixes : (q : QueueSpec) (s : Span) (b b' : ℕ) (l l' : List Timed) (low : ℕ) → LinkGoesOn low q (take b (span_opps s)) l (take b' (span_opps s)) l'
+    → OnlyGoesOn (made q s b l) (made q s b' l')
+prefixes q s b b' l l' low g = record {
   out = (g.out.more, sym g.out.is);
   lost = (g.lost.more, sym g.lost.is);
   log = (g.log.more, sym g.log.is);
@@ -59,44 +59,43 @@ same c = record {
 }
 
 -- the steps themselves
-arrived : (q : QueueSpec) (s : Span) (k : Bool) (b : ℕ) (l : List Timed) (t : Timed) → IsReady (span_opps s) b l → AreUpTo t.moment l → b ≤ count_to (span_opps s) t.moment
-    → OnlyGoesOn (made q s k b l) (made q s k (count_to (span_opps s) t.moment) (l ++ t ∷ []))
-arrived q s k b l t r up le =
+arrived : (q : QueueSpec) (s : Span) (b : ℕ) (l : List Timed) (t : Timed) → IsReady (span_opps s) b l → AreUpTo t.moment l → b ≤ count_to (span_opps s) t.moment
+    → OnlyGoesOn (made q s b l) (made q s (count_to (span_opps s) t.moment) (l ++ t ∷ []))
+arrived q s b l t r up le =
     let os = span_opps s in
     let rise : Rise (l ++ t ∷ []) = rise-append t.moment l (t ∷ []) (rise_now l r.falls) up (omega arith, tt) (tt, tt) in
-    prefixes q s k b (count_to os t.moment) l (l ++ t ∷ []) (floor_of os s.horizon b)
+    prefixes q s b (count_to os t.moment) l (l ++ t ∷ []) (floor_of os s.horizon b)
     (goes_on q os s.horizon b (count_to os t.moment) l (t ∷ []) r.order le rise r.later
     (each_reverse (λ u. u.moment ≤ t.moment) l (each_up_to t.moment l up), tt)
     (each_reverse (λ p. p.moment ≤ t.moment) (take b os) (early_burnt os b t.moment r.order le), tt))
 
-burnt_on : (q : QueueSpec) (s : Span) (k : Bool) (b n : ℕ) (l : List Timed) → IsReady (span_opps s) b l → OnlyGoesOn (made q s k b l) (made q s k (b + n) l)
-burnt_on q s k b n l r =
+burnt_on : (q : QueueSpec) (s : Span) (b n : ℕ) (l : List Timed) → IsReady (span_opps s) b l → OnlyGoesOn (made q s b l) (made q s (b + n) l)
+burnt_on q s b n l r =
     let os = span_opps s in
     let none : l ++ [] ≡ l = append-nil l in
-    prefixes q s k b (b + n) l l (floor_of os s.horizon b)
+    prefixes q s b (b + n) l l (floor_of os s.horizon b)
     (subst (λ (ts : List Timed). LinkGoesOn (floor_of os s.horizon b) q (take b os) l (take (b + n) os) ts) none
     (goes_on q os s.horizon b (b + n) l [] r.order (omega arith) (subst Rise (sym none) (rise_now l r.falls)) r.later tt tt))
 
 -- the link after a step, by its parts
-alike : (c : Link) (q q' : QueueSpec) (s s' : Span) (k k' : Bool) (b b' : ℕ) (l l' : List Timed) → q' ≡ q → s' ≡ s → k' ≡ k → b' ≡ b → l' ≡ l
-    → OnlyGoesOn c (made q s k b l) → OnlyGoesOn c (made q' s' k' b' l')
-alike c q q' s s' k k' b b' l l' e f d g h w =
-    let one = subst (λ (x : QueueSpec). OnlyGoesOn c (made x s k b l)) (sym e) w in
-    let two = subst (λ (x : Span). OnlyGoesOn c (made q' x k b l)) (sym f) one in
-    let three = subst (λ (x : Bool). OnlyGoesOn c (made q' s' x b l)) (sym d) two in
-    let four = subst (λ (x : ℕ). OnlyGoesOn c (made q' s' k' x l)) (sym g) three in
-    subst (λ (x : List Timed). OnlyGoesOn c (made q' s' k' b' x)) (sym h) four
+alike : (c : Link) (q q' : QueueSpec) (s s' : Span) (b b' : ℕ) (l l' : List Timed) → q' ≡ q → s' ≡ s → b' ≡ b → l' ≡ l
+    → OnlyGoesOn c (made q s b l) → OnlyGoesOn c (made q' s' b' l')
+alike c q q' s s' b b' l l' e f g h w =
+    let one = subst (λ (x : QueueSpec). OnlyGoesOn c (made x s b l)) (sym e) w in
+    let two = subst (λ (x : Span). OnlyGoesOn c (made q' x b l)) (sym f) one in
+    let four = subst (λ (x : ℕ). OnlyGoesOn c (made q' s' x l)) (sym g) two in
+    subst (λ (x : List Timed). OnlyGoesOn c (made q' s' b' x)) (sym h) four
 
-pub only_arrive : (q q' : QueueSpec) (s s' : Span) (k k' : Bool) (b b' : ℕ) (l l' : List Timed) (t : Timed) (r : Result (Unit {0}) OutOfMemory) → IsReady (span_opps s) b l
-    → q' ≡ q → s' ≡ s → k' ≡ k → AreUpTo t.moment l → b ≤ count_to (span_opps s) t.moment
+pub only_arrive : (q q' : QueueSpec) (s s' : Span) (b b' : ℕ) (l l' : List Timed) (t : Timed) (r : Result (Unit {0}) OutOfMemory) → IsReady (span_opps s) b l
+    → q' ≡ q → s' ≡ s → AreUpTo t.moment l → b ≤ count_to (span_opps s) t.moment
     → OnOk r (b' ≡ count_to (span_opps s) t.moment) → OnOk r (l' ≡ l ++ t ∷ []) → OnErr r ((b' ≡ b) × (l' ≡ l))
-    → OnlyGoesOn (made q s k b l) (made q' s' k' b' l')
-only_arrive q q' s s' k k' b b' l l' t (Ok u) ready e f d up le burnt came err =
-    alike (made q s k b l) q q' s s' k k' (count_to (span_opps s) t.moment) b' (l ++ t ∷ []) l' e f d burnt came (arrived q s k b l t ready up le)
-only_arrive q q' s s' k k' b b' l l' t (Err u) ready e f d up le burnt came err = alike (made q s k b l) q q' s s' k k' b b' l l' e f d err.0 err.1 (same (made q s k b l))
+    → OnlyGoesOn (made q s b l) (made q' s' b' l')
+only_arrive q q' s s' b b' l l' t (Ok u) ready e f up le burnt came err =
+    alike (made q s b l) q q' s s' (count_to (span_opps s) t.moment) b' (l ++ t ∷ []) l' e f burnt came (arrived q s b l t ready up le)
+only_arrive q q' s s' b b' l l' t (Err u) ready e f up le burnt came err = alike (made q s b l) q q' s s' b b' l l' e f err.0 err.1 (same (made q s b l))
 
-pub only_burn : (q q' : QueueSpec) (s s' : Span) (k k' : Bool) (b b' : ℕ) (l l' : List Timed) (r : Result ℕ OutOfMemory) → IsReady (span_opps s) b l
-    → q' ≡ q → s' ≡ s → k' ≡ k → l' ≡ l → IfOk r (λ n. b' ≡ b + n) → OnErr r (b' ≡ b)
-    → OnlyGoesOn (made q s k b l) (made q' s' k' b' l')
-only_burn q q' s s' k k' b b' l l' (Ok n) ready e f d came burnt err = alike (made q s k b l) q q' s s' k k' (b + n) b' l l' e f d burnt came (burnt_on q s k b n l ready)
-only_burn q q' s s' k k' b b' l l' (Err u) ready e f d came burnt err = alike (made q s k b l) q q' s s' k k' b b' l l' e f d err came (same (made q s k b l))
+pub only_burn : (q q' : QueueSpec) (s s' : Span) (b b' : ℕ) (l l' : List Timed) (r : Result ℕ OutOfMemory) → IsReady (span_opps s) b l
+    → q' ≡ q → s' ≡ s → l' ≡ l → IfOk r (λ n. b' ≡ b + n) → OnErr r (b' ≡ b)
+    → OnlyGoesOn (made q s b l) (made q' s' b' l')
+only_burn q q' s s' b b' l l' (Ok n) ready e f came burnt err = alike (made q s b l) q q' s s' (b + n) b' l l' e f burnt came (burnt_on q s b n l ready)
+only_burn q q' s s' b b' l l' (Err u) ready e f came burnt err = alike (made q s b l) q q' s s' b b' l l' e f err came (same (made q s b l))

@@ -1,6 +1,6 @@
 -- The two steps keep what is true of the parts.
 use Rattle.std.proofs.Common.{◌≡◌, ℕ, zero, suc, ◌+◌, ◌<◌, ◌≤◌, ◌++◌, All, Bool, List, [], ◌∷◌, Option, Some, slice_get, length, take, drop, reverse, map, arith, ap, sym, subst, ◌∙◌, add-one}
-use Rattle.std.proofs.lemmas.List.{reverse-append, take-append-drop}
+use Rattle.std.proofs.lemmas.List.{reverse-append, take-append-drop, append_assoc}
 use Rattle.packet_record.specs.declared.packet.Timed.{Timed}
 use Rattle.packet_queue.specs.declared.spec.QueueSpec.{QueueSpec}
 use Rattle.packet_queue.specs.Queues.{enqueued, dropped, moved_to}
@@ -87,6 +87,10 @@ sound_burn q opps b arrivals packet packet' used used' queue queue' left left' l
       order = s.order;
       later = subst (λ n. Each (λ p. Each (λ t. t.moment < p.moment) (reverse arrivals)) (drop n opps)) (sym (add-one b)) ahead.1;
     }
+
+-- what is put at the end, where a front was let go
+pub behind : {X : Type 0} (front xs ys more : List X) → ys ≡ xs ++ more → front ++ ys ≡ front ++ xs ++ more
+behind front xs ys more e = ap (λ l. front ++ l) e ∙ sym (append_assoc front xs more)
 
 pub each_from_all : {X : Type 0} (P : X → Type 0) (xs : List X) → All P xs → Each P xs
 each_from_all P [] a = tt

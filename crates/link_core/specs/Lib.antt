@@ -3,9 +3,12 @@ pub mod Orders
 pub mod Links
 pub mod Back
 pub mod State
+pub mod Arriving
 pub mod Sound
 pub mod View
 pub mod Numbers
 pub mod Promises
 pub mod Laps
 pub mod Written
+pub mod Play
+pub mod Pieces

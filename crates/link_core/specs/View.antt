@@ -7,7 +7,6 @@ use Rattle.shell_log.specs.declared.entry.Entry.{Entry}
 use Rattle.trace_reader.specs.declared.opportunity.Opportunity.{Opportunity}
 use Rattle.trace_reader.specs.Opps.{opps}
 use Rattle.trace_reader.specs.Traces.{TraceView}
-use Rattle.link_core.specs.Written.{written}
 use Rattle.link_core.specs.Links.{link_out, link_lost, link_log, link_inside}
 
 -- a trace, played once or again and again, up to a horizon
@@ -24,7 +23,6 @@ pub record Link : Type 0 where
   pub once : Bool
   pub queue : QueueSpec
   pub horizon : ℕ
-  pub logged : Bool
   pub burnt : ℕ
   pub arrivals : List Timed
 
@@ -43,10 +41,6 @@ lost_of c = link_lost c.queue (burnt_opps c) c.arrivals
 
 abbrev pub log_of : Link → List Entry
 log_of c = link_log c.queue (burnt_opps c) c.arrivals
-
--- the log, where it is kept
-abbrev pub kept_log : Link → List Entry
-kept_log c = written c.logged (log_of c)
 
 abbrev pub inside_of : Link → List Timed
 inside_of c = link_inside c.queue (burnt_opps c) c.arrivals

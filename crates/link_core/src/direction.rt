@@ -1,12 +1,12 @@
 // One direction of a link, as its callers see it.
-ghost use Rattle.std.specs.Prelude.{◌≡◌, ◌+◌, ◌-◌, ◌≤◌, ◌++◌, ◌∷◌, [], IsOk, length, map, slice_get, IfOk, OnOk, OnErr, true, false};
+ghost use Rattle.std.specs.Prelude.{◌≡◌, ◌+◌, ◌-◌, ◌≤◌, ◌++◌, ◌∷◌, [], IsOk, length, map, slice_get, IfOk, OnOk, OnErr};
 ghost use Rattle.std.specs.Option.{option_map};
 ghost use Prim.Native.Nat.{min};
 ghost use Rattle.packet_record.specs.Moments.{AreUpTo};
 ghost use Rattle.trace_reader.specs.Opps.{opps};
 ghost use Rattle.link_core.specs.Promises.{count_to};
 ghost use Rattle.link_core.specs.Sound.{IsSound};
-ghost use Rattle.link_core.specs.View.{Link, opps_of, out_of, lost_of, kept_log, inside_of, OnlyGoesOn};
+ghost use Rattle.link_core.specs.View.{Link, opps_of, out_of, lost_of, log_of, inside_of, OnlyGoesOn};
 
 use crate::opportunities::Opportunities;
 use crate::parts::Parts;
@@ -18,21 +18,10 @@ use std::alloc::Global;
 use std::marker::Model;
 use trace_reader::Trace;
 
-/// What a link did with all that arrived.
-#[derive(Drop)]
-pub struct LinkLists {
-    /// The packets that departed, in order.
-    pub departed: Vec<Timed>,
-    /// The packets that the queue dropped, in order.
-    pub lost: Vec<Timed>,
-    /// What happened, in order; nothing where no log is kept.
-    pub log: Log,
-}
-
 /// One direction of a link: delivery opportunities, a queue in front of them, and the packet in transit.
 ///
 /// Contracts see its trace, whether it is played once, its queue, its horizon, how many opportunities are burnt, and
-/// the packets that arrived, and whether it keeps a log. Everything else that it answers is a function of these.
+/// the packets that arrived. Everything else that it answers is a function of these.
 #[derive(Drop)]
 pub struct LinkCore {
     alloc: Global,
@@ -40,6 +29,7 @@ pub struct LinkCore {
 }
 
 impl Model for LinkCore {
+    ghost use Rattle.std.specs.Prelude.{◌≡◌, [], true};
     ghost use Rattle.link_core.specs.Sound.{IsSound};
     ghost use Rattle.link_core.specs.View.{Link};
 
@@ -50,16 +40,15 @@ impl Model for LinkCore {
       once = c.parts.opportunities.once;
       queue = c.parts.line.queue.spec;
       horizon = c.parts.opportunities.horizon;
-      logged = c.parts.log.kept;
       burnt = c.parts.burnt;
-      arrivals = c.parts.arrived.items;
+      arrivals = c.parts.arrived.come;
     } };
 
-    ghost invariant = { λ c. IsSound c.parts };
+    ghost invariant = { λ c. IsSound c.parts × (c.parts.arrived.coming ≡ []) × (c.parts.log.kept ≡ true) };
 }
 
 impl LinkCore {
-    /// A link before any arrival, which keeps a log. It never answers OutOfMemory.
+    /// A link before any arrival. It never answers OutOfMemory.
     pub fn new(
         alloc: Global,
         trace: Trace,
@@ -70,54 +59,13 @@ impl LinkCore {
         requires horizon { horizon ≤ 3600000 }
         requires few { length (opps trace.opportunities once horizon) ≤ 16000000 }
         ensures ok { IsOk result }
-        ensures value { IfOk result (λ c. c ≡ record { trace = trace; once = once; queue = queue; horizon = horizon; logged = true; burnt = 0; arrivals = [] }) }
-    {
-        Ok(LinkCore::make(alloc, trace, once, queue, horizon, true))
-    }
-
-    /// A link before any arrival, which keeps no log: its log has no entry, and takes no memory.
-    pub fn without_log(
-        alloc: Global,
-        trace: Trace,
-        once: bool,
-        queue: QueueSpec,
-        horizon: u64,
-    ) -> LinkCore
-        requires horizon { horizon ≤ 3600000 }
-        requires few { length (opps trace.opportunities once horizon) ≤ 16000000 }
-        ensures { result ≡ record { trace = trace; once = once; queue = queue; horizon = horizon; logged = false; burnt = 0; arrivals = [] } }
-    {
-        LinkCore::make(alloc, trace, once, queue, horizon, false)
-    }
-
-    // A link before any arrival, with a log or without.
-    fn make(
-        alloc: Global,
-        trace: Trace,
-        once: bool,
-        queue: QueueSpec,
-        horizon: u64,
-        logged: bool,
-    ) -> LinkCore
-        requires horizon { horizon ≤ 3600000 }
-        requires few { length (opps trace.opportunities once horizon) ≤ 16000000 }
-        ensures { result ≡ record { trace = trace; once = once; queue = queue; horizon = horizon; logged = logged; burnt = 0; arrivals = [] } }
+        ensures value { IfOk result (λ c. c ≡ record { trace = trace; once = once; queue = queue; horizon = horizon; burnt = 0; arrivals = [] }) }
     {
         let opportunities = Opportunities::new(trace, once, horizon);
-        LinkCore {
+        Ok(LinkCore {
             alloc,
-            parts: Parts::new(alloc, opportunities, queue, logged),
-        }
-    }
-
-    /// Makes room for so many more packets: in the lists of arrivals and of departures, and for two entries of each where a log is kept.
-    pub fn reserve(&mut self, packets: usize) -> Result<(), OutOfMemory>
-        ensures { self.new ≡ self.old }
-    {
-        self.parts.arrived.reserve(packets)?;
-        self.parts.left.reserve(packets)?;
-        self.parts.log.reserve(packets.saturating_mul(2))?;
-        Ok(())
+            parts: Parts::new(alloc, opportunities, queue, true, Vec::new(alloc)),
+        })
     }
 
     /// Burns every opportunity up to the packet's moment, and then lets the packet in. It takes all its memory first.
@@ -156,24 +104,11 @@ impl LinkCore {
         self.parts.line.queue.lost()
     }
 
-    /// What happened here, in order; nothing where no log is kept.
+    /// What happened here, in order.
     pub fn log(&self) -> &Log
-        ensures { result.now.entries ≡ kept_log self.now }
+        ensures { result.now.entries ≡ log_of self.now }
     {
         self.parts.log.log()
-    }
-
-    /// Gives up the link for its lists and its log, which is empty where none is kept.
-    pub fn into_lists(self) -> LinkLists
-        ensures departed { result.departed.items ≡ out_of self }
-        ensures lost { result.lost.items ≡ lost_of self }
-        ensures log { result.log.entries ≡ kept_log self }
-    {
-        LinkLists {
-            departed: self.parts.left,
-            lost: self.parts.line.queue.into_lost(),
-            log: self.parts.log.into_log(),
-        }
     }
 
     /// The numbers of the packets inside, the one in transit first.
@@ -197,7 +132,7 @@ impl LinkCore {
     pub fn arrivals(&self) -> &[Timed]
         ensures { result.now ≡ self.now.arrivals }
     {
-        self.parts.arrived.as_slice()
+        self.parts.arrived.come()
     }
 
     /// How many opportunities are burnt.

@@ -1,5 +1,5 @@
 // The log of a link that keeps one, or of one that keeps none.
-ghost use Rattle.std.specs.Prelude.{◌≡◌, ◌+◌, ◌≤◌, ◌++◌, ◌∷◌, [], OnOk};
+ghost use Rattle.std.specs.Prelude.{◌≡◌, ◌+◌, ◌≤◌, ◌++◌, ◌∷◌, [], length, OnOk};
 ghost use Rattle.shell_log.specs.Entries.{AreUpTo, IsEntry, moment_of};
 ghost use Rattle.link_core.specs.Written.{written};
 
@@ -32,6 +32,28 @@ impl Journal {
             kept,
             log: Log::new(alloc),
         }
+    }
+
+    /// Whether entries are kept.
+    pub fn is_kept(&self) -> bool
+        ensures { result ≡ self.now.kept }
+    {
+        self.kept
+    }
+
+    /// How many entries are in hand.
+    pub fn len(&self) -> usize
+        ensures { result ≡ length self.now.entries }
+    {
+        self.log.entries().len()
+    }
+
+    /// Lets all entries go.
+    pub fn clear(&mut self)
+        ensures kept { self.new.kept ≡ self.old.kept }
+        ensures entries { self.new.entries ≡ [] }
+    {
+        self.log.clear();
     }
 
     /// Makes room for at least this many entries.

@@ -59,7 +59,7 @@ impl Opportunities {
         ensures order { AreRising (span_opps self.old) }
         ensures same { self.new ≡ self.old }
     {
-        let trace = self.trace.opportunities();
+        let trace = &self.trace;
         if !self.lap.has(j, trace.len()) {
             self.lap = Lap::of(trace, j);
         }

@@ -1,5 +1,5 @@
 // The parts of a link, and its two steps.
-ghost use Rattle.std.specs.Prelude.{◌≡◌, ◌+◌, ◌-◌, ◌<◌, ◌≤◌, ◌++◌, ◌∷◌, [], length, map, take, drop, IfOk, OnOk, OnErr, vec_len, vec_capacity};
+ghost use Rattle.std.specs.Prelude.{◌≡◌, ◌+◌, ◌-◌, ◌<◌, ◌≤◌, ◌++◌, ◌∷◌, [], length, take, drop, IfOk, OnOk, OnErr, vec_len, vec_capacity};
 ghost use Prim.Native.Nat.{min};
 ghost use Rattle.packet_queue.specs.View.{Queue};
 ghost use Rattle.link_core.specs.State.{IsPart, inside_line};
@@ -7,8 +7,9 @@ ghost use Rattle.trace_reader.specs.Opps.{up_to};
 ghost use Rattle.trace_reader.specs.Orders.{Each};
 ghost use Rattle.packet_record.specs.Moments.{AreUpTo};
 ghost use Rattle.link_core.specs.View.{Span, span_opps};
-ghost use Rattle.link_core.specs.Sound.{Sound, IsSound};
+ghost use Rattle.link_core.specs.Sound.{Gone, IsSoundAfter, IsSound};
 
+use crate::arrivals::Arrivals;
 use crate::journal::Journal;
 use crate::line::Line;
 use crate::opportunities::Opportunities;
@@ -23,20 +24,29 @@ pub struct Parts {
     pub opportunities: Opportunities,
     pub burnt: u32,
     pub line: Line,
-    pub arrived: Vec<Timed>,
+    pub arrived: Arrivals,
     pub left: Vec<Timed>,
     pub log: Journal,
 }
 
 impl Parts {
-    /// The parts before any arrival, with a log or without.
-    pub fn new(alloc: Global, opportunities: Opportunities, queue: QueueSpec, logged: bool) -> Self
+    /// The parts before any arrival, with a log or without. These packets are to come.
+    pub fn new(
+        alloc: Global,
+        opportunities: Opportunities,
+        queue: QueueSpec,
+        logged: bool,
+        arrivals: Vec<Timed>,
+    ) -> Self
         ensures sound { IsSound result }
         ensures spec { result.line.queue.spec ≡ queue }
         ensures opportunities { result.opportunities ≡ opportunities }
         ensures logged { result.log.kept ≡ logged }
         ensures burnt { result.burnt ≡ 0 }
-        ensures arrived { result.arrived.items ≡ [] }
+        ensures come { result.arrived.come ≡ [] }
+        ensures coming { result.arrived.coming ≡ arrivals.items }
+        ensures left { result.left.items ≡ [] }
+        ensures entries { result.log.entries ≡ [] }
     {
         let _all = opportunities.count_to(0);
         Parts {
@@ -47,7 +57,7 @@ impl Parts {
                 used: 0,
                 queue: PacketQueue::new(alloc, queue),
             },
-            arrived: Vec::new(alloc),
+            arrived: Arrivals::new(arrivals),
             left: Vec::new(alloc),
             log: Journal::new(alloc, logged),
         }
@@ -55,11 +65,12 @@ impl Parts {
 
     /// Burns the next opportunity, if there is one.
     pub fn burn_next(&mut self)
-        requires sound { IsSound self.old }
+        ghost gone: { Gone }
+        requires sound { IsSoundAfter gone self.old }
         requires next { self.old.burnt < length (span_opps self.old.opportunities) }
         requires room { length (inside_line self.old.line) + vec_len self.old.left ≤ vec_capacity self.old.left }
         requires spare { 1 + length (inside_line self.old.line) ≤ self.old.log.spare }
-        ensures sound { IsSound self.new }
+        ensures sound { IsSoundAfter gone self.new }
         ensures opportunities { self.new.opportunities ≡ self.old.opportunities }
         ensures logged { self.new.log.kept ≡ self.old.log.kept }
         ensures burnt { self.new.burnt ≡ self.old.burnt + 1 }
@@ -76,12 +87,13 @@ impl Parts {
 
     /// Burns up to this many in all.
     pub fn burn_to(&mut self, end: u32)
-        requires sound { IsSound self.old }
+        ghost gone: { Gone }
+        requires sound { IsSoundAfter gone self.old }
         requires end { end ≤ length (span_opps self.old.opportunities) }
         requires start { self.old.burnt ≤ end }
         requires room { length (inside_line self.old.line) + vec_len self.old.left ≤ vec_capacity self.old.left }
         requires spare { end + length (inside_line self.old.line) ≤ self.old.log.spare + self.old.burnt }
-        ensures sound { IsSound self.new }
+        ensures sound { IsSoundAfter gone self.new }
         ensures opportunities { self.new.opportunities ≡ self.old.opportunities }
         ensures logged { self.new.log.kept ≡ self.old.log.kept }
         ensures burnt { self.new.burnt ≡ end }
@@ -89,84 +101,96 @@ impl Parts {
         ensures queue { self.new.line.queue ≡ record self.old.line.queue { packets = self.new.line.queue.packets } }
         ensures spare { self.old.log.spare + self.old.burnt + length (inside_line self.new.line) ≤ self.new.log.spare + end + length (inside_line self.old.line) }
     {
+        if !self.log.is_kept() && self.line.len() == 0 {
+            self.burnt = end;
+            return;
+        }
         'burning: while self.burnt < end {
             self.burn_next();
         }
     }
 
-    /// Lets a packet in, where all opportunities up to its moment are burnt and no others.
+    /// Lets the next packet in, where all opportunities up to its moment are burnt and no others.
     pub fn enter(&mut self, t: Timed)
-        requires sound { IsSound self.old }
+        ghost gone: { Gone }
+        requires sound { IsSoundAfter gone self.old }
         requires short { t.moment ≤ 9999999999 }
-        requires order { AreUpTo t.moment self.old.arrived.items }
+        requires order { AreUpTo t.moment self.old.arrived.come }
         requires burnt { Each (λ o. o.moment ≤ t.moment) (take self.old.burnt (span_opps self.old.opportunities)) }
         requires later { Each (λ o. t.moment < o.moment) (drop self.old.burnt (span_opps self.old.opportunities)) }
         requires queue { 1 ≤ self.old.line.queue.spare }
-        requires arrived { vec_len self.old.arrived < vec_capacity self.old.arrived }
+        requires next { self.old.arrived.coming ≡ t ∷ drop 1 self.old.arrived.coming }
         requires spare { 2 ≤ self.old.log.spare }
-        ensures sound { IsSound self.new }
+        ensures sound { IsSoundAfter gone self.new }
         ensures opportunities { self.new.opportunities ≡ self.old.opportunities }
         ensures logged { self.new.log.kept ≡ self.old.log.kept }
         ensures burnt { self.new.burnt ≡ self.old.burnt }
-        ensures arrived { self.new.arrived.items ≡ self.old.arrived.items ++ t ∷ [] }
+        ensures come { self.new.arrived.come ≡ self.old.arrived.come ++ t ∷ [] }
+        ensures coming { self.new.arrived.coming ≡ drop 1 self.old.arrived.coming }
         ensures spec { self.new.line.queue.spec ≡ self.old.line.queue.spec }
     {
-        self.arrived.push_reserved(t);
+        self.arrived.enter();
         let dropped = self.line.queue.enqueue(t);
         note(&mut self.log, t, dropped);
     }
 
-    /// Takes the memory that burning so many more and one arrival may need.
-    fn reserve(&mut self, more: usize) -> Result<(), OutOfMemory>
-        requires sound { IsSound self.old }
+    /// Takes the memory that burning so many more and letting one packet in may need.
+    pub fn reserve(&mut self, more: usize) -> Result<(), OutOfMemory>
+        ghost gone: { Gone }
+        requires sound { IsSoundAfter gone self.old }
         requires few { more ≤ 16000000 }
-        ensures sound { IsSound self.new }
+        ensures sound { IsSoundAfter gone self.new }
         ensures opportunities { self.new.opportunities ≡ self.old.opportunities }
         ensures logged { self.new.log.kept ≡ self.old.log.kept }
         ensures burnt { self.new.burnt ≡ self.old.burnt }
         ensures line { inside_line self.new.line ≡ inside_line self.old.line }
-        ensures arrived { self.new.arrived.items ≡ self.old.arrived.items }
+        ensures arrived { self.new.arrived ≡ self.old.arrived }
         ensures spec { self.new.line.queue.spec ≡ self.old.line.queue.spec }
         ensures queue { OnOk result (1 ≤ self.new.line.queue.spare) }
-        ensures list { OnOk result (vec_len self.new.arrived < vec_capacity self.new.arrived) }
         ensures room { OnOk result (length (inside_line self.new.line) + vec_len self.new.left ≤ vec_capacity self.new.left) }
         ensures spare { OnOk result (more + length (inside_line self.new.line) + 2 ≤ self.new.log.spare) }
     {
         let held = self.line.len();
         self.line.queue.reserve(1)?;
-        self.arrived.reserve(1)?;
         self.left.reserve(held)?;
         self.log.reserve(more + held + 2)?;
         Ok(())
     }
 
+    /// Burns all that is up to the packet's moment, and then lets the packet in. None was to come.
     pub fn arrive(&mut self, t: Timed) -> Result<(), OutOfMemory>
         requires sound { IsSound self.old }
+        requires none { self.old.arrived.coming ≡ [] }
         requires within { t.moment ≤ self.old.opportunities.horizon }
-        requires order { AreUpTo t.moment self.old.arrived.items }
+        requires order { AreUpTo t.moment self.old.arrived.come }
         requires burnt { self.old.burnt ≤ length (up_to t.moment (span_opps self.old.opportunities)) }
         ensures sound { IsSound self.new }
+        ensures none { self.new.arrived.coming ≡ [] }
         ensures opportunities { self.new.opportunities ≡ self.old.opportunities }
         ensures logged { self.new.log.kept ≡ self.old.log.kept }
         ensures spec { self.new.line.queue.spec ≡ self.old.line.queue.spec }
         ensures burnt { OnOk result (self.new.burnt ≡ length (up_to t.moment (span_opps self.old.opportunities))) }
-        ensures arrived { OnOk result (self.new.arrived.items ≡ self.old.arrived.items ++ t ∷ []) }
-        ensures err { OnErr result ((self.new.burnt ≡ self.old.burnt) × (self.new.arrived.items ≡ self.old.arrived.items)) }
+        ensures arrived { OnOk result (self.new.arrived.come ≡ self.old.arrived.come ++ t ∷ []) }
+        ensures err { OnErr result ((self.new.burnt ≡ self.old.burnt) × (self.new.arrived.come ≡ self.old.arrived.come)) }
     {
+        self.arrived.reserve(1)?;
         let end = self.opportunities.count_from(self.burnt, t.moment);
         self.reserve((end - self.burnt) as usize)?;
         self.burn_to(end);
+        self.arrived.push(t);
         self.enter(t);
         Ok(())
     }
 
+    /// Burns the next up to a bound, at most so many, and answers how many.
     pub fn burn(&mut self, bound: u64, most: u32) -> Result<u32, OutOfMemory>
-        requires sound { IsSound self.old }
-        ensures sound { IsSound self.new }
+        ghost gone: { Gone }
+        requires sound { IsSoundAfter gone self.old }
+        ensures sound { IsSoundAfter gone self.new }
         ensures opportunities { self.new.opportunities ≡ self.old.opportunities }
         ensures logged { self.new.log.kept ≡ self.old.log.kept }
         ensures spec { self.new.line.queue.spec ≡ self.old.line.queue.spec }
-        ensures arrived { self.new.arrived.items ≡ self.old.arrived.items }
+        ensures arrived { self.new.arrived ≡ self.old.arrived }
         ensures count { IfOk result (λ n. n ≡ min most (length (up_to bound (span_opps self.old.opportunities)) - self.old.burnt)) }
         ensures burnt { IfOk result (λ n. self.new.burnt ≡ self.old.burnt + n) }
         ensures err { OnErr result (self.new.burnt ≡ self.old.burnt) }

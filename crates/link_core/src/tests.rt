@@ -1,18 +1,21 @@
 // Worked cases of a link, and generated ones beside a plain slow program.
-ghost use Rattle.std.specs.Prelude.{◌≡◌, ◌≤◌, ◌<◌, [], OnOk};
+ghost use Rattle.std.specs.Prelude.{◌≡◌, ◌≤◌, [], OnOk};
 ghost use Rattle.packet_record.specs.Moments.{AreUpTo};
 ghost use Rattle.link_core.specs.Promises.{count_to};
 ghost use Rattle.link_core.specs.View.{Link, opps_of};
 
 use crate::LinkCore;
+use crate::generated::{
+    Numbers, opportunities_to, packets_of, some_packets, some_queue, some_trace,
+};
 use crate::slow::slow_link;
 use mm_base::{Bytes, OutOfMemory, write_decimal};
-use packet_queue::{QueueKind, QueueSpec, read_queue};
-use packet_record::{Timed, read_schedule};
+use packet_queue::{QueueSpec, read_queue};
+use packet_record::Timed;
 use shell_log::print_log;
 use std::alloc::Global;
 use std::test::Fail;
-use trace_reader::{Opportunity, Trace, read_trace};
+use trace_reader::{Trace, read_trace};
 
 // Lets one packet in, not before the last.
 #[tactic(auto, using(crate::proofs::FeedLemmas::up_to_push, crate::proofs::FeedLemmas::up_to_later, crate::proofs::FeedLemmas::count_more))]
@@ -45,7 +48,7 @@ fn feed(link: &mut LinkCore, horizon: u64, packets: &[Timed]) -> Result<(), Fail
     Ok(())
 }
 
-fn run(
+pub fn run(
     alloc: Global,
     trace: Trace,
     once: bool,
@@ -56,7 +59,7 @@ fn run(
     if horizon > 3_600_000 || trace.count_to(horizon, once) > 16_000_000 {
         return Err(Fail::new("too long"));
     }
-    run_link(
+    run_all(
         LinkCore::new(alloc, trace, once, queue, horizon)?,
         horizon,
         packets,
@@ -64,7 +67,7 @@ fn run(
 }
 
 // A link before any arrival, over all that arrives.
-fn run_link(mut link: LinkCore, horizon: u64, packets: &[Timed]) -> Result<LinkCore, Fail>
+fn run_all(mut link: LinkCore, horizon: u64, packets: &[Timed]) -> Result<LinkCore, Fail>
     requires horizon { link.horizon ≡ horizon }
     requires arrivals { link.arrivals ≡ [] }
     requires burnt { link.burnt ≡ 0 }
@@ -72,15 +75,6 @@ fn run_link(mut link: LinkCore, horizon: u64, packets: &[Timed]) -> Result<LinkC
     feed(&mut link, horizon, packets)?;
     link.burn(horizon, u32::MAX)?;
     Ok(link)
-}
-
-fn packets_of(alloc: Global, schedule: &[u8]) -> Result<Vec<Timed>, Fail> {
-    let schedule = read_schedule(alloc, schedule)?;
-    let mut packets = Vec::new(alloc);
-    for row in schedule.rows() {
-        packets.push(row.timed)?;
-    }
-    Ok(packets)
 }
 
 // Each packet's number and moment.
@@ -235,128 +229,9 @@ fn worked_cases(rt: HostRuntime) -> Result<(), Fail> {
 }
 
 #[test]
-fn a_link_without_a_log_has_no_entry(rt: HostRuntime) -> Result<(), Fail> {
-    let alloc = rt.alloc();
-    let trace = read_trace(alloc, b"1\n".as_slice())?;
-    if trace.count_to(2, false) > 16_000_000 {
-        return Err(Fail::new("too long"));
-    }
-    let queue = read_queue("droptail", "packets=3")?;
-    let packets = packets_of(
-        alloc,
-        b"0 up 500\n0 up 500\n0 up 500\n0 up 500\n".as_slice(),
-    )?;
-    let link = LinkCore::without_log(alloc, trace, false, queue, 2);
-    let link = run_link(link, 2, &packets)?;
-    let lists = link.into_lists();
-    assert_eq!(rt;
-        listed(alloc, &lists.departed)?.as_slice(),
-        b"1 1\n2 1\n3 1\n".as_slice()
-    );
-    assert_eq!(rt; listed(alloc, &lists.lost)?.as_slice(), b"4 0\n".as_slice());
-    assert_eq!(rt; lists.log.entries().len(), 0);
-    Ok(())
-}
-
-// Numbers below a limit, one after another.
-#[derive(Drop)]
-struct Numbers {
-    state: u64,
-}
-
-impl Numbers {
-    fn below(&mut self, limit: u16) -> u16
-        ensures { 0 < limit → result < limit }
-    {
-        self.state = self
-            .state
-            .wrapping_mul(6364136223846793005)
-            .wrapping_add(1442695040888963407);
-        if limit == 0 {
-            0
-        } else {
-            ((self.state >> 33) % u64::from(limit)) as u16
-        }
-    }
-}
-
-fn some_trace(alloc: Global, numbers: &mut Numbers) -> Result<Trace, Fail> {
-    let mut text = Bytes::new(alloc);
-    text.append(b"# mm-trace 2\n")?;
-    let mut moment: u64 = 0;
-    for _ in 0..3 {
-        moment = moment.saturating_add(u64::from(numbers.below(4)));
-        write_decimal(&mut text, moment)?;
-        text.append(b" ")?;
-        write_decimal(
-            &mut text,
-            u64::from(numbers.below(3))
-                .saturating_mul(700)
-                .saturating_add(1),
-        )?;
-        text.append(b"\n")?;
-    }
-    write_decimal(&mut text, moment.saturating_add(1))?;
-    text.append(b" 1504\n")?;
-    Ok(read_trace(alloc, text.as_slice())?)
-}
-
-fn some_packets(alloc: Global, numbers: &mut Numbers) -> Result<Vec<Timed>, Fail> {
-    let sizes = [1, 100, 700, 1504];
-    let mut text = Bytes::new(alloc);
-    let mut moment: u64 = 0;
-    for _ in 0..9 {
-        moment = moment.saturating_add(u64::from(numbers.below(3)));
-        write_decimal(&mut text, moment)?;
-        text.append(b" up ")?;
-        write_decimal(&mut text, sizes[usize::from(numbers.below(4))])?;
-        text.append(b"\n")?;
-    }
-    packets_of(alloc, text.as_slice())
-}
-
-fn some_queue(numbers: &mut Numbers) -> QueueSpec {
-    let kind = match numbers.below(3) {
-        0 => QueueKind::Infinite,
-        1 => QueueKind::DropTail,
-        _ => QueueKind::DropHead,
-    };
-    let packets = match numbers.below(3) {
-        0 => None,
-        n => Some(u64::from(n)),
-    };
-    let bytes = match numbers.below(3) {
-        0 => None,
-        n => Some(u64::from(n).saturating_mul(800)),
-    };
-    QueueSpec {
-        kind,
-        packets,
-        bytes,
-    }
-}
-
-fn opportunities_to(
-    alloc: Global,
-    trace: &Trace,
-    once: bool,
-    horizon: u64,
-) -> Result<Vec<Opportunity>, Fail> {
-    let mut opps = Vec::new(alloc);
-    for j in 0..200 {
-        if let Some(o) = trace.opportunity(j, once) {
-            if o.moment <= horizon {
-                opps.push(o)?;
-            }
-        }
-    }
-    Ok(opps)
-}
-
-#[test]
 fn generated_cases_are_as_the_slow_program_says(rt: HostRuntime) -> Result<(), Fail> {
     let alloc = rt.alloc();
-    let mut numbers = Numbers { state: 7 };
+    let mut numbers = Numbers::new(7);
     for case in 0..60 {
         let trace = some_trace(alloc, &mut numbers)?;
         let once = numbers.below(4) == 0;

@@ -1,13 +1,9 @@
 -- A line of a log says the entry whose line it is, and no other.
-use Rattle.std.proofs.Common.{◌≡◌, ℕ, ◌+◌, ◌<◌, ◌≤◌, ◌++◌, ◌==◌, ◌&&◌, Bool, true, false, cond, List, [], ◌∷◌, length, get_or, Option, Some, None, nat_le, codes, refl, ap, sym, subst, ◌∙◌, arith}
+use Rattle.std.proofs.Common.{◌≡◌, ℕ, ◌<◌, ◌≤◌, ◌++◌, ◌&&◌, Bool, true, false, cond, List, [], ◌∷◌, length, Option, Some, None, nat_le, codes, refl, ap, sym, subst, ◌∙◌, arith}
 use Rattle.std.specs.Fmt.{decimal}
 use Rattle.std.specs.Option.{option_and_then}
 use Rattle.std.specs.Str.{bytes_eq}
-use Rattle.std.specs.List.{position_or_len}
 use Rattle.std.proofs.lemmas.Bool.{le-leb, leb-true}
-use Rattle.std.proofs.lemmas.Bool.Decides.{nat_tests}
-use Rattle.std.proofs.lemmas.List.{drop_all}
-use Rattle.std.proofs.lemmas.List.Sums.{split_at_first, passes_at_first}
 use Rattle.std.proofs.lemmas.Slice.Eq.{bytes_eq-Decides}
 use Rattle.mm_base.specs.Numbers.{canonical_of}
 use Rattle.mm_base.proofs.NumbersLemmas.{canonical_of-decimal, canonical_of-Some, decimal-canonical_of, no_space-decimal}
@@ -15,29 +11,13 @@ use Rattle.shell_log.specs.declared.entry.Entry.{Entry}
 use Rattle.shell_log.specs.declared.entry.Entry.TheVariants.{Arrival, Opportunity, Departure, Drop}
 use Rattle.shell_log.specs.Entries.{IsEntry, IsShort}
 use Rattle.mm_base.specs.Words.{first_word, other_words}
-use Rattle.mm_base.proofs.WordsLemmas.{first_word-spaced, other_words-spaced}
+use Rattle.mm_base.proofs.WordsLemmas.{spaced_again, first_word-spaced, other_words-spaced}
 use Rattle.shell_log.specs.LogText.{line_of}
 use Rattle.shell_log.specs.Reading.{is_between, if_fits, arrival_of, opportunity_of, departure_of, drop_of, entry_by_sign, entry_of}
 
 both : (a b : Bool) → (a && b) ≡ true → (a ≡ true) × (b ≡ true)
 both true b e = (refl, e)
 both false b e = cc
-
--- a text with more than one word
-pub spaced_again : (text : List ℕ) → 0 < length (other_words text) → text ≡ first_word text ++ 32 ∷ other_words text
-spaced_again text some =
-    elim (nat_le (length text) (position_or_len (λ (byte : ℕ). byte == 32) text)) as (λ b. nat_le (length text) (position_or_len (λ (byte : ℕ). byte == 32) text) ≡ b → text ≡ first_word text ++ 32 ∷ other_words text) [
-      | true ↦ λ e.
-          let past : length text ≤ position_or_len (λ (byte : ℕ). byte == 32) text = leb-true _ _ e in
-          let none : other_words text ≡ [] = drop_all (position_or_len (λ (byte : ℕ). byte == 32) text + 1) text (omega arith) in
-          let zero_long : length (other_words text) ≡ 0 = ap length none in
-          absurd (omega arith)
-      | false ↦ λ e.
-          let within : position_or_len (λ (byte : ℕ). byte == 32) text < length text = grind (arith, nat_tests) in
-          let here : (get_or text (position_or_len (λ (byte : ℕ). byte == 32) text) 0 == 32) ≡ true = passes_at_first (λ (byte : ℕ). byte == 32) text 0 within in
-          let same : get_or text (position_or_len (λ (byte : ℕ). byte == 32) text) 0 ≡ 32 = grind (arith, nat_tests) in
-          split_at_first (λ (byte : ℕ). byte == 32) text 0 within ∙ ap (λ (x : ℕ). first_word text ++ x ∷ other_words text) same
-    ] refl
 
 fits : (b : Bool) (e : Entry) → b ≡ true → if_fits b e ≡ Some e
 fits b e t = ap (λ x. cond x (Some e) None) t

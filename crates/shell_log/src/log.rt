@@ -1,5 +1,5 @@
 // Entries of a log, in order.
-ghost use Rattle.std.specs.Prelude.{◌≡◌, ◌+◌, ◌≤◌, ◌++◌, ◌∷◌, [], OnOk, OnErr};
+ghost use Rattle.std.specs.Prelude.{◌≡◌, ◌+◌, ◌≤◌, ◌++◌, ◌∷◌, [], length, OnOk, OnErr};
 ghost use Rattle.shell_log.specs.Entries.{IsEntry, IsLog, AreUpTo, moment_of};
 
 use crate::Entry;
@@ -66,6 +66,15 @@ impl Log {
     {
         self.spare -= 1;
         self.list.push_reserved(e);
+    }
+
+    /// Lets all entries go. Their room is free for others.
+    pub fn clear(&mut self)
+        ensures entries { self.new.entries ≡ [] }
+        ensures room { self.new.spare ≡ self.old.spare + length self.old.entries }
+    {
+        self.spare += self.list.len();
+        self.list.clear();
     }
 
     /// The entries, in order.

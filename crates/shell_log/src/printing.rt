@@ -19,6 +19,7 @@ pub fn print_log(alloc: Global, log: &Log) -> Result<Bytes, OutOfMemory>
 impl PrintLine for Entry {
     ghost line = { λ e. line_of e ++ 10 ∷ [] };
 
+    #[tactic(auto, using(mm_base::proofs::TextLemmas::is_ended_line))]
     fn put_line(&self, out: &mut LineBuffer) {
         out.put_byte(b'\n');
         match *self {
@@ -33,7 +34,7 @@ impl PrintLine for Entry {
 
 // Puts a number in front, and in front of it a sign.
 fn put_word(out: &mut LineBuffer, number: u64, sign: &[u8])
-    requires { length sign.now + length out.old + 20 ≤ 72 }
+    requires { length sign.now + length out.old + 20 ≤ 147456 }
     ensures bytes { out.new ≡ sign.now ++ (decimal number ++ out.old) }
     ensures length { length out.new ≤ length sign.now + length out.old + 20 }
 {
@@ -43,7 +44,7 @@ fn put_word(out: &mut LineBuffer, number: u64, sign: &[u8])
 
 // Puts two numbers in front, with a space between them, and in front of them a sign.
 fn put_pair(out: &mut LineBuffer, first: u64, second: u64, sign: &[u8])
-    requires { length sign.now + length out.old + 41 ≤ 72 }
+    requires { length sign.now + length out.old + 41 ≤ 147456 }
     ensures bytes { out.new ≡ sign.now ++ (decimal first ++ 32 ∷ (decimal second ++ out.old)) }
     ensures length { length out.new ≤ length sign.now + length out.old + 41 }
 {

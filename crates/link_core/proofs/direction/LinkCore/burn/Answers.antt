@@ -1,4 +1,5 @@
-use Rattle.std.proofs.Common.{subst}
+use Rattle.std.proofs.Common.{ap, subst}
+use Rattle.link_core.specs.Arriving.{Arriving}
 use Rattle.link_core.specs.View.{Link, OnlyGoesOn}
 use Rattle.link_core.proofs.OnlyLaws.{made, ready, only_burn}
 use Rattle.link_core.proofs.direction.LinkCore.burn.Goals as goal
@@ -7,6 +8,6 @@ pub returns-clause-goes_on : goal.returns-clause-goes_on
 returns-clause-goes_on c =
     let old = c.self.inside.parts in
     let new = c.burn.new.self in
-    subst (λ (v : Link). OnlyGoesOn v (made new.line.queue.spec new.opportunities new.log.kept new.burnt new.arrived.items)) c.self.view_is
-    (only_burn old.line.queue.spec new.line.queue.spec old.opportunities new.opportunities old.log.kept new.log.kept old.burnt new.burnt old.arrived.items new.arrived.items
-    c.burn.result (ready _ _ _ _ _ _ _ _ _ _ _ c.self.invariant) c.burn.ensures.spec c.burn.ensures.opportunities c.burn.ensures.logged c.burn.ensures.arrived c.burn.ensures.burnt c.burn.ensures.err)
+    subst (λ (v : Link). OnlyGoesOn v (made new.line.queue.spec new.opportunities new.burnt new.arrived.come)) c.self.view_is
+    (only_burn old.line.queue.spec new.line.queue.spec old.opportunities new.opportunities old.burnt new.burnt old.arrived.come new.arrived.come
+    c.burn.result (ready _ _ _ _ _ _ _ _ _ _ _ c.self.invariant.0) c.burn.ensures.spec c.burn.ensures.opportunities (ap (λ (a : Arriving). a.come) c.burn.ensures.arrived) c.burn.ensures.burnt c.burn.ensures.err)

@@ -7,4 +7,4 @@ use Rattle.link_core.proofs.direction.LinkCore.inside.Goals as goal
 pub returns : goal.returns
 returns c =
     let P : List Timed → Type 0 = λ ts. IfOk c.ids.result (λ ids. ids.items ≡ map (λ (t : Timed). t.packet.id) ts) in
-    subst P (seen_inside _ _ _ _ _ _ _ _ _ _ _ c.self.invariant ∙ ap inside_of c.self.view_is) c.ids.ensures
+    subst P (seen_inside _ _ _ _ _ _ _ _ _ _ _ c.self.invariant.0 ∙ ap inside_of c.self.view_is) c.ids.ensures

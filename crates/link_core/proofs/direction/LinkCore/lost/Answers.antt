@@ -4,4 +4,4 @@ use Rattle.link_core.proofs.SeenLemmas.{seen_lost}
 use Rattle.link_core.proofs.direction.LinkCore.lost.Goals as goal
 
 pub returns : goal.returns
-returns c = c.lost.ensures ∙ seen_lost _ _ _ _ _ _ _ _ _ _ _ c.self.invariant ∙ ap lost_of c.self.view_is
+returns c = c.lost.ensures ∙ seen_lost _ _ _ _ _ _ _ _ _ _ _ c.self.invariant.0 ∙ ap lost_of c.self.view_is

@@ -1,11 +1,11 @@
 use Rattle.std.proofs.Common.{◌≡◌, ◌+◌, ◌-◌, ◌≤◌, length, vec_len, vec_capacity}
 use Rattle.link_core.specs.State.{inside_line}
-use Rattle.link_core.specs.Sound.{IsSound}
+use Rattle.link_core.specs.Sound.{IsSoundAfter}
 use Rattle.link_core.proofs.parts.Parts.burn_to.Given as goal
 
 abbrev pub invariant-burning : goal.invariant-burning
-invariant-burning l = record {
-  well : IsSound l.self;
+invariant-burning g l = record {
+  well : IsSoundAfter g.gone l.self;
   same : l.self.opportunities ≡ l.fn.self.opportunities;
   logged : l.self.log.kept ≡ l.fn.self.log.kept;
   so_far : l.self.burnt ≤ l.end;
@@ -16,4 +16,7 @@ invariant-burning l = record {
 }
 
 abbrev pub decreases-burning : goal.decreases-burning
-decreases-burning l = l.end - l.self.burnt
+decreases-burning g l = l.end - l.self.burnt
+
+abbrev pub ghost-burn_next : goal.ghost-burn_next
+ghost-burn_next g a = g.gone

@@ -1,0 +1,5 @@
+use Rattle.link_core.specs.Sound.{nothing}
+use Rattle.link_core.proofs.direction.LinkCore.burn.Given as goal
+
+abbrev pub ghost-burn : goal.ghost-burn
+ghost-burn a = nothing

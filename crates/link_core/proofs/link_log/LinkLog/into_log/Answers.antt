@@ -1,0 +1,15 @@
+use Rattle.std.proofs.Common.{ap, ◌∙◌}
+use Rattle.link_core.specs.Links.{link_log}
+use Rattle.link_core.specs.Written.{written}
+use Rattle.link_core.specs.View.{span_opps}
+use Rattle.link_core.proofs.WholeLemmas.{whole_log}
+use Rattle.link_core.proofs.link_log.LinkLog.into_log.Goals as goal
+
+pub returns : goal.returns
+returns c =
+    let l = c.self.inside in
+    let is = c.in_ok-parts.ensures in
+    c.into_log.ensures
+    ∙ whole_log c.in_ok-parts.parts is.sound is.played l.queue (span_opps l.opportunities) l.arrivals.items is.spec (ap span_opps is.opportunities) is.arrivals
+    ∙ ap (λ k. written k (link_log l.queue (span_opps l.opportunities) l.arrivals.items)) is.logged
+    ∙ c.self.view_is

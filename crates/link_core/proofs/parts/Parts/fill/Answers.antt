@@ -1,0 +1,39 @@
+use Rattle.std.proofs.Common.{Result, Ok, Err, OnErr, ◌∙◌}
+use Rattle.link_core.proofs.PlayLemmas.{same_rest, rest_some}
+use Rattle.link_core.proofs.parts.Parts.fill.Goals as goal
+
+where_err : {T E P : Type 0} (r : Result T E) → P → OnErr r P
+where_err (Ok x) p = tt
+where_err (Err e) p = p
+
+pub returns-in_err-step-clause-same : goal.returns-in_err-step-clause-same
+returns-in_err-step-clause-same g c =
+    let was = c.filling.invariant in
+    let now = c.step.ensures in
+    same_rest g.gone c.filling.self was.well was.logged c.step.new.self now.sound (now.logged ∙ was.logged) was.playable now.playable now.opportunities now.spec now.arrivals ∙ was.same
+
+pub returns-then-not-branch-clause-same : goal.returns-then-not-branch-clause-same
+returns-then-not-branch-clause-same g c =
+    let was = c.filling.invariant in
+    let now = c.step.ensures in
+    same_rest g.gone c.filling.self was.well was.logged c.step.new.self now.sound (now.logged ∙ was.logged) was.playable now.playable now.opportunities now.spec now.arrivals ∙ was.same
+
+pub filling-preserved : goal.filling-preserved
+filling-preserved g c =
+    let was = c.filling.invariant in
+    let now = c.step.ensures in
+    record {
+      well = now.sound;
+      playable = now.playable;
+      logged = now.logged ∙ was.logged;
+      same =
+          same_rest g.gone c.filling.self was.well was.logged c.step.new.self now.sound (now.logged ∙ was.logged) was.playable now.playable now.opportunities now.spec now.arrivals
+          ∙ was.same;
+    }
+
+pub returns-in_err-step-clause-err : goal.returns-in_err-step-clause-err
+returns-in_err-step-clause-err g c =
+    let was = c.filling.invariant in
+    let now = c.step.ensures in
+    let some = rest_some g.gone c.step.new.self now.sound (now.logged ∙ was.logged) now.playable c.in_err-step.ensures.err in
+    where_err c.from_residual.result some

@@ -1,0 +1,20 @@
+use Rattle.std.proofs.Common.{◌≡◌}
+use Rattle.link_core.specs.Sound.{IsSoundAfter}
+use Rattle.link_core.specs.Play.{CanPlay, all_arrivals, work}
+use Rattle.link_core.proofs.parts.Parts.finish.Given as goal
+
+abbrev pub invariant-finishing : goal.invariant-finishing
+invariant-finishing g l = record {
+  well : IsSoundAfter g.gone l.self;
+  playable : CanPlay l.self;
+  same : l.self.opportunities ≡ l.fn.self.opportunities;
+  logged : l.self.log.kept ≡ l.fn.self.log.kept;
+  spec : l.self.line.queue.spec ≡ l.fn.self.line.queue.spec;
+  arrivals : all_arrivals l.self ≡ all_arrivals l.fn.self;
+}
+
+abbrev pub decreases-finishing : goal.decreases-finishing
+decreases-finishing g l = work l.self
+
+abbrev pub ghost-step : goal.ghost-step
+ghost-step g a = g.gone

@@ -1,0 +1,63 @@
+// A log of a link, piece by piece.
+ghost use Rattle.std.specs.Prelude.{◌≡◌, ◌<◌, ◌++◌, [], IsTrue, true, length, IfOk, OnErr};
+ghost use Rattle.link_core.specs.Sound.{IsSound};
+ghost use Rattle.link_core.specs.Play.{CanPlay, rest_of};
+
+use crate::parts::Parts;
+use mm_base::OutOfMemory;
+use shell_log::Entry;
+use std::marker::Model;
+
+/// The log of a link in pieces of some 2,000 entries, so that it never stands whole. Contracts see the piece in hand,
+/// and what is still to come.
+#[derive(Drop)]
+pub struct LogPieces {
+    parts: Parts,
+}
+
+impl Model for LogPieces {
+    ghost use Rattle.std.specs.Prelude.{◌≡◌, true};
+    ghost use Rattle.link_core.specs.Sound.{IsSoundAfter};
+    ghost use Rattle.link_core.specs.Play.{CanPlay, rest_of, gone_of};
+    ghost use Rattle.link_core.specs.Pieces.{Pieces};
+
+    ghost Value = { Pieces };
+
+    ghost view = { λ p. record { piece = p.parts.log.entries; rest = rest_of p.parts } };
+
+    ghost invariant = { λ p. IsSoundAfter (gone_of p.parts) p.parts × CanPlay p.parts × (p.parts.log.kept ≡ true) };
+}
+
+impl LogPieces {
+    // The pieces of a link that keeps its log and begins.
+    pub(crate) fn new(parts: Parts) -> LogPieces
+        requires sound { IsSound parts }
+        requires playable { CanPlay parts }
+        requires logged { parts.log.kept ≡ true }
+        requires none { parts.log.entries ≡ [] }
+        ensures piece { result.piece ≡ [] }
+        ensures rest { result.rest ≡ rest_of parts }
+    {
+        LogPieces { parts }
+    }
+
+    /// Goes on to the next piece, which isn't empty. False: there is no more, and no piece in hand. After `OutOfMemory`,
+    /// which is want of memory and comes only where there is more, the piece in hand is what was made so far, and the
+    /// next one goes on from there.
+    pub fn next(&mut self) -> Result<bool, OutOfMemory>
+        ensures same { self.old.rest ≡ self.new.piece ++ self.new.rest }
+        ensures some { IfOk result (λ more. IsTrue more → 0 < length self.new.piece) }
+        ensures none { IfOk result (λ more. ¬ IsTrue more → (self.new.piece ≡ []) × (self.new.rest ≡ [])) }
+        ensures err { OnErr result (0 < length self.old.rest) }
+    {
+        self.parts.let_go();
+        self.parts.fill()
+    }
+
+    /// The piece in hand.
+    pub fn piece(&self) -> &[Entry]
+        ensures { result.now ≡ self.now.piece }
+    {
+        self.parts.log.log().entries()
+    }
+}

@@ -1,0 +1,145 @@
+// A link over arrivals that are all in a list: step by step, up to the end or to so many entries of its log.
+ghost use Rattle.std.specs.Prelude.{◌≡◌, ◌<◌, ◌≤◌, ◌++◌, ◌∷◌, [], IsTrue, true, length, drop, IfOk, OnOk, OnErr};
+ghost use Rattle.link_core.specs.Sound.{Gone, IsSoundAfter};
+ghost use Rattle.link_core.specs.Play.{CanPlay, IsPlayed, all_arrivals, work, rest_of, gone_with};
+
+use crate::parts::Parts;
+use mm_base::OutOfMemory;
+use packet_record::Timed;
+
+// One step burns at most so many opportunities.
+const AT_ONCE: u32 = 2048;
+
+// A piece of the log is ended after the step that makes it as long as this.
+const PIECE: usize = 2048;
+
+impl Parts {
+    // Burns what is due before the next packet, or the first of it, and lets the packet in where nothing due is left.
+    fn go_to(&mut self, t: Timed) -> Result<(), OutOfMemory>
+        ghost gone: { Gone }
+        requires sound { IsSoundAfter gone self.old }
+        requires playable { CanPlay self.old }
+        requires next { self.old.arrived.coming ≡ t ∷ drop 1 self.old.arrived.coming }
+        ensures sound { IsSoundAfter gone self.new }
+        ensures playable { CanPlay self.new }
+        ensures opportunities { self.new.opportunities ≡ self.old.opportunities }
+        ensures logged { self.new.log.kept ≡ self.old.log.kept }
+        ensures spec { self.new.line.queue.spec ≡ self.old.line.queue.spec }
+        ensures arrivals { all_arrivals self.new ≡ all_arrivals self.old }
+        ensures less { OnOk result (work self.new < work self.old) }
+        ensures err { OnErr result (0 < work self.new) }
+    {
+        let due = self.opportunities.count_from(self.burnt, t.moment);
+        let end = due.min(self.burnt.saturating_add(AT_ONCE));
+        self.reserve((end - self.burnt) as usize)?;
+        self.burn_to(end);
+        if end < due {
+            return Ok(());
+        }
+        self.enter(t);
+        Ok(())
+    }
+
+    #[tactic(auto, using(crate::proofs::PlayLemmas::all_up_to))]
+    // Burns the next opportunities where no packet is to come: whether there is one.
+    fn burn_rest(&mut self) -> Result<bool, OutOfMemory>
+        ghost gone: { Gone }
+        requires sound { IsSoundAfter gone self.old }
+        requires none { self.old.arrived.coming ≡ [] }
+        ensures sound { IsSoundAfter gone self.new }
+        ensures opportunities { self.new.opportunities ≡ self.old.opportunities }
+        ensures logged { self.new.log.kept ≡ self.old.log.kept }
+        ensures spec { self.new.line.queue.spec ≡ self.old.line.queue.spec }
+        ensures arrived { self.new.arrived ≡ self.old.arrived }
+        ensures done { IfOk result (λ more. ¬ IsTrue more → IsPlayed self.new) }
+        ensures less { IfOk result (λ more. IsTrue more → work self.new < work self.old) }
+        ensures err { OnErr result (0 < work self.new) }
+    {
+        if self.opportunities.count_to(u64::MAX) == self.burnt {
+            return Ok(false);
+        }
+        self.burn(u64::MAX, AT_ONCE)?;
+        Ok(true)
+    }
+
+    /// Goes on by one step, if there is one: false exactly where all arrivals are in and all opportunities are burnt.
+    pub fn step(&mut self) -> Result<bool, OutOfMemory>
+        ghost gone: { Gone }
+        requires sound { IsSoundAfter gone self.old }
+        requires playable { CanPlay self.old }
+        ensures sound { IsSoundAfter gone self.new }
+        ensures playable { CanPlay self.new }
+        ensures opportunities { self.new.opportunities ≡ self.old.opportunities }
+        ensures logged { self.new.log.kept ≡ self.old.log.kept }
+        ensures spec { self.new.line.queue.spec ≡ self.old.line.queue.spec }
+        ensures arrivals { all_arrivals self.new ≡ all_arrivals self.old }
+        ensures done { IfOk result (λ more. ¬ IsTrue more → IsPlayed self.new) }
+        ensures less { IfOk result (λ more. IsTrue more → work self.new < work self.old) }
+        ensures err { OnErr result (0 < work self.new) }
+    {
+        match self.arrived.next() {
+            Some(t) => {
+                self.go_to(t)?;
+                Ok(true)
+            }
+            None => self.burn_rest(),
+        }
+    }
+
+    /// Goes on to the end.
+    pub fn finish(&mut self) -> Result<(), OutOfMemory>
+        ghost gone: { Gone }
+        requires sound { IsSoundAfter gone self.old }
+        requires playable { CanPlay self.old }
+        ensures sound { IsSoundAfter gone self.new }
+        ensures opportunities { self.new.opportunities ≡ self.old.opportunities }
+        ensures logged { self.new.log.kept ≡ self.old.log.kept }
+        ensures spec { self.new.line.queue.spec ≡ self.old.line.queue.spec }
+        ensures arrivals { all_arrivals self.new ≡ all_arrivals self.old }
+        ensures played { OnOk result (IsPlayed self.new) }
+    {
+        'finishing: loop {
+            if !self.step()? {
+                return Ok(());
+            }
+        }
+    }
+
+    /// Lets go of the departures and entries in hand.
+    pub fn let_go(&mut self)
+        ghost gone: { Gone }
+        requires sound { IsSoundAfter gone self.old }
+        ensures sound { IsSoundAfter (gone_with gone self.old) self.new }
+        ensures entries { self.new.log.entries ≡ [] }
+        ensures logged { self.new.log.kept ≡ self.old.log.kept }
+        ensures opportunities { self.new.opportunities ≡ self.old.opportunities }
+        ensures burnt { self.new.burnt ≡ self.old.burnt }
+        ensures arrived { self.new.arrived ≡ self.old.arrived }
+        ensures line { self.new.line ≡ self.old.line }
+    {
+        self.left.clear();
+        self.log.clear();
+    }
+
+    /// Goes on until there is a piece of the log, or to the end: whether there is an entry in hand. A log is kept.
+    pub fn fill(&mut self) -> Result<bool, OutOfMemory>
+        ghost gone: { Gone }
+        requires sound { IsSoundAfter gone self.old }
+        requires playable { CanPlay self.old }
+        requires logged { self.old.log.kept ≡ true }
+        ensures sound { IsSoundAfter gone self.new }
+        ensures playable { CanPlay self.new }
+        ensures logged { self.new.log.kept ≡ true }
+        ensures same { self.new.log.entries ++ rest_of self.new ≡ self.old.log.entries ++ rest_of self.old }
+        ensures err { OnErr result (0 < length (rest_of self.new)) }
+        ensures some { IfOk result (λ more. IsTrue more → 0 < length self.new.log.entries) }
+        ensures none { IfOk result (λ more. ¬ IsTrue more → (self.new.log.entries ≡ []) × (rest_of self.new ≡ [])) }
+    {
+        'filling: while self.log.len() < PIECE {
+            if !self.step()? {
+                return Ok(self.log.len() > 0);
+            }
+        }
+        Ok(true)
+    }
+}

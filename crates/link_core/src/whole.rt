@@ -1,0 +1,83 @@
+// A link over the whole list of its arrivals.
+ghost use Rattle.std.specs.Prelude.{◌≡◌, ◌≤◌, length, map, IfOk};
+ghost use Rattle.packet_record.specs.Moments.{AreUpTo, Rise};
+ghost use Rattle.trace_reader.specs.Opps.{opps};
+ghost use Rattle.link_core.specs.Links.{link_out, link_lost, link_log, link_inside};
+ghost use Rattle.link_core.specs.Sound.{IsSound};
+ghost use Rattle.link_core.specs.Play.{IsPlayed, all_arrivals};
+
+use crate::link_log::LinkLog;
+use crate::opportunities::Opportunities;
+use crate::parts::Parts;
+use mm_base::OutOfMemory;
+use packet_queue::QueueSpec;
+use packet_record::Timed;
+use std::alloc::Global;
+use trace_reader::Trace;
+
+/// What a link does with all its arrivals, and its log, which isn't written out.
+#[derive(Drop)]
+pub struct LinkPassage {
+    /// The packets that departed, in order, each at the moment of its departure.
+    pub departed: Vec<Timed>,
+    /// The packets that the queue dropped, in order, each at the moment of the arrival that dropped it.
+    pub lost: Vec<Timed>,
+    /// The numbers of the packets that neither departed nor were dropped, in order.
+    pub held: Vec<u32>,
+    /// What happened, in order.
+    pub log: LinkLog,
+}
+
+// A link after all its arrivals and opportunities.
+pub(crate) fn played(
+    alloc: Global,
+    opportunities: Opportunities,
+    queue: QueueSpec,
+    logged: bool,
+    arrivals: Vec<Timed>,
+) -> Result<Parts, OutOfMemory>
+    requires rises { Rise arrivals.items }
+    requires within { AreUpTo opportunities.horizon arrivals.items }
+    ensures sound { IfOk result (λ parts. IsSound parts) }
+    ensures played { IfOk result (λ parts. IsPlayed parts) }
+    ensures opportunities { IfOk result (λ parts. parts.opportunities ≡ opportunities) }
+    ensures spec { IfOk result (λ parts. parts.line.queue.spec ≡ queue) }
+    ensures logged { IfOk result (λ parts. parts.log.kept ≡ logged) }
+    ensures arrivals { IfOk result (λ parts. all_arrivals parts ≡ arrivals.items) }
+{
+    let packets = arrivals.len();
+    let mut parts = Parts::new(alloc, opportunities, queue, logged, arrivals);
+    parts.left.reserve(packets)?;
+    parts.finish()?;
+    Ok(parts)
+}
+
+/// Runs a link over all its arrivals, which are in order and up to the horizon, and burns every opportunity up to the
+/// horizon. No log is kept: it can be made again from the arrivals. `OutOfMemory` is want of memory.
+pub fn run_link(
+    alloc: Global,
+    trace: Trace,
+    once: bool,
+    queue: QueueSpec,
+    horizon: u64,
+    arrivals: Vec<Timed>,
+) -> Result<LinkPassage, OutOfMemory>
+    requires horizon { horizon ≤ 3600000 }
+    requires few { length (opps trace.opportunities once horizon) ≤ 16000000 }
+    requires rises { Rise arrivals.items }
+    requires within { AreUpTo horizon arrivals.items }
+    ensures departed { IfOk result (λ p. p.departed.items ≡ link_out queue (opps trace.opportunities once horizon) arrivals.items) }
+    ensures lost { IfOk result (λ p. p.lost.items ≡ link_lost queue (opps trace.opportunities once horizon) arrivals.items) }
+    ensures held { IfOk result (λ p. p.held.items ≡ map (λ t. t.packet.id) (link_inside queue (opps trace.opportunities once horizon) arrivals.items)) }
+    ensures log { IfOk result (λ p. p.log ≡ link_log queue (opps trace.opportunities once horizon) arrivals.items) }
+{
+    let opportunities = Opportunities::new(trace, once, horizon);
+    let parts = played(alloc, opportunities, queue, false, arrivals)?;
+    let held = parts.line.ids(alloc)?;
+    Ok(LinkPassage {
+        departed: parts.left,
+        lost: parts.line.queue.into_lost(),
+        held,
+        log: LinkLog::of(alloc, parts.opportunities, queue, parts.arrived.into_list()),
+    })
+}
