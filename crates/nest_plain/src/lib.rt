@@ -1,9 +1,11 @@
 //! A run of a nest shell by shell, in one thread.
 #![tactic(auto)]
 
+mod nest_run;
 mod plain;
 mod shell;
 #[cfg(test)]
 mod tests;
 
-pub use plain::run_plain;
+pub use nest_run::{NestRun, UnwrittenLog};
+pub use plain::{run_nest, run_plain};

@@ -7,13 +7,13 @@ ghost use Rattle.nest_spec.specs.Fates.{stage_fates};
 ghost use Rattle.nest_spec.specs.Passing.{AreBuilt, first_number, fated, whole_stages, whole_departed};
 ghost use Rattle.nest_spec.specs.Nests.{directions_of, logged_of, kept_logs, whole_logs, result_of};
 ghost use Rattle.nest_spec.specs.Once.{HaveOneFate};
-ghost use Rattle.nest_spec.specs.RunViews.{entries_of};
 
+use crate::NestRun;
 use crate::shell::run_shells;
+use link_core::LinkLog;
 use mm_base::OutOfMemory;
 use nest_spec::{Marking, Nest, RunResult, first_number, name_logs};
 use packet_record::{Direction, Row, Schedule, Timed};
-use shell_log::Log;
 use std::alloc::Global;
 
 // The packets of a direction up to the horizon.
@@ -33,14 +33,15 @@ fn entering(
     Ok(packets)
 }
 
-// A direction's packets through its shells, their fates marked: the logs of its shells in passing order, empty where they aren't logged.
+// A direction's packets through its shells, their fates marked: the logs of those of its shells that
+// are logged, in passing order.
 fn run_direction(
     alloc: Global,
     nest: &Nest,
     direction: Direction,
     rows: &[Row],
     marking: &mut Marking<'_>,
-) -> Result<Vec<Log>, OutOfMemory>
+) -> Result<Vec<LinkLog>, OutOfMemory>
     requires rises { Rises 0 rows.now }
     requires horizon { marking.old.horizon ≡ nest.now.horizon }
     ensures rows { marking.new.rows ≡ marking.old.rows }
@@ -49,7 +50,7 @@ fn run_direction(
         → marking.new.fates ≡ fated (stage_fates direction marking.old.horizon
         (whole_stages direction marking.old.horizon (first_number direction (length (directions_of direction nest.now))) (directions_of direction nest.now) (entering direction marking.old.horizon rows.now))
         (whole_departed marking.old.horizon (directions_of direction nest.now) (entering direction marking.old.horizon rows.now)) f) marking.old.rows) }
-    ensures logs { IfOk result (λ logs. entries_of logs.items ≡ kept_logs (logged_of direction nest.now) (whole_logs nest.now.horizon (directions_of direction nest.now) (entering direction nest.now.horizon rows.now))) }
+    ensures logs { IfOk result (λ logs. logs.items ≡ kept_logs (logged_of direction nest.now) (whole_logs nest.now.horizon (directions_of direction nest.now) (entering direction nest.now.horizon rows.now))) }
     ensures built { OnOk result (AreBuilt (directions_of direction nest.now)) }
 {
     let packets = entering(alloc, direction, nest.horizon(), rows)?;
@@ -70,15 +71,23 @@ fn run_direction(
 }
 
 /// Runs the schedule through the nest, each shell over its whole list of arrivals and then the next: the fate of each packet and the
-/// named logs, as the composition of the shells' functions gives them. `OutOfMemory` is want of memory.
-pub fn run_plain(alloc: Global, nest: &Nest, schedule: &Schedule) -> Result<RunResult, OutOfMemory>
+/// named logs, as the composition of the shells' functions gives them. The logs aren't written out. `OutOfMemory` is want of memory.
+pub fn run_nest(alloc: Global, nest: &Nest, schedule: &Schedule) -> Result<NestRun, OutOfMemory>
     ensures value { IfOk result (λ r. r ≡ result_of nest.now schedule.now) }
     ensures once { OnOk result (HaveOneFate nest.now schedule.now) }
 {
     let rows = schedule.rows();
-    let mut marking = Marking::new(alloc, rows, nest.horizon(), nest.shells())?;
+    let mut marking = Marking::of_schedule(alloc, schedule, nest.horizon(), nest.shells())?;
     let up = run_direction(alloc, nest, Direction::Up, rows, &mut marking)?;
     let down = run_direction(alloc, nest, Direction::Down, rows, &mut marking)?;
     let logs = name_logs(alloc, nest, up, down)?;
-    Ok(RunResult::new(marking.into_rows(), logs))
+    Ok(NestRun::new(marking.into_rows(), logs))
+}
+
+/// Runs the schedule through the nest as `run_nest` does, and writes the logs out. `OutOfMemory` is want of memory.
+pub fn run_plain(alloc: Global, nest: &Nest, schedule: &Schedule) -> Result<RunResult, OutOfMemory>
+    ensures value { IfOk result (λ r. r ≡ result_of nest.now schedule.now) }
+    ensures once { OnOk result (HaveOneFate nest.now schedule.now) }
+{
+    run_nest(alloc, nest, schedule)?.into_result()
 }

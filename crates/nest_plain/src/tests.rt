@@ -1,7 +1,7 @@
 // Runs of small nests, with their fates and logs.
-use crate::run_plain;
+use crate::{run_nest, run_plain};
 use mm_base::Bytes;
-use nest_spec::{RunResult, build, print_fates, read_nest};
+use nest_spec::{Named, Nest, RunResult, build, print_fates, read_nest};
 use packet_record::read_schedule;
 use shell_log::print_log;
 use std::alloc::{AllocError, Global};
@@ -15,15 +15,14 @@ fn words_of(alloc: Global, text: &str) -> Result<Vec<String>, AllocError> {
         .try_collect(alloc)
 }
 
-// Runs the nest of these words, each of whose traces is this one.
-fn run(
+// The nest of these words, each of whose traces is this one.
+fn nest_of(
     rt: &impl Abort,
     alloc: Global,
     nest: &str,
     trace: &[u8],
-    schedule: &[u8],
     horizon: u64,
-) -> Result<RunResult, Fail> {
+) -> Result<Nest, Fail> {
     let words = words_of(alloc, nest)?;
     let words = read_nest(alloc, words.as_slice())?;
     let mut traces = Vec::new(alloc);
@@ -36,6 +35,19 @@ fn run(
     let opportunities = words.opportunities(traces.as_slice(), horizon);
     assert!(rt; opportunities <= 16_000_000);
     let nest = build(alloc, words, traces, 0, horizon)?;
+    Ok(nest)
+}
+
+// Runs the nest of these words, each of whose traces is this one.
+fn run(
+    rt: &impl Abort,
+    alloc: Global,
+    nest: &str,
+    trace: &[u8],
+    schedule: &[u8],
+    horizon: u64,
+) -> Result<RunResult, Fail> {
+    let nest = nest_of(rt, alloc, nest, trace, horizon)?;
     let schedule = read_schedule(alloc, schedule)?;
     Ok(run_plain(alloc, &nest, &schedule)?)
 }
@@ -108,5 +120,27 @@ fn names_logs_up_before_down(rt: HostRuntime) -> Result<(), Fail> {
     assert_eq!(rt; names.next(), Some("d"));
     assert_eq!(rt; names.next(), Some("e"));
     assert_eq!(rt; names.next(), None);
+    Ok(())
+}
+
+#[test]
+fn makes_the_logs_that_are_written_out(rt: HostRuntime) -> Result<(), Fail> {
+    let alloc = rt.alloc();
+    let words = "mm-link t t --uplink-log u --downlink-log d";
+    let nest = nest_of(&rt, alloc, words, b"2\n", 4)?;
+    let schedule = read_schedule(alloc, b"0 up 1000\n1 down 700\n")?;
+    let whole = run_plain(alloc, &nest, &schedule)?;
+    let (fates, logs) = run_nest(alloc, &nest, &schedule)?.into_parts();
+    assert_eq!(rt; fates.as_slice(), whole.fates());
+    assert_eq!(rt; logs.len(), 2);
+    let mut written = whole.logs().iter();
+    for Named { name, log } in logs {
+        let same = written.next().ok_or("no log")?;
+        assert_eq!(rt; name.as_str(), same.name.as_str());
+        let mut pieces = log.pieces();
+        assert!(rt; pieces.next()?);
+        assert_eq!(rt; pieces.piece(), same.log.entries());
+        assert!(rt; !pieces.next()?);
+    }
     Ok(())
 }

@@ -7,7 +7,7 @@ use Rattle.packet_record.specs.declared.item.Stream.{Stream}
 use Rattle.packet_record.specs.declared.item.Item.TheVariants.{Packet, End}
 use Rattle.packet_record.specs.declared.item.FlowEnd.TheVariants.{Open, Ended}
 use Rattle.packet_record.specs.Streams.{after}
-use Rattle.packet_record.specs.Moments.{AreFrom, AreUpTo, Rise}
+use Rattle.packet_record.specs.Moments.{AreFrom, Rise}
 use Rattle.packet_record.specs.Orders.{AreInOrder}
 use Rattle.shell_state.specs.declared.taken.Taken.{Taken}
 use Rattle.shell_state.specs.declared.taken.Taken.TheVariants.{Item as Gives}
@@ -22,11 +22,6 @@ pub from_at : (m : ℕ) (ts : List Timed) (i : ℕ) (t : Timed) → i < length t
 from_at m [] i t lt read f = absurd (omega arith)
 from_at m (u ∷ ts) zero t lt read f = subst (λ (v : Timed). m ≤ v.moment) (sym read) f.0
 from_at m (u ∷ ts) (suc i) t lt read f = from_at m ts i t (omega arith) read f
-
-pub up_at : (m : ℕ) (ts : List Timed) (i : ℕ) (t : Timed) → i < length ts → t ≡ get_or ts i t → AreUpTo m ts → t.moment ≤ m
-up_at m [] i t lt read f = absurd (omega arith)
-up_at m (u ∷ ts) zero t lt read f = subst (λ (v : Timed). v.moment ≤ m) (sym read) f.0
-up_at m (u ∷ ts) (suc i) t lt read f = up_at m ts i t (omega arith) read f.1
 
 pub rise_at : (ts : List Timed) (i : ℕ) (t : Timed) → i < length ts → t ≡ get_or ts i t → Rise ts → AreFrom t.moment (drop (i + 1) ts)
 rise_at ts i t lt read r = subst (λ n. AreFrom t.moment (drop n ts)) (let e : suc i ≡ i + 1 = omega arith in e) (by ts i t lt read r)

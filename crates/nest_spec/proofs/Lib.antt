@@ -12,3 +12,4 @@ pub mod Results
 pub mod OnceLemmas
 pub mod KeptLemmas
 pub mod FeedingLemmas
+pub mod Scheduled

@@ -10,13 +10,14 @@ use Rattle.trace_reader.specs.Opps.{opps}
 use Rattle.loss_core.specs.declared.rate.Rate.{Rate}
 use Rattle.shell_core.specs.declared.spec.DirSpec.{DirSpec}
 use Rattle.shell_core.specs.declared.spec.DirSpec.TheVariants as specs
+use Rattle.shell_core.specs.Wholes.{IsLink}
 use Rattle.shell_core.specs.Shells.{opportunities}
 use Rattle.shell_state.specs.States.{State}
 use Rattle.nest_spec.specs.declared.shell_words.ShellWords.{ShellWords}
 use Rattle.nest_spec.specs.declared.shell_words.ShellWords.TheVariants.{Delay, Loss, Link}
 use Rattle.nest_spec.specs.declared.shell_words.LinkSide.{LinkSide}
 use Rattle.nest_spec.specs.Plans.{AreShells, trace_count}
-use Rattle.nest_spec.specs.Nests.{NestParts, IsNest, AllFit, stream_of, link_spec, specs_from, in_passing_order, directions_of, is_logged, logged_of, opportunities_of}
+use Rattle.nest_spec.specs.Nests.{NestParts, IsNest, AllFit, AreOfLinks, stream_of, link_spec, specs_from, in_passing_order, directions_of, is_logged, logged_of, opportunities_of}
 use Rattle.nest_spec.specs.Passing.{HavePassed}
 
 loss_fits : (b : Bool) (rate : Rate) (seed stream h : ℕ) (rest : List DirSpec) → AllFit h rest → AllFit h (cond b (specs.Loss rate seed stream) specs.Pass ∷ rest)
@@ -73,8 +74,44 @@ in_order_long Down list = refl
 pub directions_long : (d : Direction) (nest : NestParts) → IsNest nest → length (directions_of d nest) ≡ length nest.shells
 directions_long d nest is = in_order_long d (specs_from d nest.seed 1 nest.shells nest.traces) ∙ specs_long d nest.seed 1 nest.shells nest.traces is.traces
 
-pub logged_long : (d : Direction) (nest : NestParts) → length (logged_of d nest) ≡ length nest.shells
-logged_long d nest = in_order_long d (map (is_logged d) nest.shells) ∙ length-map nest.shells (is_logged d)
+is_link : (d : Direction) (once : Bool) (up down : LinkSide) (t u : Trace) → IsLink (link_spec d once up down t u)
+is_link Up once up down t u = tt
+is_link Down once up down t u = tt
+
+links_from : (d : Direction) (seed n : ℕ) (shells : List ShellWords) (traces : List Trace) → length traces ≡ trace_count shells → AreOfLinks (map (is_logged d) shells) (specs_from d seed n shells traces)
+links_from d seed n [] traces e = tt
+links_from Up seed n (Delay ms ∷ shells) traces e = (λ no. absurd (cc no), links_from Up seed (n + 1) shells traces (let same : 0 + trace_count shells ≡ trace_count shells = omega arith in e ∙ same))
+links_from Down seed n (Delay ms ∷ shells) traces e = (λ no. absurd (cc no), links_from Down seed (n + 1) shells traces (let same : 0 + trace_count shells ≡ trace_count shells = omega arith in e ∙ same))
+links_from Up seed n (Loss named rate ∷ shells) traces e = (λ no. absurd (cc no), links_from Up seed (n + 1) shells traces (let same : 0 + trace_count shells ≡ trace_count shells = omega arith in e ∙ same))
+links_from Down seed n (Loss named rate ∷ shells) traces e = (λ no. absurd (cc no), links_from Down seed (n + 1) shells traces (let same : 0 + trace_count shells ≡ trace_count shells = omega arith in e ∙ same))
+links_from d seed n (Link once up down ∷ shells) [] e = absurd (let no : 0 ≡ 2 + trace_count shells = e in omega arith)
+links_from d seed n (Link once up down ∷ shells) (t ∷ []) e = absurd (let no : 1 ≡ 2 + trace_count shells = e in omega arith)
+links_from d seed n (Link once up down ∷ shells) (t ∷ u ∷ traces) e =
+    (λ _. is_link d once up down t u, links_from d seed (n + 1) shells traces (let long : length (t ∷ u ∷ traces) ≡ 2 + trace_count shells = e in omega arith))
+
+links-append : (flags more : List Bool) (list rest : List DirSpec) → AreOfLinks flags list → AreOfLinks more rest → AreOfLinks (flags ++ more) (list ++ rest)
+links-append [] more [] rest are later = later
+links-append [] more (c ∷ list) rest are later = absurd are
+links-append (b ∷ flags) more [] rest are later = absurd are
+links-append (b ∷ flags) more (c ∷ list) rest are later = (are.0, links-append flags more list rest are.1 later)
+
+links-reverse : (flags : List Bool) (list : List DirSpec) → AreOfLinks flags list → AreOfLinks (reverse flags) (reverse list)
+links-reverse [] [] are = tt
+links-reverse [] (c ∷ list) are = absurd are
+links-reverse (b ∷ flags) [] are = absurd are
+links-reverse (b ∷ flags) (c ∷ list) are =
+    subst (λ l. AreOfLinks l (reverse (c ∷ list))) (sym (reverse-append (b ∷ []) flags))
+    (subst (AreOfLinks (reverse flags ++ b ∷ [])) (sym (reverse-append (c ∷ []) list))
+    (links-append (reverse flags) (b ∷ []) (reverse list) (c ∷ []) (links-reverse flags list are.1) (are.0, tt)))
+
+links_in_order : (d : Direction) (flags : List Bool) (list : List DirSpec) → AreOfLinks flags list → AreOfLinks (in_passing_order d flags) (in_passing_order d list)
+links_in_order Up flags list are = links-reverse flags list are
+links_in_order Down flags list are = are
+
+-- a direction that is logged is a link's
+pub logged_links : (d : Direction) (nest : NestParts) → IsNest nest → AreOfLinks (logged_of d nest) (directions_of d nest)
+logged_links d nest is =
+    links_in_order d (map (is_logged d) nest.shells) (specs_from d nest.seed 1 nest.shells nest.traces) (links_from d nest.seed 1 nest.shells nest.traces is.traces)
 
 passed_long : (h : ℕ) (list : List DirSpec) (arrivals : List Timed) (states : List State) → HavePassed h list arrivals states → length states ≡ length list
 passed_long h [] arrivals [] have = refl

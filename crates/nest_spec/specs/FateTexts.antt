@@ -1,16 +1,10 @@
 -- The text of fates: `N DIR departed MS`, `N DIR dropped SHELL MS`, `N DIR inside SHELL` or `N DIR unsent` for each packet, and a line feed.
 use Rattle.std.specs.Prelude.{ℕ, ◌++◌, List, codes, decimal}
 use Rattle.std.specs.List.{flat_map}
-use Rattle.packet_record.specs.declared.packet.Direction.{Direction}
-use Rattle.packet_record.specs.declared.packet.Direction.TheVariants.{Up, Down}
+use Rattle.packet_record.specs.Printing.{direction_text}
 use Rattle.nest_spec.specs.declared.fate.Fate.{Fate}
 use Rattle.nest_spec.specs.declared.fate.Fate.TheVariants as fates
 use Rattle.nest_spec.specs.declared.fate.FateRow.{FateRow}
-
--- the direction between two spaces
-abbrev pub direction_text : Direction → List ℕ
-direction_text Up = codes " up "
-direction_text Down = codes " down "
 
 abbrev pub fate_text : Fate → List ℕ
 fate_text (fates.Departed moment) = codes "departed " ++ decimal moment

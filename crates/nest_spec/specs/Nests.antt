@@ -1,5 +1,5 @@
 -- A nest: what its shells do in each direction, and its logs by name.
-use Rattle.std.specs.Prelude.{ℕ, ◌+◌, ◌*◌, ◌≤◌, ◌≡◌, Bool, true, false, List, [], ◌∷◌, length, map, reverse, if◌then◌else◌}
+use Rattle.std.specs.Prelude.{ℕ, ◌+◌, ◌*◌, ◌≤◌, ◌≡◌, Bool, true, false, IsTrue, List, [], ◌∷◌, length, map, reverse, if◌then◌else◌}
 use Rattle.packet_record.specs.declared.packet.Direction.{Direction}
 use Rattle.packet_record.specs.declared.packet.Direction.TheVariants.{Up, Down}
 use Rattle.packet_record.specs.declared.packet.Row.{Row}
@@ -10,6 +10,7 @@ use Rattle.trace_reader.specs.Opps.{opps}
 use Rattle.shell_log.specs.declared.entry.Entry.{Entry}
 use Rattle.shell_core.specs.declared.spec.DirSpec.{DirSpec}
 use Rattle.shell_core.specs.declared.spec.DirSpec.TheVariants as specs
+use Rattle.shell_core.specs.Wholes.{IsLink}
 use Rattle.shell_core.specs.Shells.{IsInRange, opportunities, shell_log, whole_out, whole_log}
 use Rattle.shell_state.specs.States.{State}
 use Rattle.nest_spec.specs.declared.fate.FateRow.{FateRow}
@@ -106,11 +107,22 @@ is_logged Down (Link once up down) = down.logged
 abbrev pub logged_of : Direction → NestParts → List Bool
 logged_of d nest = in_passing_order d (map (is_logged d) nest.shells)
 
--- the logs that are marked so, and an empty one in place of each other
+-- a log in front of others, where it is kept
+abbrev pub kept_log : Bool → List Entry → List (List Entry) → List (List Entry)
+kept_log kept log logs = if kept then log ∷ logs else logs
+
+-- the logs that are marked so
 abbrev pub kept_logs : List Bool → List (List Entry) → List (List Entry)
 kept_logs [] logs = []
 kept_logs (kept ∷ flags) [] = []
-kept_logs (kept ∷ flags) (log ∷ logs) = (if kept then log else []) ∷ kept_logs flags logs
+kept_logs (kept ∷ flags) (log ∷ logs) = kept_log kept log (kept_logs flags logs)
+
+-- a mark for each of these directions, and a link where it is set
+abbrev pub AreOfLinks : List Bool → List DirSpec → Type 0
+AreOfLinks [] [] = Unit {0}
+AreOfLinks [] (c ∷ specs) = ⊥
+AreOfLinks (kept ∷ flags) [] = ⊥
+AreOfLinks (kept ∷ flags) (c ∷ specs) = (IsTrue kept → IsLink c) × AreOfLinks flags specs
 
 -- a log and its name
 pub record NamedEntries : Type 0 where

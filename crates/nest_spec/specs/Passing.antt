@@ -15,11 +15,6 @@ use Rattle.nest_spec.specs.declared.fate.FateRow.{FateRow}
 use Rattle.nest_spec.specs.declared.mark.Mark.TheVariants.{Drops, Leaves}
 use Rattle.nest_spec.specs.Fates.{Stage, found_fate, by_direction, next_number}
 
--- Chain: the arrivals of each shell, and what the last passes on; shells stand in passing order
-abbrev pub chain : ℕ → List DirSpec → List Timed → List (List Timed)
-chain h [] arrivals = arrivals ∷ []
-chain h (c ∷ specs) arrivals = arrivals ∷ chain h specs (whole_out c h arrivals)
-
 abbrev pub find_id : ℕ → List Timed → Option Timed
 find_id id ts = find (λ (t : Timed). t.packet.id == id) ts
 

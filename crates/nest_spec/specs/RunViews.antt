@@ -3,13 +3,15 @@ use Rattle.std.specs.Prelude.{List, map}
 use Rattle.shell_log.specs.View.{LogView}
 use Rattle.shell_log.specs.declared.entry.Entry.{Entry}
 use Rattle.nest_spec.specs.Nests.{NamedEntries, named_entries}
-use Rattle.nest_spec.specs.declared.run_result.NamedLog.{NamedLog}
+use Rattle.nest_spec.specs.declared.run_result.Named.{Named}
 
-abbrev pub named : NamedLog → NamedEntries
-named log = named_entries log.name log.log.entries
+-- the names of logs with their entries, where this gives the entries of each
+abbrev pub named_by : {A : Type 0} → (A → List Entry) → List (Named A) → List NamedEntries
+named_by entries logs = map (λ log. named_entries log.name (entries log.log)) logs
 
-abbrev pub all_named : List NamedLog → List NamedEntries
-all_named logs = map named logs
+-- of logs that are written out
+abbrev pub all_named : List (Named LogView) → List NamedEntries
+all_named logs = named_by (λ (log : LogView). log.entries) logs
 
 -- the entries of each log
 abbrev pub entries_of : List LogView → List (List Entry)

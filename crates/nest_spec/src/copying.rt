@@ -20,7 +20,7 @@ fn copy_log(alloc: Global, log: &Log) -> Result<Log, OutOfMemory>
     Ok(copy)
 }
 
-// Adds a copy of the log of each of these states that is logged, and an empty log for each that is not.
+// Adds a copy of the log of each of these states that is logged.
 fn push_copies(
     list: &mut Vec<Log>,
     flags: &[bool],
@@ -35,16 +35,13 @@ fn push_copies(
         return Ok(());
     };
     let alloc = *list.allocator();
-    let log = if *is_logged {
-        copy_log(alloc, state.log())?
-    } else {
-        Log::new(alloc)
-    };
-    list.push(log)?;
+    if *is_logged {
+        list.push(copy_log(alloc, state.log())?)?;
+    }
     push_copies(list, flags, states)
 }
 
-/// The log of each of these states that is logged, and an empty one in place of each other.
+/// The log of each of these states that is logged.
 pub(crate) fn copy_logs(
     alloc: Global,
     flags: &[bool],

@@ -1,10 +1,9 @@
 // The text of fates.
 ghost use Rattle.std.specs.Prelude.{◌≡◌, ◌+◌, ◌≤◌, ◌++◌, length, IfOk};
-ghost use Rattle.nest_spec.specs.FateTexts.{direction_text, fate_text, fate_line, fates_text};
+ghost use Rattle.nest_spec.specs.FateTexts.{fate_text, fate_line, fates_text};
 
 use crate::{Fate, FateRow};
 use mm_base::{Bytes, LineBuffer, OutOfMemory, PrintLine, print_lines};
-use packet_record::Direction;
 use std::alloc::Global;
 
 /// The text of these fates: a line for each, in their order. `OutOfMemory` is want of memory.
@@ -17,28 +16,18 @@ pub fn print_fates(alloc: Global, fates: &[FateRow]) -> Result<Bytes, OutOfMemor
 impl PrintLine for FateRow {
     ghost line = { fate_line };
 
+    #[tactic(auto, using(mm_base::proofs::TextLemmas::is_ended_line))]
     fn put_line(&self, out: &mut LineBuffer) {
         out.put_byte(b'\n');
         put_fate(out, self.fate);
-        out.put(direction_words(self.direction));
+        out.put(self.direction.between_spaces());
         out.put_decimal(u64::from(self.id));
-    }
-}
-
-// The direction between two spaces.
-fn direction_words(direction: Direction) -> &'static [u8]
-    ensures words { result.now ≡ direction_text direction }
-    ensures length { length result.now ≤ 6 }
-{
-    match direction {
-        Direction::Up => b" up ".as_slice(),
-        Direction::Down => b" down ".as_slice(),
     }
 }
 
 // Puts the text of a fate, of at most 39 bytes, in front.
 fn put_fate(out: &mut LineBuffer, fate: Fate)
-    requires { length out.old + 41 ≤ 72 }
+    requires { length out.old + 41 ≤ 147456 }
     ensures bytes { out.new ≡ fate_text fate ++ out.old }
     ensures length { length out.new ≤ length out.old + 39 }
 {

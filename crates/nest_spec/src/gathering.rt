@@ -77,7 +77,8 @@ fn gather_logs(
     up: &[ShellState],
     down: &[ShellState],
 ) -> Result<Vec<NamedLog>, OutOfMemory>
-    requires { length up.now ≡ length nest.now.shells }
+    requires up { length up.now ≡ length nest.now.shells }
+    requires down { length down.now ≡ length nest.now.shells }
     ensures { IfOk result (λ list. all_named list.items ≡ named_logs nest.now.shells (reverse (state_logs up.now)) (state_logs down.now) nest.now.logs) }
 {
     let up_flags = nest.logged(Direction::Up)?;

@@ -33,5 +33,5 @@ pub use naming::name_logs;
 pub use nest::{Nest, build};
 pub use nest_words::{NestWords, read_nest};
 pub use passing_order::{first_number, next_number};
-pub use run_result::{NamedLog, RunResult};
+pub use run_result::{Named, NamedLog, RunResult};
 pub use shell_words::{LinkSide, ShellKind, ShellWords};

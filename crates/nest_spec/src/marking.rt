@@ -11,7 +11,7 @@ use crate::mark::{Mark, fate_by};
 use crate::places::{Places, place_of, places_of};
 use crate::{Fate, FateRow};
 use mm_base::OutOfMemory;
-use packet_record::{Direction, Row, Timed};
+use packet_record::{Direction, Row, Schedule, Timed};
 use std::alloc::Global;
 use std::marker::Model;
 
@@ -53,6 +53,26 @@ impl<'a> Marking<'a> {
         Ok(Marking {
             rows,
             places,
+            until: horizon,
+            list,
+        })
+    }
+
+    /// The fates before any packet of a schedule has passed a shell, as in `new`. That the rows are numbered from 1 isn't looked at.
+    /// `OutOfMemory` is want of memory.
+    pub fn of_schedule(
+        alloc: Global,
+        schedule: &'a Schedule,
+        horizon: u64,
+        shells: u32,
+    ) -> Result<Marking<'a>, OutOfMemory>
+        ensures { IfOk result (λ m. m ≡ marks schedule.now horizon (fated (first_fate horizon shells 1) schedule.now)) }
+    {
+        let rows = schedule.rows();
+        let list = first_fates(alloc, rows, horizon, shells)?;
+        Ok(Marking {
+            rows,
+            places: Places::Numbered,
             until: horizon,
             list,
         })

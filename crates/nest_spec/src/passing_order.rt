@@ -15,7 +15,8 @@ pub fn first_number(direction: Direction, shells: u32) -> u32
     }
 }
 
-/// The number of the shell that a direction's packets pass after this one.
+/// The number of the shell that a direction's packets pass after this one, which is at most 8. After the last it is the number of no
+/// shell: up 0, down one more than there are shells.
 pub fn next_number(direction: Direction, number: u32) -> u32
     requires { number ≤ 8 }
     ensures { result ≡ next_number direction number }

@@ -7,12 +7,15 @@ use mm_base::Text;
 use shell_log::Log;
 use std::marker::Model;
 
-/// A log of one direction of a link, and the name of its file.
+/// A log of one direction of a link, in any form, and the name of its file.
 #[derive(Drop)]
-pub struct NamedLog {
+pub struct Named<T> {
     pub name: Text,
-    pub log: Log,
+    pub log: T,
 }
+
+/// A log that is written out, and the name of its file.
+pub type NamedLog = Named<Log>;
 
 /// The fate of each packet in the order of their rows, and the logs that have a name in the order of the shells, up before down.
 /// Contracts see it as these two lists.

@@ -1,4 +1,4 @@
-pub mod Feeding
+pub mod WholeLemmas
 pub mod Counting
 pub mod Laws
 pub mod Once

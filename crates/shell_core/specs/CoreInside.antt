@@ -1,5 +1,5 @@
 -- How the cores of each kind are seen as one.
-use Rattle.std.specs.Prelude.{◌≡◌, ◌≤◌, ℕ, true, List, []}
+use Rattle.std.specs.Prelude.{◌≡◌, ◌≤◌, ℕ, List, []}
 use Rattle.packet_record.specs.declared.packet.Timed.{Timed}
 use Rattle.loss_core.specs.Losses.{cha_word}
 use Rattle.loss_core.specs.Sources.{cha_words}
@@ -37,7 +37,7 @@ abbrev pub IsInner : ℕ → Inner → Type 0
 IsInner h (Pass arrived) = Unit {0}
 IsInner h (Delay core ms) = (core.horizon ≡ h) × (core.ms ≡ ms) × (ms ≤ 3600000)
 IsInner h (Loss core seed stream) = Stands cha_words core (cha_word seed stream)
-IsInner h (Link core) = (core.horizon ≡ h) × (core.logged ≡ true)
+IsInner h (Link core) = core.horizon ≡ h
 
 abbrev pub IsCore : Inside → Type 0
 IsCore c = IsInner c.until c.inner × (c.until ≤ 3600000) × (c.no_log.entries ≡ [])

@@ -1,17 +1,18 @@
--- A link before and after the whole list of its arrivals.
-use Rattle.std.specs.Prelude.{ℕ, Bool, List, [], length}
-use Rattle.packet_record.specs.declared.packet.Timed.{Timed}
-use Rattle.packet_queue.specs.declared.spec.QueueSpec.{QueueSpec}
-use Rattle.trace_reader.specs.Opps.{opps}
-use Rattle.trace_reader.specs.Traces.{TraceView}
-use Rattle.link_core.specs.View.{Link}
+-- What a direction gives for the whole list of its arrivals, beside the shells' functions.
+use Rattle.std.specs.Prelude.{List, Option, Some, None}
+use Rattle.shell_log.specs.declared.entry.Entry.{Entry}
+use Rattle.shell_core.specs.declared.spec.DirSpec.{DirSpec}
+use Rattle.shell_core.specs.declared.spec.DirSpec.TheVariants.{Pass, Delay, Loss, Link}
 
--- before any arrival
-abbrev pub first_link : TraceView → Bool → QueueSpec → ℕ → Bool → Link
-first_link trace once queue horizon logged =
-    record { trace = trace; once = once; queue = queue; horizon = horizon; logged = logged; burnt = 0; arrivals = [] }
+abbrev pub IsLink : DirSpec → Type 0
+IsLink Pass = ⊥
+IsLink (Delay ms) = ⊥
+IsLink (Loss rate seed stream) = ⊥
+IsLink (Link trace once queue) = Unit {0}
 
--- after all arrivals, with every opportunity burnt
-abbrev pub whole_link : TraceView → Bool → QueueSpec → ℕ → Bool → List Timed → Link
-whole_link trace once queue horizon logged arrivals =
-    record { trace = trace; once = once; queue = queue; horizon = horizon; logged = logged; burnt = length (opps trace.opportunities once horizon); arrivals = arrivals }
+-- what a link logs; the other kinds have no log
+abbrev pub if_link : DirSpec → List Entry → Option (List Entry)
+if_link Pass entries = None
+if_link (Delay ms) entries = None
+if_link (Loss rate seed stream) entries = None
+if_link (Link trace once queue) entries = Some entries

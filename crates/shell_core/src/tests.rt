@@ -34,17 +34,17 @@ fn packets(alloc: Global) -> Result<Vec<Timed>, AllocError>
 }
 
 // The three packets through a direction, up to 100 ms.
-fn run(alloc: Global, spec: DirSpec, logged: bool) -> Result<Passage, Fail>
+fn run(alloc: Global, spec: DirSpec) -> Result<Passage, Fail>
     requires range { IsInRange spec }
     requires few { length (opportunities spec 100) ≤ 16000000 }
 {
-    let passage = run_whole(alloc, spec, 100, packets(alloc)?, logged)?;
+    let passage = run_whole(alloc, spec, 100, packets(alloc)?)?;
     Ok(passage)
 }
 
 // An opportunity for each packet of 1504 bytes every 4 ms.
 #[tactic(auto, unfolding(crate::specs::Shells::opportunities))]
-fn run_link(rt: &impl Abort, alloc: Global, logged: bool) -> Result<Passage, Fail> {
+fn run_link(rt: &impl Abort, alloc: Global) -> Result<Passage, Fail> {
     let trace = read_trace(alloc, b"4\n")?;
     assert!(rt; trace.count_to(100, false) <= 16_000_000);
     let queue = read_queue("droptail", "packets=1")?;
@@ -53,24 +53,25 @@ fn run_link(rt: &impl Abort, alloc: Global, logged: bool) -> Result<Passage, Fai
         once: false,
         queue,
     };
-    run(alloc, spec, logged)
+    run(alloc, spec)
 }
 
 #[test]
 #[tactic(auto, unfolding(crate::specs::Shells::opportunities))]
 fn lets_all_pass(rt: HostRuntime) -> Result<(), Fail> {
-    let passage = run(rt.alloc(), DirSpec::Pass, true)?;
+    let passage = run(rt.alloc(), DirSpec::Pass)?;
     let all = [packet(1, 5), packet(2, 80), packet(3, 81)];
     assert_eq!(rt; passage.departed.as_slice(), all.as_slice());
     assert_eq!(rt; passage.lost.len(), 0);
     assert_eq!(rt; passage.held.len(), 0);
+    assert!(rt; passage.log.is_none());
     Ok(())
 }
 
 #[test]
 #[tactic(auto, unfolding(crate::specs::Shells::opportunities))]
 fn delays_up_to_the_horizon(rt: HostRuntime) -> Result<(), Fail> {
-    let passage = run(rt.alloc(), DirSpec::Delay { ms: 20 }, true)?;
+    let passage = run(rt.alloc(), DirSpec::Delay { ms: 20 })?;
     let departed = [packet(1, 25), packet(2, 100)];
     assert_eq!(rt; passage.departed.as_slice(), departed.as_slice());
     assert_eq!(rt; passage.lost.len(), 0);
@@ -86,7 +87,7 @@ fn loses_all(rt: HostRuntime) -> Result<(), Fail> {
         seed: 7,
         stream: 0,
     };
-    let passage = run(rt.alloc(), spec, true)?;
+    let passage = run(rt.alloc(), spec)?;
     let all = [packet(1, 5), packet(2, 80), packet(3, 81)];
     assert_eq!(rt; passage.departed.len(), 0);
     assert_eq!(rt; passage.lost.as_slice(), all.as_slice());
@@ -96,19 +97,19 @@ fn loses_all(rt: HostRuntime) -> Result<(), Fail> {
 
 #[test]
 fn drops_what_finds_no_room_at_a_link(rt: HostRuntime) -> Result<(), Fail> {
-    let passage = run_link(&rt, rt.alloc(), false)?;
+    let passage = run_link(&rt, rt.alloc())?;
     let departed = [packet(1, 8), packet(2, 84)];
     assert_eq!(rt; passage.departed.as_slice(), departed.as_slice());
     assert_eq!(rt; passage.lost.as_slice(), [packet(3, 81)].as_slice());
     assert_eq!(rt; passage.held.len(), 0);
-    assert_eq!(rt; passage.log.entries().len(), 0);
     Ok(())
 }
 
 #[test]
-fn keeps_the_log_where_it_is_asked_for(rt: HostRuntime) -> Result<(), Fail> {
-    let passage = run_link(&rt, rt.alloc(), true)?;
-    let log = print_log(rt.alloc(), &passage.log)?;
+fn makes_the_log_of_a_link(rt: HostRuntime) -> Result<(), Fail> {
+    let passage = run_link(&rt, rt.alloc())?;
+    let log = passage.log.ok_or("no log")?.into_log()?;
+    let log = print_log(rt.alloc(), &log)?;
     assert!(rt;
         log.as_slice().starts_with(
             b"# base timestamp: 0\n4 # 1504\n5 + 1000\n8 # 1504\n8 - 1000 3\n"

@@ -1,21 +1,20 @@
 // A direction over the whole list of its arrivals.
-ghost use Rattle.std.specs.Prelude.{◌≡◌, ◌≤◌, [], IsTrue, length, map, IfOk, OnOk};
+ghost use Rattle.std.specs.Prelude.{◌≡◌, ◌≤◌, Some, None, [], length, map, IfOk, OnOk};
 ghost use Rattle.packet_record.specs.Moments.{AreUpTo, Rise};
 ghost use Rattle.trace_reader.specs.Opps.{opps};
+ghost use Rattle.trace_reader.specs.Traces.{IsTrace};
 ghost use Rattle.delay_core.specs.Delays.{delayed, kept_inside};
 ghost use Rattle.loss_core.specs.Losses.{cha_word, dropped, passed};
-ghost use Rattle.link_core.specs.View.{out_of, lost_of, kept_log, inside_of};
-ghost use Rattle.shell_core.specs.Wholes.{first_link, whole_link};
+ghost use Rattle.shell_core.specs.Wholes.{if_link};
 ghost use Rattle.shell_core.specs.Shells.{IsInRange, IsBuilt, opportunities, inside, whole_out, whole_lost, whole_log};
 
 use crate::spec::DirSpec;
 use delay_core::delay_all;
-use link_core::{LinkCore, LinkLists};
+use link_core::{LinkLog, run_link};
 use loss_core::{ChaWords, Rate, lose_all};
 use mm_base::OutOfMemory;
 use packet_queue::QueueSpec;
 use packet_record::Timed;
-use shell_log::Log;
 use std::alloc::Global;
 use trace_reader::Trace;
 
@@ -28,21 +27,21 @@ pub struct Passage {
     pub lost: Vec<Timed>,
     /// The numbers of the packets that neither departed nor were dropped, in order.
     pub held: Vec<u32>,
-    /// What happened at a link, in order; empty for the other kinds, and where it isn't asked for.
-    pub log: Log,
+    /// What happened at a link, in order; None for the other kinds.
+    pub log: Option<LinkLog>,
 }
 
 fn pass(alloc: Global, packets: Vec<Timed>) -> Passage
     ensures departed { result.departed.items ≡ packets.items }
     ensures lost { result.lost.items ≡ [] }
     ensures held { result.held.items ≡ [] }
-    ensures log { result.log.entries ≡ [] }
+    ensures log { result.log ≡ None }
 {
     Passage {
         departed: packets,
         lost: Vec::new(alloc),
         held: Vec::new(alloc),
-        log: Log::new(alloc),
+        log: None,
     }
 }
 
@@ -54,14 +53,14 @@ fn delay(alloc: Global, ms: u64, horizon: u64, packets: Vec<Timed>) -> Result<Pa
     ensures departed { IfOk result (λ p. p.departed.items ≡ delayed ms horizon packets.items) }
     ensures lost { IfOk result (λ p. p.lost.items ≡ []) }
     ensures held { IfOk result (λ p. p.held.items ≡ map (λ t. t.packet.id) (kept_inside ms horizon packets.items)) }
-    ensures log { IfOk result (λ p. p.log.entries ≡ []) }
+    ensures log { IfOk result (λ p. p.log ≡ None) }
 {
     let lists = delay_all(alloc, ms, horizon, packets)?;
     Ok(Passage {
         departed: lists.departed,
         lost: Vec::new(alloc),
         held: lists.held,
-        log: Log::new(alloc),
+        log: None,
     })
 }
 
@@ -75,91 +74,55 @@ fn lose(
     ensures departed { IfOk result (λ p. p.departed.items ≡ passed rate.billionths (cha_word seed stream) 0 packets.now) }
     ensures lost { IfOk result (λ p. p.lost.items ≡ dropped rate.billionths (cha_word seed stream) 0 packets.now) }
     ensures held { IfOk result (λ p. p.held.items ≡ []) }
-    ensures log { IfOk result (λ p. p.log.entries ≡ []) }
+    ensures log { IfOk result (λ p. p.log ≡ None) }
 {
     let lists = lose_all(alloc, rate, ChaWords::new(seed, stream), packets)?;
     Ok(Passage {
         departed: lists.departed,
         lost: lists.lost,
         held: Vec::new(alloc),
-        log: Log::new(alloc),
+        log: None,
     })
 }
 
-// A link before any arrival, which keeps a log only where it is asked for.
-fn new_link(
+// A link keeps its arrivals and its trace for the log.
+#[tactic(auto, using(crate::proofs::WholeLemmas::all_taken), unfolding(crate::specs::Shells::opportunities, crate::specs::Shells::out, crate::specs::Shells::lost, crate::specs::Shells::inside, crate::specs::Shells::shell_log))]
+fn link(
     alloc: Global,
     trace: Trace,
     once: bool,
     queue: QueueSpec,
     horizon: u64,
-    logged: bool,
-) -> Result<LinkCore, OutOfMemory>
+    packets: Vec<Timed>,
+) -> Result<Passage, OutOfMemory>
     requires horizon { horizon ≤ 3600000 }
     requires few { length (opps trace.opportunities once horizon) ≤ 16000000 }
-    ensures { IfOk result (λ c. c ≡ first_link trace once queue horizon logged) }
+    requires rises { Rise packets.items }
+    requires within { AreUpTo horizon packets.items }
+    ensures departed { IfOk result (λ p. p.departed.items ≡ whole_out (DirSpec.Link trace once queue) horizon packets.items) }
+    ensures lost { IfOk result (λ p. p.lost.items ≡ whole_lost (DirSpec.Link trace once queue) horizon packets.items) }
+    ensures held { IfOk result (λ p. p.held.items ≡ map (λ t. t.packet.id) (inside (DirSpec.Link trace once queue) horizon (length (opps trace.opportunities once horizon)) packets.items)) }
+    ensures log { IfOk result (λ p. p.log ≡ Some (whole_log (DirSpec.Link trace once queue) horizon packets.items)) }
+    ensures built { IsTrace trace }
 {
-    if logged {
-        LinkCore::new(alloc, trace, once, queue, horizon)
-    } else {
-        Ok(LinkCore::without_log(alloc, trace, once, queue, horizon))
-    }
-}
-
-// A link over all packets, with every opportunity burnt.
-fn fed_link(
-    alloc: Global,
-    trace: Trace,
-    once: bool,
-    queue: QueueSpec,
-    horizon: u64,
-    logged: bool,
-    packets: &[Timed],
-) -> Result<LinkCore, OutOfMemory>
-    requires horizon { horizon ≤ 3600000 }
-    requires few { length (opps trace.opportunities once horizon) ≤ 16000000 }
-    requires rises { Rise packets.now }
-    requires within { AreUpTo horizon packets.now }
-    ensures { IfOk result (λ c. c ≡ whole_link trace once queue horizon logged packets.now) }
-{
-    let mut core = new_link(alloc, trace, once, queue, horizon, logged)?;
-    core.reserve(packets.len())?;
-    for t in packets {
-        core.arrive(*t)?;
-    }
-    core.burn(horizon, u32::MAX)?;
-    Ok(core)
-}
-
-// What a link did.
-fn link_passage(core: LinkCore) -> Result<Passage, OutOfMemory>
-    ensures departed { IfOk result (λ p. p.departed.items ≡ out_of core) }
-    ensures lost { IfOk result (λ p. p.lost.items ≡ lost_of core) }
-    ensures held { IfOk result (λ p. p.held.items ≡ map (λ t. t.packet.id) (inside_of core)) }
-    ensures log { IfOk result (λ p. p.log.entries ≡ kept_log core) }
-{
-    let held = core.inside()?;
-    let LinkLists {
-        departed,
-        lost,
-        log,
-    } = core.into_lists();
+    let _ = trace.form();
+    let passage = run_link(alloc, trace, once, queue, horizon, packets)?;
     Ok(Passage {
-        departed,
-        lost,
-        held,
-        log,
+        departed: passage.departed,
+        lost: passage.lost,
+        held: passage.held,
+        log: Some(passage.log),
     })
 }
 
-/// Runs the direction over all packets up to the horizon. The log is kept only where it is asked for.
+/// Runs the direction over all packets up to the horizon. A link's log isn't written out: it keeps the packets from
+/// which it is made. `OutOfMemory` is want of memory.
 #[tactic(auto, unfolding(crate::specs::Shells::opportunities, crate::specs::Shells::out, crate::specs::Shells::lost, crate::specs::Shells::inside, crate::specs::Shells::shell_log))]
 pub fn run_whole(
     alloc: Global,
     spec: DirSpec,
     horizon: u64,
     packets: Vec<Timed>,
-    logged: bool,
 ) -> Result<Passage, OutOfMemory>
     requires range { IsInRange spec }
     requires horizon { horizon ≤ 3600000 }
@@ -169,27 +132,13 @@ pub fn run_whole(
     ensures departed { IfOk result (λ p. p.departed.items ≡ whole_out spec horizon packets.items) }
     ensures lost { IfOk result (λ p. p.lost.items ≡ whole_lost spec horizon packets.items) }
     ensures held { IfOk result (λ p. p.held.items ≡ map (λ t. t.packet.id) (inside spec horizon (length (opportunities spec horizon)) packets.items)) }
-    ensures log { IfOk result (λ p. IsTrue logged → p.log.entries ≡ whole_log spec horizon packets.items) }
-    ensures no_log { IfOk result (λ p. ¬ IsTrue logged → p.log.entries ≡ []) }
+    ensures log { IfOk result (λ p. p.log ≡ if_link spec (whole_log spec horizon packets.items)) }
     ensures built { OnOk result (IsBuilt spec) }
 {
     match spec {
         DirSpec::Pass => Ok(pass(alloc, packets)),
         DirSpec::Delay { ms } => delay(alloc, ms, horizon, packets),
         DirSpec::Loss { rate, seed, stream } => lose(alloc, rate, seed, stream, packets.as_slice()),
-        DirSpec::Link { trace, once, queue } => {
-            let _ = trace.form();
-            let core = fed_link(
-                alloc,
-                trace,
-                once,
-                queue,
-                horizon,
-                logged,
-                packets.as_slice(),
-            )?;
-            drop(packets);
-            link_passage(core)
-        }
+        DirSpec::Link { trace, once, queue } => link(alloc, trace, once, queue, horizon, packets),
     }
 }

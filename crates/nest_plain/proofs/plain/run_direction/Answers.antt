@@ -1,4 +1,5 @@
 use Rattle.std.proofs.Common.{◌∙◌, ℕ, List, length, ap, subst, sym, arith}
+use Rattle.std.specs.Vec.Iter.{into_iter_items}
 use Rattle.packet_record.specs.declared.packet.Direction.{Direction}
 use Rattle.packet_record.specs.declared.packet.Row.{Row}
 use Rattle.packet_record.specs.declared.packet.Timed.{Timed}
@@ -9,9 +10,9 @@ use Rattle.shell_core.specs.declared.spec.DirSpec.{DirSpec}
 use Rattle.nest_spec.specs.declared.fate.Fate.{Fate}
 use Rattle.nest_spec.specs.declared.fate.FateRow.{FateRow}
 use Rattle.nest_spec.specs.Fates.{stage_fates}
-use Rattle.nest_spec.specs.Nests.{directions_of}
+use Rattle.nest_spec.specs.Nests.{AreOfLinks, directions_of, logged_of}
 use Rattle.nest_spec.specs.Passing.{first_number, fated, whole_stages, whole_departed}
-use Rattle.nest_spec.proofs.NestLemmas.{directions_long, logged_long}
+use Rattle.nest_spec.proofs.NestLemmas.{directions_long, logged_links}
 use Rattle.nest_plain.proofs.Passing.{few_first}
 use Rattle.nest_plain.proofs.plain.run_direction.Goals as goal
 
@@ -25,8 +26,10 @@ run_shells-requires-clause-few c =
 
 pub run_shells-requires-clause-flags : goal.run_shells-requires-clause-flags
 run_shells-requires-clause-flags c =
-    ap length c.as_slice.ensures.value ∙ ap length c.in_ok-flags.ensures ∙ logged_long c.args.direction c.args.nest.now
-    ∙ sym (ap length c.into_iter-specs.ensures.rest ∙ ap length c.in_ok-directions.ensures.list ∙ directions_long c.args.direction c.args.nest.now c.shells.ensures.nest)
+    let links = logged_links c.args.direction c.args.nest.now c.shells.ensures.nest in
+    let flags = c.as_slice.ensures.value ∙ c.in_ok-flags.ensures in
+    let specs = c.into_iter-specs.ensures.rest ∙ c.in_ok-directions.ensures.list in
+    subst (λ l. AreOfLinks l (into_iter_items c.into_iter-specs.result)) (sym flags) (subst (AreOfLinks (logged_of c.args.direction c.args.nest.now)) (sym specs) links)
 
 pub run_shells-requires-clause-rises : goal.run_shells-requires-clause-rises
 run_shells-requires-clause-rises c = subst Rise (sym c.in_ok-packets.ensures) (rise-entering c.args.direction c.horizon.result 0 c.args.rows.now c.requires.rises)

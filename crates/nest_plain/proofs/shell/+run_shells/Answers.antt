@@ -1,9 +1,10 @@
-use Rattle.std.proofs.Common.{◌≡◌, ◌≤◌, ◌∷◌, length, suc, ap, subst, sym, rules, arith}
+use Rattle.std.proofs.Common.{◌≡◌, ◌≤◌, [], ◌∷◌, length, suc, ap, subst, sym, rules, arith}
+use Rattle.std.proofs.lemmas.List.{nil_from_length}
 use Rattle.std.specs.Vec.Iter.{into_iter_items}
 use Rattle.packet_record.specs.Moments.{AreUpTo}
 use Rattle.nest_spec.specs.Fates.{IsFew}
 use Rattle.nest_spec.specs.Nests.{AllFit}
-use Rattle.nest_plain.proofs.Passing.{few_after, departed_rise, departed_within}
+use Rattle.nest_plain.proofs.Passing.{both_links, few_after, departed_rise, departed_within, none_logged}
 use Rattle.nest_plain.proofs.shell.+run_shells.Goals as goal
 
 pub run_shells-requires : goal.run_shells-requires
@@ -16,7 +17,7 @@ run_shells-requires t c =
     let went = c.in_ok-packets.ensures in
     let fit = subst (AllFit h) items c.requires.fit in
     let same = sym went.horizon in
-    let flags = ap length c.in-Some-split_first.ensures.cases.0 in (
+    let links = both_links items c.in-Some-split_first.ensures.cases.0 c.requires.flags in (
       search rules,
       (
         subst (λ n. AllFit n rest) same fit.2,
@@ -25,7 +26,7 @@ run_shells-requires t c =
           (
             few_after a.direction a.number c.next_number-next.result (length rest) c.next_number-next.ensures (subst (IsFew a.direction a.number) long c.requires.few),
             (
-              omega (arith, flags, long, c.requires.flags),
+              links.1,
               (
                 departed_rise c.in-Some.spec h a.packets.items c.in_ok-packets.packets.items went.built went.departed c.requires.rises,
                 subst (λ n. AreUpTo n c.in_ok-packets.packets.items) same (departed_within c.in-Some.spec h a.packets.items c.in_ok-packets.packets.items went.built went.departed c.requires.within),
@@ -35,3 +36,8 @@ run_shells-requires t c =
         ),
       ),
     )
+
+pub returns-in_default-clause-logs : goal.returns-in_default-clause-logs
+returns-in_default-clause-logs t c =
+    let none = nil_from_length (into_iter_items c.args.specs) (let cases = c.in_default.ensures.cases in omega (arith, c.args.specs.rest.ok)) in
+    none_logged c.args.logs.now.items c.args.flags.now c.args.marking.now.horizon (into_iter_items c.args.specs) c.args.packets.items none

@@ -11,7 +11,14 @@ use Rattle.nest_spec.proofs.OnceLemmas.{one_fate}
 use Rattle.nest_spec.proofs.gathering.gather.Goals as goal
 
 pub gather_logs-requires : goal.gather_logs-requires
-gather_logs-requires c = have_long Up c.args.nest.now (entering Up c.args.nest.now.horizon c.args.rows.now) c.args.up.now c.shells.ensures.nest c.requires.up
+gather_logs-requires c =
+    let nest = c.args.nest.now in
+    let rows = c.args.rows.now in
+    let is = c.shells.ensures.nest in
+    record {
+      up = have_long Up nest (entering Up nest.horizon rows) c.args.up.now is c.requires.up;
+      down = have_long Down nest (entering Down nest.horizon rows) c.args.down.now is c.requires.down;
+    }
 
 abbrev lists : List FateRow → List NamedEntries → RunLists
 lists fates logs = record { fates = fates; logs = logs }

@@ -1,0 +1,66 @@
+// What a run gives before its logs are written out.
+ghost use Rattle.std.specs.Prelude.{◌≡◌, IfOk};
+ghost use Rattle.nest_spec.specs.RunViews.{all_named};
+ghost use Rattle.nest_plain.specs.Unwritten.{unwritten};
+
+use link_core::LinkLog;
+use mm_base::OutOfMemory;
+use nest_spec::{FateRow, Named, NamedLog, RunResult};
+use std::marker::Model;
+
+/// A log that isn't written out, and the name of its file.
+pub type UnwrittenLog = Named<LinkLog>;
+
+/// The fate of each packet in the order of their rows, and the logs that have a name in the order of the shells, up before down. The
+/// logs aren't written out: each keeps the arrivals of its link. Contracts see the fates, and the names and entries of the logs.
+#[derive(Drop)]
+pub struct NestRun {
+    fates: Vec<FateRow>,
+    logs: Vec<UnwrittenLog>,
+}
+
+impl Model for NestRun {
+    ghost use Rattle.nest_spec.specs.Nests.{RunLists};
+
+    ghost Value = { RunLists };
+
+    ghost use Rattle.nest_plain.specs.RunView.{run_view};
+
+    ghost view = { run_view };
+}
+
+impl NestRun {
+    pub(crate) fn new(fates: Vec<FateRow>, logs: Vec<UnwrittenLog>) -> Self
+        ensures { result ≡ record { fates = fates.items; logs = unwritten logs.items } }
+    {
+        NestRun { fates, logs }
+    }
+
+    /// The fates, one for each row, and the named logs.
+    pub fn into_parts(self) -> (Vec<FateRow>, Vec<UnwrittenLog>)
+        ensures fates { result.0.items ≡ self.fates }
+        ensures logs { unwritten result.1.items ≡ self.logs }
+    {
+        (self.fates, self.logs)
+    }
+
+    /// The same with its logs written out, each of which lets its arrivals go. `OutOfMemory` is want of memory.
+    pub fn into_result(self) -> Result<RunResult, OutOfMemory>
+        ensures { IfOk result (λ r. r ≡ self) }
+    {
+        let (fates, logs) = self.into_parts();
+        Ok(RunResult::new(fates, write_out(logs)?))
+    }
+}
+
+// Each log, written out.
+fn write_out(logs: Vec<UnwrittenLog>) -> Result<Vec<NamedLog>, OutOfMemory>
+    ensures { IfOk result (λ list. all_named list.items ≡ unwritten logs.items) }
+{
+    let mut list = Vec::with_capacity(*logs.allocator(), logs.len())?;
+    for Named { name, log } in logs {
+        let log = log.into_log()?;
+        list.push(Named { name, log })?;
+    }
+    Ok(list)
+}
