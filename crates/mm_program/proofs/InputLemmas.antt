@@ -1,8 +1,10 @@
 -- What the file of an input is refused for.
-use Rattle.std.proofs.Common.{◌≡◌, ◌≢◌, ◌⊎◌, inl, inr, ℕ, ◌<◌, ◌≤◌, true, false, cond, nat_lt, List, Option, Some, None, Result, Ok, Err, IfOk, IfErr, MatchResult, length, replicate, subst, refl, ap, sym, ◌∙◌, rules, tests, arith}
+use Rattle.std.proofs.Common.{◌≡◌, ◌≢◌, inl, inr, ℕ, ◌<◌, ◌≤◌, true, false, cond, nat_lt, List, Option, Some, None, Result, Ok, Err, IfOk, IfErr, MatchResult, length, replicate, subst, refl, ap, sym, ◌∙◌, rules, tests, arith}
 use Rattle.std.proofs.lemmas.List.{length-replicate}
 use Rattle.mm_base.specs.Counts.{Rose}
 use Rattle.mm_base.specs.Files.{Files, file, IsThere, IfHeld}
+use Rattle.mm_base.specs.declared.errors.LoadError.{LoadError}
+use Rattle.mm_base.specs.declared.errors.LoadError.TheVariants as load_errors
 use Rattle.mm_base.proofs.FilesLemmas.{is_held}
 use Rattle.packet_record.specs.declared.packet.Row.{Row}
 use Rattle.packet_record.specs.Schedules.{IsScheduleText}
@@ -11,8 +13,8 @@ use Rattle.trace_reader.specs.TraceText.{IsTraceText}
 use Rattle.option_words.specs.Options.{Text}
 use Rattle.mm_program.specs.Causes.{Cause, Absent, FileSize, Memory, status_of}
 use Rattle.mm_program.specs.Disks.{DiskView, Gives}
-use Rattle.mm_program.specs.Inputs.{HasFault, IsSchedule, IsTrace, IsUnread, RefusesFile}
-use Rattle.mm_program.specs.Refusals.{refused_file, schedule_refusal, trace_refusal}
+use Rattle.mm_program.specs.Inputs.{IsSchedule, IsTrace, IsUnread, RefusesFile}
+use Rattle.mm_program.specs.Refusals.{load_cause, refused_file, schedule_refusal, trace_refusal}
 use Rattle.mm_program.specs.View.{cause_of}
 use Rattle.mm_program.specs.declared.refusal.Refusal.{Refusal}
 use Rattle.mm_program.proofs.CauseLemmas.{IsGrammar, memory_or}
@@ -40,7 +42,7 @@ unread_absent : (grammar : Text → List ℕ → Option Cause) (name : Text) (ol
     → IsUnread grammar name old new (Absent name)
 unread_absent grammar name old new held rose = record { given = None; held = held; first = absent_is grammar name; absent = λ missing e. rose }
 
-pub absent_unread : (grammar : Text → List ℕ → Option Cause) (name : Text) (old new : DiskView) → Gives old.files name None → Rose old.absences new.absences
+absent_unread : (grammar : Text → List ℕ → Option Cause) (name : Text) (old new : DiskView) → Gives old.files name None → Rose old.absences new.absences
     → RefusesFile grammar name old new (Absent name)
 absent_unread grammar name old new held rose = inr (inr (unread_absent grammar name old new held rose))
 
@@ -55,11 +57,22 @@ too_long grammar (Some m) name size lt there held =
     let long : size ≡ length h.0 = held m h.0 refl h.1 in
     (Some h.0, (λ n e. ap (λ k. file k name) (let same : n ≡ m = cc e in same) ∙ h.1), large_is grammar name h.0 (omega arith))
 
-pub large_unread : (grammar : Text → List ℕ → Option Cause) (name : Text) (old new : DiskView) (size : ℕ) → 67108864 < size → IsThere old.files name
+large_unread : (grammar : Text → List ℕ → Option Cause) (name : Text) (old new : DiskView) (size : ℕ) → 67108864 < size → IsThere old.files name
     → IfHeld old.files name (λ bytes. size ≡ length bytes) → RefusesFile grammar name old new (FileSize name)
 large_unread grammar name old new size lt there held =
     let is = too_long grammar old.files name size lt there held in
     inr (inr (record { given = is.0; held = is.1; first = is.2; absent = λ missing e. absurd (cc e) }))
+
+-- a file that wasn't loaded
+pub load_unread : (grammar : Text → List ℕ → Option Cause) (name : Text) (old new : DiskView) (error : LoadError) → (error ≡ load_errors.Absent → Gives old.files name None)
+    → (error ≡ load_errors.Absent → Rose old.absences new.absences) → (error ≡ load_errors.Failed → Rose old.read_faults new.read_faults)
+    → ((size : ℕ) → error ≡ load_errors.TooLong size → (67108864 < size) × IsThere old.files name × IfHeld old.files name (λ bytes. size ≡ length bytes))
+    → RefusesFile grammar name old new (load_cause name error)
+load_unread grammar name old new load_errors.Absent absent rose failed large = absent_unread grammar name old new (absent refl) (rose refl)
+load_unread grammar name old new load_errors.Failed absent rose failed large = inr (inl (record { cause_is = refl; rose = failed refl }))
+load_unread grammar name old new load_errors.OutOfMemory absent rose failed large = inl refl
+load_unread grammar name old new (load_errors.TooLong size) absent rose failed large =
+    let is = large size refl in large_unread grammar name old new size is.0 is.1 is.2
 
 -- bytes that are accepted
 accepted : (grammar : Text → List ℕ → Option Cause) (name : Text) (bytes text : List ℕ) → text ≡ bytes → length bytes ≤ 67108864 → grammar name text ≡ None

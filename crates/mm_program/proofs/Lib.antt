@@ -10,3 +10,5 @@ pub mod LoadLemmas
 pub mod OutputLemmas
 pub mod EndLemmas
 pub mod TopLemmas
+pub mod TextFileLemmas
+pub mod LogFileLemmas

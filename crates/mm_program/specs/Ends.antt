@@ -65,7 +65,7 @@ pub record HasReadFault (words : List Text) (old new : DiskView) (name : Text) :
   pub untouched : new.files ≡ old.files
   pub unwritten : new.write_faults ≡ old.write_faults
 
--- Status 7: the run is finished, and a fault was counted in writing this file.
+-- Status 7: the run is finished, writing stopped at this file, and a fault of writing was counted in this call.
 pub record HasWriteFault (words : List Text) (old new : DiskView) (name : Text) : Type 0 where
   pub partly : HasPartlyRun words old.files new.files name
   pub rose : Rose old.write_faults new.write_faults

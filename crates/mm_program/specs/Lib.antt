@@ -9,3 +9,4 @@ pub mod Outputs
 pub mod Ends
 pub mod View
 pub mod Sends
+pub mod TextFiles

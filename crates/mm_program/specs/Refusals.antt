@@ -4,6 +4,8 @@ use Rattle.std.specs.Prelude.{ℕ, List, [], ◌∷◌, ◌++◌, Option, Some, 
 use Rattle.std.specs.Option.{option_map}
 use Rattle.mm_base.specs.Files.{Files, file}
 use Rattle.mm_base.specs.Lines.{lines_of}
+use Rattle.mm_base.specs.declared.errors.LoadError.{LoadError}
+use Rattle.mm_base.specs.declared.errors.LoadError.TheVariants as load_errors
 use Rattle.packet_record.specs.Schedules.{first_fault}
 use Rattle.packet_record.specs.declared.reading.ScheduleError.{ScheduleError}
 use Rattle.packet_record.specs.declared.reading.ScheduleError.TheVariants as schedule_errors
@@ -19,7 +21,7 @@ use Rattle.option_words.specs.Options.{Text}
 use Rattle.mm_program.specs.Jobs.{RunJob, Job, Run, job_of}
 use Rattle.mm_program.specs.Names.{first_taken}
 use Rattle.mm_program.specs.Traces.{trace_in}
-use Rattle.mm_program.specs.Causes.{Cause, Usage, Nest, Name, Horizon, Absent, BadInput, FileSize, Lines, Opportunities, Packets, Memory}
+use Rattle.mm_program.specs.Causes.{Cause, Usage, Nest, Name, Horizon, Absent, BadInput, FileSize, Lines, Opportunities, Packets, ReadFault, Memory}
 
 abbrev pub or_later : Option Cause → Option Cause → Option Cause
 or_later None later = later
@@ -41,6 +43,13 @@ refused_horizon job = if nat_lt 3600000 job.until then Some Horizon else None
 abbrev pub refused_words : RunJob → Result NestPlan NestError → Option Cause
 refused_words job (Err error) = Some (Nest error)
 refused_words job (Ok plan) = or_later (refused_names job plan) (refused_horizon job)
+
+-- the refusal of a file that isn't loaded
+abbrev pub load_cause : Text → LoadError → Cause
+load_cause name load_errors.Absent = Absent name
+load_cause name load_errors.Failed = ReadFault name
+load_cause name load_errors.OutOfMemory = Memory
+load_cause name (load_errors.TooLong size) = FileSize name
 
 -- the refusal of a schedule's text
 abbrev pub schedule_cause : Text → Option ScheduleError → Option Cause

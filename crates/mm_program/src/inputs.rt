@@ -1,6 +1,7 @@
 // The inputs of a run read from their files: its traces, in order, and its schedule.
 ghost use Rattle.std.specs.Prelude.{◌≡◌, ◌≢◌, ◌≤◌, ℕ, List, Option, length, Some, None, IfOk, IfErr, MatchResult};
 ghost use Rattle.mm_base.specs.Disk.{OnlyReads};
+ghost use Rattle.packet_record.specs.PartsRead.{HasRead};
 ghost use Rattle.packet_record.specs.Schedules.{IsScheduleText};
 ghost use Rattle.trace_reader.specs.TraceText.{IsTraceText};
 ghost use Rattle.option_words.specs.Options.{Text as TextValue};
@@ -8,11 +9,13 @@ ghost use Rattle.mm_program.specs.Causes.{Cause, Memory};
 ghost use Rattle.mm_program.specs.Disks.{Gives, disk_view};
 ghost use Rattle.mm_program.specs.Inputs.{AreTraces, IsSchedule, IsTrace, RefusesFile, RefusesTraces};
 ghost use Rattle.mm_program.specs.Refusals.{schedule_refusal, trace_refusal};
+ghost use Rattle.mm_program.specs.TextFiles.{TextIsRead};
 ghost use Rattle.mm_program.specs.View.{cause_of};
 
 use crate::refusal::Refusal;
-use mm_base::{Bytes, Disk, LoadError, Text, load};
-use packet_record::{Schedule, read_schedule};
+use crate::text_file::load_text;
+use mm_base::{Bytes, Disk, Text, load};
+use packet_record::{Schedule, ScheduleText};
 use std::alloc::Global;
 use trace_reader::{Trace, read_trace};
 
@@ -30,20 +33,35 @@ fn read_file<D: Disk>(alloc: Global, disk: &mut D, name: &str) -> Result<Bytes, 
 {
     match load(alloc, disk, name, MOST_BYTES) {
         Ok(bytes) => Ok(bytes),
-        Err(LoadError::Absent) => Err(Refusal::Absent(Text::from_text(alloc, name)?)),
-        Err(LoadError::Failed) => Err(Refusal::ReadFault(Text::from_text(alloc, name)?)),
-        Err(LoadError::OutOfMemory) => Err(Refusal::OutOfMemory),
-        Err(LoadError::TooLong { .. }) => Err(Refusal::FileSize(Text::from_text(alloc, name)?)),
+        Err(error) => Err(Refusal::of_load(Text::from_text(alloc, name)?, error)),
     }
 }
 
-// The rows of a schedule's text.
-fn schedule_of(alloc: Global, name: &str, text: &[u8]) -> Result<Schedule, Refusal>
-    ensures rows { IfOk result (λ rows. IsScheduleText text.now rows) }
-    ensures refused { MatchResult result (λ _. schedule_refusal name.now text.now ≡ None)
-        (λ refusal. cause_of refusal ≢ Memory → schedule_refusal name.now text.now ≡ Some (cause_of refusal)) }
+// The text of a schedule from the file of this name.
+fn read_schedule_file<D: Disk>(
+    alloc: Global,
+    disk: &mut D,
+    name: &str,
+) -> Result<ScheduleText, Refusal>
+    ensures text { IfOk result (λ text. TextIsRead (D.files disk.old) name.now 67108864 text) }
+    ensures refused { IfErr result (λ refusal. RefusesFile schedule_refusal name.now
+        (disk_view D.files D.read_faults D.write_faults D.absences disk.old)
+        (disk_view D.files D.read_faults D.write_faults D.absences disk.new) (cause_of refusal)) }
+    ensures only_reads { OnlyReads D.files D.read_faults D.write_faults D.absences D.never_fails disk.old disk.new }
 {
-    match read_schedule(alloc, text) {
+    match load_text(alloc, disk, name, MOST_BYTES) {
+        Ok(text) => Ok(text),
+        Err(error) => Err(Refusal::of_load(Text::from_text(alloc, name)?, error)),
+    }
+}
+
+// The rows of a schedule's text that was read.
+fn schedule_of(alloc: Global, name: &str, text: ScheduleText) -> Result<Schedule, Refusal>
+    ensures rows { (bytes : List ℕ) → HasRead bytes text → IfOk result (λ rows. IsScheduleText bytes rows) }
+    ensures refused { (bytes : List ℕ) → HasRead bytes text → MatchResult result (λ _. schedule_refusal name.now bytes ≡ None)
+        (λ refusal. cause_of refusal ≢ Memory → schedule_refusal name.now bytes ≡ Some (cause_of refusal)) }
+{
+    match text.finish() {
         Ok(schedule) => Ok(schedule),
         Err(error) => Err(Refusal::of_schedule(Text::from_text(alloc, name)?, error)),
     }
@@ -61,8 +79,8 @@ pub(crate) fn load_schedule<D: Disk>(
         (disk_view D.files D.read_faults D.write_faults D.absences disk.new) (cause_of refusal)) }
     ensures only_reads { OnlyReads D.files D.read_faults D.write_faults D.absences D.never_fails disk.old disk.new }
 {
-    let bytes = read_file(alloc, disk, name)?;
-    schedule_of(alloc, name, bytes.as_slice())
+    let text = read_schedule_file(alloc, disk, name)?;
+    schedule_of(alloc, name, text)
 }
 
 // The trace of a text.

@@ -4,6 +4,7 @@
 mod explain;
 mod inputs;
 mod job;
+mod log_file;
 mod names;
 mod nest;
 mod outputs;
@@ -11,6 +12,7 @@ mod refusal;
 mod run;
 #[cfg(test)]
 mod tests;
+mod text_file;
 mod top;
 
 pub use top::mm_main;

@@ -1,11 +1,11 @@
 // Why a command line is refused.
 ghost use Rattle.std.specs.Prelude.{◌≡◌, Some};
 ghost use Rattle.mm_program.specs.Causes.{status_of};
-ghost use Rattle.mm_program.specs.Refusals.{schedule_cause, trace_cause};
+ghost use Rattle.mm_program.specs.Refusals.{load_cause, schedule_cause, trace_cause};
 ghost use Rattle.mm_program.specs.View.{cause_of, nest_cause};
 ghost use Rattle.mm_program.specs.declared.refusal.Refusal.TheVariants as refusals;
 
-use mm_base::{OutOfMemory, Text};
+use mm_base::{LoadError, OutOfMemory, Text};
 use nest_spec::NestError;
 use packet_record::ScheduleError;
 use std::alloc::AllocFailed;
@@ -53,6 +53,18 @@ impl Refusal {
             Refusal::ReadFault(_) => 6,
             Refusal::WriteFault(_) => 7,
             Refusal::OutOfMemory => 9,
+        }
+    }
+
+    // The refusal of a file that isn't loaded.
+    pub(crate) fn of_load(name: Text, error: LoadError) -> Self
+        ensures { cause_of result ≡ load_cause name error }
+    {
+        match error {
+            LoadError::Absent => Refusal::Absent(name),
+            LoadError::Failed => Refusal::ReadFault(name),
+            LoadError::TooLong { .. } => Refusal::FileSize(name),
+            LoadError::OutOfMemory => Refusal::OutOfMemory,
         }
     }
 

@@ -13,8 +13,8 @@ use crate::nest::read_words;
 use crate::outputs::write_outputs;
 use crate::refusal::Refusal;
 use mm_base::Disk;
-use nest_plain::run_plain;
-use nest_spec::{Nest, NestWords, RunResult, build};
+use nest_plain::{NestRun, run_nest};
+use nest_spec::{Nest, NestWords, build};
 use std::alloc::Global;
 
 // How many opportunities the links of a nest have at most up to the horizon, both directions together.
@@ -41,13 +41,14 @@ fn load_nest<D: Disk>(
     Ok(build(alloc, words, traces, job.seed, job.until)?)
 }
 
-// The result of a job's run. Its nest and its schedule are let go before any text of it is made.
-fn run_nest<D: Disk>(
+// The run of a job's inputs. Its nest and its schedule are let go before any file is written, but for the traces of links whose logs have
+// a name.
+fn run_inputs<D: Disk>(
     alloc: Global,
     job: &RunJob<'_>,
     words: NestWords,
     disk: &mut D,
-) -> Result<RunResult, Refusal>
+) -> Result<NestRun, Refusal>
     requires { job.now.until ≤ 3600000 }
     ensures found { IfOk result (λ run. IsResult (D.files disk.old) (run_values job.now) words run) }
     ensures refused { IfErr result (λ refusal. RefusesInputs (run_values job.now) words
@@ -57,7 +58,7 @@ fn run_nest<D: Disk>(
 {
     let nest = load_nest(alloc, job, words, disk)?;
     let schedule = load_schedule(alloc, disk, job.schedule)?;
-    Ok(run_plain(alloc, &nest, &schedule)?)
+    Ok(run_nest(alloc, &nest, &schedule)?)
 }
 
 // Runs the job: its inputs are read, its packets pass the nest, and then its logs and its fates are written.
@@ -68,6 +69,6 @@ pub(crate) fn run<D: Disk>(alloc: Global, job: &RunJob<'_>, disk: &mut D) -> Res
     ensures counts { Counts D.read_faults D.write_faults D.absences D.never_fails disk.old disk.new }
 {
     let words = read_words(alloc, job)?;
-    let run = run_nest(alloc, job, words, disk)?;
-    write_outputs(alloc, disk, job.out, &run)
+    let run = run_inputs(alloc, job, words, disk)?;
+    write_outputs(alloc, disk, job.out, run)
 }

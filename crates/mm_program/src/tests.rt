@@ -31,6 +31,20 @@ fn words_of(alloc: Global, front: &str, back: &str) -> Result<Vec<String>, Fail>
     Ok(words)
 }
 
+// What a run left: its status, its files, and what it wrote.
+#[derive(Drop)]
+struct Ran {
+    status: u8,
+    disk: MemDisk,
+    out: MemSink,
+}
+
+// Runs these words over a disk and a sink.
+fn run<R>(rt: &R, alloc: Global, words: &[String], mut disk: MemDisk, mut out: MemSink) -> Ran {
+    let status = mm_main(rt, alloc, words, &mut disk, &mut out);
+    Ran { status, disk, out }
+}
+
 // What the file of this name holds, or a text that no file holds where it isn't there.
 fn text_of<'a>(disk: &'a MemDisk, name: &str) -> &'a [u8] {
     match disk.file(name) {
@@ -144,13 +158,13 @@ fn logs_and_fates_are_written(rt: HostRuntime) -> Result<(), Fail> {
         ),
     ] {
         let words = words_of(alloc, "run --schedule s --out=f --until", words)?;
-        let mut disk = disk_with(alloc, trace, schedule, &[])?;
-        let mut out = MemSink::new(alloc, Vec::new(alloc));
-        let status = mm_main(&rt, alloc, &words, &mut disk, &mut out);
-        assert_eq!(rt; status, 0, "at {fates}");
-        assert_eq!(rt; text_of(&disk, "f"), fates.as_bytes(), "at {fates}");
-        assert_eq!(rt; text_of(&disk, "u"), log.as_bytes(), "at {fates}");
-        assert_eq!(rt; out.written().len(), 0, "at {fates}");
+        let disk = disk_with(alloc, trace, schedule, &[])?;
+        let out = MemSink::new(alloc, Vec::new(alloc));
+        let ran = run(&rt, alloc, &words, disk, out);
+        assert_eq!(rt; ran.status, 0, "at {fates}");
+        assert_eq!(rt; text_of(&ran.disk, "f"), fates.as_bytes(), "at {fates}");
+        assert_eq!(rt; text_of(&ran.disk, "u"), log.as_bytes(), "at {fates}");
+        assert_eq!(rt; ran.out.written().len(), 0, "at {fates}");
     }
     Ok(())
 }
@@ -191,12 +205,12 @@ fn shell_words_are_refused(rt: HostRuntime) -> Result<(), Fail> {
         ("mm-link t t --uplink-queue", "mm: nest 3 1\n"),
     ] {
         let words = words_of(alloc, "run --until 9 --schedule s --out f --", shells)?;
-        let mut disk = disk_with(alloc, "1\n", "", &[])?;
-        let mut out = MemSink::new(alloc, Vec::new(alloc));
-        let status = mm_main(&rt, alloc, &words, &mut disk, &mut out);
-        assert_eq!(rt; status, 2, "at {shells}");
-        assert_eq!(rt; out.written(), line.as_bytes(), "at {shells}");
-        assert_eq!(rt; text_of(&disk, "f"), b"none".as_slice(), "at {shells}");
+        let disk = disk_with(alloc, "1\n", "", &[])?;
+        let out = MemSink::new(alloc, Vec::new(alloc));
+        let ran = run(&rt, alloc, &words, disk, out);
+        assert_eq!(rt; ran.status, 2, "at {shells}");
+        assert_eq!(rt; ran.out.written(), line.as_bytes(), "at {shells}");
+        assert_eq!(rt; text_of(&ran.disk, "f"), b"none".as_slice(), "at {shells}");
     }
     Ok(())
 }
@@ -306,16 +320,71 @@ fn refusals_have_their_status_and_line(rt: HostRuntime) -> Result<(), Fail> {
         ),
     ] {
         let words = words_of(alloc, front, back)?;
-        let mut disk = disk_with(alloc, trace, schedule, &[])?;
-        let mut out = MemSink::new(alloc, Vec::new(alloc));
-        let answer = mm_main(&rt, alloc, &words, &mut disk, &mut out);
-        assert_eq!(rt; answer, status, "at {line}");
-        assert_eq!(rt; out.written(), line.as_bytes(), "at {line}");
-        assert_eq!(rt; text_of(&disk, "f"), b"none".as_slice(), "at {line}");
-        assert_eq!(rt; text_of(&disk, "u"), b"none".as_slice(), "at {line}");
-        assert_eq!(rt; text_of(&disk, "t"), trace.as_bytes(), "at {line}");
-        assert_eq!(rt; text_of(&disk, "s"), schedule.as_bytes(), "at {line}");
+        let disk = disk_with(alloc, trace, schedule, &[])?;
+        let out = MemSink::new(alloc, Vec::new(alloc));
+        let ran = run(&rt, alloc, &words, disk, out);
+        assert_eq!(rt; ran.status, status, "at {line}");
+        assert_eq!(rt; ran.out.written(), line.as_bytes(), "at {line}");
+        assert_eq!(rt; text_of(&ran.disk, "f"), b"none".as_slice(), "at {line}");
+        assert_eq!(rt; text_of(&ran.disk, "u"), b"none".as_slice(), "at {line}");
+        assert_eq!(rt; text_of(&ran.disk, "t"), trace.as_bytes(), "at {line}");
+        assert_eq!(rt; text_of(&ran.disk, "s"), schedule.as_bytes(), "at {line}");
     }
+    Ok(())
+}
+
+// A text that is the line, doubled so many times.
+fn doubled(alloc: Global, line: &str, times: u32) -> Result<String, Fail> {
+    let mut text = String::from_str(alloc, line)?;
+    for _ in 0..times {
+        let half = text.clone()?;
+        text.push_str(half.as_str())?;
+    }
+    Ok(text)
+}
+
+#[test]
+fn files_past_their_size_are_refused(rt: HostRuntime) -> Result<(), Fail> {
+    let alloc = rt.alloc();
+    // A line of 65 bytes.
+    let wide = "0000000000000000000000000000000000000000000000000000000000000000\n";
+    let wide = doubled(alloc, wide, 20)?;
+    for (trace, schedule, line) in [
+        (wide.as_str(), "", "mm: limit file t\n"),
+        ("1\n", wide.as_str(), "mm: limit file s\n"),
+    ] {
+        let words = words_of(
+            alloc,
+            "run --until 9 --schedule s --out f --",
+            "mm-link t t",
+        )?;
+        let disk = disk_with(alloc, trace, schedule, &[])?;
+        let out = MemSink::new(alloc, Vec::new(alloc));
+        let ran = run(&rt, alloc, &words, disk, out);
+        assert_eq!(rt; ran.status, 5, "at {line}");
+        assert_eq!(rt; ran.out.written(), line.as_bytes(), "at {line}");
+        assert_eq!(rt; text_of(&ran.disk, "f"), b"none".as_slice(), "at {line}");
+    }
+    Ok(())
+}
+
+#[test]
+fn a_log_of_many_pieces_is_written_whole(rt: HostRuntime) -> Result<(), Fail> {
+    let alloc = rt.alloc();
+    let mut log = String::from_str(alloc, "# base timestamp: 0\n")?;
+    for moment in 1..5001 {
+        log.push_str(format!(in alloc; "{moment} # 1504\n")?.as_str())?;
+    }
+    let words = words_of(
+        alloc,
+        "run --until 5000 --schedule s --out f --",
+        "mm-link t t --uplink-log u",
+    )?;
+    let disk = disk_with(alloc, "1\n", "", &[])?;
+    let out = MemSink::new(alloc, Vec::new(alloc));
+    let ran = run(&rt, alloc, &words, disk, out);
+    assert_eq!(rt; ran.status, 0);
+    assert_eq!(rt; text_of(&ran.disk, "u"), log.as_bytes());
     Ok(())
 }
 
@@ -325,7 +394,9 @@ fn each_call_of_the_disk_fails_in_turn(rt: HostRuntime) -> Result<(), Fail> {
     let up = "# base timestamp: 0\n1 # 1504\n1 + 1504\n2 # 1504\n2 - 1504 1\n";
     let down = "# base timestamp: 0\n1 # 1504\n2 # 1504\n";
     let fates = "1 up departed 2\n";
-    // The calls are: a size and a read for each of `t`, `t` and `s`, and a creation and an append for each of `u`, `d` and `f`.
+    let first = "# base timestamp: 0\n";
+    // The calls are: a size and a read for each of `t`, `t` and `s`, a creation for each of `u`, `d` and `f`, an append for the first
+    // line of `u` and of `d`, and one for the lines of each file.
     for (call, status, line, u, d, f) in [
         (1, 6, "mm: read fault t\n", "none", "none", "none"),
         (2, 6, "mm: read fault t\n", "none", "none", "none"),
@@ -335,25 +406,27 @@ fn each_call_of_the_disk_fails_in_turn(rt: HostRuntime) -> Result<(), Fail> {
         (6, 6, "mm: read fault s\n", "none", "none", "none"),
         (7, 7, "mm: write fault u\n", "none", "none", "none"),
         (8, 7, "mm: write fault u\n", "", "none", "none"),
-        (9, 7, "mm: write fault d\n", up, "none", "none"),
-        (10, 7, "mm: write fault d\n", up, "", "none"),
-        (11, 7, "mm: write fault f\n", up, down, "none"),
-        (12, 7, "mm: write fault f\n", up, down, ""),
-        (13, 0, "", up, down, fates),
+        (9, 7, "mm: write fault u\n", first, "none", "none"),
+        (10, 7, "mm: write fault d\n", up, "none", "none"),
+        (11, 7, "mm: write fault d\n", up, "", "none"),
+        (12, 7, "mm: write fault d\n", up, first, "none"),
+        (13, 7, "mm: write fault f\n", up, down, "none"),
+        (14, 7, "mm: write fault f\n", up, down, ""),
+        (15, 0, "", up, down, fates),
     ] {
         let words = words_of(
             alloc,
             "run --until 2 --schedule s --out f --",
             "mm-link t t --downlink-log=d --uplink-log=u",
         )?;
-        let mut disk = disk_with(alloc, "1\n", "1 up 1504\n", &[call])?;
-        let mut out = MemSink::new(alloc, Vec::new(alloc));
-        let answer = mm_main(&rt, alloc, &words, &mut disk, &mut out);
-        assert_eq!(rt; answer, status, "at call {call}");
-        assert_eq!(rt; out.written(), line.as_bytes(), "at call {call}");
-        assert_eq!(rt; text_of(&disk, "u"), u.as_bytes(), "at call {call}");
-        assert_eq!(rt; text_of(&disk, "d"), d.as_bytes(), "at call {call}");
-        assert_eq!(rt; text_of(&disk, "f"), f.as_bytes(), "at call {call}");
+        let disk = disk_with(alloc, "1\n", "1 up 1504\n", &[call])?;
+        let out = MemSink::new(alloc, Vec::new(alloc));
+        let ran = run(&rt, alloc, &words, disk, out);
+        assert_eq!(rt; ran.status, status, "at call {call}");
+        assert_eq!(rt; ran.out.written(), line.as_bytes(), "at call {call}");
+        assert_eq!(rt; text_of(&ran.disk, "u"), u.as_bytes(), "at call {call}");
+        assert_eq!(rt; text_of(&ran.disk, "d"), d.as_bytes(), "at call {call}");
+        assert_eq!(rt; text_of(&ran.disk, "f"), f.as_bytes(), "at call {call}");
     }
     Ok(())
 }
@@ -375,11 +448,11 @@ fn each_call_of_the_sink_fails_in_turn(rt: HostRuntime) -> Result<(), Fail> {
         (7, "mm-loss uplink 2", 2, "mm: nest 9 1 2"),
     ] {
         let words = words_of(alloc, "run --until 9 --schedule s --out f --", shells)?;
-        let mut disk = disk_with(alloc, "", "0 up 1505\n", &[])?;
-        let mut out = MemSink::new(alloc, Vec::from_slice(alloc, &[call])?);
-        let answer = mm_main(&rt, alloc, &words, &mut disk, &mut out);
-        assert_eq!(rt; answer, status, "at call {call}");
-        assert_eq!(rt; out.written(), front.as_bytes(), "at call {call}");
+        let disk = disk_with(alloc, "", "0 up 1505\n", &[])?;
+        let out = MemSink::new(alloc, Vec::from_slice(alloc, &[call])?);
+        let ran = run(&rt, alloc, &words, disk, out);
+        assert_eq!(rt; ran.status, status, "at call {call}");
+        assert_eq!(rt; ran.out.written(), front.as_bytes(), "at call {call}");
     }
     Ok(())
 }

@@ -1,7 +1,5 @@
+use Rattle.mm_program.proofs.OutputLemmas.{same_refusal}
 use Rattle.mm_program.proofs.outputs.write_log.Goals as goal
 
-pub returns-clause-ok : goal.returns-clause-ok
-returns-clause-ok g c = rw (c.as_str.ensures, c.entries.ensures.entries) at c.write_lines.ensures.ok
-
 pub returns-clause-partly : goal.returns-clause-partly
-returns-clause-partly g c = rw (c.as_str.ensures, c.entries.ensures.entries) at c.write_lines.ensures.partly
+returns-clause-partly g c = same_refusal _ c.save_log-written.result c.answer.result c.answer.ensures.done (rw c.as_str.ensures at c.save_log-written.ensures.err)

@@ -1,4 +1,5 @@
-use Rattle.std.proofs.Common.{sym, subst}
+use Rattle.std.proofs.Common.{◌∷◌, ◌++◌, [], ap, subst, sym, ◌∙◌}
+use Rattle.std.proofs.lemmas.List.{append_assoc}
 use Rattle.std.proofs.lemmas.Result.{err_from_is_err_and}
 use Rattle.mm_base.proofs.Then.{OnlyWrites-then}
 use Rattle.mm_program.specs.Outputs.{StopsWriting}
@@ -9,7 +10,8 @@ use Rattle.mm_program.proofs.outputs.write_logs.Goals as goal
 
 pub loop-log-preserved : goal.loop-log-preserved
 loop-log-preserved g c = record {
-  whole = one_more c.args.logs.now c.loop-log.log-index c.log-item.result _ _ _ c.loop-log-test.true c.log-item.is c.loop-log.invariant.whole c.in_ok-write_log.ensures.ok;
+  all = c.loop-log.invariant.all ∙ ap (λ l. c.loop-log.yielded ++ l) c.in-Some.ensures.steps.0 ∙ sym (append_assoc c.loop-log.yielded (c.in-Some.log ∷ []) c.next.new.self.rest.items);
+  whole = one_more c.loop-log.yielded c.in-Some.log _ _ _ c.loop-log.invariant.whole c.in_ok-write_log.ensures.ok;
   only_writes = OnlyWrites-then c.loop-log.invariant.only_writes c.write_log.ensures.only_writes;
 }
 
@@ -20,6 +22,7 @@ returns-in_err-write_log-clause-stopped g c =
     let after = g.D.Disk.files c.write_log.new.disk in
     let first = g.D.Disk.write_faults c.args.disk.now in
     let faults = g.D.Disk.write_faults c.write_log.new.disk in
-    rw p.1 (subst (λ (k : Refusal). StopsWriting (log_files c.args.logs.now) told after first faults (cause_of k)) (sym p.2)
-    (stopped_at c.args.logs.now c.loop-log.log-index c.log-item.result told _ after first _ faults _ c.loop-log-test.true c.log-item.is c.loop-log.invariant.whole
+    let all = c.loop-log.invariant.all ∙ ap (λ l. c.loop-log.yielded ++ l) c.in-Some.ensures.steps.0 in
+    rw p.1 (subst (λ (k : Refusal). StopsWriting (log_files c.args.logs.items) told after first faults (cause_of k)) (sym p.2)
+    (stopped_at c.args.logs.items c.loop-log.yielded c.next.new.self.rest.items c.in-Some.log told _ after first _ faults _ all c.loop-log.invariant.whole
     c.in_err-write_log.ensures.partly c.loop-log.invariant.only_writes.writes c.in_err-write_log.ensures.cause))

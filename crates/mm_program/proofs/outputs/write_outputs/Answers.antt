@@ -1,11 +1,16 @@
+use Rattle.std.proofs.Common.{◌∙◌}
 use Rattle.mm_program.proofs.OutputLemmas.{outputs_stopped, outputs_written}
 use Rattle.mm_program.proofs.outputs.write_outputs.Goals as goal
 
 pub returns-clause-ok : goal.returns-clause-ok
 returns-clause-ok g c =
-    outputs_written c.write_fates.result c.args.run.now c.logs.result.now c.fates.result.now c.args.out.now _ _ _ c.logs.ensures c.fates.ensures c.in_ok-write_logs.ensures.ok c.write_fates.ensures.ok
+    let parts = c.into_parts-fates in
+    let fates = c.as_slice.ensures.value ∙ parts.ensures.fates in
+    outputs_written c.write_fates.result c.args.run parts.result.1.items c.as_slice.result.now c.args.out.now _ _ _ parts.ensures.logs fates c.in_ok-write_logs.ensures.ok c.write_fates.ensures.ok
 
 pub returns-clause-stopped : goal.returns-clause-stopped
 returns-clause-stopped g c =
-    outputs_stopped c.write_fates.result c.args.run.now c.logs.result.now c.fates.result.now c.args.out.now _ _ _ _ _ _ c.logs.ensures c.fates.ensures c.in_ok-write_logs.ensures.ok
+    let parts = c.into_parts-fates in
+    let fates = c.as_slice.ensures.value ∙ parts.ensures.fates in
+    outputs_stopped c.write_fates.result c.args.run parts.result.1.items c.as_slice.result.now c.args.out.now _ _ _ _ _ _ parts.ensures.logs fates c.in_ok-write_logs.ensures.ok
     c.write_logs.ensures.only_writes.writes c.write_fates.ensures.partly c.write_fates.ensures.cause

@@ -10,7 +10,7 @@ use Rattle.mm_program.specs.View.{cause_of, run_values}
 use Rattle.mm_program.specs.declared.refusal.Refusal.{Refusal}
 use Rattle.mm_program.proofs.InputLemmas.{refused_later}
 use Rattle.mm_program.proofs.LoadLemmas.{schedule_refused}
-use Rattle.mm_program.proofs.run.run_nest.Goals as goal
+use Rattle.mm_program.proofs.run.run_inputs.Goals as goal
 
 pub returns-in_err-schedule-clause-refused : goal.returns-in_err-schedule-clause-refused
 returns-in_err-schedule-clause-refused g c =
@@ -36,6 +36,6 @@ returns-clause-found g c =
         traces = loaded.has_traces;
         schedule = subst (λ (told : Option Files). IsSchedule told name rows) c.load_nest.ensures.only_reads.same_files c.in_ok-schedule.ensures.found;
       };
-      once = subst (λ (nest : NestParts). HaveOneFate nest rows) loaded.nest_is c.in_ok-run_plain.ensures.once;
-      result_is = c.in_ok-run_plain.ensures.value ∙ ap (λ (nest : NestParts). result_of nest rows) loaded.nest_is;
+      once = subst (λ (nest : NestParts). HaveOneFate nest rows) loaded.nest_is c.in_ok-run_nest.ensures.once;
+      result_is = c.in_ok-run_nest.ensures.value ∙ ap (λ (nest : NestParts). result_of nest rows) loaded.nest_is;
     }
