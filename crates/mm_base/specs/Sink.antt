@@ -1,7 +1,20 @@
--- What a sink holds after bytes were sent to it.
-use Rattle.std.specs.Prelude.{ℕ, ◌++◌, List, Option}
+-- A sink as its callers see it, and what it holds after bytes were sent to it.
+use Rattle.std.specs.Prelude.{ℕ, ◌++◌, Bool, List, Option}
 use Rattle.std.specs.Option.{option_map}
+use Rattle.mm_base.specs.Counts.{CountsFaults}
+
+pub record SinkView : Type 0 where
+  -- what was written, where the sink tells it
+  pub written : Option (List ℕ)
+  -- how many calls have failed
+  pub faults : ℕ
+  -- whether it never fails, whatever is asked of it
+  pub never_fails : Bool
 
 -- These bytes are added to what was written, where that is told.
 abbrev pub sending : List ℕ → Option (List ℕ) → Option (List ℕ)
 sending piece told = option_map (λ bytes. bytes ++ piece) told
+
+-- The faults never fall, and those of a sink that never fails stand still.
+abbrev pub CountsSinkFaults : SinkView → SinkView → Type 0
+CountsSinkFaults old new = CountsFaults (λ (s : SinkView). s.faults) (λ (s : SinkView). s.never_fails) old new

@@ -80,11 +80,11 @@ pub fn append_lines<D: Disk, T: PrintLine>(
     lines: &mut LineBuffer,
     items: &[T],
 ) -> Result<(), DiskError>
-    ensures ok { OnOk result (D.files disk.new ≡ lengthened name.now (flat_map T.line items.now) (D.files disk.old)) }
+    ensures ok { OnOk result ((D.view disk.new).files ≡ lengthened name.now (flat_map T.line items.now) (D.view disk.old).files) }
     ensures err { OnErr result ((n : ℕ) × (n < length (flat_map T.line items.now))
-        × (D.files disk.new ≡ lengthened name.now (take n (flat_map T.line items.now)) (D.files disk.old))) }
-    ensures only_writes { OnlyWrites D.read_faults D.write_faults D.absences D.never_fails disk.old disk.new }
-    ensures cause { HasWriteCause (D.write_faults disk.old) (D.write_faults disk.new) result }
+        × ((D.view disk.new).files ≡ lengthened name.now (take n (flat_map T.line items.now)) (D.view disk.old).files)) }
+    ensures only_writes { OnlyWrites (D.view disk.old) (D.view disk.new) }
+    ensures cause { HasWriteCause (D.view disk.old) (D.view disk.new) result }
 {
     let mut left = items;
     'pieces: while !left.is_empty() {
@@ -108,11 +108,11 @@ pub fn save_lines<D: Disk, T: PrintLine>(
     first: &[u8],
     items: &[T],
 ) -> Result<(), DiskError>
-    ensures ok { OnOk result (D.files disk.new ≡ holding name.now (first.now ++ flat_map T.line items.now) (D.files disk.old)) }
-    ensures err { OnErr result ((D.files disk.new ≡ D.files disk.old)
-        ⊎ ((n : ℕ) × (n ≤ length (first.now ++ flat_map T.line items.now) - 1) × (D.files disk.new ≡ holding name.now (take n (first.now ++ flat_map T.line items.now)) (D.files disk.old)))) }
-    ensures only_writes { OnlyWrites D.read_faults D.write_faults D.absences D.never_fails disk.old disk.new }
-    ensures cause { HasWriteCause (D.write_faults disk.old) (D.write_faults disk.new) result }
+    ensures ok { OnOk result ((D.view disk.new).files ≡ holding name.now (first.now ++ flat_map T.line items.now) (D.view disk.old).files) }
+    ensures err { OnErr result (((D.view disk.new).files ≡ (D.view disk.old).files)
+        ⊎ ((n : ℕ) × (n ≤ length (first.now ++ flat_map T.line items.now) - 1) × ((D.view disk.new).files ≡ holding name.now (take n (first.now ++ flat_map T.line items.now)) (D.view disk.old).files))) }
+    ensures only_writes { OnlyWrites (D.view disk.old) (D.view disk.new) }
+    ensures cause { HasWriteCause (D.view disk.old) (D.view disk.new) result }
 {
     let mut lines = LineBuffer::new(alloc)?;
     save(disk, name, first)?;

@@ -1,8 +1,8 @@
 // A sink in memory, which fails by a list.
-ghost use Rattle.std.specs.Prelude.{◌≡◌, ◌≤◌, ◌<◌, ◌++◌, ℕ, List, [], length, take, Some, IfOk, OnOk, OnErr, IsErrOf};
-ghost use Rattle.mm_base.specs.Counts.{Rose, CountsFaults};
-ghost use Rattle.mm_base.specs.MemSink.{MemSinkState, IsMemWrite};
-ghost use Rattle.mm_base.specs.Sink.{sending};
+ghost use Rattle.std.specs.Prelude.{◌≡◌, ◌≤◌, ◌<◌, [], length, take, Some, IfOk, OnErr, IsErrOf};
+ghost use Rattle.mm_base.specs.Counts.{Rose};
+ghost use Rattle.mm_base.specs.MemSink.{MemSinkState, mem_sink_view, IsMemWrite};
+ghost use Rattle.mm_base.specs.Sink.{sending, CountsSinkFaults};
 
 use crate::fails::is_failing;
 use crate::{Bytes, EndError, Sink};
@@ -47,11 +47,7 @@ impl MemSink {
 }
 
 impl Sink for MemSink {
-    ghost written = { λ s. Some s.written };
-
-    ghost faults = { λ s. s.faults };
-
-    ghost never_fails = { λ s. s.fails ≡ [] };
+    ghost view = { mem_sink_view };
 
     fn write(&mut self, piece: &[u8]) -> Result<usize, EndError>
         ensures exact { IsMemWrite piece.now self.old self.new result }
@@ -59,7 +55,7 @@ impl Sink for MemSink {
         ensures some { IfOk result (λ n. 0 < length piece.now → 0 < n) }
         ensures ok { IfOk result (λ n. Some self.new.written ≡ sending (take n piece.now) (Some self.old.written)) }
         ensures err { OnErr result (Some self.new.written ≡ Some self.old.written) }
-        ensures counts { CountsFaults (λ (s : MemSinkState). s.faults) (λ (s : MemSinkState). s.fails ≡ []) self.old self.new }
+        ensures counts { CountsSinkFaults (mem_sink_view self.old) (mem_sink_view self.new) }
         ensures failed_cause { IsErrOf result EndError.Failed → Rose self.old.faults self.new.faults }
     {
         if is_failing(&mut self.calls, &self.fails) {

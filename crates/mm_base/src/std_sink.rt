@@ -1,6 +1,5 @@
 // A writer of the outside, as the standard output. It tells no content.
-ghost use Rattle.std.specs.Prelude.{◌≡◌, ◌≤◌, ◌<◌, ℕ, length, None, IfOk, OnErr, IsErrOf};
-ghost use Rattle.mm_base.specs.Counts.{Rose, CountsFaults};
+ghost use Rattle.std.specs.Prelude.{◌≡◌, None, false};
 
 use crate::{EndError, Sink};
 use std::io::{ErrorKind, Write};
@@ -23,11 +22,7 @@ impl<W: Write + Drop> StdSink<W> {
 }
 
 impl<W: Write + Drop> Sink for StdSink<W> {
-    ghost written = { λ _. None };
-
-    ghost faults = { λ s. s.faults };
-
-    ghost never_fails = { λ _. ⊥ };
+    ghost view = { λ s. record { written = None; faults = s.faults; never_fails = false } };
 
     fn write(&mut self, piece: &[u8]) -> Result<usize, EndError> {
         match self.writer.write(piece) {

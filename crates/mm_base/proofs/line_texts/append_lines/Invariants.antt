@@ -6,8 +6,8 @@ use Rattle.mm_base.proofs.line_texts.append_lines.Given as goal
 
 abbrev pub invariant-pieces : goal.invariant-pieces
 invariant-pieces g l = record {
-  so_far : (front : List ℕ) × (front ++ flat_map g.T.PrintLine.line l.left ≡ flat_map g.T.PrintLine.line l.items) × (g.D.Disk.files l.disk ≡ lengthened l.name front (g.D.Disk.files l.fn.disk));
-  only_writes : OnlyWrites g.D.Disk.read_faults g.D.Disk.write_faults g.D.Disk.absences g.D.Disk.never_fails l.fn.disk l.disk;
+  so_far : (front : List ℕ) × (front ++ flat_map g.T.PrintLine.line l.left ≡ flat_map g.T.PrintLine.line l.items) × ((g.D.Disk.view l.disk).files ≡ lengthened l.name front (g.D.Disk.view l.fn.disk).files);
+  only_writes : OnlyWrites (g.D.Disk.view l.fn.disk) (g.D.Disk.view l.disk);
 }
 
 abbrev pub decreases-pieces : goal.decreases-pieces

@@ -1,13 +1,12 @@
 use Rattle.std.proofs.Common.{◌≡◌, ◌≤◌, ◌-◌, length, take}
-use Rattle.mm_base.specs.Counts.{CountsFaults}
-use Rattle.mm_base.specs.Sink.{sending}
+use Rattle.mm_base.specs.Sink.{sending, CountsSinkFaults}
 use Rattle.mm_base.proofs.sink.send_all.Given as goal
 
 abbrev pub invariant-loop-at : goal.invariant-loop-at
 invariant-loop-at g l = record {
   within : l.at ≤ length l.bytes;
-  so_far : g.O.Sink.written l.out ≡ sending (take l.at l.bytes) (g.O.Sink.written l.fn.out);
-  counts : CountsFaults g.O.Sink.faults g.O.Sink.never_fails l.fn.out l.out;
+  so_far : (g.O.Sink.view l.out).written ≡ sending (take l.at l.bytes) (g.O.Sink.view l.fn.out).written;
+  counts : CountsSinkFaults (g.O.Sink.view l.fn.out) (g.O.Sink.view l.out);
 }
 
 abbrev pub decreases-loop-at : goal.decreases-loop-at
