@@ -3,7 +3,7 @@ use crate::{
     Direction, Draws, Flow, FlowEnd, Item, Packet, Row, ScheduleError, ScheduleReader,
     ScheduleText, Timed, make_load, print_schedule, read_schedule, source_item,
 };
-use mm_base::Bytes;
+use mm_base::{Bytes, PieceReader};
 use std::test::Fail;
 
 fn moves<T: Send + Drop>(_value: T) {}

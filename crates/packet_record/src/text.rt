@@ -7,7 +7,7 @@ use crate::cut::cut_line;
 use crate::gathering::ScheduleRows;
 use crate::line::{read_line, split_line};
 use crate::{Schedule, ScheduleError};
-use mm_base::{Bytes, OutOfMemory};
+use mm_base::{Bytes, OutOfMemory, PieceReader};
 use std::alloc::Global;
 use std::marker::Model;
 
@@ -91,17 +91,6 @@ impl ScheduleText {
         Some(after)
     }
 
-    /// Reads the next piece of the text. After a refusal it is passed over.
-    pub fn push(&mut self, piece: &[u8])
-        ensures { (text : List ℕ) → HasRead text self.old → HasRead (text ++ piece.now) self.new }
-    {
-        let mut rest = piece;
-        'lines: while let Some(after) = self.next_line(rest) {
-            rest = after;
-        }
-        self.keep(rest);
-    }
-
     // What all lines gave, where the text is read: the last one may have no line feed.
     fn into_rows(self) -> ScheduleRows
         ensures { (text : List ℕ) → HasRead text self → Awaits (lines_of text) [] result }
@@ -120,6 +109,21 @@ impl ScheduleText {
             (λ e. (e ≢ ScheduleError.OutOfMemory) → first_fault 1 0 (lines_of text) ≡ Some e) }
     {
         self.into_rows().finish()
+    }
+}
+
+impl PieceReader for ScheduleText {
+    ghost use Rattle.packet_record.specs.PartsRead.{HasRead};
+
+    ghost has_read = { HasRead };
+
+    /// Reads the next piece of the text. After a refusal it is passed over.
+    fn push(&mut self, piece: &[u8]) {
+        let mut rest = piece;
+        'lines: while let Some(after) = self.next_line(rest) {
+            rest = after;
+        }
+        self.keep(rest);
     }
 }
 

@@ -1,6 +1,6 @@
 use Rattle.std.proofs.Common.{◌++◌, ℕ, List, length}
 use Rattle.packet_record.specs.PartsRead.{IsLeft}
-use Rattle.packet_record.proofs.text.ScheduleText.push.Given as goal
+use Rattle.packet_record.proofs.text.ScheduleTextPieceReader.push.Given as goal
 
 abbrev pub invariant-lines : goal.invariant-lines
 invariant-lines l = (whole rest : List ℕ) → IsLeft whole (l.fn.piece ++ rest) l.fn.self → IsLeft whole (l.rest ++ rest) l.self
