@@ -1,0 +1,10 @@
+use Rattle.std.proofs.Common.{◌≡◌, take}
+use Rattle.std.specs.List.{flat_map}
+use Rattle.mm_base.specs.Sink.{CountsSinkFaults, sending}
+use Rattle.command_ends.proofs.explain.send_pieces.Given as goal
+
+abbrev pub invariant-loop-piece : goal.invariant-loop-piece
+invariant-loop-piece g l = record {
+  so_far : (g.O.Sink.view l.out).written ≡ sending (flat_map (λ piece. piece.now) (take l.piece-index l.pieces)) (g.O.Sink.view l.fn.out).written;
+  counts : CountsSinkFaults (g.O.Sink.view l.fn.out) (g.O.Sink.view l.out);
+}

@@ -1,0 +1,57 @@
+-- What a command line leaves, by the status that is answered.
+use Rattle.std.specs.Prelude.{◌≡◌, ◌≢◌, ◌⊎◌, ◌<◌, ℕ, take, List, Option, Some, None, Result, Ok, Err, length}
+use Rattle.mm_base.specs.Counts.{Rose}
+use Rattle.mm_base.specs.Sink.{SinkView, CountsSinkFaults, sending}
+use Rattle.command_ends.specs.Causes.{line_of, status_by}
+use Rattle.command_ends.specs.Ends.{Ends, Outside, outside}
+use Rattle.command_ends.specs.Outputs.{Output}
+use Rattle.command_ends.specs.Readings.{Reading}
+use Rattle.command_ends.specs.declared.cause.Cause.{Cause}
+use Rattle.command_ends.specs.declared.cause.Cause.TheVariants.{OutOfMemory}
+
+-- The line was written, or a front of it where a fault of the sink was counted.
+pub record Writes (line : List ℕ) (old new : SinkView) : Type 0 where
+  pub count : ℕ
+  pub front : new.written ≡ sending (take count line) old.written
+  pub cut : count < length line → Rose old.faults new.faults
+
+-- nothing is written where all is done, and else the line of the cause
+abbrev pub Explains : Option Cause → SinkView → SinkView → Type 0
+Explains None old new = new ≡ old
+Explains (Some cause) old new = Writes (line_of cause) old new
+
+-- The command ended by an answer, whose status this is, and then the answer was explained.
+pub record Answers {A : Type 0} (Makes : A → Output → Type 0) (reading : Reading A) (old new : Outside) (status : ℕ) : Type 0 where
+  pub answer : Option Cause
+  pub status_is : status ≡ status_by answer
+  pub ended : SinkView
+  pub ends : Ends Makes reading old (outside new.disk ended) answer
+  pub explains : Explains answer ended new.out
+
+-- The command ended for a cause, and a front of its line was written: not all of it where the cause isn't want of memory.
+pub record StopsShort {A : Type 0} (Makes : A → Output → Type 0) (reading : Reading A) (old new : Outside) : Type 0 where
+  pub cause : Cause
+  pub ended : SinkView
+  pub ends : Ends Makes reading old (outside new.disk ended) (Some cause)
+  pub count : ℕ
+  pub front : new.out.written ≡ sending (take count (line_of cause)) ended.written
+  pub cut : cause ≢ OutOfMemory → count < length (line_of cause)
+
+-- No fault was counted: in reading, in writing, and in printing where the task prints.
+pub record IsFaultless {A : Type 0} (Makes : A → Output → Type 0) (task : A) (old new : Outside) : Type 0 where
+  pub read : ¬ Rose old.disk.read_faults new.disk.read_faults
+  pub write : ¬ Rose old.disk.write_faults new.disk.write_faults
+  pub print : (output : Output) → Makes task output → 0 < length output.printed → ¬ Rose old.out.faults new.out.faults
+
+-- the cause of a result, if it has one
+abbrev pub cause_in : {T : Type 0} → Result T Cause → Option Cause
+cause_in (Ok value) = None
+cause_in (Err cause) = Some cause
+
+-- What explaining an answer makes of it: its status and its line, or 9 where the sink found no memory for the line.
+pub record Concludes (answer : Option Cause) (old new : SinkView) (status : ℕ) : Type 0 where
+  pub status_is : (status ≡ status_by answer) ⊎ (status ≡ 9)
+  pub explains : status ≢ 9 → Explains answer old new
+  pub stops : status ≡ 9 → (cause : Cause) × (answer ≡ Some cause) × (count : ℕ) × (new.written ≡ sending (take count (line_of cause)) old.written)
+      × (cause ≢ OutOfMemory → count < length (line_of cause))
+  pub counts : CountsSinkFaults old new

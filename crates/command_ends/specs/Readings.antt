@@ -1,0 +1,56 @@
+-- What a command reads and refuses, in order, and where files lead.
+use Rattle.std.specs.Prelude.{◌≡◌, ℕ, List, Option, Some, None, Result, Ok, Err, length, nat_lt, if◌then◌else◌}
+use Rattle.mm_base.specs.Files.{Files, file}
+use Rattle.command_ends.specs.Causes.{Text}
+use Rattle.command_ends.specs.declared.cause.Limit.TheVariants.{File}
+use Rattle.command_ends.specs.declared.cause.Refusal.{Refusal}
+use Rattle.command_ends.specs.declared.cause.Refusal.TheVariants.{Absent, Limit}
+
+pub data Reading (A : Type 0) : Type 0 where
+  -- all is read, and this is to be done
+  Done : A → Reading A
+  -- nothing more is read
+  Refuses : Refusal → Reading A
+  -- the file of this name is read, and its bytes say what comes next
+  Reads : Text → (List ℕ → Reading A) → Reading A
+
+-- the refusal, if there is one, and else what comes next
+abbrev pub unless : {A : Type 0} → Option Refusal → Reading A → Reading A
+unless None next = next
+unless (Some refusal) next = Refuses refusal
+
+-- The bytes of an input, where the file of this name holds these bytes, or isn't there. An input has at most 67,108,864 bytes.
+unfoldable pub input_of : Text → Option (List ℕ) → Result (List ℕ) Refusal
+input_of name None = Err (Absent name)
+input_of name (Some bytes) = if nat_lt 67108864 (length bytes) then Err (Limit (File name)) else Ok bytes
+
+-- what comes after an input
+abbrev pub after : {A : Type 0} → (List ℕ → Reading A) → Result (List ℕ) Refusal → Reading A
+after next (Ok bytes) = next bytes
+after next (Err refusal) = Refuses refusal
+
+abbrev pub outcome_after : {A : Type 0} → (List ℕ → Result A Refusal) → Result (List ℕ) Refusal → Result A Refusal
+outcome_after next (Ok bytes) = next bytes
+outcome_after next (Err refusal) = Err refusal
+
+-- What is to be done over these files, or the first refusal.
+abbrev pub outcome : {A : Type 0} → Files → Reading A → Result A Refusal
+outcome files (Done task) = Ok task
+outcome files (Refuses refusal) = Err refusal
+outcome files (Reads name next) = outcome_after (λ bytes. outcome files (next bytes)) (input_of name (file files name))
+
+-- the refusal by the words alone, before any file is read
+abbrev pub refused_first : {A : Type 0} → Reading A → Option Refusal
+refused_first (Done task) = None
+refused_first (Refuses refusal) = Some refusal
+refused_first (Reads name next) = None
+
+-- where the disk tells its files, the one of this name holds these bytes, or isn't there
+abbrev pub Gives : Option Files → Text → Option (List ℕ) → Type 0
+Gives told name given = (m : Files) → told ≡ Some m → file m name ≡ given
+
+-- The files, told or untold, lead from one reading to another: to itself, or past a file that is read.
+pub data Leads {A : Type 0} (told : Option Files) : Reading A → Reading A → Type 0 where
+  Stays : (reading : Reading A) → Leads told reading reading
+  Goes : (name : Text) (next : List ℕ → Reading A) (given : Option (List ℕ)) (to : Reading A) → Gives told name given
+      → Leads told (after next (input_of name given)) to → Leads told (Reads name next) to

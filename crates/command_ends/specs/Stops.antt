@@ -1,0 +1,99 @@
+-- What the bodies of commands answer: where reading, writing or printing came, and why it stopped.
+use Rattle.std.specs.Prelude.{◌≡◌, ◌⊎◌, ◌≤◌, ◌<◌, ◌++◌, ℕ, take, drop, List, Option, Some, Result, Ok, Err, OnOk, OnErr, IsErrOf, length}
+use Rattle.mm_base.specs.Counts.{Rose}
+use Rattle.mm_base.specs.Disk.{DiskView}
+use Rattle.mm_base.specs.Files.{Files, IfHeld, IsThere}
+use Rattle.mm_base.specs.Sink.{SinkView, CountsSinkFaults, sending}
+use Rattle.mm_base.specs.declared.errors.EndError.{EndError}
+use Rattle.mm_base.specs.declared.errors.EndError.TheVariants.{Failed}
+use Rattle.command_ends.specs.Causes.{Text}
+use Rattle.command_ends.specs.Outputs.{NamedText, HoldsFirst}
+use Rattle.command_ends.specs.Readings.{Reading, Refuses, Reads, Gives, Leads, input_of}
+use Rattle.command_ends.specs.declared.cause.Refusal.{Refusal}
+use Rattle.command_ends.specs.declared.cause.Refusal.TheVariants.{Absent}
+use Rattle.command_ends.specs.declared.cause.Cause.{Cause}
+use Rattle.command_ends.specs.declared.cause.Cause.TheVariants.{Refused, ReadFault, WriteFault, OutFault, OutOfMemory}
+
+-- an input that isn't there is counted as absent
+abbrev pub CountsAbsence : Refusal → DiskView → DiskView → Type 0
+CountsAbsence refusal old new = (name : Text) → refusal ≡ Absent name → Rose old.absences new.absences
+
+-- the file of this name is an input, and has these bytes
+pub record IsInput (told : Option Files) (name : Text) (bytes : List ℕ) : Type 0 where
+  pub held : Gives told name (Some bytes)
+  pub few : length bytes ≤ 67108864
+
+-- why the file of this name isn't read: its refusal, a fault, or want of memory
+pub data StopsAtFile (name : Text) (old new : DiskView) (cause : Cause) : Type 0 where
+  FileRefused : (refusal : Refusal) → cause ≡ Refused refusal → (given : Option (List ℕ)) → Gives old.files name given → input_of name given ≡ Err refusal
+      → CountsAbsence refusal old new → StopsAtFile name old new cause
+  FileFault : cause ≡ ReadFault name → Rose old.read_faults new.read_faults → StopsAtFile name old new cause
+  FileWants : cause ≡ OutOfMemory → StopsAtFile name old new cause
+
+-- why a reading isn't done: its refusal, a fault at the file that is next, or want of memory
+pub data StopsReading {A : Type 0} (reading : Reading A) (old new : DiskView) (cause : Cause) : Type 0 where
+  ReadingRefused : (refusal : Refusal) → cause ≡ Refused refusal → Leads old.files reading (Refuses refusal) → CountsAbsence refusal old new
+      → StopsReading reading old new cause
+  ReadingFault : (name : Text) (rest : List ℕ → Reading A) → cause ≡ ReadFault name → Leads old.files reading (Reads name rest)
+      → Rose old.read_faults new.read_faults → StopsReading reading old new cause
+  ReadingWants : cause ≡ OutOfMemory → StopsReading reading old new cause
+
+-- the files lead to what comes after this value, or reading stopped
+abbrev pub ReadsOn : {A T : Type 0} → Reading A → (T → Reading A) → DiskView → DiskView → Result T Cause → Type 0
+ReadsOn reading next old new (Ok value) = Leads old.files reading (next value)
+ReadsOn reading next old new (Err cause) = StopsReading reading old new cause
+
+-- the size of an input
+pub record HasSize (told : Option Files) (name : Text) (size : ℕ) : Type 0 where
+  pub there : IsThere told name
+  pub held : IfHeld told name (λ bytes. size ≡ length bytes)
+  pub few : size ≤ 67108864
+
+-- these bytes were read after those before
+abbrev pub GoesOnBy : {R : Type 0} → (List ℕ → R → Type 0) → List ℕ → R → R → Type 0
+GoesOnBy has_read bytes old new = (text : List ℕ) → has_read text old → has_read (text ++ bytes) new
+
+-- So many bytes of a file were read from this place on, none only at its end.
+pub record PieceIsRead {R : Type 0} (has_read : List ℕ → R → Type 0) (told : Option Files) (name : Text) (at read : ℕ) (old new : R) : Type 0 where
+  pub bytes : List ℕ
+  pub long : length bytes ≡ read
+  pub held : IfHeld told name (λ whole. bytes ≡ take read (drop at whole))
+  pub end : read ≡ 0 → IfHeld told name (λ whole. length whole ≤ at)
+  pub goes_on : GoesOnBy has_read bytes old new
+
+-- The first bytes of a file were read, up to this size.
+pub record FrontIsRead {R : Type 0} (has_read : List ℕ → R → Type 0) (told : Option Files) (name : Text) (size : ℕ) (old new : R) : Type 0 where
+  pub bytes : List ℕ
+  pub few : length bytes ≤ size
+  pub held : IfHeld told name (λ whole. bytes ≡ take size whole)
+  pub goes_on : GoesOnBy has_read bytes old new
+
+-- All bytes of an input were read.
+pub record InputIsRead {R : Type 0} (has_read : List ℕ → R → Type 0) (told : Option Files) (name : Text) (old new : R) : Type 0 where
+  pub bytes : List ℕ
+  pub input : IsInput told name bytes
+  pub goes_on : GoesOnBy has_read bytes old new
+
+-- why a file isn't written
+abbrev pub StopsAtOutput : Text → DiskView → DiskView → Cause → Type 0
+StopsAtOutput name old new cause = (cause ≡ OutOfMemory) ⊎ ((cause ≡ WriteFault name) × Rose old.write_faults new.write_faults)
+
+-- writing these stopped at a file
+pub record StopsWriting (entries : List NamedText) (old new : DiskView) (cause : Cause) : Type 0 where
+  pub name : Text
+  pub holds : HoldsFirst entries old.files new.files name
+  pub refused : StopsAtOutput name old new cause
+
+-- a front of this text was printed, and not all of it
+pub record StopsPrinting (text : List ℕ) (old new : SinkView) (cause : Cause) : Type 0 where
+  pub count : ℕ
+  pub short : count < length text
+  pub front : new.written ≡ sending (take count text) old.written
+  pub refused : (cause ≡ OutOfMemory) ⊎ ((cause ≡ OutFault) × Rose old.faults new.faults)
+
+-- All of the text is written, or after a refusal a front of it that isn't all.
+pub record Sends {T : Type 0} (text : List ℕ) (old new : SinkView) (result : Result T EndError) : Type 0 where
+  pub ok : OnOk result (new.written ≡ sending text old.written)
+  pub err : OnErr result ((n : ℕ) × (n < length text) × (new.written ≡ sending (take n text) old.written))
+  pub counts : CountsSinkFaults old new
+  pub cause : IsErrOf result Failed → Rose old.faults new.faults
