@@ -1,5 +1,5 @@
 -- A sink as its callers see it, and what it holds after bytes were sent to it.
-use Rattle.std.specs.Prelude.{ℕ, ◌++◌, Bool, List, Option}
+use Rattle.std.specs.Prelude.{ℕ, ◌++◌, Bool, false, List, Option, None}
 use Rattle.std.specs.Option.{option_map}
 use Rattle.mm_base.specs.Counts.{CountsFaults}
 
@@ -18,3 +18,7 @@ sending piece told = option_map (λ bytes. bytes ++ piece) told
 -- The faults never fall, and those of a sink that never fails stand still.
 abbrev pub CountsSinkFaults : SinkView → SinkView → Type 0
 CountsSinkFaults old new = CountsFaults (λ (s : SinkView). s.faults) (λ (s : SinkView). s.never_fails) old new
+
+-- A writer of the outside tells nothing, and may fail.
+abbrev pub writer_view : ℕ → SinkView
+writer_view faults = record { written = None; faults = faults; never_fails = false }

@@ -20,3 +20,9 @@ pub const PIECE_BYTES: u64 = 65_536;
 
 /// How many bytes a connection brings at most.
 pub const MOST_CONNECTION_BYTES: u64 = 67_108_864;
+
+/// How many bytes a line that is printed has at most, with its line feed.
+pub const LINE_BYTES: usize = 72;
+
+/// How many bytes lines are made in: 2048 of the longest.
+pub const BUFFER_BYTES: usize = 147_456;

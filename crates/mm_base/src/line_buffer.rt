@@ -2,12 +2,10 @@
 ghost use Rattle.std.specs.Prelude.{◌≡◌, ◌+◌, ◌^◌, ◌≤◌, ◌<◌, ◌∷◌, ◌++◌, ℕ, List, [], length, drop, decimal, IfOk};
 
 use crate::OutOfMemory;
+use crate::limits::BUFFER_BYTES;
 use itoa::write_digits;
 use std::alloc::Global;
 use std::marker::Model;
-
-// How many bytes there is room for: 2048 lines of 72 bytes.
-const ROOM: usize = 147_456;
 
 /// Up to 147,456 bytes that are written from their end, the last line first, which contracts see as the list of the
 /// bytes. It has room for 2048 lines of 72 bytes, and takes no memory after it was made.
@@ -19,12 +17,13 @@ pub struct LineBuffer {
 
 impl Model for LineBuffer {
     ghost use Rattle.std.specs.Prelude.{◌≡◌, ◌≤◌, ℕ, List, length, drop};
+    ghost use Rattle.mm_base.specs.declared.limits.TheConstants.{BUFFER_BYTES};
 
     ghost Value = { List ℕ };
 
     ghost view = { λ lines. drop lines.start lines.bytes.items };
 
-    ghost invariant = { λ lines. (length lines.bytes.items ≡ 147456) × (lines.start ≤ 147456) };
+    ghost invariant = { λ lines. (length lines.bytes.items ≡ BUFFER_BYTES) × (lines.start ≤ BUFFER_BYTES) };
 }
 
 impl LineBuffer {
@@ -33,8 +32,8 @@ impl LineBuffer {
         ensures { IfOk result (λ lines. lines ≡ []) }
     {
         Ok(LineBuffer {
-            bytes: vec![in alloc; 0u8; ROOM]?,
-            start: ROOM,
+            bytes: vec![in alloc; 0u8; BUFFER_BYTES]?,
+            start: BUFFER_BYTES,
         })
     }
 
@@ -42,12 +41,12 @@ impl LineBuffer {
     pub fn clear(&mut self)
         ensures { self.new ≡ [] }
     {
-        self.start = ROOM;
+        self.start = BUFFER_BYTES;
     }
 
     /// Puts a byte in front.
     pub fn put_byte(&mut self, byte: u8)
-        requires { length self.old < 147456 }
+        requires { length self.old < BUFFER_BYTES }
         ensures bytes { self.new ≡ byte ∷ self.old }
         ensures length { length self.new ≡ length self.old + 1 }
     {
@@ -57,7 +56,7 @@ impl LineBuffer {
 
     /// Puts these bytes in front.
     pub fn put(&mut self, piece: &[u8])
-        requires { length piece.now + length self.old ≤ 147456 }
+        requires { length piece.now + length self.old ≤ BUFFER_BYTES }
         ensures bytes { self.new ≡ piece.now ++ self.old }
         ensures length { length self.new ≡ length self.old + length piece.now }
     {
@@ -68,7 +67,7 @@ impl LineBuffer {
 
     /// Puts a number in front, in digits, without a leading zero.
     pub fn put_decimal(&mut self, n: u64)
-        requires { length self.old + 20 ≤ 147456 }
+        requires { length self.old + 20 ≤ BUFFER_BYTES }
         ensures bytes { self.new ≡ decimal n ++ self.old }
         ensures length { length self.new ≤ length self.old + 20 }
         ensures short { n < 10 ^ 10 → length self.new ≤ length self.old + 10 }

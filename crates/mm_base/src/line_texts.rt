@@ -5,6 +5,7 @@ ghost use Rattle.mm_base.specs.Lines.{is_ended};
 ghost use Rattle.mm_base.specs.Files.{holding, lengthened};
 ghost use Rattle.mm_base.specs.Disk.{OnlyWrites, HasWriteCause};
 
+use crate::limits::{BUFFER_BYTES, LINE_BYTES};
 use crate::whole::{append_all, save};
 use crate::{Bytes, Disk, DiskError, LineBuffer, OutOfMemory};
 use std::alloc::Global;
@@ -12,17 +13,17 @@ use std::alloc::Global;
 // How many lines are made at once.
 const LINES: usize = 2048;
 
-/// What is printed as one line of at most 72 bytes.
+/// What is printed as one line of at most `LINE_BYTES` bytes.
 pub trait PrintLine {
     /// The line, with its line feed.
     ghost line: { Self → List ℕ };
 
     /// Puts the line, with its line feed, in front of what a buffer holds.
     fn put_line(&self, out: &mut LineBuffer)
-        requires { length out.old + 72 ≤ 147456 }
+        requires { length out.old + LINE_BYTES ≤ BUFFER_BYTES }
         ensures line { out.new ≡ line self.now ++ out.old }
         ensures some { 0 < length (line self.now) }
-        ensures short { length (line self.now) ≤ 72 }
+        ensures short { length (line self.now) ≤ LINE_BYTES }
         ensures ended { is_ended (line self.now) ≡ true };
 }
 

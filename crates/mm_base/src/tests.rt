@@ -1,9 +1,12 @@
 ghost use Rattle.std.specs.Prelude.{◌++◌, ◌∷◌, [], decimal};
 
+use super::interrupted::write_once;
 use super::*;
 use std::alloc::Global;
 use std::fs;
+use std::io::{self, ErrorKind, Write};
 use std::marker::{Send, Sync};
+use std::os::fd::AsRawFd;
 use std::test::Fail;
 
 fn is_shared<T: Send + Sync>(_: &T) {}
@@ -220,6 +223,50 @@ fn all_is_sent_or_a_front(rt: HostRuntime) -> Result<(), Fail> {
     Ok(())
 }
 
+// A writer that takes two bytes at most of a piece, and of which a signal interrupts every other call.
+#[derive(Drop)]
+struct Halting {
+    taken: Vec<u8>,
+    interrupts: bool,
+}
+
+impl Write for Halting {
+    fn write(&mut self, piece: &[u8]) -> io::Result<usize> {
+        self.interrupts = !self.interrupts;
+        if !self.interrupts {
+            return Err(io::Error::from(ErrorKind::Interrupted));
+        }
+        let front = &piece[..piece.len().min(2)];
+        match self.taken.extend_from_slice(front) {
+            Ok(()) => Ok(front.len()),
+            Err(_) => Err(io::Error::from(ErrorKind::OutOfMemory)),
+        }
+    }
+
+    fn flush(&mut self) -> io::Result<()> {
+        Ok(())
+    }
+}
+
+#[test]
+fn what_a_writer_took_is_answered(rt: HostRuntime) -> Result<(), Fail> {
+    let mut writer = Halting {
+        taken: Vec::new(rt.alloc()),
+        interrupts: true,
+    };
+    assert_eq!(rt; write_once(&mut writer, b"abc")?, 2);
+    {
+        let mut sink = StdSink::new(&mut writer);
+        assert_eq!(rt; sink.write(b"cde"), Ok(2));
+        assert_eq!(rt; send_all(&mut sink, b"efg"), Ok(()));
+    }
+    assert_eq!(rt; writer.taken.as_slice(), b"abcdefg".as_slice());
+    let mut full = [0u8; 2];
+    let mut sink = StdSink::new(full.as_mut_slice());
+    assert_eq!(rt; send_all(&mut sink, b"abc"), Err(EndError::Failed));
+    Ok(())
+}
+
 #[test]
 fn real_files_are_saved_and_loaded(rt: HostRuntime) -> Result<(), Fail> {
     let alloc = rt.alloc();
@@ -236,5 +283,40 @@ fn real_files_are_saved_and_loaded(rt: HostRuntime) -> Result<(), Fail> {
         Some(LoadError::Absent)
     );
     assert_eq!(rt; disk.create(""), Err(DiskError::Failed));
+    Ok(())
+}
+
+#[test]
+fn real_files_are_read_from_any_place_and_made_anew(rt: HostRuntime) -> Result<(), Fail> {
+    let name = "mm_base_test_places";
+    let mut disk = FileDisk::new(rt.clone()?);
+    save(&mut disk, name, b"0123456789")?;
+    let mut buf = [0u8; 4];
+    let places: [(u64, &[u8]); 4] = [(0, b"0123"), (4, b"4567"), (8, b"89"), (10, b"")];
+    for (at, bytes) in places {
+        let count = disk.read_at(name, at, &mut buf)?;
+        assert!(rt; buf.starts_with(bytes) && count == bytes.len(), "from {at}");
+    }
+    save(&mut disk, name, b"ab")?;
+    assert_eq!(rt;
+        load(rt.alloc(), &mut disk, name, 10)?.as_slice(),
+        b"ab".as_slice()
+    );
+    fs::remove_file(&rt, name)?;
+    Ok(())
+}
+
+// Nobody writes into the pipe: to open it would wait for ever.
+#[test]
+fn only_regular_files_are_read(rt: HostRuntime) -> Result<(), Fail> {
+    let (reader, _) = io::pipe(&rt)?;
+    let pipe = format!(in rt.alloc(); "/proc/self/fd/{}", reader.as_raw_fd())?;
+    let mut disk = FileDisk::new(rt.clone()?);
+    let mut buf = [0u8; 1];
+    for name in [pipe.as_str(), "/", "/dev/zero"] {
+        assert_eq!(rt; disk.size(name), Err(DiskError::Failed), "of {name}");
+        let read = disk.read_at(name, 0, &mut buf);
+        assert_eq!(rt; read, Err(DiskError::Failed), "of {name}");
+    }
     Ok(())
 }
