@@ -1,10 +1,11 @@
 ghost use Rattle.std.specs.Prelude.{◌++◌, ◌∷◌, [], decimal};
 
-use super::interrupted::write_once;
+use super::interrupted::{call_again, read_once, write_once};
 use super::*;
 use std::alloc::Global;
+use std::cell::Cell;
 use std::fs;
-use std::io::{self, ErrorKind, Write};
+use std::io::{self, ErrorKind, Read, Write};
 use std::marker::{Send, Sync};
 use std::os::fd::AsRawFd;
 use std::test::Fail;
@@ -248,6 +249,38 @@ impl Write for Halting {
     }
 }
 
+impl Read for Halting {
+    fn read(&mut self, buf: &mut [u8]) -> io::Result<usize> {
+        self.interrupts = !self.interrupts;
+        if !self.interrupts {
+            return Err(io::Error::from(ErrorKind::Interrupted));
+        }
+        let count = buf.len().min(self.taken.len());
+        buf[..count].copy_from_slice(&self.taken[..count]);
+        Ok(count)
+    }
+}
+
+#[test]
+fn calls_that_are_interrupted_are_made_again(rt: HostRuntime) -> Result<(), Fail> {
+    let mut halting = Halting {
+        taken: [1, 2].to_vec(rt.alloc())?,
+        interrupts: true,
+    };
+    let mut buf = [0u8; 4];
+    assert_eq!(rt; read_once(&mut halting, &mut buf)?, 2);
+    let calls = Cell::new(0u8);
+    let answer = call_again(|| {
+        calls.set(calls.get().wrapping_add(1));
+        match calls.get() {
+            3 => Ok("third"),
+            _ => Err(io::Error::from(ErrorKind::Interrupted)),
+        }
+    });
+    assert_eq!(rt; answer?, "third");
+    Ok(())
+}
+
 #[test]
 fn what_a_writer_took_is_answered(rt: HostRuntime) -> Result<(), Fail> {
     let mut writer = Halting {
@@ -309,7 +342,8 @@ fn real_files_are_read_from_any_place_and_made_anew(rt: HostRuntime) -> Result<(
 // Nobody writes into the pipe: to open it would wait for ever.
 #[test]
 fn only_regular_files_are_read(rt: HostRuntime) -> Result<(), Fail> {
-    let (reader, _) = io::pipe(&rt)?;
+    let (reader, writer) = io::pipe(&rt)?;
+    drop(writer);
     let pipe = format!(in rt.alloc(); "/proc/self/fd/{}", reader.as_raw_fd())?;
     let mut disk = FileDisk::new(rt.clone()?);
     let mut buf = [0u8; 1];
