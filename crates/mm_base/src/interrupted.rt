@@ -33,8 +33,8 @@ pub(crate) fn read_once<R: Read>(reader: &mut R, buf: &mut [u8]) -> io::Result<u
     Err(io::Error::from(ErrorKind::Interrupted))
 }
 
-// Writes bytes of the front of a piece, and answers how many: at least one, where the piece isn't empty. A writer that takes nothing
-// of it is an error.
+// Writes bytes of the front of a piece, and answers how many: at least one, where the piece isn't empty. A writer that
+// takes nothing of it is an error.
 pub(crate) fn write_once<W: Write>(writer: &mut W, piece: &[u8]) -> io::Result<usize>
     ensures within { IfOk result (λ n. n ≤ length piece.now) }
     ensures some { IfOk result (λ n. 0 < length piece.now → 0 < n) }

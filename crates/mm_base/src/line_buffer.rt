@@ -7,8 +7,8 @@ use itoa::write_digits;
 use std::alloc::Global;
 use std::marker::Model;
 
-/// Up to 147,456 bytes that are written from their end, the last line first, which contracts see as the list of the
-/// bytes. It has room for 2048 lines of 72 bytes, and takes no memory after it was made.
+/// Up to `BUFFER_BYTES` bytes that are written from their end, the last line first, which contracts see as the list of
+/// the bytes. It has room for 2048 of the longest lines, and takes no memory after it was made.
 #[derive(Drop)]
 pub struct LineBuffer {
     bytes: Vec<u8>,
@@ -27,7 +27,7 @@ impl Model for LineBuffer {
 }
 
 impl LineBuffer {
-    /// A buffer without bytes. `OutOfMemory` is want of memory.
+    /// A buffer without bytes.
     pub fn new(alloc: Global) -> Result<Self, OutOfMemory>
         ensures { IfOk result (λ lines. lines ≡ []) }
     {
@@ -75,7 +75,7 @@ impl LineBuffer {
         self.start = write_digits(n, self.bytes.as_mut_slice(), self.start);
     }
 
-    /// The bytes.
+    /// The bytes, in the order in which they are read.
     pub fn as_slice(&self) -> &[u8]
         ensures { result.now ≡ self.now }
     {

@@ -29,7 +29,7 @@ pub trait PrintLine {
 
 // Makes the buffer hold a line for each item.
 fn put_lines<T: PrintLine>(lines: &mut LineBuffer, items: &[T])
-    requires { length items.now ≤ 2048 }
+    requires { length items.now ≤ LINES }
     ensures { lines.new ≡ flat_map T.line items.now }
 {
     lines.clear();
@@ -43,7 +43,7 @@ fn put_lines<T: PrintLine>(lines: &mut LineBuffer, items: &[T])
 // The first items, as many as are made at once, and the others.
 fn split_lines<T>(items: &[T]) -> (&[T], &[T])
     ensures all { items.now ≡ result.0.now ++ result.1.now }
-    ensures few { length result.0.now ≤ 2048 }
+    ensures few { length result.0.now ≤ LINES }
     ensures some { 0 < length items.now → 0 < length result.0.now }
 {
     items.split_at(items.len().min(LINES))
@@ -81,9 +81,10 @@ pub fn append_lines<D: Disk, T: PrintLine>(
     lines: &mut LineBuffer,
     items: &[T],
 ) -> Result<(), DiskError>
-    ensures ok { OnOk result ((D.view disk.new).files ≡ lengthened name.now (flat_map T.line items.now) (D.view disk.old).files) }
-    ensures err { OnErr result ((n : ℕ) × (n < length (flat_map T.line items.now))
-        × ((D.view disk.new).files ≡ lengthened name.now (take n (flat_map T.line items.now)) (D.view disk.old).files)) }
+    ensures ok { OnOk result
+        ((D.view disk.new).files ≡ lengthened name.now (flat_map T.line items.now) (D.view disk.old).files) }
+    ensures err { let text = flat_map T.line items.now in OnErr result ((n : ℕ) × (n < length text)
+        × ((D.view disk.new).files ≡ lengthened name.now (take n text) (D.view disk.old).files)) }
     ensures only_writes { OnlyWrites (D.view disk.old) (D.view disk.new) }
     ensures cause { HasWriteCause (D.view disk.old) (D.view disk.new) result }
 {
@@ -109,9 +110,12 @@ pub fn save_lines<D: Disk, T: PrintLine>(
     first: &[u8],
     items: &[T],
 ) -> Result<(), DiskError>
-    ensures ok { OnOk result ((D.view disk.new).files ≡ holding name.now (first.now ++ flat_map T.line items.now) (D.view disk.old).files) }
-    ensures err { OnErr result (((D.view disk.new).files ≡ (D.view disk.old).files)
-        ⊎ ((n : ℕ) × (n ≤ length (first.now ++ flat_map T.line items.now) - 1) × ((D.view disk.new).files ≡ holding name.now (take n (first.now ++ flat_map T.line items.now)) (D.view disk.old).files))) }
+    ensures ok { let text = first.now ++ flat_map T.line items.now in OnOk result
+        ((D.view disk.new).files ≡ holding name.now text (D.view disk.old).files) }
+    ensures err { let text = first.now ++ flat_map T.line items.now in OnErr result
+        (((D.view disk.new).files ≡ (D.view disk.old).files)
+        ⊎ ((n : ℕ) × (n ≤ length text - 1)
+        × ((D.view disk.new).files ≡ holding name.now (take n text) (D.view disk.old).files))) }
     ensures only_writes { OnlyWrites (D.view disk.old) (D.view disk.new) }
     ensures cause { HasWriteCause (D.view disk.old) (D.view disk.new) result }
 {

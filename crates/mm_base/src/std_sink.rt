@@ -32,9 +32,11 @@ impl<W: Write + Drop> Sink for StdSink<W> {
     fn write(&mut self, piece: &[u8]) -> Result<usize, EndError>
         ensures within { IfOk result (λ n. n ≤ length piece.now) }
         ensures some { IfOk result (λ n. 0 < length piece.now → 0 < n) }
-        ensures known { IfOk result (λ n. Appends (W.contents self.old.writer) (W.contents self.new.writer) (take n piece.now)) }
+        ensures known { IfOk result
+            (λ n. Appends (W.contents self.old.writer) (W.contents self.new.writer) (take n piece.now)) }
         ensures kept { OnErr result (Keeps (W.contents self.old.writer) (W.contents self.new.writer)) }
-        ensures ok { IfOk result (λ n. (writer_view self.new.faults).written ≡ sending (take n piece.now) (writer_view self.old.faults).written) }
+        ensures ok { IfOk result (λ n. (writer_view self.new.faults).written
+            ≡ sending (take n piece.now) (writer_view self.old.faults).written) }
         ensures err { OnErr result ((writer_view self.new.faults).written ≡ (writer_view self.old.faults).written) }
         ensures counts { CountsSinkFaults (writer_view self.old.faults) (writer_view self.new.faults) }
         ensures failed_cause { IsErrOf result EndError.Failed → Rose self.old.faults self.new.faults }

@@ -339,7 +339,6 @@ fn real_files_are_read_from_any_place_and_made_anew(rt: HostRuntime) -> Result<(
     Ok(())
 }
 
-// Nobody writes into the pipe: to open it would wait for ever.
 #[test]
 fn only_regular_files_are_read(rt: HostRuntime) -> Result<(), Fail> {
     let (reader, writer) = io::pipe(&rt)?;
