@@ -84,7 +84,8 @@ fn request_step(
     headers: &[HeaderSpan],
     spans: &RequestSpans,
 ) -> Result<HeadStep<RequestHead>, OutOfMemory>
-    requires { IsRequestWithin front.now headers.now spans.now }
+    requires within { IsRequestWithin front.now headers.now spans.now }
+    requires few { length headers.now ≤ 100 }
     ensures { IfOk result (λ step. (h : Head) → IsRequestAt front.now headers.now spans.now h → SaysHead request_form h spans.now.len step) }
 {
     let fields = field_map(alloc, front, &headers[..spans.headers])?;

@@ -1,5 +1,5 @@
 // Heads of responses.
-ghost use Rattle.std.specs.Prelude.{◌≡◌, ◌||◌, ℕ, List, length, map, IfOk, All, codes};
+ghost use Rattle.std.specs.Prelude.{◌≡◌, ◌≤◌, ◌||◌, ℕ, List, length, map, IfOk, All, codes};
 ghost use Rattle.httparse.specs.Spans.{span_bytes, IsWithin as IsSpanWithin, IsResponseWithin, IsResponseAt};
 ghost use Rattle.httparse.specs.Grammar.{ResponseHead as Answer};
 ghost use Rattle.http_header.specs.HeaderMap.{get_all};
@@ -46,7 +46,8 @@ fn response_step(
     headers: &[HeaderSpan],
     spans: &ResponseSpans,
 ) -> Result<HeadStep<ResponseHead>, OutOfMemory>
-    requires { IsResponseWithin front.now headers.now spans.now }
+    requires within { IsResponseWithin front.now headers.now spans.now }
+    requires few { length headers.now ≤ 100 }
     ensures { IfOk result (λ step. (h : Answer) → IsResponseAt front.now headers.now spans.now h → SaysHead (response_form to_head) h spans.now.len step) }
 {
     let fields = field_map(alloc, front, &headers[..spans.headers])?;
