@@ -1,5 +1,5 @@
 -- The state of a reader of messages, and what its answers say.
-use Rattle.std.specs.Prelude.{◌≡◌, ◌⊎◌, ℕ, ◌+◌, Bool, List, ◌++◌, drop, take, Option, Some, None, Result, Ok, Err}
+use Rattle.std.specs.Prelude.{◌≡◌, ◌⊎◌, ℕ, ◌+◌, ◌≤◌, length, Bool, List, ◌++◌, drop, take, Option, Some, None, Result, Ok, Err}
 use Rattle.http_frame.specs.Forms.{Form}
 use Rattle.http_frame.specs.Heads.{AwaitsHead, IsHeadRead, HeadFault}
 use Rattle.http_frame.specs.Bodies.{BodyCause, MayGoOn}
@@ -15,6 +15,7 @@ use Rattle.http_frame.specs.declared.errors.FrameFault.TheVariants as faults
 use Rattle.http_frame.specs.declared.errors.FrameError.{FrameError}
 use Rattle.http_frame.specs.declared.errors.FrameError.TheVariants.{BadHead, HeadTooLong, TooManyHeaders, BadLength, BadCoding, BadChunk, BodyTooLong, Refused}
 use Rattle.http_frame.specs.declared.pending.Pending.{Pending}
+use Rattle.http_frame.specs.declared.head.Found.{Found}
 use Rattle.http_frame.specs.declared.pending.Outcome.{Outcome}
 use Rattle.http_frame.specs.declared.pending.Outcome.TheVariants as outcomes
 
@@ -34,19 +35,18 @@ pub record StaysOpen (old new : Frames) : Type 0 where
 pub record KeepsPlace {Said : Type 0} (p : Pending Said) (place : ℕ) (q : Option (Pending Said)) : Type 0 where
   pub same : q ≡ Some (record { head = p.head; len = p.len; framing = p.framing; place = place })
 
-abbrev pub FinishSays : {Said : Type 0} → Bool → List ℕ → Pending Said → Option (Pending Said) → Result (Outcome Said) OutOfMemory → Type 0
-FinishSays ended bytes p q (Ok (outcomes.Message head text)) =
-    (q ≡ None) × (head ≡ p.head) × (k : ℕ) × (text ≡ take (p.len + k) bytes) × BodyCause ended p.framing (drop p.len bytes) (bodies.Whole k)
-FinishSays ended bytes p q (Ok outcomes.More) = (place : ℕ) × KeepsPlace p place q × BodyCause ended p.framing (drop p.len bytes) (bodies.More place)
-FinishSays ended bytes p q (Ok (outcomes.Fault BadHead)) = ⊥
-FinishSays ended bytes p q (Ok (outcomes.Fault HeadTooLong)) = ⊥
-FinishSays ended bytes p q (Ok (outcomes.Fault TooManyHeaders)) = ⊥
-FinishSays ended bytes p q (Ok (outcomes.Fault BadLength)) = ⊥
-FinishSays ended bytes p q (Ok (outcomes.Fault BadCoding)) = ⊥
-FinishSays ended bytes p q (Ok (outcomes.Fault BadChunk)) = (q ≡ Some p) × BodyCause ended p.framing (drop p.len bytes) bodies.Bad
-FinishSays ended bytes p q (Ok (outcomes.Fault BodyTooLong)) = (q ≡ Some p) × BodyCause ended p.framing (drop p.len bytes) bodies.TooLong
-FinishSays ended bytes p q (Ok (outcomes.Fault Refused)) = ⊥
-FinishSays ended bytes p q (Err e) = q ≡ Some p
+abbrev pub FinishSays : {Said : Type 0} → Bool → List ℕ → Pending Said → Option (Pending Said) → Outcome Said → Type 0
+FinishSays ended bytes p q (outcomes.Message m) =
+    (q ≡ None) × (m.head ≡ p.head) × (k : ℕ) × (m.len ≡ p.len + k) × BodyCause ended p.framing (drop p.len bytes) (bodies.Whole k)
+FinishSays ended bytes p q outcomes.More = (place : ℕ) × KeepsPlace p place q × BodyCause ended p.framing (drop p.len bytes) (bodies.More place)
+FinishSays ended bytes p q (outcomes.Fault BadHead) = ⊥
+FinishSays ended bytes p q (outcomes.Fault HeadTooLong) = ⊥
+FinishSays ended bytes p q (outcomes.Fault TooManyHeaders) = ⊥
+FinishSays ended bytes p q (outcomes.Fault BadLength) = ⊥
+FinishSays ended bytes p q (outcomes.Fault BadCoding) = ⊥
+FinishSays ended bytes p q (outcomes.Fault BadChunk) = (q ≡ Some p) × BodyCause ended p.framing (drop p.len bytes) bodies.Bad
+FinishSays ended bytes p q (outcomes.Fault BodyTooLong) = (q ≡ Some p) × BodyCause ended p.framing (drop p.len bytes) bodies.TooLong
+FinishSays ended bytes p q (outcomes.Fault Refused) = ⊥
 
 -- the bytes begin with that message
 pub record BeginsMessage {Tree Said Message : Type 0} (form : Form Tree Said Message) (ended : Bool) (bytes : List ℕ) (head : Said) (text : List ℕ) : Type 0 where
@@ -94,7 +94,7 @@ module _ {Tree Said Message : Type 0} (form : Form Tree Said Message) where
   FaultCause ended bytes Refused = HeadFault form bytes Refused
 
   abbrev pub AdvanceSays : Bool → List ℕ → Option (Pending Said) → Result (Outcome Said) OutOfMemory → Type 0
-  AdvanceSays ended bytes p (Ok (outcomes.Message head text)) = (p ≡ None) × BeginsMessage form ended bytes head text
+  AdvanceSays ended bytes p (Ok (outcomes.Message m)) = (p ≡ None) × (m.len ≤ length bytes) × BeginsMessage form ended bytes m.head (take m.len bytes)
   AdvanceSays ended bytes p (Ok outcomes.More) = IsPending bytes p × MoreCause ended bytes
   AdvanceSays ended bytes p (Ok (outcomes.Fault e)) = IsPending bytes p × FaultCause ended bytes e
   AdvanceSays ended bytes p (Err e) = IsPending bytes p
@@ -104,6 +104,14 @@ module _ {Tree Said Message : Type 0} (form : Form Tree Said Message) where
     pub ended : new.ended ≡ old.ended
     pub failed : new.failed ≡ Some e
     pub cause : (old.failed ≡ Some e) ⊎ ((old.failed ≡ None) × FaultCause old.ended old.unread e)
+
+  -- what is at the front, which stays there
+  abbrev pub FindSays : Frames → Result (Step (Found Said)) FrameFault → Frames → Type 0
+  FindSays old (Ok (steps.Message m)) new =
+      StaysOpen old new × (m.len ≤ length old.unread) × BeginsMessage form old.ended old.unread m.head (take m.len old.unread)
+  FindSays old (Ok steps.More) new = StaysOpen old new × MoreCause old.ended old.unread
+  FindSays old (Err (faults.Frame e)) new = Fails old e new
+  FindSays old (Err faults.OutOfMemory) new = StaysOpen old new
 
   -- what each answer of `next` says
   abbrev pub NextSays : Frames → Result (Step Message) FrameFault → Frames → Type 0

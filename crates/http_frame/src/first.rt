@@ -6,7 +6,7 @@ use crate::messages::{Request, Response};
 use crate::pending::Outcome;
 use crate::request_frames::advance as advance_request;
 use crate::response_frames::advance as advance_response;
-use mm_base::OutOfMemory;
+use mm_base::{Bytes, OutOfMemory};
 use std::alloc::Global;
 
 /// The request at the front; `None` exactly where no front of the bytes is one.
@@ -15,7 +15,13 @@ pub fn first_request(alloc: Global, bytes: &[u8]) -> Result<Option<Request>, Out
 {
     let (_, outcome) = advance_request(alloc, bytes, None);
     match outcome {
-        Ok(Outcome::Message(head, bytes)) => Ok(Some(Request { head, bytes })),
+        Ok(Outcome::Message(found)) => {
+            let bytes = Bytes::from_slice(alloc, &bytes[..found.len])?;
+            Ok(Some(Request {
+                head: found.head,
+                bytes,
+            }))
+        }
         Ok(Outcome::More) => Ok(None),
         Ok(Outcome::Fault(_)) => Ok(None),
         Err(error) => Err(error),
@@ -33,7 +39,13 @@ pub fn first_response(
 {
     let (_, outcome) = advance_response(alloc, to_head, true, bytes, None);
     match outcome {
-        Ok(Outcome::Message(head, bytes)) => Ok(Some(Response { head, bytes })),
+        Ok(Outcome::Message(found)) => {
+            let bytes = Bytes::from_slice(alloc, &bytes[..found.len])?;
+            Ok(Some(Response {
+                head: found.head,
+                bytes,
+            }))
+        }
         Ok(Outcome::More) => Ok(None),
         Ok(Outcome::Fault(_)) => Ok(None),
         Err(error) => Err(error),

@@ -1,4 +1,4 @@
-// What reading a head answers.
+// What reading a head, or a whole message, answers.
 use crate::errors::FrameError;
 use crate::framing::Framing;
 
@@ -8,6 +8,13 @@ pub struct HeadRead<H> {
     pub len: usize,
     pub framing: Framing,
     pub head: H,
+}
+
+/// A message at the front: what its head says, and how many bytes it has.
+#[derive(Drop)]
+pub struct Found<H> {
+    pub head: H,
+    pub len: usize,
 }
 
 /// What reading a head answers.

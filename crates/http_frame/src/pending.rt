@@ -7,8 +7,7 @@ use crate::body::{BodyStep, read_body};
 use crate::chunks::from_place;
 use crate::errors::FrameError;
 use crate::framing::Framing;
-use mm_base::{Bytes, OutOfMemory};
-use std::alloc::Global;
+use crate::head::Found;
 
 /// A head that was read, and how far its body was.
 #[derive(Drop)]
@@ -22,28 +21,30 @@ pub struct Pending<H> {
 /// What is there.
 #[derive(Drop)]
 pub enum Outcome<H> {
-    Message(H, Bytes),
+    Message(Found<H>),
     More,
     Fault(FrameError),
 }
 
-/// Goes on with a body.
+/// Goes on with a body. It takes no memory.
 pub fn finish<H: Drop>(
-    alloc: Global,
     ended: bool,
     unread: &[u8],
     pending: Pending<H>,
-) -> (Option<Pending<H>>, Result<Outcome<H>, OutOfMemory>)
+) -> (Option<Pending<H>>, Outcome<H>)
     requires inside { pending.len ≤ length unread.now }
     requires place { MayGoOn pending.framing (drop pending.len unread.now) pending.place }
     ensures { FinishSays ended unread.now pending result.0 result.1 }
 {
     let rest = from_place(unread, pending.len);
     match read_body(rest, pending.framing, ended, pending.place) {
-        BodyStep::Whole(more) => match Bytes::from_slice(alloc, &unread[..pending.len + more]) {
-            Ok(bytes) => (None, Ok(Outcome::Message(pending.head, bytes))),
-            Err(error) => (Some(pending), Err(error)),
-        },
+        BodyStep::Whole(more) => {
+            let found = Found {
+                head: pending.head,
+                len: pending.len + more,
+            };
+            (None, Outcome::Message(found))
+        }
         BodyStep::More(place) => {
             let later = Pending {
                 head: pending.head,
@@ -51,9 +52,9 @@ pub fn finish<H: Drop>(
                 framing: pending.framing,
                 place,
             };
-            (Some(later), Ok(Outcome::More))
+            (Some(later), Outcome::More)
         }
-        BodyStep::Bad => (Some(pending), Ok(Outcome::Fault(FrameError::BadChunk))),
-        BodyStep::TooLong => (Some(pending), Ok(Outcome::Fault(FrameError::BodyTooLong))),
+        BodyStep::Bad => (Some(pending), Outcome::Fault(FrameError::BadChunk)),
+        BodyStep::TooLong => (Some(pending), Outcome::Fault(FrameError::BodyTooLong)),
     }
 }

@@ -1,5 +1,5 @@
 // Requests from a stream in pieces.
-ghost use Rattle.std.specs.Prelude.{◌≡◌, ◌≤◌, ◌++◌, ℕ, List, [], false, length, None, Some, Err, OnOk, OnErr};
+ghost use Rattle.std.specs.Prelude.{◌≡◌, ◌≤◌, ◌++◌, ℕ, List, [], false, length, drop, None, Some, Err, OnOk, OnErr};
 ghost use Rattle.httparse.specs.Grammar.{RequestHead as Head, IsRequestHead, print_request};
 ghost use Rattle.http_frame.specs.Window.{NeverHas};
 ghost use Rattle.http_frame.specs.Forms.{request_form};
@@ -9,16 +9,17 @@ ghost use Rattle.http_frame.specs.declared.messages.Request.{Request as RequestV
 ghost use Rattle.http_frame.specs.declared.errors.FrameError.{FrameError as ErrorValue};
 ghost use Rattle.http_frame.specs.declared.errors.FrameError.TheVariants.{BadHead};
 ghost use Rattle.http_frame.specs.declared.errors.FrameFault.TheVariants.{Frame};
-ghost use Rattle.http_frame.specs.Frames.{IsPending, AdvanceSays, NextSays, Frames, GivesBytes, GivesFault, GivesMore, FaultCause, MoreCause};
+ghost use Rattle.http_frame.specs.Frames.{IsPending, AdvanceSays, NextSays, Frames, GivesBytes, GivesFault, GivesMore, FaultCause, MoreCause, FindSays};
+ghost use Rattle.http_frame.specs.HeadsAlone.{NextHeadSays, GivesHead};
 ghost use Rattle.http_frame.specs.Forms.{Form};
 
 use crate::buffer::Buffer;
 use crate::errors::{FrameError, FrameFault, Step};
-use crate::head::HeadStep;
+use crate::head::{Found, HeadStep};
 use crate::messages::{Request, RequestHead};
 use crate::pending::{Outcome, Pending, finish};
 use crate::request_head::read_request;
-use mm_base::OutOfMemory;
+use mm_base::{Bytes, OutOfMemory};
 use std::alloc::Global;
 use std::marker::Model;
 
@@ -37,9 +38,15 @@ pub fn requests_are_prefix_free()
     ensures { (a b x y : List ℕ) (h k : Head) → IsRequest a h → IsRequest b k → a ++ x ≡ b ++ y → (a ≡ b) × (h ≡ k) }
 {}
 
-/// A stream has one list of whole requests, however it was cut.
+/// A stream has at most one list of whole requests, however it was cut.
 pub fn requests_are_found_once()
     ensures { (bytes : List ℕ) (ms ns : List RequestValue) (rest other : List ℕ) → Messages bytes ms rest → Messages bytes ns other → (ms ≡ ns) × (rest ≡ other) }
+{}
+
+/// A stream has a list of whole requests: that it has none is absurd. (The contracts' logic has no law of the
+/// excluded middle, so that what can't be missing is said so.)
+pub fn requests_are_found()
+    ensures { (bytes : List ℕ) → ((ms : List RequestValue) (rest : List ℕ) → Messages bytes ms rest → ⊥) → ⊥ }
 {}
 
 /// The first request, by what was known of it before.
@@ -55,7 +62,10 @@ pub(crate) fn advance(
     ensures { AdvanceSays request_form false unread.now result.0 result.1 }
 {
     match pending {
-        Some(pending) => finish(alloc, false, unread, pending),
+        Some(pending) => {
+            let (later, outcome) = finish(false, unread, pending);
+            (later, Ok(outcome))
+        }
         None => match read_request(alloc, unread) {
             Ok(HeadStep::Head(read)) => {
                 let pending = Pending {
@@ -64,7 +74,8 @@ pub(crate) fn advance(
                     framing: read.framing,
                     place: 0,
                 };
-                finish(alloc, false, unread, pending)
+                let (later, outcome) = finish(false, unread, pending);
+                (later, Ok(outcome))
             }
             Ok(HeadStep::More) => (None, Ok(Outcome::More)),
             Ok(HeadStep::Fault(error)) => (None, Ok(Outcome::Fault(error))),
@@ -120,8 +131,65 @@ impl RequestFrames {
         self.take_next()
     }
 
+    /// The head of the first request, which is taken off the front with all of its bytes, as `next` does;
+    /// or why there is none. Its body isn't copied.
+    pub fn next_head(&mut self) -> Result<Step<RequestHead>, FrameFault>
+        ensures says { NextHeadSays self.old result self.new }
+        ensures first { (bytes after : List ℕ) (h : Head) → IsRequest bytes h → self.old.unread ≡ bytes ++ after → self.old.failed ≡ None → GivesHead h after result self.new }
+        ensures fails { (e : ErrorValue) → FaultCause request_form self.old.ended self.old.unread e → self.old.failed ≡ None → (e ≡ BadHead → MoreCause request_form self.old.ended self.old.unread → ⊥) → GivesFault e result }
+        ensures waits { MoreCause request_form self.old.ended self.old.unread → self.old.failed ≡ None → (NeverHas print_request IsRequestHead self.old.unread → ⊥) → GivesMore result }
+        ensures again { (e : ErrorValue) → self.old.failed ≡ Some e → result ≡ Err (Frame e) }
+    {
+        self.take_head()
+    }
+
     fn take_next(&mut self) -> Result<Step<Request>, FrameFault>
         ensures { NextSays request_form self.old result self.new }
+    {
+        match self.find() {
+            Ok(Step::Message(found)) => {
+                let unread = self.buffer.as_slice();
+                match Bytes::from_slice(self.alloc, &unread[..found.len]) {
+                    Ok(bytes) => {
+                        self.take_off(found.len);
+                        Ok(Step::Message(Request {
+                            head: found.head,
+                            bytes,
+                        }))
+                    }
+                    Err(_) => Err(FrameFault::OutOfMemory),
+                }
+            }
+            Ok(Step::More) => Ok(Step::More),
+            Err(fault) => Err(fault),
+        }
+    }
+
+    fn take_head(&mut self) -> Result<Step<RequestHead>, FrameFault>
+        ensures { NextHeadSays self.old result self.new }
+    {
+        match self.find() {
+            Ok(Step::Message(found)) => {
+                self.take_off(found.len);
+                Ok(Step::Message(found.head))
+            }
+            Ok(Step::More) => Ok(Step::More),
+            Err(fault) => Err(fault),
+        }
+    }
+
+    /// Takes a message off the front.
+    fn take_off(&mut self, len: usize)
+        requires { len ≤ length self.old.unread }
+        ensures { self.new ≡ record self.old { unread = drop len self.old.unread } }
+    {
+        self.pending = None;
+        self.buffer.advance(len);
+    }
+
+    /// The first request, which stays where it is.
+    fn find(&mut self) -> Result<Step<Found<RequestHead>>, FrameFault>
+        ensures { FindSays request_form self.old result self.new }
     {
         if let Some(error) = self.failed {
             return Err(FrameFault::Frame(error));
@@ -130,10 +198,7 @@ impl RequestFrames {
         let (pending, outcome) = advance(self.alloc, self.buffer.as_slice(), pending);
         self.pending = pending;
         match outcome {
-            Ok(Outcome::Message(head, bytes)) => {
-                self.buffer.advance(bytes.len());
-                Ok(Step::Message(Request { head, bytes }))
-            }
+            Ok(Outcome::Message(found)) => Ok(Step::Message(found)),
             Ok(Outcome::More) => Ok(Step::More),
             Ok(Outcome::Fault(error)) => {
                 self.failed = Some(error);

@@ -1,19 +1,19 @@
 // Responses from a stream in pieces.
-ghost use Rattle.std.specs.Prelude.{◌≡◌, ◌≤◌, ◌++◌, ℕ, Bool, List, [], true, false, length, None, Some, Err, OnOk, OnErr};
+ghost use Rattle.std.specs.Prelude.{◌≡◌, ◌≤◌, ◌++◌, ℕ, Bool, List, [], true, false, length, drop, None, Some, Err, OnOk, OnErr};
 ghost use Rattle.httparse.specs.Grammar.{ResponseHead as Answer};
 ghost use Rattle.http_frame.specs.Forms.{response_form};
 ghost use Rattle.http_frame.specs.Messages.{IsResponse, MayStop};
 ghost use Rattle.http_frame.specs.declared.errors.FrameError.{FrameError as ErrorValue};
 ghost use Rattle.http_frame.specs.declared.errors.FrameFault.TheVariants.{Frame};
-ghost use Rattle.http_frame.specs.Frames.{IsPending, AdvanceSays, NextSays, Frames, GivesBytes, GivesFault, GivesMore, FaultCause, MoreCause};
+ghost use Rattle.http_frame.specs.Frames.{IsPending, AdvanceSays, NextSays, Frames, GivesBytes, GivesFault, GivesMore, FaultCause, MoreCause, FindSays};
 
 use crate::buffer::Buffer;
 use crate::errors::{FrameError, FrameFault, Step};
-use crate::head::HeadStep;
+use crate::head::{Found, HeadStep};
 use crate::messages::{Response, ResponseHead};
 use crate::pending::{Outcome, Pending, finish};
 use crate::response_head::read_response;
-use mm_base::OutOfMemory;
+use mm_base::{Bytes, OutOfMemory};
 use std::alloc::Global;
 use std::marker::Model;
 
@@ -62,7 +62,10 @@ pub(crate) fn advance(
     ensures { AdvanceSays (response_form to_head) ended unread.now result.0 result.1 }
 {
     match pending {
-        Some(pending) => finish(alloc, ended, unread, pending),
+        Some(pending) => {
+            let (later, outcome) = finish(ended, unread, pending);
+            (later, Ok(outcome))
+        }
         None => match read_response(alloc, to_head, unread) {
             Ok(HeadStep::Head(read)) => {
                 let pending = Pending {
@@ -71,7 +74,8 @@ pub(crate) fn advance(
                     framing: read.framing,
                     place: 0,
                 };
-                finish(alloc, ended, unread, pending)
+                let (later, outcome) = finish(ended, unread, pending);
+                (later, Ok(outcome))
             }
             Ok(HeadStep::More) => (None, Ok(Outcome::More)),
             Ok(HeadStep::Fault(error)) => (None, Ok(Outcome::Fault(error))),
@@ -143,6 +147,38 @@ impl ResponseFrames {
     fn take_next(&mut self, head_request: bool) -> Result<Step<Response>, FrameFault>
         ensures { NextSays (response_form head_request) self.old result self.new }
     {
+        match self.find(head_request) {
+            Ok(Step::Message(found)) => {
+                let unread = self.buffer.as_slice();
+                match Bytes::from_slice(self.alloc, &unread[..found.len]) {
+                    Ok(bytes) => {
+                        self.take_off(found.len);
+                        Ok(Step::Message(Response {
+                            head: found.head,
+                            bytes,
+                        }))
+                    }
+                    Err(_) => Err(FrameFault::OutOfMemory),
+                }
+            }
+            Ok(Step::More) => Ok(Step::More),
+            Err(fault) => Err(fault),
+        }
+    }
+
+    /// Takes a message off the front.
+    fn take_off(&mut self, len: usize)
+        requires { len ≤ length self.old.unread }
+        ensures { self.new ≡ record self.old { unread = drop len self.old.unread } }
+    {
+        self.pending = None;
+        self.buffer.advance(len);
+    }
+
+    /// The first response, which stays where it is.
+    fn find(&mut self, head_request: bool) -> Result<Step<Found<ResponseHead>>, FrameFault>
+        ensures { FindSays (response_form head_request) self.old result self.new }
+    {
         if let Some(error) = self.failed {
             return Err(FrameFault::Frame(error));
         }
@@ -157,10 +193,7 @@ impl ResponseFrames {
         );
         self.pending = pending;
         match outcome {
-            Ok(Outcome::Message(head, bytes)) => {
-                self.buffer.advance(bytes.len());
-                Ok(Step::Message(Response { head, bytes }))
-            }
+            Ok(Outcome::Message(found)) => Ok(Step::Message(found)),
             Ok(Outcome::More) => Ok(Step::More),
             Ok(Outcome::Fault(error)) => {
                 self.failed = Some(error);

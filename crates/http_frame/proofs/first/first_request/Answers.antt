@@ -5,12 +5,6 @@ use Rattle.http_frame.proofs.FindingLemmas.{more_none, fault_none}
 use Rattle.http_frame.proofs.RunLemmas.{request_stops}
 use Rattle.http_frame.proofs.first.first_request.Goals as goal
 
-pub returns-in-Ok-Message : goal.returns-in-Ok-Message
-returns-in-Ok-Message c =
-    let t = rw c.in-Ok-Message.field-0-is at rw c.in-Ok-Message.is at c.advance-outcome.ensures in
-    let b = t.1 in
-    (record { tree = b.tree; is = b.is; says = b.says }, b.after, b.split)
-
 pub returns-in-Ok-More : goal.returns-in-Ok-More
 returns-in-Ok-More c =
     let t = rw c.in-Ok-More.field-0-is at rw c.in-Ok-More.is at c.advance-outcome.ensures in
