@@ -1,0 +1,155 @@
+ghost use Rattle.std.specs.Prelude.{◌≤◌, IfOk};
+ghost use Rattle.mm_base.specs.MemLink.{IsUnused};
+
+use super::again::{read_again, write_again};
+use super::*;
+use std::alloc::Global;
+use std::io::{self, ErrorKind, Read, Write};
+use std::marker::Send;
+use std::net::{Ipv4Addr, Shutdown, SocketAddr, TcpStream};
+use std::test::Fail;
+
+fn goes_between_threads<T: Send>(_: &T) {}
+
+fn link_with(alloc: Global, input: &[u8], most: usize, fails: &[u64]) -> Result<MemLink, Fail>
+    requires { 1 ≤ most }
+    ensures { IfOk result IsUnused }
+{
+    let input = Bytes::from_slice(alloc, input)?;
+    Ok(MemLink::new(alloc, input, most, fails.to_vec(alloc)?))
+}
+
+#[test]
+fn a_link_in_memory_fails_by_its_list(rt: HostRuntime) -> Result<(), Fail> {
+    let mut link = link_with(rt.alloc(), b"abcd", 3, &[2, 4])?;
+    let mut buf = [0u8; 8];
+    assert_eq!(rt; link.read(&mut buf), Ok(3));
+    assert_eq!(rt; &buf[..3], b"abc".as_slice());
+    assert_eq!(rt; link.read(&mut buf), Err(EndError::Failed));
+    assert_eq!(rt; link.write(b"xy"), Ok(2));
+    assert_eq!(rt; link.write(b"z"), Err(EndError::Failed));
+    assert_eq!(rt; link.read(&mut []), Ok(0));
+    assert_eq!(rt; link.read(&mut buf[..2]), Ok(1));
+    assert_eq!(rt; &buf[..1], b"d".as_slice());
+    assert_eq!(rt; link.read(&mut buf), Ok(0));
+    link.close_output();
+    assert_eq!(rt; link.given(), b"xy".as_slice());
+    goes_between_threads(&link);
+    Ok(())
+}
+
+#[test]
+fn a_port_in_memory_gives_its_links_in_order(rt: HostRuntime) -> Result<(), Fail> {
+    let alloc = rt.alloc();
+    let first = link_with(alloc, b"a", 1, &[])?;
+    let second = link_with(alloc, b"b", 1, &[])?;
+    let links = vec![in alloc; first, second]?;
+    let mut port = MemPort::new(alloc, links, vec![in alloc; 1u64, 3, 7]?);
+    assert_eq!(rt; port.listen(80), Err(EndError::Failed));
+    assert_eq!(rt; port.listen(80), Ok(()));
+    assert!(rt; port.accept().is_err());
+    let mut first = port.accept().ok().flatten().ok_or("no link")?;
+    let second = port.accept().ok().flatten().ok_or("no link")?;
+    assert_eq!(rt; first.write(b"1"), Ok(1));
+    assert_eq!(rt; port.finish(first), Ok(()));
+    assert_eq!(rt; port.finish(second), Err(EndError::Failed));
+    assert!(rt; matches!(port.accept(), Ok(None)));
+    assert_eq!(rt; port.finished().len(), 1);
+    assert_eq!(rt; port.finished()[0].given(), b"1".as_slice());
+    goes_between_threads(&port);
+    Ok(())
+}
+
+// A peer of the outside whose first calls are interrupted, and which then takes or gives one byte a call.
+#[derive(Drop)]
+struct Interrupted {
+    signals: u32,
+}
+
+impl Interrupted {
+    fn count(&mut self, most: usize) -> io::Result<usize>
+        ensures { IfOk result (λ n. n ≤ most) }
+    {
+        if self.signals > 0 {
+            self.signals -= 1;
+            return Err(io::Error::from(ErrorKind::Interrupted));
+        }
+        Ok(most.min(1))
+    }
+}
+
+impl Read for Interrupted {
+    fn read(&mut self, buf: &mut [u8]) -> io::Result<usize> {
+        self.count(buf.len())
+    }
+}
+
+impl Write for Interrupted {
+    fn write(&mut self, piece: &[u8]) -> io::Result<usize> {
+        self.count(piece.len())
+    }
+
+    fn flush(&mut self) -> io::Result<()> {
+        Ok(())
+    }
+}
+
+#[test]
+fn a_call_that_a_signal_interrupted_is_made_again(rt: HostRuntime) -> Result<(), Fail> {
+    let mut buf = [0u8; 3];
+    assert_eq!(rt; read_again(&mut Interrupted { signals: 3 }, &mut buf)?, 1);
+    assert_eq!(rt; write_again(&mut Interrupted { signals: 3 }, b"abc")?, 1);
+    assert_eq!(rt; write_again(&mut Interrupted { signals: 1 }, b"")?, 0);
+    Ok(())
+}
+
+const REQUEST: &str =
+    "GET /index.html HTTP/1.1\r\nHost: 127.0.0.1:8080\r\nUser-Agent: curl/8.5.0\r\nAccept: */*\r\n\r\n";
+
+#[test]
+fn a_client_is_served_over_tcp(rt: HostRuntime) -> Result<(), Fail> {
+    let alloc = rt.alloc();
+    let mut port = TcpPort::new(rt.clone()?);
+    assert_eq!(rt; port.number(), None);
+    assert!(rt; matches!(port.accept(), Err(EndError::Failed)));
+    assert_eq!(rt; port.listen(0), Ok(()));
+    let number = port.number().ok_or("no number")?;
+    assert_eq!(rt;
+        TcpPort::new(rt.clone()?).listen(number),
+        Err(EndError::Failed)
+    );
+    let mut client = TcpStream::connect(&rt, SocketAddr::from((Ipv4Addr::LOCALHOST, number)))?;
+    client.write_all(REQUEST.as_bytes())?;
+    let mut link = port.accept().ok().flatten().ok_or("no link")?;
+    let mut buf = [0u8; 256];
+    assert_eq!(rt; link.read(&mut buf), Ok(REQUEST.len()));
+    assert_eq!(rt; &buf[..REQUEST.len()], REQUEST.as_bytes());
+    assert_eq!(rt; link.write(b"HTTP/1.1 200 OK\r\n\r\n"), Ok(19));
+    link.close_output();
+    let answer = io::read_to_string(alloc, &client)?;
+    assert_eq!(rt; answer.as_str(), "HTTP/1.1 200 OK\r\n\r\n");
+    client.shutdown(Shutdown::Write)?;
+    assert_eq!(rt; link.read(&mut buf), Ok(0));
+    goes_between_threads(&link);
+    assert_eq!(rt; port.finish(link), Ok(()));
+    Ok(())
+}
+
+// A client that resets its connection makes it fail, and ends nothing else.
+#[test]
+fn a_client_that_goes_away_is_a_fault(rt: HostRuntime) -> Result<(), Fail> {
+    let mut port = TcpPort::new(rt.clone()?);
+    assert_eq!(rt; port.listen(0), Ok(()));
+    let number = port.number().ok_or("no number")?;
+    let client = TcpStream::connect(&rt, SocketAddr::from((Ipv4Addr::LOCALHOST, number)))?;
+    let mut link = port.accept().ok().flatten().ok_or("no link")?;
+    assert_eq!(rt; link.write(b"unread"), Ok(6));
+    drop(client);
+    let mut failed = false;
+    for _ in 0..100 {
+        failed = failed || link.write(b"more") == Err(EndError::Failed);
+    }
+    assert!(rt; failed);
+    assert_eq!(rt; port.finish(link), Ok(()));
+    Ok(())
+}

@@ -1,0 +1,108 @@
+// A port of TCP on this machine alone. It tells no content.
+ghost use Rattle.std.specs.Prelude.{◌≡◌, ◌≤◌, ◌<◌, ◌-◌, ◌^◌, None, false, OnOk};
+ghost use Rattle.mm_base.specs.Counts.{Rose};
+
+use crate::{EndError, Link, Port, TcpLink};
+use std::io::{self, ErrorKind};
+use std::net::{Ipv4Addr, Net, SocketAddr, TcpListener, TcpStream};
+
+// How many connections in a row may break before they are accepted. No run meets it.
+const TRIES: u64 = u64::MAX;
+
+/// A port of TCP at the address 127.0.0.1. It tells no content, and is never drained. Each error but want of memory is
+/// counted as a fault: a port that can't be had, an `accept` before `listen`, or one more connection than a `u64` counts.
+/// A client that goes away before it is accepted is passed over.
+#[derive(Drop)]
+pub struct TcpPort<R: Net<Stream = TcpStream, Listener = TcpListener> + Drop> {
+    rt: R,
+    listener: Option<TcpListener>,
+    accepted: u64,
+    faults: u64,
+}
+
+impl<R: Net<Stream = TcpStream, Listener = TcpListener> + Drop> TcpPort<R> {
+    /// A port over the runtime's network, which doesn't listen yet.
+    pub fn new(rt: R) -> Self
+        ensures { (result.accepted ≡ 0) × (result.faults ≡ 0) }
+    {
+        TcpPort {
+            rt,
+            listener: None,
+            accepted: 0,
+            faults: 0,
+        }
+    }
+
+    /// The number of the port at which it listens. None where it doesn't. After `listen(0)` it is one that was free.
+    pub fn number(&self) -> Option<u16> {
+        let address = self.listener.as_ref()?.local_addr().ok()?;
+        Some(address.port())
+    }
+
+    // Counts a fault, unless memory was wanting.
+    fn refuse(&mut self, error: io::Error) -> EndError
+        ensures failed { result ≡ EndError.Failed → Rose self.old.faults self.new.faults }
+        ensures grows { self.old.faults ≤ self.new.faults }
+        ensures accepted { self.new.accepted ≡ self.old.accepted }
+    {
+        if error.kind() == ErrorKind::OutOfMemory {
+            return EndError::OutOfMemory;
+        }
+        self.faults = self.faults.saturating_add(1);
+        EndError::Failed
+    }
+
+    // The next stream, where it can still be counted.
+    fn next_stream(&self) -> io::Result<TcpStream>
+        ensures { OnOk result (self.now.accepted < 2 ^ 64 - 1) }
+    {
+        let Some(listener) = &self.listener else {
+            return Err(io::Error::from(ErrorKind::NotConnected));
+        };
+        if self.accepted == u64::MAX {
+            return Err(io::Error::from(ErrorKind::Unsupported));
+        }
+        for _ in 0..TRIES {
+            match listener.accept() {
+                Ok((stream, _)) => return Ok(stream),
+                Err(error) if error.kind() == ErrorKind::ConnectionAborted => {}
+                Err(error) => return Err(error),
+            }
+        }
+        Err(io::Error::from(ErrorKind::ConnectionAborted))
+    }
+}
+
+impl<R: Net<Stream = TcpStream, Listener = TcpListener> + Drop> Port for TcpPort<R> {
+    type Conn = TcpLink;
+
+    ghost view = { λ p. record { finished = None; accepted = p.accepted; drained = false; faults = p.faults; never_fails = false } };
+
+    fn listen(&mut self, number: u16) -> Result<(), EndError> {
+        match self
+            .rt
+            .bind(SocketAddr::from((Ipv4Addr::LOCALHOST, number)))
+        {
+            Ok(listener) => {
+                self.listener = Some(listener);
+                Ok(())
+            }
+            Err(error) => Err(self.refuse(error)),
+        }
+    }
+
+    fn accept(&mut self) -> Result<Option<TcpLink>, EndError> {
+        match self.next_stream() {
+            Ok(stream) => {
+                self.accepted += 1;
+                Ok(Some(TcpLink::new(stream)))
+            }
+            Err(error) => Err(self.refuse(error)),
+        }
+    }
+
+    fn finish(&mut self, conn: TcpLink) -> Result<(), EndError> {
+        conn.end();
+        Ok(())
+    }
+}
