@@ -1,10 +1,9 @@
 ghost use Rattle.std.specs.Prelude.{◌≤◌, IfOk};
 ghost use Rattle.mm_base.specs.MemLink.{IsUnused};
 
-use super::again::{read_again, write_again};
 use super::*;
 use std::alloc::Global;
-use std::io::{self, ErrorKind, Read, Write};
+use std::io::{self, Write};
 use std::marker::Send;
 use std::net::{Ipv4Addr, Shutdown, SocketAddr, TcpStream};
 use std::test::Fail;
@@ -60,49 +59,6 @@ fn a_port_in_memory_gives_its_links_in_order(rt: HostRuntime) -> Result<(), Fail
     Ok(())
 }
 
-// A peer of the outside whose first calls are interrupted, and which then takes or gives one byte a call.
-#[derive(Drop)]
-struct Interrupted {
-    signals: u32,
-}
-
-impl Interrupted {
-    fn count(&mut self, most: usize) -> io::Result<usize>
-        ensures { IfOk result (λ n. n ≤ most) }
-    {
-        if self.signals > 0 {
-            self.signals -= 1;
-            return Err(io::Error::from(ErrorKind::Interrupted));
-        }
-        Ok(most.min(1))
-    }
-}
-
-impl Read for Interrupted {
-    fn read(&mut self, buf: &mut [u8]) -> io::Result<usize> {
-        self.count(buf.len())
-    }
-}
-
-impl Write for Interrupted {
-    fn write(&mut self, piece: &[u8]) -> io::Result<usize> {
-        self.count(piece.len())
-    }
-
-    fn flush(&mut self) -> io::Result<()> {
-        Ok(())
-    }
-}
-
-#[test]
-fn a_call_that_a_signal_interrupted_is_made_again(rt: HostRuntime) -> Result<(), Fail> {
-    let mut buf = [0u8; 3];
-    assert_eq!(rt; read_again(&mut Interrupted { signals: 3 }, &mut buf)?, 1);
-    assert_eq!(rt; write_again(&mut Interrupted { signals: 3 }, b"abc")?, 1);
-    assert_eq!(rt; write_again(&mut Interrupted { signals: 1 }, b"")?, 0);
-    Ok(())
-}
-
 const REQUEST: &str =
     "GET /index.html HTTP/1.1\r\nHost: 127.0.0.1:8080\r\nUser-Agent: curl/8.5.0\r\nAccept: */*\r\n\r\n";
 
@@ -122,8 +78,8 @@ fn a_client_is_served_over_tcp(rt: HostRuntime) -> Result<(), Fail> {
     client.write_all(REQUEST.as_bytes())?;
     let mut link = port.accept().ok().flatten().ok_or("no link")?;
     let mut buf = [0u8; 256];
-    assert_eq!(rt; link.read(&mut buf), Ok(REQUEST.len()));
-    assert_eq!(rt; &buf[..REQUEST.len()], REQUEST.as_bytes());
+    let count = link.read(&mut buf).ok().ok_or("no bytes")?;
+    assert_eq!(rt; buf.get(..count), Some(REQUEST.as_bytes()));
     assert_eq!(rt; link.write(b"HTTP/1.1 200 OK\r\n\r\n"), Ok(19));
     link.close_output();
     let answer = io::read_to_string(alloc, &client)?;

@@ -2,7 +2,7 @@
 ghost use Rattle.std.specs.Prelude.{◌≡◌, ◌≤◌, None, false};
 ghost use Rattle.mm_base.specs.Counts.{Rose};
 
-use crate::again::{read_again, write_again};
+use crate::interrupted::{read_once, write_once};
 use crate::{EndError, Link};
 use std::io::{self, ErrorKind};
 use std::net::{Shutdown, TcpStream};
@@ -42,7 +42,7 @@ impl TcpLink {
         let _ = stream.set_read_timeout(Some(Duration::from_secs(LAST_WAIT)));
         let mut unheard = [0u8; 4096];
         for _ in 0..LAST_READS {
-            let Ok(1..) = read_again(&mut stream, &mut unheard) else {
+            let Ok(1..) = read_once(&mut stream, &mut unheard) else {
                 return;
             };
         }
@@ -65,14 +65,14 @@ impl Link for TcpLink {
     ghost view = { λ l. record { told = None; faults = l.faults; never_fails = false } };
 
     fn read(&mut self, buf: &mut [u8]) -> Result<usize, EndError> {
-        match read_again(&mut self.stream, buf) {
+        match read_once(&mut self.stream, buf) {
             Ok(count) => Ok(count),
             Err(error) => Err(self.refuse(error)),
         }
     }
 
     fn write(&mut self, piece: &[u8]) -> Result<usize, EndError> {
-        match write_again(&mut self.stream, piece) {
+        match write_once(&mut self.stream, piece) {
             Ok(count) => Ok(count),
             Err(error) => Err(self.refuse(error)),
         }

@@ -1,5 +1,4 @@
-use Rattle.std.proofs.Common.{ap, Some, rules, ◌≡◌, ◌∙◌}
-use Rattle.mm_base.specs.MemLink.{MemLinkState}
+use Rattle.std.proofs.Common.{ap, Some, rules, ◌≡◌}
 use Rattle.mm_base.specs.Link.{read_begun}
 use Rattle.mm_base.proofs.LinkLemmas.{bytes_at, moved-bytes_at}
 use Rattle.mm_base.proofs.mem_link.MemLinkLink.read.Goals as goal
