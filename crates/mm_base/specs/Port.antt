@@ -16,8 +16,8 @@ pub record PortView (C : Type 0) : Type 0 where
   -- whether it never fails, whatever is asked of it
   pub never_fails : Bool
 
--- What every call keeps: the faults never fall, those of a port that never fails stand still, and a port that is drained
--- stays so.
+-- What every call keeps: the faults never fall, those of a port that never fails stand still, and a port that is
+-- drained stays so.
 pub record KeepsPort {C : Type 0} (old new : PortView C) : Type 0 where
   pub counts : CountsFaults (λ (p : PortView C). p.faults) (λ (p : PortView C). p.never_fails) old new
   pub stays : old.drained ≡ true → new.drained ≡ true

@@ -13,20 +13,21 @@ pub trait Link {
     /// What the link tells, and its count of faults.
     ghost view: { Self → LinkView };
 
-    /// Takes bytes into the front of `buf`, and answers how many. None are taken only where `buf` is empty or the input
-    /// is at its end. The call may wait for the peer.
+    /// Takes bytes into the front of `buf`, and answers how many. None are taken only where `buf` is empty or the
+    /// input is at its end. The call may wait for the peer.
     ///
     /// `Failed` is counted as a fault. After a refusal no byte was taken.
     fn read(&mut self, buf: &mut [u8]) -> Result<usize, EndError>
         ensures within { IfOk result (λ n. n ≤ length buf.old) }
-        ensures front { IfOk result (λ n. IfSome (view self.old).told (λ l. (n ≤ length l.rest) × (take n buf.new ≡ take n l.rest))) }
+        ensures front { IfOk result (λ n. IfSome (view self.old).told
+            (λ l. (n ≤ length l.rest) × (take n buf.new ≡ take n l.rest))) }
         ensures end { IfOk result (λ n. n ≡ 0 → 0 < length buf.old → IfSome (view self.old).told (λ l. l.rest ≡ [])) }
         ensures told { (view self.new).told ≡ option_map (after_read result) (view self.old).told }
         ensures counts { CountsLinkFaults (view self.old) (view self.new) }
         ensures failed_cause { IsErrOf result EndError.Failed → Rose (view self.old).faults (view self.new).faults };
 
-    /// Gives bytes of the front of `piece`, and answers how many: at least one, where `piece` isn't empty. The call may
-    /// wait for the peer.
+    /// Gives bytes of the front of `piece`, and answers how many: at least one, where `piece` isn't empty. The call
+    /// may wait for the peer.
     ///
     /// `Failed` is counted as a fault. After a refusal nothing was given.
     fn write(&mut self, piece: &[u8]) -> Result<usize, EndError>
@@ -36,8 +37,8 @@ pub trait Link {
         ensures counts { CountsLinkFaults (view self.old) (view self.new) }
         ensures failed_cause { IsErrOf result EndError.Failed → Rose (view self.old).faults (view self.new).faults };
 
-    /// Says that nothing further will be given, so that the peer learns of the end at once. It changes nothing that the
-    /// link tells, and isn't counted where it fails.
+    /// Says that nothing further will be given, so that the peer learns of the end at once. It changes nothing that
+    /// the link tells, and isn't counted where it fails.
     fn close_output(&mut self)
         ensures { view self.new ≡ view self.old };
 }

@@ -10,8 +10,8 @@ use crate::{Bytes, EndError, Link, ReadStart};
 use std::alloc::Global;
 use std::marker::Model;
 
-/// A link in memory. It tells its bytes, counts its calls of `read` and `write` from 1, and fails exactly those that its
-/// list names.
+/// A link in memory. It tells its bytes, counts its calls of `read` and `write` from 1, and fails exactly those that
+/// its list names.
 #[derive(Drop)]
 pub struct MemLink {
     input: Bytes,
@@ -43,7 +43,8 @@ impl Model for MemLink {
 }
 
 impl MemLink {
-    /// A link with this input, of which a read gives at most so many bytes, and whose calls of these numbers are to fail.
+    /// A link with this input, of which a read gives at most `most` bytes, and whose calls of these numbers are to
+    /// fail.
     pub fn new(alloc: Global, input: Bytes, most: usize, fails: Vec<u64>) -> Self
         requires { 1 ≤ most }
         ensures { result ≡ record {
@@ -81,7 +82,8 @@ impl Link for MemLink {
         ensures call { IsLinkCall self.old self.new result }
         ensures exact { IfOk result (λ n. n ≡ read_count self.old buf.old) }
         ensures within { IfOk result (λ n. n ≤ length buf.old) }
-        ensures front { IfOk result (λ n. (n ≤ length self.old.bytes.rest) × (take n buf.new ≡ take n self.old.bytes.rest)) }
+        ensures front { IfOk result
+            (λ n. (n ≤ length self.old.bytes.rest) × (take n buf.new ≡ take n self.old.bytes.rest)) }
         ensures end { IfOk result (λ n. n ≡ 0 → 0 < length buf.old → self.old.bytes.rest ≡ []) }
         ensures told { Some self.new.bytes ≡ option_map (after_read result) (Some self.old.bytes) }
         ensures counts { CountsLinkFaults (mem_link_view self.old) (mem_link_view self.new) }

@@ -1,5 +1,5 @@
 // A port in memory, which fails by a list.
-ghost use Rattle.std.specs.Prelude.{◌≡◌, ◌≤◌, ◌+◌, ◌∷◌, [], true, Some, IfOk, OnErr, IfSome, IfNone, IsErrOf, MatchOption};
+ghost use Rattle.std.specs.Prelude.{◌≡◌, ◌+◌, ◌∷◌, [], true, Some, IfOk, OnErr, IfSome, IfNone, IsErrOf, MatchOption};
 ghost use Rattle.mm_base.specs.Counts.{Rose};
 ghost use Rattle.mm_base.specs.Link.{IsFresh};
 ghost use Rattle.mm_base.specs.MemLink.{mem_link_view, IsUnused};
@@ -12,8 +12,8 @@ use std::alloc::Global;
 use std::collections::VecDeque;
 use std::marker::Model;
 
-/// A port in memory, which gives links in memory in their order. It tells its finished links, counts its calls from 1, and
-/// fails exactly those that its list names. It is drained where no link is left.
+/// A port in memory, which gives links in memory in their order. It tells its finished links, counts its calls from 1,
+/// and fails exactly those that its list names. It is drained where no link is left.
 #[derive(Drop)]
 pub struct MemPort {
     waiting: VecDeque<MemLink>,
@@ -46,7 +46,14 @@ impl MemPort {
     /// A port that gives these links, on which no call was made, and whose calls of these numbers are to fail.
     pub fn new(alloc: Global, links: Vec<MemLink>, fails: Vec<u64>) -> Self
         requires { AllUnused links.items }
-        ensures { result ≡ record { waiting = links.items; finished = []; accepted = 0; fails = fails.items; calls = 0; faults = 0 } }
+        ensures { result ≡ record {
+          waiting = links.items;
+          finished = [];
+          accepted = 0;
+          fails = fails.items;
+          calls = 0;
+          faults = 0;
+        } }
     {
         MemPort {
             waiting: VecDeque::from(links),
@@ -100,7 +107,9 @@ impl Port for MemPort {
 
     fn accept(&mut self) -> Result<Option<MemLink>, EndError>
         ensures call { IsPortCall self.old self.new result }
-        ensures next { IfOk result (λ o. MatchOption o ((self.old.waiting ≡ []) × (self.new.waiting ≡ [])) (λ link. self.old.waiting ≡ link ∷ self.new.waiting)) }
+        ensures next { IfOk result (λ o. MatchOption o
+            ((self.old.waiting ≡ []) × (self.new.waiting ≡ []))
+            (λ link. self.old.waiting ≡ link ∷ self.new.waiting)) }
         ensures ok { IfOk result (λ o. MatchOption o
             ((self.new.accepted ≡ self.old.accepted) × ((mem_port_view self.new).drained ≡ true))
             (λ conn. (self.new.accepted ≡ self.old.accepted + 1) × IsFresh (mem_link_view conn))) }

@@ -1,7 +1,8 @@
 // Who works when threads run beside each other.
 use std::sync::Wait;
 
-/// Who takes a turn. Shells are counted from 1, outermost first, and connections from 1 in the order in which they came.
+/// Who takes a turn. Shells are counted from 1, outermost first, and connections from 1 in the order in which they
+/// came.
 #[derive(Clone, Copy, Debug, PartialEq, Eq)]
 pub enum Role {
     Source,

@@ -34,8 +34,8 @@ impl TcpLink {
         TcpLink { stream, faults: 0 }
     }
 
-    // Ends the connection once the peer has ended its side, or says nothing for a second. What it still says is let go:
-    // a socket that is closed with bytes unread takes back what the peer hasn't read yet.
+    // Ends the connection once the peer has ended its side, or says nothing for a second. What it still says is let
+    // go: a socket that is closed with bytes unread takes back what the peer hasn't read yet.
     pub fn end(self) {
         let mut stream = self.stream;
         let _ = stream.shutdown(Shutdown::Write);

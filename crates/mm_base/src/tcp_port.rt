@@ -10,8 +10,8 @@ use std::net::{Ipv4Addr, Net, SocketAddr, TcpListener, TcpStream};
 const TRIES: u64 = u64::MAX;
 
 /// A port of TCP at the address 127.0.0.1. It tells no content, and is never drained. Each error but want of memory is
-/// counted as a fault: a port that can't be had, an `accept` before `listen`, or one more connection than a `u64` counts.
-/// A client that goes away before it is accepted is passed over.
+/// counted as a fault: a port that can't be had, an `accept` before `listen`, or one more connection than a `u64`
+/// counts. A client that goes away before it is accepted is passed over.
 #[derive(Drop)]
 pub struct TcpPort<R: Net<Stream = TcpStream, Listener = TcpListener> + Drop> {
     rt: R,
@@ -76,7 +76,13 @@ impl<R: Net<Stream = TcpStream, Listener = TcpListener> + Drop> TcpPort<R> {
 impl<R: Net<Stream = TcpStream, Listener = TcpListener> + Drop> Port for TcpPort<R> {
     type Conn = TcpLink;
 
-    ghost view = { λ p. record { finished = None; accepted = p.accepted; drained = false; faults = p.faults; never_fails = false } };
+    ghost view = { λ p. record {
+      finished = None;
+      accepted = p.accepted;
+      drained = false;
+      faults = p.faults;
+      never_fails = false;
+    } };
 
     fn listen(&mut self, number: u16) -> Result<(), EndError> {
         match self
