@@ -34,7 +34,7 @@ two_numbers sign m n k other short short' short'' =
     (ap (λ b. b && is_one_line (decimal n ++ 32 ∷ decimal k)) other
     ∙ is_one_line-append (decimal n) (32 ∷ decimal k) (is_one_line-decimal n (omega arith)) (is_one_line-decimal k (omega arith)))
 
-is_one_line-line_of : (e : Entry) → IsEntry e → is_one_line (line_of e) ≡ true
+pub is_one_line-line_of : (e : Entry) → IsEntry e → is_one_line (line_of e) ≡ true
 is_one_line-line_of (Arrival moment size) is = one_number 43 moment size refl is.0 (omega (arith, is.2))
 is_one_line-line_of (Opportunity moment bytes) is = one_number 35 moment bytes refl is.0 (omega (arith, is.2))
 is_one_line-line_of (Departure moment size delay) is = two_numbers 45 moment size delay refl is.0 (omega (arith, is.2)) (omega (arith, is.0, is.3))
@@ -115,7 +115,7 @@ by_header first rest same =
 pub after_header : (text first rest : List ℕ) → parts_of text ≡ first ∷ parts_of rest → first ≡ header → log_fault text ≡ first_fault 2 0 (parts_of rest)
 after_header text first rest parts same = ap fault_by_parts parts ∙ by_header first rest ((bytes_eq-Decides first header).1 same)
 
-from_zero : (es : List Entry) → AreFrom 0 es
+pub from_zero : (es : List Entry) → AreFrom 0 es
 from_zero [] = tt
 from_zero (e ∷ es) = (omega arith, from_zero es)
 
@@ -174,56 +174,6 @@ log_text_more es e rest =
         append_assoc (line_of d ++ 10 ∷ []) (lines_text es) (line_of e ++ 10 ∷ rest)
         ∙ ap (λ (l : List ℕ). (line_of d ++ 10 ∷ []) ++ l) (lines_more es e rest)
         ∙ sym (append_assoc (line_of d ++ 10 ∷ []) (lines_text (es ++ e ∷ [])) rest)
-
--- a text by its first line and what follows
-pub text_of-parts : (text line rest : List ℕ) → parts_of text ≡ line ∷ parts_of rest → text ≡ line ++ 10 ∷ rest
-text_of-parts text line rest parts =
-    sym (join_with_byte-slice_split 10 text) ∙ ap (join_with_byte 10) parts ∙ joined line rest
-  where
-    joined : (line rest : List ℕ) → join_with_byte 10 (line ∷ parts_of rest) ≡ line ++ 10 ∷ rest
-    joined line rest =
-        let some = some_part rest in
-        let Goal : List (List ℕ) → Type 0 = λ ps. join_with_byte 10 (line ∷ ps) ≡ line ++ 10 ∷ join_with_byte 10 ps in
-        subst Goal (sym some.2) refl ∙ ap (λ (l : List ℕ). line ++ 10 ∷ l) (join_with_byte-slice_split 10 rest)
-
--- what was read so far: the first line
-pub header_read : (text first rest : List ℕ) (es : List Entry) → es ≡ [] → parts_of text ≡ first ∷ parts_of rest → first ≡ header → text ≡ log_text es ++ rest
-header_read text first rest es none parts same =
-    text_of-parts text first rest parts ∙ ap (λ (l : List ℕ). l ++ 10 ∷ rest) same ∙ ap (λ (l : List Entry). log_text l ++ rest) (sym none)
-
-pub header_fault : (text first rest : List ℕ) (es : List Entry) → es ≡ [] → parts_of text ≡ first ∷ parts_of rest → first ≡ header
-    → first_fault (length es + 2) 0 (parts_of rest) ≡ log_fault text
-header_fault text first rest es none parts same = ap (λ (l : List Entry). first_fault (length l + 2) 0 (parts_of rest)) none ∙ sym (after_header text first rest parts same)
-
--- and one line more
-pub line_read : (text line rest after : List ℕ) (es es' : List Entry) (e : Entry) → text ≡ log_text es ++ rest → parts_of rest ≡ line ∷ parts_of after
-    → entry_of line ≡ Some e → es' ≡ es ++ e ∷ [] → text ≡ log_text es' ++ after
-line_read text line rest after es es' e read parts said more =
-    read
-    ∙ ap (λ (l : List ℕ). log_text es ++ l) (text_of-parts rest line after parts)
-    ∙ ap (λ (l : List ℕ). log_text es ++ (l ++ 10 ∷ after)) (sym (line_of-entry_of line e said).0)
-    ∙ log_text_more es e after
-    ∙ ap (λ (l : List Entry). log_text l ++ after) (sym more)
-
-pub line_fault : (text line rest after : List ℕ) (low m : ℕ) (es es' : List Entry) (e : Entry) → first_fault (length es + 2) low (parts_of rest) ≡ log_fault text
-    → parts_of rest ≡ line ∷ parts_of after → entry_of line ≡ Some e → low ≤ moment_of e → m ≡ moment_of e → es' ≡ es ++ e ∷ []
-    → first_fault (length es' + 2) m (parts_of after) ≡ log_fault text
-line_fault text line rest after low m es es' e exact parts said le at more =
-    let count : length es' + 2 ≡ length es + 2 + 1 = let long = length-append es (e ∷ []) in let same = ap length more in omega arith in
-    ap (λ (n : ℕ). first_fault n m (parts_of after)) count
-    ∙ ap (λ (n : ℕ). first_fault (length es + 2 + 1) n (parts_of after)) at
-    ∙ sym (accepted (length es + 2) low line after e said le)
-    ∙ ap (first_fault (length es + 2) low) (sym parts)
-    ∙ exact
-
-pub refused_text : (text line rest after : List ℕ) (number low : ℕ) (fault : LogError) → first_fault number low (parts_of rest) ≡ log_fault text
-    → parts_of rest ≡ line ∷ parts_of after → fault_of number low (entry_of line) ≡ Some fault → log_fault text ≡ Some fault
-refused_text text line rest after number low fault exact parts is =
-    sym exact ∙ ap (first_fault number low) parts ∙ refused_line number low line after fault is
-
-pub up_to_later : (low m : ℕ) (es : List Entry) → low ≤ m → AreUpTo low es → AreUpTo m es
-up_to_later low m [] le is = tt
-up_to_later low m (e ∷ es) le is = (omega (arith, is.0), up_to_later low m es le is.1)
 
 -- what the call answers
 pub every_text : (text : List ℕ) (result : Result LogView LogError)

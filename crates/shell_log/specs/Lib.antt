@@ -3,3 +3,5 @@ pub mod View
 pub mod Words
 pub mod LogText
 pub mod Reading
+pub mod LogParts
+pub mod LogTexts

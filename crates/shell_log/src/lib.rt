@@ -8,8 +8,11 @@ mod printing;
 mod reading;
 #[cfg(test)]
 mod tests;
+mod text;
+mod whole_line;
 
 pub use entry::Entry;
 pub use log::Log;
 pub use printing::{HEADER, print_log};
 pub use reading::{LogError, read_log};
+pub use text::LogText;

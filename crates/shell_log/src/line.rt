@@ -1,26 +1,18 @@
 // One line of a log, read.
-ghost use Rattle.std.specs.Prelude.{◌≡◌, ◌<◌, ◌≤◌, ◌==◌, ◌∷◌, [], Option, MatchOption, IfSome, IfNone, All, false, position, length};
-ghost use Rattle.shell_log.specs.Words.{parts_of};
+ghost use Rattle.std.specs.Prelude.{◌≡◌, ◌∷◌, ◌++◌, true, MatchOption};
+ghost use Rattle.mm_base.specs.Lines.{is_one_line};
 ghost use Rattle.shell_log.specs.Reading.{arrival_of, opportunity_of, departure_of, drop_of, entry_of};
 
 use crate::Entry;
+use memchr::memchr;
 use mm_base::{read_canonical, split_word};
 
-// The place of the first line feed.
-fn line_end(text: &[u8]) -> Option<usize>
-    ensures place { result ≡ position (λ byte. byte == 10) text.now }
-    ensures within { IfSome result (λ end. end < length text.now) }
-    ensures none { IfNone result (All (λ byte. (byte == 10) ≡ false) text.now) }
+// What stands before the first line feed, and what follows it. None where there is no line feed.
+pub(crate) fn cut_line(text: &[u8]) -> Option<(&[u8], &[u8])>
+    ensures { MatchOption result (is_one_line text.now ≡ true)
+        (λ cut. (text.now ≡ cut.0.now ++ 10 ∷ cut.1.now) × (is_one_line cut.0.now ≡ true)) }
 {
-    text.iter().position(|byte| *byte == b'\n')
-}
-
-// The first line with its line feed taken off, and what follows it; None where no line feed is left.
-pub(crate) fn split_line(text: &[u8]) -> Option<(&[u8], &[u8])>
-    ensures parts { MatchOption result (parts_of text.now ≡ text.now ∷ []) (λ cut. parts_of text.now ≡ cut.0.now ∷ parts_of cut.1.now) }
-    ensures shorter { IfSome result (λ cut. length cut.1.now < length text.now) }
-{
-    match line_end(text) {
+    match memchr(b'\n', text) {
         Some(end) => Some((&text[..end], &text[end + 1..])),
         None => None,
     }

@@ -6,8 +6,7 @@ ghost use Rattle.shell_log.specs.Entries.{IsEntry, IsLog, moment_of};
 ghost use Rattle.shell_log.specs.LogText.{log_text};
 ghost use Rattle.shell_log.specs.Reading.{entry_of, fault_of, log_fault};
 
-use crate::line::{read_entry, split_line};
-use crate::{Entry, Log};
+use crate::{Log, LogText};
 use mm_base::OutOfMemory;
 use std::alloc::Global;
 
@@ -75,28 +74,16 @@ fn read_text(alloc: Global, text: &[u8]) -> Result<Log, LogError>
     ensures exact { MatchResult result (λ _. log_fault text.now ≡ None)
         (λ e. e ≢ LogError.OutOfMemory → log_fault text.now ≡ Some e) }
 {
-    let Some((first, after)) = split_line(text) else {
-        return Err(LogError::BadHeader);
-    };
-    if first != b"# base timestamp: 0".as_slice() {
-        return Err(LogError::BadHeader);
-    }
     let mut log = Log::new(alloc);
-    log.reserve(most_entries(after))?;
-    let mut rest = after;
-    let mut low = 0;
-    'lines: while let Some((line, after)) = split_line(rest) {
-        let entry = next_entry(log.entries().len() as u64 + 2, low, line)?;
+    log.reserve(most_entries(text))?;
+    let mut reader = LogText::new(alloc);
+    let mut rest = text;
+    'entries: while let Some((entry, after)) = reader.next(rest) {
         log.reserve(1)?;
         log.add(entry);
-        low = entry.moment();
         rest = after;
     }
-    if !rest.is_empty() {
-        return Err(LogError::BadLine {
-            line: log.entries().len() as u64 + 2,
-        });
-    }
+    reader.finish()?;
     Ok(log)
 }
 
@@ -104,21 +91,4 @@ fn read_text(alloc: Global, text: &[u8]) -> Result<Log, LogError>
 fn most_entries(text: &[u8]) -> usize {
     let line_feeds = text.iter().filter(|byte| **byte == b'\n').count();
     line_feeds.min(text.len() / 6)
-}
-
-// The entry of a line with this number, where the line before has this moment.
-#[tactic(auto, using(crate::proofs::LineLaws::entry_in_range))]
-fn next_entry(number: u64, low: u64, line: &[u8]) -> Result<Entry, LogError>
-    ensures said { IfOk result (λ e. entry_of line.now ≡ Some e) }
-    ensures order { IfOk result (λ e. low ≤ moment_of e) }
-    ensures entry { IfOk result IsEntry }
-    ensures fault { MatchResult result (λ _. fault_of number low (entry_of line.now) ≡ None) (λ e. fault_of number low (entry_of line.now) ≡ Some e) }
-{
-    let Some(entry) = read_entry(line) else {
-        return Err(LogError::BadLine { line: number });
-    };
-    if entry.moment() < low {
-        return Err(LogError::Backwards { line: number });
-    }
-    Ok(entry)
 }

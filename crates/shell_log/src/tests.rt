@@ -1,5 +1,5 @@
 // Logs read and printed.
-use crate::{Entry, Log, LogError, print_log, read_log};
+use crate::{Entry, Log, LogError, LogText, print_log, read_log};
 use std::alloc::Global;
 use std::marker::{Send, Sync};
 use std::test::Fail;
@@ -60,4 +60,46 @@ fn a_log_is_printed_and_read(rt: HostRuntime) -> Result<(), Fail> {
         b"# base timestamp: 0\n5 # 1504\n".as_slice()
     );
     Ok(())
+}
+
+// The refusal of a text that is read in pieces of so many bytes, and how many entries were handed on.
+fn refusal_in_pieces(alloc: Global, text: &[u8], size: usize) -> (u64, Option<LogError>) {
+    let mut reader = LogText::new(alloc);
+    let mut count = 0u64;
+    for piece in text.chunks(size.max(1)) {
+        let mut rest = piece;
+        'entries: while let Some((_, after)) = reader.next(rest) {
+            count = count.saturating_add(1);
+            rest = after;
+        }
+    }
+    (count, reader.finish().err())
+}
+
+#[test]
+fn a_text_is_read_in_any_pieces(rt: HostRuntime) {
+    let longest = b"# base timestamp: 0\n0 + 1\n9999999999 d 9999999999 9999999999\n".as_slice();
+    let table = [
+        (longest, 2, None),
+        (
+            b"# base timestamp: 0\n5 + 100\n4 # 1504\n9 + 1\n".as_slice(),
+            1,
+            Some(LogError::Backwards { line: 3 }),
+        ),
+        (
+            b"# base timestamp: 0\n5 + 100\n6 + 00000000000000000000000000000000000001".as_slice(),
+            1,
+            Some(LogError::BadLine { line: 3 }),
+        ),
+        (
+            b"# base timestamp: 00000000000000000000000".as_slice(),
+            0,
+            Some(LogError::BadHeader),
+        ),
+    ];
+    for (text, entries, want) in table {
+        for size in [1, 2, 7, 64] {
+            assert_eq!(rt; refusal_in_pieces(rt.alloc(), text, size), (entries, want));
+        }
+    }
 }

@@ -1,0 +1,14 @@
+-- What contracts see of a log that is read piece by piece.
+use Rattle.std.specs.Prelude.{◌≡◌, ◌≤◌, ◌<◌, ◌^◌, true, length}
+use Rattle.mm_base.specs.Lines.{is_one_line}
+use Rattle.shell_log.specs.LogParts.{LogPart}
+use Rattle.shell_log.specs.declared.text.LogText.TheInside.{Inside}
+
+abbrev pub text_view : Inside → LogPart
+text_view t = record { has_begun = t.has_begun; entries = t.entries; last = t.last; refused = t.refused; kept = t.kept }
+
+-- what is kept is of one line, and at most the longest that says something; lines can be counted
+pub record CanRead (t : Inside) : Type 0 where
+  pub one_line : is_one_line t.kept ≡ true
+  pub short : length t.kept ≤ 34
+  pub few : t.entries ≤ 2 ^ 63
