@@ -132,3 +132,25 @@ link_floor_rises os h b bound r a lt =
 -- every opportunity up to the horizon counts at it
 pub link_all_at_horizon : (os : List Opportunity) (h : ℕ) → Each (λ o. o.moment ≤ h) os → count_to os h ≡ length os
 link_all_at_horizon os h a = ap length (up_to_all h os a)
+
+-- where all opportunities up to the bound are burnt, the floor isn't below it
+pub link_floor_from : (os : List Opportunity) (h b bound : ℕ) → AreRising os → bound ≤ h + 1 → count_to os bound ≤ b → bound ≤ floor_of os h b
+link_floor_from os h b bound r le all = elim (cases_lt b (length os)) [
+  | inl some ↦
+      let after = some_at os b some in
+      let e = floor_at os h b after.0 after.1 in
+      let late = each_get (λ o. bound < o.moment) (count_to os bound) b os after.0 (counted bound os r).1 all after.1 in
+      omega arith
+  | inr past ↦ let e = floor_past os h b (slice_get_past os b past) in omega arith
+]
+
+-- and it is above a bound up to the horizon
+pub link_floor_above : (os : List Opportunity) (h b bound : ℕ) → AreRising os → bound ≤ h → count_to os bound ≤ b → bound < floor_of os h b
+link_floor_above os h b bound r le all = elim (cases_lt b (length os)) [
+  | inl some ↦
+      let after = some_at os b some in
+      let e = floor_at os h b after.0 after.1 in
+      let late = each_get (λ o. bound < o.moment) (count_to os bound) b os after.0 (counted bound os r).1 all after.1 in
+      omega arith
+  | inr past ↦ let e = floor_past os h b (slice_get_past os b past) in omega arith
+]

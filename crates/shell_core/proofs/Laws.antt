@@ -11,11 +11,12 @@ use Rattle.loss_core.proofs.LossLaws.{passed-append, from-passed, up_to-passed, 
 use Rattle.trace_reader.specs.Opps.{opps}
 use Rattle.trace_reader.proofs.OppsLaws.{opps_rising}
 use Rattle.link_core.proofs.LinkLaws.{link_out_fed, link_out_burnt, link_log_fed, link_log_burnt}
-use Rattle.link_core.proofs.FloorLaws.{link_out_rises, link_out_within, link_out_up_to, link_floor_within, link_floor_grows, link_floor_rises, link_all_at_horizon}
+use Rattle.link_core.proofs.FloorLaws.{link_out_rises, link_out_within, link_out_up_to, link_floor_within, link_floor_grows, link_floor_rises, link_floor_from, link_floor_above, link_all_at_horizon}
 use Rattle.shell_core.specs.declared.spec.DirSpec.{DirSpec}
 use Rattle.shell_core.specs.declared.spec.DirSpec.TheVariants.{Pass, Delay, Loss, Link}
 use Rattle.link_core.specs.Promises.{count_to, AreCovered, Extends}
 use Rattle.shell_core.specs.Shells.{IsBuilt, opportunities, out, shell_log, floor}
+use Rattle.shell_core.specs.Wholes.{IsLink}
 use Rattle.shell_core.proofs.Counting.{opps_within}
 use Rattle.delay_core.proofs.Delaying.{delayed-append, from-delayed, up_to-delayed, within-delayed, rise-delayed}
 
@@ -94,6 +95,22 @@ floor_rises (Delay ms) h b bound i lt = absurd (omega arith)
 floor_rises (Loss rate seed stream) h b bound i lt = absurd (omega arith)
 floor_rises (Link trace once queue) h b bound i lt =
     link_floor_rises (opps trace.opportunities once h) h b bound (opps_rising trace once h i) (opps_within trace.opportunities once h) lt
+
+-- where all opportunities up to the bound are burnt, the floor isn't below it
+pub floor_from : (c : DirSpec) (h b bound : ℕ) → IsBuilt c → bound ≤ h + 1 → count_to (opportunities c h) bound ≤ b → bound ≤ floor c h b bound
+unfolding floor opportunities
+floor_from Pass h b bound i le all = omega arith
+floor_from (Delay ms) h b bound i le all = omega arith
+floor_from (Loss rate seed stream) h b bound i le all = omega arith
+floor_from (Link trace once queue) h b bound i le all = link_floor_from (opps trace.opportunities once h) h b bound (opps_rising trace once h i) le all
+
+-- and a link's is above a bound up to the horizon
+pub floor_above : (c : DirSpec) (h b bound : ℕ) → IsBuilt c → IsLink c → bound ≤ h → count_to (opportunities c h) bound ≤ b → bound < floor c h b bound
+unfolding floor opportunities
+floor_above Pass h b bound i link le all = absurd link
+floor_above (Delay ms) h b bound i link le all = absurd link
+floor_above (Loss rate seed stream) h b bound i link le all = absurd link
+floor_above (Link trace once queue) h b bound i link le all = link_floor_above (opps trace.opportunities once h) h b bound (opps_rising trace once h i) le all
 
 -- every opportunity up to the horizon counts at it
 pub all_at_horizon : (c : DirSpec) (h : ℕ) → count_to (opportunities c h) h ≡ length (opportunities c h)

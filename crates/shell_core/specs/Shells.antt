@@ -76,5 +76,8 @@ whole_out c h arrivals = out c h (length (opportunities c h)) arrivals
 abbrev pub whole_lost : DirSpec → ℕ → List Timed → List Timed
 whole_lost c h arrivals = lost c h (length (opportunities c h)) arrivals
 
+abbrev pub whole_inside : DirSpec → ℕ → List Timed → List Timed
+whole_inside c h arrivals = inside c h (length (opportunities c h)) arrivals
+
 abbrev pub whole_log : DirSpec → ℕ → List Timed → List Entry
 whole_log c h arrivals = shell_log c h (length (opportunities c h)) arrivals

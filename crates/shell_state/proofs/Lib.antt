@@ -5,3 +5,4 @@ pub mod FrontLemmas
 pub mod Answering
 pub mod Progress
 pub mod Causing
+pub mod GoingOn

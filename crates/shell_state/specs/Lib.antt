@@ -2,6 +2,7 @@ pub mod States
 pub mod Steps
 pub mod Standing
 pub mod Causes
+pub mod Promises
 pub mod Fronts
 pub mod Inside
 pub mod StateInside

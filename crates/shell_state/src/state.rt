@@ -1,13 +1,14 @@
 // One direction of a shell, between what was fed and what was taken.
 ghost use Rattle.std.specs.Prelude.{◌≡◌, ◌⊎◌, ◌≤◌, length, map, true, false, OnOk, OnErr, IfOk};
 ghost use Rattle.packet_record.specs.Streams.{MayFollow, IsUpTo};
-ghost use Rattle.packet_record.specs.declared.item.FlowEnd.TheVariants.{Open};
+ghost use Rattle.packet_record.specs.declared.item.FlowEnd.TheVariants.{Open, Ended};
 ghost use Rattle.packet_record.specs.Takes.{IsPacket};
 ghost use Rattle.shell_core.specs.Shells.{IsInRange, opportunities, lost, inside, shell_log};
 ghost use Rattle.shell_state.specs.States.{new_state};
 ghost use Rattle.shell_state.specs.Steps.{after_feed, after_take, after_break, answer_of};
 ghost use Rattle.shell_state.specs.Standing.{Stands, ForetellsAll};
 ghost use Rattle.shell_state.specs.Causes.{HasCauses};
+ghost use Rattle.shell_state.specs.Promises.{KeepsUp, ForetellsMore, GoesOn, IsFinished};
 
 use crate::front::Front;
 use crate::parts;
@@ -170,6 +171,19 @@ impl ShellState {
     pub fn stands(&self)
         ensures stands { Stands self.now }
         ensures foretells { ForetellsAll self.now }
+    {
+        let _ = &self.broken;
+    }
+
+    /// What every state promises of what is still to come, for its callers. The floor keeps up with what was fed.
+    /// What was taken stands for whatever packets may still be fed. Each feed, and each take that doesn't answer
+    /// `NotYet`, leaves less to be done. A state that was taken to its end has the lists of the whole shell. It does
+    /// nothing.
+    pub fn promises(&self)
+        ensures keeps_up { KeepsUp self.now }
+        ensures foretells { ForetellsMore self.now }
+        ensures goes_on { GoesOn self.now }
+        ensures finished { self.now.taken.end ≡ Ended → IsFinished self.now }
     {
         let _ = &self.broken;
     }
