@@ -32,11 +32,11 @@ fn a_whole_list_departs_up_to_the_horizon(rt: HostRuntime) -> Result<(), Fail> {
     packets.push(packet(1, 5)).map_err(AllocError::from)?;
     packets.push(packet(2, 80)).map_err(AllocError::from)?;
     packets.push(packet(3, 81)).map_err(AllocError::from)?;
-    let lists = delay_all(rt.alloc(), 20, 100, packets)?;
+    let held = delay_all(rt.alloc(), 20, 100, &mut packets)?;
     assert_eq!(rt;
-        lists.departed.as_slice(),
+        packets.as_slice(),
         [packet(1, 25), packet(2, 100)].as_slice()
     );
-    assert_eq!(rt; lists.held.as_slice(), [3].as_slice());
+    assert_eq!(rt; held.as_slice(), [3].as_slice());
     Ok(())
 }

@@ -1,30 +1,21 @@
 // A delay over the whole list of its arrivals.
-ghost use Rattle.std.specs.Prelude.{◌≡◌, ◌≤◌, length, map, take, drop, IfOk};
+ghost use Rattle.std.specs.Prelude.{◌≡◌, ◌≤◌, length, map, take, drop, IfOk, OnOk, OnErr};
 ghost use Rattle.packet_record.specs.Moments.{AreUpTo, Rise};
 ghost use Rattle.delay_core.specs.Delays.{later, delayed, kept_inside};
 
+use crate::rule::Rule;
 use mm_base::OutOfMemory;
 use packet_record::Timed;
 use std::alloc::Global;
 
-/// What a delay does with all that arrives.
-#[derive(Drop)]
-pub struct DelayLists {
-    /// The packets that depart up to the horizon, in order, each at the moment of its departure.
-    pub departed: Vec<Timed>,
-    /// The numbers of the packets that stay inside, in the order of their arrival.
-    pub held: Vec<u32>,
-}
-
 // How many packets depart up to the horizon: the first of them, since the moments rise.
-fn departing(ms: u64, horizon: u64, packets: &[Timed]) -> usize
-    requires horizon { horizon ≤ 3600000 }
-    requires rises { Rise packets.now }
+fn departing(rule: Rule, packets: &[Timed]) -> usize
+    requires { Rise packets.now }
     ensures bound { result ≤ length packets.now }
-    ensures departed { delayed ms horizon packets.now ≡ map (later ms) (take result packets.now) }
-    ensures held { kept_inside ms horizon packets.now ≡ drop result packets.now }
+    ensures departed { delayed rule.delay rule.until packets.now ≡ map (later rule.delay) (take result packets.now) }
+    ensures held { kept_inside rule.delay rule.until packets.now ≡ drop result packets.now }
 {
-    packets.partition_point(|t| t.moment.saturating_add(ms) <= horizon)
+    packets.partition_point(|t| rule.lets_out(t))
 }
 
 fn ids(alloc: Global, packets: &[Timed]) -> Result<Vec<u32>, OutOfMemory>
@@ -34,38 +25,40 @@ fn ids(alloc: Global, packets: &[Timed]) -> Result<Vec<u32>, OutOfMemory>
     Ok(ids)
 }
 
-fn postpone(ms: u64, packets: &mut [Timed])
-    requires ms { ms ≤ 3600000 }
-    requires within { AreUpTo 3600000 packets.old }
-    ensures { packets.new ≡ map (later ms) packets.old }
+// Each packet as it departs.
+fn let_out(rule: Rule, packets: &mut [Timed])
+    requires { AreUpTo 3600000 packets.old }
+    ensures { packets.new ≡ map (later rule.delay) packets.old }
 {
     for t in packets.iter_mut() {
-        t.moment += ms;
+        *t = rule.departure(*t);
     }
 }
 
 /// Delays all packets by so many milliseconds, in place: the list of arrivals becomes the list of departures up to
-/// the horizon. `OutOfMemory` is want of memory for the numbers of those that stay inside.
+/// the horizon. It answers the numbers of those that stay inside, in order. `OutOfMemory` is want of memory for these,
+/// and leaves the list as it was.
 pub fn delay_all(
     alloc: Global,
     ms: u64,
     horizon: u64,
-    packets: Vec<Timed>,
-) -> Result<DelayLists, OutOfMemory>
+    packets: &mut Vec<Timed>,
+) -> Result<Vec<u32>, OutOfMemory>
     requires ms { ms ≤ 3600000 }
     requires horizon { horizon ≤ 3600000 }
-    requires rises { Rise packets.items }
-    requires within { AreUpTo horizon packets.items }
-    ensures departed { IfOk result (λ r. r.departed.items ≡ delayed ms horizon packets.items) }
-    ensures held { IfOk result (λ r. r.held.items ≡ map (λ t. t.packet.id) (kept_inside ms horizon packets.items)) }
+    requires rises { Rise packets.old.items }
+    requires within { AreUpTo horizon packets.old.items }
+    ensures departed { OnOk result (packets.new.items ≡ delayed ms horizon packets.old.items) }
+    ensures held { IfOk result (λ held. held.items ≡ map (λ t. t.packet.id) (kept_inside ms horizon packets.old.items)) }
+    ensures err { OnErr result (packets.new.items ≡ packets.old.items) }
 {
-    let mut packets = packets;
-    let count = departing(ms, horizon, packets.as_slice());
+    let rule = Rule {
+        delay: ms,
+        until: horizon,
+    };
+    let count = departing(rule, packets.as_slice());
     let held = ids(alloc, &packets[count..])?;
     packets.truncate(count);
-    postpone(ms, packets.as_mut_slice());
-    Ok(DelayLists {
-        departed: packets,
-        held,
-    })
+    let_out(rule, packets.as_mut_slice());
+    Ok(held)
 }

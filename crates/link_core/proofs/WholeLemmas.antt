@@ -5,36 +5,26 @@ use Rattle.packet_record.specs.declared.packet.Timed.{Timed}
 use Rattle.packet_queue.specs.declared.spec.QueueSpec.{QueueSpec}
 use Rattle.trace_reader.specs.declared.opportunity.Opportunity.{Opportunity}
 use Rattle.link_core.specs.declared.parts.Parts.{Parts}
-use Rattle.link_core.specs.Links.{link_out, link_lost, link_log, link_inside}
+use Rattle.link_core.specs.Links.{link_log}
 use Rattle.link_core.specs.Written.{written}
-use Rattle.link_core.specs.State.{pending}
 use Rattle.link_core.specs.View.{span_opps}
 use Rattle.link_core.specs.Sound.{IsSound}
 use Rattle.link_core.specs.Play.{IsPlayed, all_arrivals}
-use Rattle.link_core.proofs.SeenLemmas.{seen_out, seen_lost, seen_log, seen_inside}
+use Rattle.link_core.proofs.SeenLemmas.{seen_log}
 
 module _ (c : Parts) (sound : IsSound c) (played : IsPlayed c) (q : QueueSpec) (os : List Opportunity) (ts : List Timed)
     (spec : c.line.queue.spec ≡ q) (opps : span_opps c.opportunities ≡ os) (arrivals : all_arrivals c ≡ ts) where
   burnt_is : take c.burnt (span_opps c.opportunities) ≡ os
   burnt_is = let all = played.all_burnt in take_all c.burnt (span_opps c.opportunities) (omega arith) ∙ opps
 
-  come_is : c.arrived.come ≡ ts
+  pub come_is : c.arrived.come ≡ ts
   come_is = sym (append-nil c.arrived.come) ∙ ap (λ (us : List Timed). c.arrived.come ++ us) (sym played.all_in) ∙ arrivals
 
-  along : {X : Type 0} (f : QueueSpec → List Opportunity → List Timed → X) → f c.line.queue.spec (take c.burnt (span_opps c.opportunities)) c.arrived.come ≡ f q os ts
+  pub along : {X : Type 0} (f : QueueSpec → List Opportunity → List Timed → X) → f c.line.queue.spec (take c.burnt (span_opps c.opportunities)) c.arrived.come ≡ f q os ts
   along f =
       ap (λ r. f r (take c.burnt (span_opps c.opportunities)) c.arrived.come) spec
       ∙ ap (λ (xs : List Opportunity). f q xs c.arrived.come) burnt_is
       ∙ ap (λ (us : List Timed). f q os us) come_is
-
-  pub whole_out : c.left.items ≡ link_out q os ts
-  whole_out = seen_out _ _ _ _ _ _ _ _ _ _ _ sound ∙ along link_out
-
-  pub whole_lost : c.line.queue.lost ≡ link_lost q os ts
-  whole_lost = seen_lost _ _ _ _ _ _ _ _ _ _ _ sound ∙ along link_lost
-
-  pub whole_inside : pending c.line.packet c.line.queue.packets ≡ link_inside q os ts
-  whole_inside = seen_inside _ _ _ _ _ _ _ _ _ _ _ sound ∙ along link_inside
 
   pub whole_log : c.log.entries ≡ written c.log.kept (link_log q os ts)
   whole_log = seen_log _ _ _ _ _ _ _ _ _ _ _ sound ∙ ap (written c.log.kept) (along link_log)

@@ -1,15 +1,17 @@
 // One direction of a link, as its callers see it.
-ghost use Rattle.std.specs.Prelude.{◌≡◌, ◌+◌, ◌-◌, ◌≤◌, ◌++◌, ◌∷◌, [], IsOk, length, map, slice_get, IfOk, OnOk, OnErr};
+ghost use Rattle.std.specs.Prelude.{◌≡◌, ◌+◌, ◌-◌, ◌<◌, ◌≤◌, ◌++◌, ◌∷◌, [], Some, IsOk, length, map, slice_get, IfOk, OnOk, OnErr};
 ghost use Rattle.std.specs.Option.{option_map};
 ghost use Prim.Native.Nat.{min};
-ghost use Rattle.packet_record.specs.Moments.{AreUpTo};
+ghost use Rattle.packet_record.specs.Moments.{AreUpTo, Rise};
 ghost use Rattle.trace_reader.specs.Opps.{opps};
+ghost use Rattle.link_core.specs.Links.{link_log};
 ghost use Rattle.link_core.specs.Promises.{count_to};
 ghost use Rattle.link_core.specs.Sound.{IsSound};
 ghost use Rattle.link_core.specs.View.{Link, opps_of, out_of, lost_of, log_of, inside_of, OnlyGoesOn};
 
 use crate::opportunities::Opportunities;
 use crate::parts::Parts;
+use crate::passage::Passage;
 use mm_base::OutOfMemory;
 use packet_queue::QueueSpec;
 use packet_record::Timed;
@@ -80,11 +82,13 @@ impl LinkCore {
         self.parts.arrive(t)
     }
 
-    /// Burns the next opportunities up to a bound, at most so many, and answers how many.
+    /// Burns the next opportunities up to a bound, at most so many, and answers how many. Where there is none it needs
+    /// no memory.
     pub fn burn(&mut self, bound: u64, most: u32) -> Result<u32, OutOfMemory>
         ensures count { IfOk result (λ n. n ≡ min most (count_to (opps_of self.old) bound - self.old.burnt)) }
         ensures ok { IfOk result (λ n. self.new ≡ record self.old { burnt = self.old.burnt + n }) }
         ensures err { OnErr result (self.new ≡ self.old) }
+        ensures due { OnErr result (self.old.burnt < count_to (opps_of self.old) bound) }
         ensures goes_on { OnlyGoesOn self.old self.new }
     {
         self.parts.burn(bound, most)
@@ -133,6 +137,19 @@ impl LinkCore {
         ensures { result.now ≡ self.now.arrivals }
     {
         self.parts.arrived.come()
+    }
+
+    /// Gives the link up for its lists, none of which is copied. Its log isn't written out: it is that of all arrivals,
+    /// with every opportunity up to the horizon. `OutOfMemory` is want of memory for the numbers of the packets inside.
+    pub fn into_passage(self) -> Result<Passage, OutOfMemory>
+        requires rises { Rise self.arrivals }
+        requires within { AreUpTo self.horizon self.arrivals }
+        ensures departed { IfOk result (λ p. p.departed.items ≡ out_of self) }
+        ensures lost { IfOk result (λ p. p.lost.items ≡ lost_of self) }
+        ensures held { IfOk result (λ p. p.held.items ≡ map (λ t. t.packet.id) (inside_of self)) }
+        ensures log { IfOk result (λ p. p.log ≡ Some (link_log self.queue (opps_of self) self.arrivals)) }
+    {
+        self.parts.into_passage(self.alloc)
     }
 
     /// How many opportunities are burnt.

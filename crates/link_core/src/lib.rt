@@ -11,6 +11,7 @@ mod line;
 mod link_log;
 mod opportunities;
 mod parts;
+mod passage;
 mod pieces;
 mod play;
 mod serving;
@@ -24,5 +25,6 @@ mod whole_tests;
 
 pub use direction::LinkCore;
 pub use link_log::LinkLog;
+pub use passage::Passage;
 pub use pieces::LogPieces;
-pub use whole::{LinkPassage, run_link};
+pub use whole::run_link;

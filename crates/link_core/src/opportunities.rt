@@ -1,5 +1,5 @@
 // The opportunities of a trace up to a horizon. They are counted and looked up, and never listed.
-ghost use Rattle.std.specs.Prelude.{◌≡◌, ◌≤◌, ◌<◌, Some, length, slice_get, IfSome};
+ghost use Rattle.std.specs.Prelude.{◌≡◌, ◌≤◌, ◌<◌, ◌↔◌, Some, IsTrue, length, slice_get, IfSome};
 ghost use Rattle.trace_reader.specs.Orders.{AreRising};
 ghost use Rattle.trace_reader.specs.Opps.{up_to, opps};
 ghost use Rattle.link_core.specs.View.{span_opps};
@@ -76,6 +76,17 @@ impl Opportunities {
             return None;
         }
         self.trace.opportunity(u64::from(j), self.once)
+    }
+
+    /// Whether there is an opportunity number `j`, counted from 0, at this moment or earlier. It takes no search.
+    pub fn is_due(&mut self, j: u32, moment: u64) -> bool
+        ensures due { IsTrue result ↔ (j < length (up_to moment (span_opps self.old))) }
+        ensures same { self.new ≡ self.old }
+    {
+        if j >= self.number {
+            return false;
+        }
+        self.take(j).moment <= moment
     }
 
     /// How many are at this moment or earlier, where those below number `j` are. Near `j` it takes no search.

@@ -182,7 +182,7 @@ impl Parts {
         Ok(())
     }
 
-    /// Burns the next up to a bound, at most so many, and answers how many.
+    /// Burns the next up to a bound, at most so many, and answers how many. Where none is due it needs no memory and no search.
     pub fn burn(&mut self, bound: u64, most: u32) -> Result<u32, OutOfMemory>
         ghost gone: { Gone }
         requires sound { IsSoundAfter gone self.old }
@@ -194,12 +194,13 @@ impl Parts {
         ensures count { IfOk result (λ n. n ≡ min most (length (up_to bound (span_opps self.old.opportunities)) - self.old.burnt)) }
         ensures burnt { IfOk result (λ n. self.new.burnt ≡ self.old.burnt + n) }
         ensures err { OnErr result (self.new.burnt ≡ self.old.burnt) }
+        ensures due { OnErr result (self.old.burnt < length (up_to bound (span_opps self.old.opportunities))) }
     {
-        let due = self
-            .opportunities
-            .count_to(bound)
-            .saturating_sub(self.burnt);
-        let count = due.min(most);
+        if !self.opportunities.is_due(self.burnt, bound) {
+            return Ok(0);
+        }
+        let due = self.opportunities.count_from(self.burnt, bound);
+        let count = (due - self.burnt).min(most);
         self.reserve(count as usize)?;
         self.burn_to(self.burnt + count);
         Ok(count)

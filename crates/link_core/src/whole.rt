@@ -1,32 +1,21 @@
 // A link over the whole list of its arrivals.
-ghost use Rattle.std.specs.Prelude.{◌≡◌, ◌≤◌, length, map, IfOk};
+ghost use Rattle.std.specs.Prelude.{◌≡◌, ◌≤◌, Some, [], length, map, take, IfOk};
 ghost use Rattle.packet_record.specs.Moments.{AreUpTo, Rise};
 ghost use Rattle.trace_reader.specs.Opps.{opps};
 ghost use Rattle.link_core.specs.Links.{link_out, link_lost, link_log, link_inside};
+ghost use Rattle.link_core.specs.View.{span_opps};
 ghost use Rattle.link_core.specs.Sound.{IsSound};
 ghost use Rattle.link_core.specs.Play.{IsPlayed, all_arrivals};
 
 use crate::link_log::LinkLog;
 use crate::opportunities::Opportunities;
 use crate::parts::Parts;
+use crate::passage::Passage;
 use mm_base::OutOfMemory;
 use packet_queue::QueueSpec;
 use packet_record::Timed;
 use std::alloc::Global;
 use trace_reader::Trace;
-
-/// What a link does with all its arrivals, and its log, which isn't written out.
-#[derive(Drop)]
-pub struct LinkPassage {
-    /// The packets that departed, in order, each at the moment of its departure.
-    pub departed: Vec<Timed>,
-    /// The packets that the queue dropped, in order, each at the moment of the arrival that dropped it.
-    pub lost: Vec<Timed>,
-    /// The numbers of the packets that neither departed nor were dropped, in order.
-    pub held: Vec<u32>,
-    /// What happened, in order.
-    pub log: LinkLog,
-}
 
 // A link after all its arrivals and opportunities.
 pub(crate) fn played(
@@ -52,6 +41,31 @@ pub(crate) fn played(
     Ok(parts)
 }
 
+impl Parts {
+    /// Gives a link's parts up for their lists, none of which is copied. The log isn't written out: it keeps the
+    /// arrivals, and is that of all of them with every opportunity. `OutOfMemory` is want of memory for the numbers of
+    /// the packets inside.
+    pub fn into_passage(self, alloc: Global) -> Result<Passage, OutOfMemory>
+        requires sound { IsSound self }
+        requires none { self.arrived.coming ≡ [] }
+        requires rises { Rise self.arrived.come }
+        requires within { AreUpTo self.opportunities.horizon self.arrived.come }
+        ensures departed { IfOk result (λ p. p.departed.items ≡ link_out self.line.queue.spec (take self.burnt (span_opps self.opportunities)) self.arrived.come) }
+        ensures lost { IfOk result (λ p. p.lost.items ≡ link_lost self.line.queue.spec (take self.burnt (span_opps self.opportunities)) self.arrived.come) }
+        ensures held { IfOk result (λ p. p.held.items ≡ map (λ t. t.packet.id) (link_inside self.line.queue.spec (take self.burnt (span_opps self.opportunities)) self.arrived.come)) }
+        ensures log { IfOk result (λ p. p.log ≡ Some (link_log self.line.queue.spec (span_opps self.opportunities) self.arrived.come)) }
+    {
+        let held = self.line.ids(alloc)?;
+        let queue = self.line.queue.spec();
+        Ok(Passage {
+            departed: self.left,
+            lost: self.line.queue.into_lost(),
+            held,
+            log: Some(LinkLog::of(alloc, self.opportunities, queue, self.arrived.into_list())),
+        })
+    }
+}
+
 /// Runs a link over all its arrivals, which are in order and up to the horizon, and burns every opportunity up to the
 /// horizon. No log is kept: it can be made again from the arrivals. `OutOfMemory` is want of memory.
 pub fn run_link(
@@ -61,7 +75,7 @@ pub fn run_link(
     queue: QueueSpec,
     horizon: u64,
     arrivals: Vec<Timed>,
-) -> Result<LinkPassage, OutOfMemory>
+) -> Result<Passage, OutOfMemory>
     requires horizon { horizon ≤ 3600000 }
     requires few { length (opps trace.opportunities once horizon) ≤ 16000000 }
     requires rises { Rise arrivals.items }
@@ -69,15 +83,9 @@ pub fn run_link(
     ensures departed { IfOk result (λ p. p.departed.items ≡ link_out queue (opps trace.opportunities once horizon) arrivals.items) }
     ensures lost { IfOk result (λ p. p.lost.items ≡ link_lost queue (opps trace.opportunities once horizon) arrivals.items) }
     ensures held { IfOk result (λ p. p.held.items ≡ map (λ t. t.packet.id) (link_inside queue (opps trace.opportunities once horizon) arrivals.items)) }
-    ensures log { IfOk result (λ p. p.log ≡ link_log queue (opps trace.opportunities once horizon) arrivals.items) }
+    ensures log { IfOk result (λ p. p.log ≡ Some (link_log queue (opps trace.opportunities once horizon) arrivals.items)) }
 {
     let opportunities = Opportunities::new(trace, once, horizon);
     let parts = played(alloc, opportunities, queue, false, arrivals)?;
-    let held = parts.line.ids(alloc)?;
-    Ok(LinkPassage {
-        departed: parts.left,
-        lost: parts.line.queue.into_lost(),
-        held,
-        log: LinkLog::of(alloc, parts.opportunities, queue, parts.arrived.into_list()),
-    })
+    parts.into_passage(alloc)
 }

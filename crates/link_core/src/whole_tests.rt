@@ -8,7 +8,7 @@ use crate::generated::{
 };
 use crate::slow::slow_link;
 use crate::tests::run;
-use crate::{LinkLog, LinkPassage, run_link};
+use crate::{LinkLog, Passage, run_link};
 use packet_queue::{QueueSpec, read_queue};
 use packet_record::Timed;
 use shell_log::Entry;
@@ -42,7 +42,7 @@ fn run_over(
     queue: QueueSpec,
     horizon: u64,
     packets: &[Timed],
-) -> Result<LinkPassage, Fail> {
+) -> Result<Passage, Fail> {
     if horizon > 3_600_000 || trace.count_to(horizon, once) > 16_000_000 {
         return Err(Fail::new("too long"));
     }
@@ -116,7 +116,7 @@ fn generated_wholes_are_as_the_slow_program_says(rt: HostRuntime) -> Result<(), 
 
 #[derive(Drop)]
 struct Both {
-    whole: LinkPassage,
+    whole: Passage,
     departed: Vec<Timed>,
     held: Vec<u32>,
     log: Vec<Entry>,

@@ -10,5 +10,5 @@ mod words;
 
 pub use loss::LossCore;
 pub use rate::{Rate, RateError, read_rate};
-pub use whole::{LossLists, lose_all};
+pub use whole::lose_all;
 pub use words::{ChaWords, ListWords, Words};

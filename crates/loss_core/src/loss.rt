@@ -54,9 +54,8 @@ impl<W: Words> LossCore<W> {
         self.gone.reserve(1)?;
         self.left.reserve(1)?;
         self.arrived.push_reserved(t);
-        let rate = u64::from(self.share.billionths());
-        let word = u64::from(self.source.next());
-        if word * 1_000_000_000 < rate * 4_294_967_296 {
+        let word = self.source.next();
+        if self.share.drops(word) {
             self.gone.push_reserved(t);
         } else {
             self.left.push_reserved(t);
@@ -83,5 +82,15 @@ impl<W: Words> LossCore<W> {
         ensures { result.now ≡ self.now.lost }
     {
         self.gone.as_slice()
+    }
+}
+
+impl<W: Words + Drop> LossCore<W> {
+    /// Gives the loss up for its lists, which aren't copied: the packets that passed, and those that were dropped.
+    pub fn into_lists(self) -> (Vec<Timed>, Vec<Timed>)
+        ensures departed { result.0.items ≡ self.departed }
+        ensures lost { result.1.items ≡ self.lost }
+    {
+        (self.left, self.gone)
     }
 }

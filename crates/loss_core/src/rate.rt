@@ -1,6 +1,7 @@
 // The rate of a loss, and how it is read.
 ghost use Rattle.std.specs.Prelude.{◌≡◌, ◌≤◌, ◌<◌, ◌^◌, ◌==◌, ◌∷◌, [], All, false, length, position, MatchResult, MatchOption, IfSome, IfNone};
 ghost use Rattle.mm_base.specs.Numbers.{decimal_of};
+ghost use Rattle.loss_core.specs.Losses.{drops};
 ghost use Rattle.loss_core.specs.Rates.{parts_of, whole_of, fraction_of, billionths_of, rate_of, error_number};
 
 use mm_base::read_decimal;
@@ -19,6 +20,13 @@ impl Rate {
         ensures most { result ≤ 1000000000 }
     {
         self.billionths
+    }
+
+    // Whether a packet that draws this word is dropped. Else it departs at the moment of its arrival.
+    pub(crate) fn drops(self, word: u32) -> bool
+        ensures { result ≡ drops self.billionths word }
+    {
+        u64::from(word) * 1_000_000_000 < u64::from(self.billionths) * 4_294_967_296
     }
 }
 

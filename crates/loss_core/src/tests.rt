@@ -78,9 +78,10 @@ fn drops_a_whole_list_by_words(rt: HostRuntime) {
     let rate = read_rate("0.5").expect(&rt, "a rate");
     let list = vec![in alloc; 2147483647, 2147483648].expect(&rt, "memory");
     let packet = Packet { id: 1, size: 60 };
-    let packets = [4, 5, 6].map(|moment| Timed { moment, packet });
-    let lists = lose_all(alloc, rate, ListWords::new(list), packets.as_slice());
-    let lists = lists.expect(&rt, "memory");
-    assert!(rt; lists.departed.as_slice() == &packets[1..2]);
-    assert!(rt; lists.lost.as_slice() == [packets[0], packets[2]].as_slice());
+    let all = [4, 5, 6].map(|moment| Timed { moment, packet });
+    let mut packets = all.to_vec(alloc).expect(&rt, "memory");
+    let lost = lose_all(alloc, rate, ListWords::new(list), &mut packets);
+    let lost = lost.expect(&rt, "memory");
+    assert!(rt; packets.as_slice() == &all[1..2]);
+    assert!(rt; lost.as_slice() == [all[0], all[2]].as_slice());
 }

@@ -62,6 +62,13 @@ impl PacketQueue {
         }
     }
 
+    /// What the queue does, and its limits.
+    pub fn spec(&self) -> QueueSpec
+        ensures { result ≡ self.now.spec }
+    {
+        self.spec
+    }
+
     /// How many packets wait.
     pub fn len(&self) -> usize
         ensures len { result ≡ length self.now.packets }

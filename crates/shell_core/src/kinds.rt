@@ -1,5 +1,5 @@
 // One direction of a shell of any kind.
-ghost use Rattle.std.specs.Prelude.{◌≡◌, ◌≤◌, ◌+◌, ◌++◌, ◌∷◌, [], length, nat_le, map, OnOk, OnErr, IfOk};
+ghost use Rattle.std.specs.Prelude.{◌≡◌, ◌≤◌, ◌<◌, ◌+◌, ◌++◌, ◌∷◌, [], length, nat_le, map, OnOk, OnErr, IfOk};
 ghost use Rattle.packet_record.specs.Moments.{AreUpTo};
 ghost use Rattle.link_core.specs.Promises.{count_to};
 ghost use Rattle.link_core.specs.View.{opps_of};
@@ -38,7 +38,7 @@ pub(crate) enum Inner {
 #[derive(Drop)]
 pub struct Core {
     pub(crate) alloc: Global,
-    until: u64,
+    pub(crate) until: u64,
     pub(crate) inner: Inner,
     pub(crate) no_log: Log,
 }
@@ -124,11 +124,13 @@ impl Core {
         }
     }
 
-    /// Burns the next opportunities up to this moment, at most so many, and answers how many.
+    /// Burns the next opportunities up to this moment, at most so many, and answers how many. Where there is none it
+    /// needs no memory.
     pub fn burn(&mut self, bound: u64, most: u32) -> Result<u32, OutOfMemory>
         ensures count { IfOk result (λ n. n ≡ burns self.old bound most) }
         ensures burnt { IfOk result (λ n. self.new ≡ with_burnt self.old n) }
         ensures err { OnErr result (self.new ≡ self.old) }
+        ensures due { OnErr result (self.old.burnt < count_to (opportunities self.old.spec self.old.horizon) bound) }
     {
         match &mut self.inner {
             Inner::Pass(_) | Inner::Delay { .. } | Inner::Loss { .. } => Ok(0),

@@ -8,5 +8,6 @@ mod tests;
 mod whole;
 
 pub use kinds::Core;
+pub use link_core::Passage;
 pub use spec::DirSpec;
-pub use whole::{Passage, run_whole};
+pub use whole::run_whole;

@@ -3,86 +3,48 @@ ghost use Rattle.std.specs.Prelude.{◌≡◌, ◌≤◌, Some, None, [], length
 ghost use Rattle.packet_record.specs.Moments.{AreUpTo, Rise};
 ghost use Rattle.trace_reader.specs.Opps.{opps};
 ghost use Rattle.trace_reader.specs.Traces.{IsTrace};
-ghost use Rattle.delay_core.specs.Delays.{delayed, kept_inside};
-ghost use Rattle.loss_core.specs.Losses.{cha_word, dropped, passed};
 ghost use Rattle.shell_core.specs.Wholes.{if_link};
-ghost use Rattle.shell_core.specs.Shells.{IsInRange, IsBuilt, opportunities, inside, whole_out, whole_lost, whole_log};
+ghost use Rattle.shell_core.specs.Shells.{IsInRange, IsBuilt, opportunities, out, lost, inside, whole_out, whole_lost, whole_log};
 
+use crate::kinds::{Core, Inner};
 use crate::spec::DirSpec;
 use delay_core::delay_all;
-use link_core::{LinkLog, run_link};
-use loss_core::{ChaWords, Rate, lose_all};
+use link_core::{Passage, run_link};
+use loss_core::{ChaWords, lose_all};
 use mm_base::OutOfMemory;
 use packet_queue::QueueSpec;
 use packet_record::Timed;
 use std::alloc::Global;
 use trace_reader::Trace;
 
-/// What one direction of a shell does with all that arrives.
-#[derive(Drop)]
-pub struct Passage {
-    /// The packets that departed, in order, each at the moment of its departure.
-    pub departed: Vec<Timed>,
-    /// The packets that were dropped, in order, each at the moment of its drop.
-    pub lost: Vec<Timed>,
-    /// The numbers of the packets that neither departed nor were dropped, in order.
-    pub held: Vec<u32>,
-    /// What happened at a link, in order; None for the other kinds.
-    pub log: Option<LinkLog>,
-}
-
-fn pass(alloc: Global, packets: Vec<Timed>) -> Passage
-    ensures departed { result.departed.items ≡ packets.items }
-    ensures lost { result.lost.items ≡ [] }
+// What departs, and what is lost. No packet stays inside.
+fn passage(alloc: Global, departed: Vec<Timed>, lost: Vec<Timed>) -> Passage
+    ensures departed { result.departed.items ≡ departed.items }
+    ensures lost { result.lost.items ≡ lost.items }
     ensures held { result.held.items ≡ [] }
     ensures log { result.log ≡ None }
 {
     Passage {
-        departed: packets,
-        lost: Vec::new(alloc),
+        departed,
+        lost,
         held: Vec::new(alloc),
         log: None,
     }
 }
 
-fn delay(alloc: Global, ms: u64, horizon: u64, packets: Vec<Timed>) -> Result<Passage, OutOfMemory>
-    requires ms { ms ≤ 3600000 }
-    requires horizon { horizon ≤ 3600000 }
-    requires rises { Rise packets.items }
-    requires within { AreUpTo horizon packets.items }
-    ensures departed { IfOk result (λ p. p.departed.items ≡ delayed ms horizon packets.items) }
-    ensures lost { IfOk result (λ p. p.lost.items ≡ []) }
-    ensures held { IfOk result (λ p. p.held.items ≡ map (λ t. t.packet.id) (kept_inside ms horizon packets.items)) }
-    ensures log { IfOk result (λ p. p.log ≡ None) }
+// What departs, and what stays inside. No packet is lost.
+fn late_passage(alloc: Global, departed: Vec<Timed>, held: Vec<u32>) -> Passage
+    ensures departed { result.departed.items ≡ departed.items }
+    ensures lost { result.lost.items ≡ [] }
+    ensures held { result.held.items ≡ held.items }
+    ensures log { result.log ≡ None }
 {
-    let lists = delay_all(alloc, ms, horizon, packets)?;
-    Ok(Passage {
-        departed: lists.departed,
+    Passage {
+        departed,
         lost: Vec::new(alloc),
-        held: lists.held,
+        held,
         log: None,
-    })
-}
-
-fn lose(
-    alloc: Global,
-    rate: Rate,
-    seed: u64,
-    stream: u64,
-    packets: &[Timed],
-) -> Result<Passage, OutOfMemory>
-    ensures departed { IfOk result (λ p. p.departed.items ≡ passed rate.billionths (cha_word seed stream) 0 packets.now) }
-    ensures lost { IfOk result (λ p. p.lost.items ≡ dropped rate.billionths (cha_word seed stream) 0 packets.now) }
-    ensures held { IfOk result (λ p. p.held.items ≡ []) }
-    ensures log { IfOk result (λ p. p.log ≡ None) }
-{
-    let lists = lose_all(alloc, rate, ChaWords::new(seed, stream), packets)?;
-    Ok(Passage {
-        departed: lists.departed,
-        lost: lists.lost,
-        held: Vec::new(alloc),
-        log: None,
-    })
+    }
 }
 
 // A link keeps its arrivals and its trace for the log.
@@ -106,13 +68,7 @@ fn link(
     ensures built { IsTrace trace }
 {
     let _ = trace.form();
-    let passage = run_link(alloc, trace, once, queue, horizon, packets)?;
-    Ok(Passage {
-        departed: passage.departed,
-        lost: passage.lost,
-        held: passage.held,
-        log: Some(passage.log),
-    })
+    run_link(alloc, trace, once, queue, horizon, packets)
 }
 
 /// Runs the direction over all packets up to the horizon. A link's log isn't written out: it keeps the packets from
@@ -135,10 +91,56 @@ pub fn run_whole(
     ensures log { IfOk result (λ p. p.log ≡ if_link spec (whole_log spec horizon packets.items)) }
     ensures built { OnOk result (IsBuilt spec) }
 {
+    let mut packets = packets;
     match spec {
-        DirSpec::Pass => Ok(pass(alloc, packets)),
-        DirSpec::Delay { ms } => delay(alloc, ms, horizon, packets),
-        DirSpec::Loss { rate, seed, stream } => lose(alloc, rate, seed, stream, packets.as_slice()),
+        DirSpec::Pass => Ok(passage(alloc, packets, Vec::new(alloc))),
+        DirSpec::Delay { ms } => {
+            let held = delay_all(alloc, ms, horizon, &mut packets)?;
+            Ok(late_passage(alloc, packets, held))
+        }
+        DirSpec::Loss { rate, seed, stream } => {
+            let words = ChaWords::new(seed, stream);
+            let lost = lose_all(alloc, rate, words, &mut packets)?;
+            Ok(passage(alloc, packets, lost))
+        }
         DirSpec::Link { trace, once, queue } => link(alloc, trace, once, queue, horizon, packets),
+    }
+}
+
+#[tactic(auto, unfolding(crate::specs::Shells::opportunities, crate::specs::Shells::out, crate::specs::Shells::lost, crate::specs::Shells::inside, crate::specs::Shells::shell_log))]
+impl Core {
+    /// Gives the direction up for its lists, none of which is copied. A link's log isn't written out: it keeps the
+    /// packets from which it is made, and is that of all of them with every opportunity. `OutOfMemory` is want of memory
+    /// for the numbers of the packets inside.
+    pub fn into_passage(self) -> Result<Passage, OutOfMemory>
+        requires rises { Rise self.arrivals }
+        requires within { AreUpTo self.horizon self.arrivals }
+        ensures departed { IfOk result (λ p. p.departed.items ≡ out self.spec self.horizon self.burnt self.arrivals) }
+        ensures lost { IfOk result (λ p. p.lost.items ≡ lost self.spec self.horizon self.burnt self.arrivals) }
+        ensures held { IfOk result (λ p. p.held.items ≡ map (λ t. t.packet.id) (inside self.spec self.horizon self.burnt self.arrivals)) }
+        ensures log { IfOk result (λ p. p.log ≡ if_link self.spec (whole_log self.spec self.horizon self.arrivals)) }
+    {
+        let Core {
+            alloc,
+            until: _,
+            inner,
+            no_log: _,
+        } = self;
+        match inner {
+            Inner::Pass(arrived) => Ok(passage(alloc, arrived, Vec::new(alloc))),
+            Inner::Delay { core, ms: _ } => {
+                let held = core.inside()?;
+                Ok(late_passage(alloc, core.into_departed(), held))
+            }
+            Inner::Loss {
+                core,
+                seed: _,
+                stream: _,
+            } => {
+                let (departed, lost) = core.into_lists();
+                Ok(passage(alloc, departed, lost))
+            }
+            Inner::Link(core) => core.into_passage(),
+        }
     }
 }

@@ -1,11 +1,12 @@
 // One direction of a shell, between what was fed and what was taken.
-ghost use Rattle.std.specs.Prelude.{◌≡◌, ◌⊎◌, ◌≤◌, length, map, true, false, OnOk, OnErr, IfOk};
+ghost use Rattle.std.specs.Prelude.{◌≡◌, ◌⊎◌, ◌≤◌, ◌<◌, length, map, true, false, OnOk, OnErr, IfOk};
 ghost use Rattle.packet_record.specs.Streams.{MayFollow, IsUpTo};
 ghost use Rattle.packet_record.specs.declared.item.FlowEnd.TheVariants.{Open, Ended};
 ghost use Rattle.packet_record.specs.Takes.{IsPacket};
-ghost use Rattle.shell_core.specs.Shells.{IsInRange, opportunities, lost, inside, shell_log};
+ghost use Rattle.shell_core.specs.Shells.{IsInRange, opportunities, lost, inside, shell_log, whole_out, whole_lost, whole_inside, whole_log};
+ghost use Rattle.shell_core.specs.Wholes.{if_link};
 ghost use Rattle.shell_state.specs.States.{new_state};
-ghost use Rattle.shell_state.specs.Steps.{after_feed, after_take, after_break, answer_of};
+ghost use Rattle.shell_state.specs.Steps.{after_feed, after_take, after_break, answer_of, burns};
 ghost use Rattle.shell_state.specs.Standing.{Stands, ForetellsAll};
 ghost use Rattle.shell_state.specs.Causes.{HasCauses};
 ghost use Rattle.shell_state.specs.Promises.{KeepsUp, ForetellsMore, GoesOn, IsFinished};
@@ -16,7 +17,7 @@ use crate::stream::StreamView;
 use crate::taken::Taken;
 use mm_base::OutOfMemory;
 use packet_record::{Item, Reach, Timed};
-use shell_core::{Core, DirSpec};
+use shell_core::{Core, DirSpec, Passage};
 use shell_log::Log;
 use std::alloc::Global;
 use std::marker::Model;
@@ -97,13 +98,14 @@ impl ShellState {
     /// 6. Where this call burnt `most` opportunities, `Again` with that number.
     /// 7. Else `NotYet` with the bound of what was fed, and nothing has changed.
     ///
-    /// Where it finds no memory the state is as it was.
+    /// Where it finds no memory the state is as it was. It wants none where there is nothing to burn.
     pub fn take(&mut self, most: u32) -> Result<Taken, OutOfMemory>
         requires most { 1 ≤ most }
         requires open { self.old.taken.end ≡ Open }
         ensures ok { IfOk result (λ a. (a ≡ answer_of self.old most) × (self.new ≡ after_take self.old most)) }
         ensures causes { IfOk result (λ a. HasCauses self.old most a self.new) }
         ensures err { OnErr result ((self.new ≡ self.old) × (self.old.broken ≡ false)) }
+        ensures idle { OnErr result (0 < burns self.old most) }
     {
         if self.broken {
             self.taken.add(Item::Broken);
@@ -186,5 +188,18 @@ impl ShellState {
         ensures finished { self.now.taken.end ≡ Ended → IsFinished self.now }
     {
         let _ = &self.broken;
+    }
+
+    /// Gives up a state that was taken to its end for the lists of its shell, none of which is copied. A link's log
+    /// isn't written out: it keeps the packets from which it is made. `OutOfMemory` is want of memory for the numbers
+    /// of the packets inside.
+    pub fn into_passage(self) -> Result<Passage, OutOfMemory>
+        requires { self.taken.end ≡ Ended }
+        ensures departed { IfOk result (λ p. p.departed.items ≡ whole_out self.spec self.horizon self.fed.packets) }
+        ensures lost { IfOk result (λ p. p.lost.items ≡ whole_lost self.spec self.horizon self.fed.packets) }
+        ensures held { IfOk result (λ p. p.held.items ≡ map (λ t. t.packet.id) (whole_inside self.spec self.horizon self.fed.packets)) }
+        ensures log { IfOk result (λ p. p.log ≡ if_link self.spec (whole_log self.spec self.horizon self.fed.packets)) }
+    {
+        self.core.into_passage()
     }
 }

@@ -1,4 +1,4 @@
-use Rattle.std.proofs.Common.{◌≡◌, ◌≤◌, ◌++◌, ◌∷◌, [], ap, arith}
+use Rattle.std.proofs.Common.{◌++◌, ◌∷◌, [], ap, arith}
 use Rattle.packet_queue.specs.Queues.{bytes, excess}
 use Rattle.packet_queue.specs.View.{Queue}
 use Rattle.packet_queue.proofs.Sizes.{by_head}

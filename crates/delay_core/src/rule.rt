@@ -1,0 +1,34 @@
+// What a delay does with one packet.
+ghost use Rattle.std.specs.Prelude.{◌≡◌, ◌≤◌, ◌+◌, nat_le};
+ghost use Rattle.delay_core.specs.Delays.{later};
+
+use packet_record::Timed;
+
+// A delay of so many milliseconds in a run up to a horizon.
+#[derive(Clone, Copy)]
+pub(crate) struct Rule {
+    pub(crate) delay: u64,
+    pub(crate) until: u64,
+    pub(crate) ghost short: { delay ≤ 3600000 },
+    pub(crate) ghost near: { until ≤ 3600000 },
+}
+
+impl Rule {
+    // Whether the packet departs up to the horizon. Else it stays inside.
+    pub(crate) fn lets_out(self, t: &Timed) -> bool
+        ensures { result ≡ nat_le (t.now.moment + self.delay) self.until }
+    {
+        t.moment.saturating_add(self.delay) <= self.until
+    }
+
+    // The packet as it departs.
+    pub(crate) fn departure(self, t: Timed) -> Timed
+        requires { t.moment ≤ 3600000 }
+        ensures { result ≡ later self.delay t }
+    {
+        Timed {
+            moment: t.moment + self.delay,
+            packet: t.packet,
+        }
+    }
+}

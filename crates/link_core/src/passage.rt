@@ -1,0 +1,16 @@
+// What one direction of a shell does with a whole list of packets.
+use crate::link_log::LinkLog;
+use packet_record::Timed;
+
+/// What one direction of a shell does with all that arrives.
+#[derive(Drop)]
+pub struct Passage {
+    /// The packets that departed, in order, each at the moment of its departure.
+    pub departed: Vec<Timed>,
+    /// The packets that were dropped, in order, each at the moment of its drop.
+    pub lost: Vec<Timed>,
+    /// The numbers of the packets that neither departed nor were dropped, in order; in a link the one in transit is the first.
+    pub held: Vec<u32>,
+    /// What happened at a link, in order, not written out; None for the other kinds.
+    pub log: Option<LinkLog>,
+}
