@@ -139,8 +139,9 @@ impl LinkCore {
         self.parts.arrived.come()
     }
 
-    /// Gives the link up for its lists, none of which is copied. Its log isn't written out: it is that of all arrivals,
-    /// with every opportunity up to the horizon. `OutOfMemory` is want of memory for the numbers of the packets inside.
+    /// Gives the link up for its lists, none of which is copied. Its log isn't written out: it is that of all
+    /// arrivals, with every opportunity up to the horizon. `OutOfMemory` is want of memory for the numbers of the
+    /// packets inside.
     pub fn into_passage(self) -> Result<Passage, OutOfMemory>
         requires rises { Rise self.arrivals }
         requires within { AreUpTo self.horizon self.arrivals }

@@ -182,7 +182,8 @@ impl Parts {
         Ok(())
     }
 
-    /// Burns the next up to a bound, at most so many, and answers how many. Where none is due it needs no memory and no search.
+    /// Burns the next up to a bound, at most so many, and answers how many. Where none is due it needs no memory and no
+    /// search.
     pub fn burn(&mut self, bound: u64, most: u32) -> Result<u32, OutOfMemory>
         ghost gone: { Gone }
         requires sound { IsSoundAfter gone self.old }

@@ -9,7 +9,8 @@ pub struct Passage {
     pub departed: Vec<Timed>,
     /// The packets that were dropped, in order, each at the moment of its drop.
     pub lost: Vec<Timed>,
-    /// The numbers of the packets that neither departed nor were dropped, in order; in a link the one in transit is the first.
+    /// The numbers of the packets that neither departed nor were dropped, in order; in a link the one in transit is the
+    /// first.
     pub held: Vec<u32>,
     /// What happened at a link, in order, not written out; None for the other kinds.
     pub log: Option<LinkLog>,

@@ -106,7 +106,8 @@ impl PacketQueue {
         self.gone
     }
 
-    /// Makes room for at least this many packets. Beyond 2^40 packets there is no memory.
+    /// Makes room for at least this many packets. Beyond 2^40 packets there is no memory, so that the sum of their
+    /// sizes fits 64 bits.
     pub fn reserve(&mut self, n: usize) -> Result<(), OutOfMemory>
         ensures ok { OnOk result (n ≤ self.new.spare) }
         ensures err { OnErr result (self.new ≡ self.old) }
@@ -239,6 +240,7 @@ impl PacketQueue {
     }
 }
 
+// So many packets wait at most, far more than there is memory for. The sum of their sizes then fits 64 bits.
 const MOST: usize = 1 << 40;
 
 // Room is made for so many packets at once.

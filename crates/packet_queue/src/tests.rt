@@ -3,6 +3,7 @@ ghost use Rattle.std.specs.Prelude.{◌≡◌, ◌≤◌};
 
 use crate::{Dropped, PacketQueue, QueueKind, QueueSpec, read_queue};
 use packet_record::{Packet, Timed};
+use std::alloc::Global;
 use std::test::Fail;
 
 // The refusal's number, or 0.
@@ -88,5 +89,58 @@ fn drophead_may_drop_the_new_packet(rt: HostRuntime) -> Result<(), Fail> {
     assert_eq!(rt; queue.len(), 0);
     assert_eq!(rt; queue.lost().len(), 3);
     assert!(rt; queue.dequeue().is_none());
+    Ok(())
+}
+
+// How many packets a queue keeps and drops of ten thousand, and the number of the first that it lets go.
+#[derive(Clone, Copy, Debug, PartialEq, Eq)]
+struct Counts {
+    kept: usize,
+    lost: usize,
+    first: u32,
+}
+
+fn count(alloc: Global, kind: &str, args: &str) -> Result<Counts, Fail> {
+    let spec = read_queue(kind, args)?;
+    let mut queue = PacketQueue::new(alloc, spec);
+    for id in 1..10_001 {
+        queue.reserve(1)?;
+        queue.enqueue(packet(id, 1000));
+    }
+    let mut kept = 0;
+    let mut first = 0;
+    for _ in 0..10_000 {
+        let Some(t) = queue.dequeue() else {
+            break;
+        };
+        if kept == 0 {
+            first = t.packet.id;
+        }
+        kept += 1;
+    }
+    Ok(Counts {
+        kept,
+        lost: queue.lost().len(),
+        first,
+    })
+}
+
+#[test]
+fn ten_thousand_packets_go_through(rt: HostRuntime) -> Result<(), Fail> {
+    let cases = [
+        ("infinite", "", 10_000, 1),
+        ("droptail", "packets=9999", 9_999, 1),
+        ("droptail", "bytes=1000000", 1_000, 1),
+        ("drophead", "packets=5000", 5_000, 5_001),
+        ("drophead", "bytes=3000", 3, 9_998),
+    ];
+    for (kind, args, kept, first) in cases {
+        let counts = Counts {
+            kept,
+            lost: 10_000 - kept,
+            first,
+        };
+        assert_eq!(rt; count(rt.alloc(), kind, args)?, counts, "at {kind} {args}");
+    }
     Ok(())
 }

@@ -62,7 +62,8 @@ shell_log (Delay ms) h b arrivals = []
 shell_log (Loss rate seed stream) h b arrivals = []
 shell_log (Link trace once queue) h b arrivals = link_log queue (take b (opps trace.opportunities once h)) arrivals
 
--- no later departure is before this moment, where no later packet is before the bound
+-- No packet that is still to depart does so before this moment, where none that is still to arrive is before the bound. One that
+-- has departed may be before it.
 unfoldable pub floor : DirSpec → ℕ → ℕ → ℕ → ℕ
 floor Pass h b bound = bound
 floor (Delay ms) h b bound = min (bound + ms) (h + 1)

@@ -195,7 +195,8 @@ impl Core {
         }
     }
 
-    /// No later departure is before this moment, where no later packet is before the bound.
+    /// No packet that is still to depart does so before this moment, where none that is still to arrive is before the
+    /// bound. One that has departed may be before it.
     pub fn floor(&self, bound: u64) -> u64
         requires { bound ≤ self.now.horizon + 1 }
         ensures { result ≡ floor self.now.spec self.now.horizon self.now.burnt bound }

@@ -117,3 +117,85 @@ fn makes_the_log_of_a_link(rt: HostRuntime) -> Result<(), Fail> {
     );
     Ok(())
 }
+
+// Ten thousand packets, ten at each millisecond.
+#[tactic(auto, using(link_core::proofs::FeedLemmas::up_to_push, link_core::proofs::FeedLemmas::up_to_later, link_core::proofs::FeedLemmas::rise_push))]
+fn many_packets(alloc: Global) -> Result<Vec<Timed>, AllocError>
+    ensures rises { IfOk result (λ v. Rise v.items) }
+    ensures within { IfOk result (λ v. AreUpTo 1000 v.items) }
+{
+    let mut packets = Vec::new(alloc);
+    let mut last = 0;
+    'packets: for id in 0..10_000 {
+        let moment = u64::from(id / 10);
+        packets.push(packet(id, moment))?;
+        last = moment;
+    }
+    let _ = last;
+    Ok(packets)
+}
+
+// How many of the ten thousand depart, are lost and stay inside, up to 1,000 ms.
+fn totals(alloc: Global, spec: DirSpec) -> Result<(usize, usize, usize), Fail>
+    requires range { IsInRange spec }
+    requires few { length (opportunities spec 1000) ≤ 16000000 }
+{
+    let passage = run_whole(alloc, spec, 1000, many_packets(alloc)?)?;
+    Ok((
+        passage.departed.len(),
+        passage.lost.len(),
+        passage.held.len(),
+    ))
+}
+
+// A link with an opportunity each millisecond.
+#[tactic(auto, unfolding(crate::specs::Shells::opportunities))]
+fn link_totals(
+    rt: &impl Abort,
+    alloc: Global,
+    kind: &str,
+    args: &str,
+) -> Result<(usize, usize, usize), Fail> {
+    let trace = read_trace(alloc, b"1\n")?;
+    assert!(rt; trace.count_to(1000, false) <= 16_000_000);
+    let queue = read_queue(kind, args)?;
+    let spec = DirSpec::Link {
+        trace,
+        once: false,
+        queue,
+    };
+    totals(alloc, spec)
+}
+
+#[test]
+#[tactic(auto, unfolding(crate::specs::Shells::opportunities))]
+fn ten_thousand_packets_go_through(rt: HostRuntime) -> Result<(), Fail> {
+    let alloc = rt.alloc();
+    assert_eq!(rt; totals(alloc, DirSpec::Pass)?, (10_000, 0, 0));
+    assert_eq!(rt; totals(alloc, DirSpec::Delay { ms: 100 })?, (9_010, 0, 990));
+    let spec = DirSpec::Loss {
+        rate: read_rate("1")?,
+        seed: 7,
+        stream: 0,
+    };
+    assert_eq!(rt; totals(alloc, spec)?, (0, 10_000, 0));
+    Ok(())
+}
+
+#[test]
+fn ten_thousand_packets_go_through_a_link(rt: HostRuntime) -> Result<(), Fail> {
+    let alloc = rt.alloc();
+    let cases = [
+        ("infinite", "", (1_504, 0, 8_496)),
+        ("droptail", "packets=20", (1_504, 8_477, 19)),
+        ("drophead", "bytes=20000", (1_504, 8_477, 19)),
+    ];
+    for (kind, args, counts) in cases {
+        assert_eq!(rt;
+            link_totals(&rt, alloc, kind, args)?,
+            counts,
+            "at {kind} {args}"
+        );
+    }
+    Ok(())
+}

@@ -110,8 +110,8 @@ pub fn run_whole(
 #[tactic(auto, unfolding(crate::specs::Shells::opportunities, crate::specs::Shells::out, crate::specs::Shells::lost, crate::specs::Shells::inside, crate::specs::Shells::shell_log))]
 impl Core {
     /// Gives the direction up for its lists, none of which is copied. A link's log isn't written out: it keeps the
-    /// packets from which it is made, and is that of all of them with every opportunity. `OutOfMemory` is want of memory
-    /// for the numbers of the packets inside.
+    /// packets from which it is made, and is that of all of them with every opportunity. `OutOfMemory` is want of
+    /// memory for the numbers of the packets inside.
     pub fn into_passage(self) -> Result<Passage, OutOfMemory>
         requires rises { Rise self.arrivals }
         requires within { AreUpTo self.horizon self.arrivals }

@@ -14,20 +14,21 @@ use Rattle.shell_state.specs.States.{State, opps_of, floor_of}
 use Rattle.shell_state.specs.Steps.{licensed, answer_of, after_feed, after_take}
 use Rattle.shell_state.specs.Standing.{Foretells}
 
--- Where every opportunity that may be burnt is burnt, the floor isn't below what was fed. A link's is above it, unless that is past the
--- horizon.
+-- Where every opportunity that may be burnt is burnt, the floor isn't below what was fed. A link's is above it, unless
+-- that is past the horizon.
 pub record KeepsUp (s : State) : Type 0 where
   pub floor : licensed s ≤ s.burnt → s.fed.bound ≤ floor_of s
   pub above : licensed s ≤ s.burnt → IsLink s.spec → s.fed.bound ≤ s.horizon → s.fed.bound < floor_of s
 
--- These packets may come after a stream: their moments never fall, none is before the stream's bound, and none comes after its end.
+-- These packets may come after a stream: their moments never fall, none is before the stream's bound, and none comes
+-- after its end.
 pub record MayCome (f : Stream) (packets : List Timed) : Type 0 where
   pub rises : Rise packets
   pub later : AreFrom f.bound packets
   pub open' : (f.end ≡ Open) ⊎ (packets ≡ [])
 
--- Whatever packets may still be fed: with them, what departs is what was taken and then packets at or after the bound of that, and the
--- log goes on from what it is.
+-- Whatever packets may still be fed: with them, what departs is what was taken and then packets at or after the bound of
+-- that, and the log goes on from what it is.
 abbrev pub ForetellsMore : State → Type 0
 ForetellsMore s = (coming : List Timed) → MayCome s.fed coming → Foretells s (s.fed.packets ++ coming)
 
@@ -44,8 +45,9 @@ open_of Open = 1
 open_of Ended = 0
 open_of Cut = 0
 
--- At most so many takes may still answer anything but NotYet, where these are all packets that are ever fed: one for each opportunity
--- that isn't burnt, each moment up to the horizon plus 1 that no mark has reached, each departure that wasn't taken, and the end.
+-- At most so many takes may still answer anything but NotYet, where these are all packets that are ever fed: one for
+-- each opportunity that isn't burnt, each moment up to the horizon plus 1 that nothing taken has reached, each departure
+-- that wasn't taken, and the end.
 abbrev pub takes_left : List Timed → State → ℕ
 takes_left packets s =
     (length (opps_of s) - s.burnt) + (s.horizon + 1 - s.taken.bound) + (length (whole_out s.spec s.horizon packets) - length s.taken.packets) + open_of s.taken.end

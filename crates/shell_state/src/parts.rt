@@ -53,8 +53,8 @@ fn has_ready(core: &Core, taken: Front) -> bool
     taken.count < core.departed().len()
 }
 
-// Where nothing is ready, burns the next opportunities that may be burnt, at most so many. Where there is none it needs no
-// memory.
+// Where nothing is ready, burns the next opportunities that may be burnt, at most so many. Where there is none it needs
+// no memory.
 pub(crate) fn burn(core: &mut Core, fed: Reach, taken: Front, most: u32) -> Result<u32, OutOfMemory>
     requires { 1 ≤ most }
     ensures count { IfOk result (λ n. n ≡ burns (state_of core.old fed taken false) most) }

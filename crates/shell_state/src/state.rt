@@ -93,8 +93,8 @@ impl ShellState {
     ///    those at or before the bound of what was fed, or all where that has ended.
     /// 3. Where a departure is ready, it is the answer.
     /// 4. Where what was fed has ended and no opportunity is left, `Item(End)`.
-    /// 5. Where the floor, before which no later departure can be, is above the bound of what was
-    ///    taken, `Item(Mark(floor))`.
+    /// 5. Where the floor, before which nothing departs that hasn't departed yet, is above the bound of
+    ///    what was taken, `Item(Mark(floor))`.
     /// 6. Where this call burnt `most` opportunities, `Again` with that number.
     /// 7. Else `NotYet` with the bound of what was fed, and nothing has changed.
     ///

@@ -1,11 +1,15 @@
 // States that are fed and taken from, by tables of steps.
-ghost use Rattle.std.specs.Prelude.{◌≡◌, ◌≤◌, ◌↔◌, IsTrue};
+ghost use Rattle.std.specs.Prelude.{◌≡◌, ◌≤◌, ◌↔◌, IsTrue, IfOk, length};
 ghost use Rattle.packet_record.specs.Streams.{IsUpTo};
+ghost use Rattle.packet_record.specs.Moments.{AreUpTo, Rise};
+ghost use Rattle.shell_core.specs.Shells.{IsInRange, opportunities};
 
 use crate::{DirSpec, ShellState, Taken};
 use loss_core::read_rate;
-use packet_queue::{QueueKind, QueueSpec};
+use packet_queue::{QueueKind, QueueSpec, read_queue};
 use packet_record::{FlowEnd, Item, Packet, Timed};
+use shell_core::run_whole;
+use std::alloc::Global;
 use std::process::Abort;
 use std::test::Fail;
 use trace_reader::read_trace;
@@ -54,11 +58,17 @@ fn play(
     Ok(())
 }
 
-fn packet(moment: u64, id: u32) -> Item {
-    Item::Packet(Timed {
+fn timed(moment: u64, id: u32) -> Timed
+    ensures { result.moment ≡ moment }
+{
+    Timed {
         moment,
         packet: Packet { id, size: 100 },
-    })
+    }
+}
+
+fn packet(moment: u64, id: u32) -> Item {
+    Item::Packet(timed(moment, id))
 }
 
 fn give(item: Item) -> Step {
@@ -198,4 +208,116 @@ fn moves<T: Send>(x: T) -> T
     ensures { result ≡ x }
 {
     x
+}
+
+// Ten thousand packets, ten at each millisecond.
+#[tactic(auto, using(link_core::proofs::FeedLemmas::up_to_push, link_core::proofs::FeedLemmas::up_to_later, link_core::proofs::FeedLemmas::rise_push))]
+fn many_packets(alloc: Global) -> Result<Vec<Timed>, Fail>
+    ensures rises { IfOk result (λ v. Rise v.items) }
+    ensures within { IfOk result (λ v. AreUpTo 1000 v.items) }
+{
+    let mut packets = Vec::new(alloc);
+    let mut last = 0;
+    'packets: for id in 0..10_000 {
+        let moment = u64::from(id / 10);
+        packets.push(timed(moment, id))?;
+        last = moment;
+    }
+    let _ = last;
+    Ok(packets)
+}
+
+#[tactic(auto, using(crate::proofs::Equations::feed_horizon))]
+fn feed(rt: &impl Abort, state: &mut ShellState, item: Item) -> Result<(), Fail>
+    requires { state.old.horizon ≡ 1000 }
+    ensures { state.new.horizon ≡ 1000 }
+{
+    assert!(rt; state.fed().may_follow(&item));
+    assert!(rt; is_within(&item, 1000));
+    state.feed(item)?;
+    Ok(())
+}
+
+// Takes until there is nothing to take yet, or the end.
+#[tactic(auto, using(crate::proofs::Equations::take_horizon))]
+fn drain(rt: &impl Abort, state: &mut ShellState) -> Result<(), Fail>
+    requires { state.old.horizon ≡ 1000 }
+    ensures { state.new.horizon ≡ 1000 }
+{
+    'takes: for _ in 0..100_000 {
+        if state.taken().end() != FlowEnd::Open {
+            break;
+        }
+        match state.take(256)? {
+            Taken::NotYet { bound: _ } => break,
+            Taken::Item(_) | Taken::Again { burnt: _ } => {}
+        }
+    }
+    Ok(())
+}
+
+// The ten thousand packets one by one through a state, taken from after each, and all at once.
+#[tactic(auto, using(crate::proofs::Equations::feed_horizon))]
+fn agrees(rt: &impl Abort, alloc: Global, spec: DirSpec, other: DirSpec) -> Result<(), Fail>
+    requires range { IsInRange spec × IsInRange other }
+    requires few { (length (opportunities spec 1000) ≤ 16000000) × (length (opportunities other 1000) ≤ 16000000) }
+{
+    let packets = many_packets(alloc)?;
+    let mut state = ShellState::new(alloc, spec, 1000)?;
+    'packets: for t in packets.as_slice() {
+        feed(rt, &mut state, Item::Packet(*t))?;
+        drain(rt, &mut state)?;
+    }
+    feed(rt, &mut state, Item::End)?;
+    drain(rt, &mut state)?;
+    assert!(rt; state.taken().end() == FlowEnd::Ended);
+    let one_by_one = state.into_passage()?;
+    let at_once = run_whole(alloc, other, 1000, packets)?;
+    assert!(rt; one_by_one.departed.as_slice() == at_once.departed.as_slice());
+    assert!(rt; one_by_one.lost.as_slice() == at_once.lost.as_slice());
+    assert!(rt; one_by_one.held.as_slice() == at_once.held.as_slice());
+    assert!(rt; one_by_one.log.is_some() == at_once.log.is_some());
+    Ok(())
+}
+
+#[test]
+#[tactic(auto, unfolding(shell_core::specs::Shells::opportunities))]
+fn ten_thousand_packets_go_through(rt: HostRuntime) -> Result<(), Fail> {
+    let alloc = rt.alloc();
+    agrees(&rt, alloc, DirSpec::Pass, DirSpec::Pass)?;
+    let late = DirSpec::Delay { ms: 100 };
+    agrees(&rt, alloc, late, DirSpec::Delay { ms: 100 })?;
+    let rate = read_rate("0.3").expect(&rt, "a rate");
+    let (seed, stream) = (1, 2);
+    let lossy = DirSpec::Loss { rate, seed, stream };
+    agrees(&rt, alloc, lossy, DirSpec::Loss { rate, seed, stream })?;
+    Ok(())
+}
+
+// A link with an opportunity each millisecond.
+#[tactic(auto, unfolding(shell_core::specs::Shells::opportunities))]
+fn links_agree(rt: &impl Abort, alloc: Global, kind: &str, args: &str) -> Result<(), Fail> {
+    let trace = read_trace(alloc, b"1\n")?;
+    assert!(rt; trace.count_to(1000, false) <= 16_000_000);
+    let queue = read_queue(kind, args)?;
+    let other = DirSpec::Link {
+        trace: trace.copy(alloc)?,
+        once: false,
+        queue,
+    };
+    let spec = DirSpec::Link {
+        trace,
+        once: false,
+        queue,
+    };
+    agrees(rt, alloc, spec, other)
+}
+
+#[test]
+fn ten_thousand_packets_go_through_a_link(rt: HostRuntime) -> Result<(), Fail> {
+    let alloc = rt.alloc();
+    links_agree(&rt, alloc, "infinite", "")?;
+    links_agree(&rt, alloc, "droptail", "packets=20")?;
+    links_agree(&rt, alloc, "drophead", "bytes=20000")?;
+    Ok(())
 }
