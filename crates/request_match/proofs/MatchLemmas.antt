@@ -1,7 +1,7 @@
 -- One more record.
 use Rattle.std.proofs.Common.{suc, true, false, Bool, None, Some, ◌≡◌, ◌∙◌, ℕ, ◌+◌, ◌<◌, ◌≤◌, List, [], ◌∷◌, ◌++◌, length, take, drop, get_or, cond, refl, sym, ap, subst, arith, append_assoc}
 use Rattle.std.proofs.Common.{inl, inr}
-use Rattle.std.specs.Prelude.{◌==◌, Option, nat_lt, All, Decides}
+use Rattle.std.specs.Prelude.{◌==◌, Option, option_map, nat_lt, All, Decides}
 use Rattle.std.proofs.Math.Bool.{true≢false}
 use Rattle.std.proofs.Math.Seq.{drop-cons}
 use Rattle.std.proofs.lemmas.Bool.{cases_lt}
@@ -11,7 +11,7 @@ use Rattle.std.proofs.lemmas.List.Sums.{position_or_len_is}
 use Rattle.std.proofs.lemmas.List.Elements.{All-push}
 use Rattle.http_frame.specs.declared.messages.RequestHead.{RequestHead}
 use Rattle.record_store.specs.declared.record.Record.{Record}
-use Rattle.request_match.specs.Match.{stripped, common, score, Agrees, IsBest, NoneAgrees, BestSoFar, better_of}
+use Rattle.request_match.specs.Match.{stripped, common, score, Agrees, IsBest, NoneAgrees, BestSoFar, BestCause, better_of}
 
 -- ---- the common front
 
@@ -167,3 +167,8 @@ module _ (q : RequestHead) (asked : Option ℕ) where
       → IsBest q asked store f.0
   some_found records store i found f so is whole same =
       subst (λ rs. IsBest q asked rs f.0) (take_all i records (omega (arith, whole)) ∙ same) (subst (BestSoFar q asked (take i records)) is so).0
+
+  pub best_found : (records store : List Record) (i : ℕ) (found : Option (ℕ × ℕ)) → BestSoFar q asked (take i records) found → i ≡ length records → records ≡ store
+      → BestCause q asked store (option_map (λ (f : ℕ × ℕ). f.0) found)
+  best_found records store i None so whole same = none_found records store i None so refl whole same
+  best_found records store i (Some f) so whole same = some_found records store i (Some f) f so refl whole same

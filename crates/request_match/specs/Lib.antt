@@ -1,1 +1,3 @@
 pub mod Match
+pub mod Indexed
+pub mod Index

@@ -1,8 +1,11 @@
 //! The recorded response that a request is answered with.
 #![tactic(auto)]
 
+mod index;
+mod keys;
 mod matching;
 #[cfg(test)]
 mod tests;
 
+pub use index::Index;
 pub use matching::best;

@@ -1,6 +1,7 @@
 // The first agreeing record of greatest score.
-ghost use Rattle.std.specs.Prelude.{◌≡◌, ◌==◌, ◌≤◌, List, ℕ, Option, Decides, length, drop};
+ghost use Rattle.std.specs.Prelude.{◌≡◌, ◌==◌, ◌≤◌, List, ℕ, Option, Decides, length, drop, option_map};
 ghost use Rattle.std.specs.List.{before_first};
+ghost use Rattle.request_match.specs.Index.{WithRecord};
 ghost use Rattle.request_match.specs.Match.{stripped, common, score, FitsPort, Agrees, BestCause, better_of};
 
 use http_frame::RequestHead;
@@ -8,7 +9,7 @@ use mm_base::Bytes;
 use record_store::{Record, Store};
 
 /// The bytes before the first `?`, or all.
-fn without_query(line: &[u8]) -> &[u8]
+pub(crate) fn without_query(line: &[u8]) -> &[u8]
     ensures { result.now ≡ stripped line.now }
 {
     for (i, byte) in line.iter().enumerate() {
@@ -20,7 +21,7 @@ fn without_query(line: &[u8]) -> &[u8]
 }
 
 /// How many bytes two texts have in common at their front.
-fn common_front(a: &[u8], b: &[u8]) -> usize
+pub(crate) fn common_front(a: &[u8], b: &[u8]) -> usize
     ensures { result ≡ common a.now b.now }
 {
     let mut i = 0;
@@ -43,7 +44,7 @@ fn same_value(a: &Option<Bytes>, b: &Option<Bytes>) -> bool
 }
 
 /// Whether a record of that port may answer.
-fn fits_port(recorded: u16, asked: Option<u16>) -> bool
+pub(crate) fn fits_port(recorded: u16, asked: Option<u16>) -> bool
     ensures { Decides result (FitsPort recorded asked) }
 {
     match asked {
@@ -53,7 +54,7 @@ fn fits_port(recorded: u16, asked: Option<u16>) -> bool
 }
 
 /// Whether the record agrees with the request, its cheap parts first.
-fn agrees(exchange: &Record, request: &RequestHead, port: Option<u16>) -> bool
+pub(crate) fn agrees(exchange: &Record, request: &RequestHead, port: Option<u16>) -> bool
     ensures { Decides result (Agrees request.now port exchange.now) }
 {
     if !fits_port(exchange.port, port) {
@@ -70,7 +71,11 @@ fn agrees(exchange: &Record, request: &RequestHead, port: Option<u16>) -> bool
 }
 
 /// The better one of what was found before and a record at a place that agrees.
-fn better(found: Option<(usize, usize)>, place: usize, most: usize) -> Option<(usize, usize)>
+pub(crate) fn better(
+    found: Option<(usize, usize)>,
+    place: usize,
+    most: usize,
+) -> Option<(usize, usize)>
     ensures { result ≡ better_of found place most }
 {
     match found {
@@ -85,6 +90,36 @@ fn better(found: Option<(usize, usize)>, place: usize, most: usize) -> Option<(u
     }
 }
 
+/// The place of what was found.
+pub(crate) fn place_of(found: Option<(usize, usize)>) -> Option<usize>
+    ensures { result ≡ option_map (λ (f : ℕ × ℕ). f.0) found }
+{
+    match found {
+        Some((place, _)) => Some(place),
+        None => None,
+    }
+}
+
+/// The better one of what was found before and the record at a place.
+pub(crate) fn with_record(
+    found: Option<(usize, usize)>,
+    place: usize,
+    exchange: &Record,
+    request: &RequestHead,
+    port: Option<u16>,
+) -> Option<(usize, usize)>
+    ensures { WithRecord request.now port exchange.now place found result }
+{
+    if !agrees(exchange, request, port) {
+        return found;
+    }
+    let most = common_front(
+        exchange.request.head.line.as_slice(),
+        request.line.as_slice(),
+    );
+    better(found, place, most)
+}
+
 /// The index of the first agreeing record of greatest score, at the port that the request is asked
 /// at, or at none: Host, User-Agent and the request line up to its first `?` are equal, and the
 /// score is the length of the longest common front of the whole request lines (mm-webreplay; in
@@ -95,16 +130,7 @@ pub fn best(store: &Store, request: &RequestHead, port: Option<u16>) -> Option<u
     let mut found = None;
     let records = store.records();
     for (i, exchange) in records.iter().enumerate() {
-        if agrees(exchange, request, port) {
-            let most = common_front(
-                exchange.request.head.line.as_slice(),
-                request.line.as_slice(),
-            );
-            found = better(found, i, most);
-        }
+        found = with_record(found, i, exchange, request, port);
     }
-    match found {
-        Some((place, _)) => Some(place),
-        None => None,
-    }
+    place_of(found)
 }

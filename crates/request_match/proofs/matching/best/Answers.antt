@@ -1,8 +1,6 @@
-use Rattle.std.proofs.Common.{◌≡◌, ◌∙◌, sym, ap, arith}
-use Rattle.std.proofs.Math.Bool.{true≢false}
-use Rattle.request_match.specs.Match.{common, score}
-use Rattle.request_match.proofs.MatchLemmas.{step_agrees, step_other, none_found}
-use Rattle.request_match.proofs.matching.best.Goals.{then-agrees, else-agrees}
+use Rattle.std.proofs.Common.{◌≡◌, inl, inr, refl, sym, subst, arith}
+use Rattle.request_match.specs.Match.{score, BestCause}
+use Rattle.request_match.proofs.MatchLemmas.{step_agrees, step_other, best_found}
 use Rattle.request_match.proofs.matching.best.Goals as goal
 
 pub loop-i-preserved : goal.loop-i-preserved
@@ -10,18 +8,17 @@ loop-i-preserved c =
     let q = c.args.request.now in
     let records = c.records-records.result.now in
     let r = c.index-records-i.result in
-    elim c.if-agrees.branch [
-      | then-agrees w ↦
-          let most_is : w.common_front-most.result ≡ score q r =
-          w.common_front-most.ensures ∙ ap (λ ys. common ys w.as_slice-then-agrees.result.now) w.as_slice.ensures ∙ ap (common r.request.head.line) w.as_slice-then-agrees.ensures in
-          step_agrees q c.args.port records c.loop-i.i w.common_front-most.result r c.loop-i.found c.if-agrees.found c.loop-i-test.true c.index-records-i.is
-          c.loop-i.invariant (c.agrees.ensures.0 w.if-agrees.true) most_is (w.found-is ∙ w.better-found.ensures)
-      | else-agrees w ↦
-          step_other q c.args.port records c.loop-i.i r c.loop-i.found c.if-agrees.found c.loop-i-test.true c.index-records-i.is
-          c.loop-i.invariant (λ a. true≢false (sym (c.agrees.ensures.1 a) ∙ w.if-agrees.false)) w.found-is
+    elim c.with_record-found.ensures [
+      | inl x ↦
+          step_agrees q c.args.port records c.loop-i.i (score q r) r c.loop-i.found c.with_record-found.result c.loop-i-test.true c.index-records-i.is
+          c.loop-i.invariant x.0 refl x.1
+      | inr x ↦
+          step_other q c.args.port records c.loop-i.i r c.loop-i.found c.with_record-found.result c.loop-i-test.true c.index-records-i.is
+          c.loop-i.invariant x.0 x.1
     ]
 
-pub returns-in-None : goal.returns-in-None
-returns-in-None c =
-    none_found c.args.request.now c.args.port c.records-records.result.now c.args.store.now c.loop-i.i c.loop-i.found c.loop-i.invariant c.in-None.is
-    (omega arith) c.records-records.ensures.same
+pub returns : goal.returns
+returns c =
+    let q = c.args.request.now in
+    subst (BestCause q c.args.port c.args.store.now) (sym c.place_of.ensures)
+    (best_found q c.args.port c.records-records.result.now c.args.store.now c.loop-i.i c.loop-i.found c.loop-i.invariant (omega arith) c.records-records.ensures.same)

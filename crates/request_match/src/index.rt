@@ -1,0 +1,118 @@
+// Records by what must agree with a request.
+ghost use Rattle.std.specs.Prelude.{◌≡◌, ◌<◌, ◌≤◌, ℕ, List, Option, IfOk, All, length, slice_index_or};
+ghost use Rattle.request_match.specs.Match.{BestCause};
+ghost use Rattle.request_match.specs.Index.{Entry, IsEntry, HasAllTo, IsIndex as IsIndexOf};
+
+use crate::keys::key;
+use crate::matching::{fits_port, place_of, with_record};
+use http_frame::RequestHead;
+use mm_base::OutOfMemory;
+use record_store::{Record, Store};
+use std::alloc::Global;
+use std::marker::Model;
+
+/// The records of a store that may answer requests at a port, or at none, by what must agree, so that the best one is
+/// found without a walk over the store. Contracts see the records and the port.
+#[derive(Drop)]
+pub struct Index<'a> {
+    records: &'a [Record],
+    port: Option<u16>,
+    /// The key and the place of each record that fits the port, in order.
+    entries: Vec<(u64, usize)>,
+}
+
+impl<'a> Model for Index<'a> {
+    ghost use Rattle.request_match.specs.Indexed.{Indexed};
+    ghost use Rattle.request_match.specs.Index.{IsIndex};
+
+    ghost Value = { Indexed };
+
+    ghost view = { λ s. record { records = s.records.now; port = s.port } };
+
+    ghost invariant = { λ s. IsIndex s.records.now s.port s.entries.items };
+}
+
+/// The entries of the records that fit the port, in the records' order.
+fn entries_of(
+    alloc: Global,
+    records: &[Record],
+    port: Option<u16>,
+) -> Result<Vec<(u64, usize)>, OutOfMemory>
+    ensures entries { IfOk result (λ v. All (IsEntry records.now) v.items) }
+    ensures whole { IfOk result (λ v. HasAllTo records.now port (length records.now) v.items) }
+{
+    let mut entries = Vec::new(alloc);
+    for (place, exchange) in records.iter().enumerate() {
+        if fits_port(exchange.port, port) {
+            entries.push((key(&exchange.request.head), place))?;
+        }
+    }
+    Ok(entries)
+}
+
+/// The place of the first entry whose key isn't below that one.
+fn first_from(entries: &[(u64, usize)], key: u64) -> usize
+    requires { (i j : ℕ) (d : Entry) → i ≤ j → j < length entries.now → (slice_index_or entries.now i d).0 ≤ (slice_index_or entries.now j d).0 }
+    ensures bound { result ≤ length entries.now }
+    ensures below { (k : ℕ) (d : Entry) → k < result → (slice_index_or entries.now k d).0 < key }
+    ensures from { (k : ℕ) (d : Entry) → result ≤ k → k < length entries.now → key ≤ (slice_index_or entries.now k d).0 }
+{
+    let mut low = 0;
+    let mut high = entries.len();
+    while low < high {
+        let middle = low + (high - low) / 2;
+        if entries[middle].0 < key {
+            low = middle + 1;
+        } else {
+            high = middle;
+        }
+    }
+    low
+}
+
+/// The place of the best record, by the entries of those that fit the port.
+fn best_of(
+    entries: &[(u64, usize)],
+    records: &[Record],
+    port: Option<u16>,
+    request: &RequestHead,
+) -> Option<usize>
+    requires { IsIndexOf records.now port entries.now }
+    ensures { BestCause request.now port records.now result }
+{
+    let wanted = key(request);
+    let mut i = first_from(entries, wanted);
+    let mut found = None;
+    'entries: while i < entries.len() {
+        let (found_key, place) = entries[i];
+        if found_key != wanted {
+            return place_of(found);
+        }
+        found = with_record(found, place, &records[place], request, port);
+        i += 1;
+    }
+    place_of(found)
+}
+
+impl<'a> Index<'a> {
+    /// The index of a store for a port, or for none.
+    pub fn new(alloc: Global, store: &'a Store, port: Option<u16>) -> Result<Index<'a>, OutOfMemory>
+        ensures { IfOk result (λ index. index ≡ record { records = store.now; port = port }) }
+    {
+        let records = store.records();
+        let mut entries = entries_of(alloc, records, port)?;
+        entries.sort_unstable();
+        Ok(Index {
+            records,
+            port,
+            entries,
+        })
+    }
+
+    /// What `best` answers for the store and the port that the index was made for. It takes no memory.
+    pub fn best(&self, request: &RequestHead) -> Option<usize>
+        ensures { BestCause request.now self.now.port self.now.records result }
+    {
+        best_of(self.entries.as_slice(), self.records, self.port, request)
+    }
+}
