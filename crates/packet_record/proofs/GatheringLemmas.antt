@@ -3,7 +3,8 @@ use Rattle.std.proofs.Common.{◌≡◌, ◌≢◌, ℕ, ◌+◌, ◌≤◌, ◌
 use Rattle.packet_record.specs.Gathered.{Gathered, gathered, refusing, Awaits}
 use Rattle.packet_record.specs.Orders.{AreInOrder, AreWithin, IsSchedule}
 use Rattle.packet_record.specs.Said.{said_of}
-use Rattle.packet_record.specs.Schedules.{AreRows, first_fault, or_else, said}
+use Rattle.mm_base.specs.Refusals.{or_later}
+use Rattle.packet_record.specs.Schedules.{AreRows, first_fault, said}
 use Rattle.packet_record.specs.declared.packet.Row.{Row}
 use Rattle.packet_record.specs.declared.reading.ScheduleError.{ScheduleError}
 use Rattle.packet_record.specs.declared.reading.ScheduleError.TheVariants as errors
@@ -22,7 +23,7 @@ awaits_row all rest line g row before going says id few order fault =
           (before.rows_are going (row ∷ more) (says, id, omega arith, order, subst (λ n. AreRows n row.timed.moment rest more) count are));
       fault_is = λ _.
           before.fault_is (λ e. let none : None ≡ Some errors.OutOfMemory = sym going ∙ e in cc)
-          ∙ ap (λ r. or_else r (first_fault (length g.rows + 1) g.low (line ∷ rest))) going
+          ∙ ap (λ r. or_later r (first_fault (length g.rows + 1) g.low (line ∷ rest))) going
           ∙ fault
           ∙ ap (λ n. first_fault n row.timed.moment rest) (sym after);
     }
@@ -34,7 +35,7 @@ awaits_refusal all rest line g fault before going is = record {
   rows_are = λ none. absurd (let e : Some fault ≡ None = none in cc);
   fault_is = λ ne.
       before.fault_is (λ e. let none : None ≡ Some errors.OutOfMemory = sym going ∙ e in cc)
-      ∙ ap (λ r. or_else r (first_fault (length g.rows + 1) g.low (line ∷ rest))) going
+      ∙ ap (λ r. or_later r (first_fault (length g.rows + 1) g.low (line ∷ rest))) going
       ∙ is (λ e. ne (ap Some e));
 }
 
@@ -44,8 +45,8 @@ awaits_more all rest rest' g fault refused before = record {
   rows_are = λ none. absurd (let e : Some fault ≡ None = sym refused ∙ none in cc);
   fault_is = λ ne.
       before.fault_is ne
-      ∙ ap (λ r. or_else r (first_fault (length g.rows + 1) g.low rest)) refused
-      ∙ ap (λ r. or_else r (first_fault (length g.rows + 1) g.low rest')) (sym refused);
+      ∙ ap (λ r. or_later r (first_fault (length g.rows + 1) g.low rest)) refused
+      ∙ ap (λ r. or_later r (first_fault (length g.rows + 1) g.low rest')) (sym refused);
 }
 
 in_order_more : (place low moment : ℕ) (rows : List Row) (row : Row) → AreInOrder place low rows → AreWithin moment rows → low ≤ row.timed.moment → moment ≤ row.timed.moment

@@ -14,3 +14,4 @@ pub mod CutLemmas
 pub mod PartLemmas
 pub mod LongLines
 pub mod Told
+pub mod RoomLemmas

@@ -8,7 +8,8 @@ use Rattle.mm_base.proofs.TextLemmas.{is_one_line-append}
 use Rattle.packet_record.specs.Gathered.{Gathered, Awaits}
 use Rattle.packet_record.specs.Printing.{direction_text}
 use Rattle.packet_record.specs.Said.{said_of}
-use Rattle.packet_record.specs.Schedules.{AreRows, first_fault, fault_of, moment_of, or_else, said}
+use Rattle.mm_base.specs.Refusals.{or_later}
+use Rattle.packet_record.specs.Schedules.{AreRows, first_fault, fault_of, moment_of, said}
 use Rattle.packet_record.specs.declared.packet.Direction.{Direction}
 use Rattle.packet_record.specs.declared.packet.Direction.TheVariants.{Up, Down}
 use Rattle.packet_record.specs.declared.packet.Row.{Row}
@@ -71,7 +72,7 @@ begins (byte ∷ next ∷ bytes) rest one some =
 bad_line : (place low : ℕ) (line : List ℕ) (lines : List (List ℕ)) → said_of line ≡ None
     → first_fault place low (line ∷ lines) ≡ cond (nat_lt 1000000 place) (Some errors.TooMany) (Some (errors.BadLine place))
 bad_line place low line lines none =
-    ap (λ s. cond (nat_lt 1000000 place) (Some errors.TooMany) (or_else (fault_of place low s) (first_fault (place + 1) (moment_of s) lines))) none
+    ap (λ s. cond (nat_lt 1000000 place) (Some errors.TooMany) (or_later (fault_of place low s) (first_fault (place + 1) (moment_of s) lines))) none
 
 no_rows : (place low : ℕ) (line : List ℕ) (lines : List (List ℕ)) (rows : List Row) → said_of line ≡ None → AreRows place low (line ∷ lines) rows → ⊥
 no_rows place low line lines [] none are = are
@@ -84,7 +85,7 @@ awaits_bad all line line' lines lines' g none none' before = record {
   rows_are = λ _ rows are. absurd (no_rows (length g.rows + 1) g.low line' lines' rows none' are);
   fault_is = λ ne.
       before.fault_is ne
-      ∙ ap (or_else g.refused) (bad_line (length g.rows + 1) g.low line lines none ∙ sym (bad_line (length g.rows + 1) g.low line' lines' none'));
+      ∙ ap (or_later g.refused) (bad_line (length g.rows + 1) g.low line lines none ∙ sym (bad_line (length g.rows + 1) g.low line' lines' none'));
 }
 
 -- what follows a front that is too long doesn't matter

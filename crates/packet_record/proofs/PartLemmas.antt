@@ -1,9 +1,11 @@
 -- A line that was cut between two pieces of a text.
-use Rattle.std.proofs.Common.{◌≡◌, ℕ, ◌<◌, List, [], ◌∷◌, ◌++◌, length, true, false, ◌==◌, ap, subst, ◌∙◌, arith, rules}
+use Rattle.std.proofs.Common.{◌≡◌, ℕ, ◌<◌, List, [], ◌∷◌, ◌++◌, length, true, false, ◌==◌, Option, Some, None, IsSome, refl, ap, subst, ◌∙◌, arith, rules}
 use Rattle.std.proofs.lemmas.List.{append-nil}
 use Rattle.mm_base.specs.Lines.{lines_of, is_one_line}
 use Rattle.mm_base.proofs.TextLemmas.{lines_of-line, lines_of-last}
+use Rattle.mm_base.specs.Refusals.{or_later}
 use Rattle.packet_record.specs.Gathered.{Gathered, Awaits}
+use Rattle.packet_record.specs.declared.reading.ScheduleError.{ScheduleError}
 
 pub none_kept : (kept : List ℕ) → true ≡ (length kept == 0) → kept ≡ []
 none_kept [] e = search rules
@@ -12,6 +14,21 @@ none_kept (byte ∷ bytes) e = search rules
 pub some_kept : (kept : List ℕ) → false ≡ (length kept == 0) → 0 < length kept
 some_kept [] e = absurd cc
 some_kept (byte ∷ bytes) e = omega arith
+
+same_refusal : (refused x y : Option ScheduleError) → IsSome refused → or_later refused x ≡ or_later refused y
+same_refusal None x y some = absurd cc
+same_refusal (Some fault) x y some = refl
+
+not_none : (refused : Option ScheduleError) → IsSome refused → refused ≡ None → ⊥
+not_none None some none = absurd cc
+not_none (Some fault) some none = absurd cc
+
+-- after a refusal it doesn't matter what is still to come
+pub awaits_any : (all rest rest' : List (List ℕ)) (g : Gathered) → IsSome g.refused → Awaits all rest g → Awaits all rest' g
+awaits_any all rest rest' g some before = record {
+  rows_are = λ none. absurd (not_none g.refused some none);
+  fault_is = λ ne. before.fault_is ne ∙ same_refusal g.refused _ _ some;
+}
 
 -- where nothing is kept, a line is right the next
 pub next_line : (all : List (List ℕ)) (kept line rest : List ℕ) (g : Gathered) → kept ≡ [] → is_one_line line ≡ true

@@ -8,11 +8,15 @@ use Rattle.packet_record.specs.declared.packet.Direction.TheVariants.{Up, Down}
 abbrev pub drawn_direction : ℕ → Direction
 drawn_direction b = if nat_lt (b % 4) 2 then Up else Down
 
--- What so many rows say: each takes three draws after x, which are for the milliseconds since the row before, the direction and the size.
+-- What so many rows say: each takes three draws after x, which are for the milliseconds since the row before, the
+-- direction and the size.
 abbrev pub load_from : ℕ → ℕ → ℕ → List (ℕ × Direction × ℕ)
 load_from x moment zero = []
-load_from x moment (suc n) =
-    (moment + next_draw x % 4, drawn_direction (next_draw (next_draw x)), 40 + next_draw (next_draw (next_draw x)) % 1461)
+load_from x moment (suc n) = (
+  moment + next_draw x % 4,
+  drawn_direction (next_draw (next_draw x)),
+  40 + next_draw (next_draw (next_draw x)) % 1461,
+)
     ∷ load_from (next_draw (next_draw (next_draw x))) (moment + next_draw x % 4) n
 
 -- what the rows of a number's load say

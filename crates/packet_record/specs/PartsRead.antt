@@ -1,5 +1,5 @@
 -- What reading the front of a schedule's text has come to.
-use Rattle.std.specs.Prelude.{ℕ, List, ◌++◌}
+use Rattle.std.specs.Prelude.{ℕ, List, ◌++◌, IsSome}
 use Rattle.mm_base.specs.Lines.{lines_of}
 use Rattle.packet_record.specs.Gathered.{Gathered, Awaits}
 
@@ -11,6 +11,10 @@ pub record PartRead : Type 0 where
 -- of a whole text only this rest is still to come
 abbrev pub IsLeft : List ℕ → List ℕ → PartRead → Type 0
 IsLeft whole rest read = Awaits (lines_of whole) (lines_of (read.kept ++ rest)) read.gathered
+
+-- a line was refused, or memory was wanting
+abbrev pub IsRefused : PartRead → Type 0
+IsRefused read = IsSome read.gathered.refused
 
 -- This text was read: whatever follows it, only that is still to come.
 abbrev pub HasRead : List ℕ → PartRead → Type 0

@@ -1,5 +1,6 @@
 -- What contracts see of a reader of a schedule.
 use Rattle.std.specs.Prelude.{◌≡◌, ◌≤◌, Some}
+use Rattle.mm_base.specs.declared.limits.TheConstants.{MOST_LINES}
 use Rattle.packet_record.specs.Reading.{Reading}
 use Rattle.packet_record.specs.declared.reading.ScheduleError.TheVariants.{OutOfMemory}
 use Rattle.packet_record.specs.declared.reading.ScheduleReader.TheInside.{Inside}
@@ -9,5 +10,5 @@ reader_view r = record { rows = r.rows; low = r.low; refused = r.refused }
 
 -- a reader has read no more rows than a schedule may have, and never refuses for want of memory
 pub record CanRead (r : Inside) : Type 0 where
-  pub few : r.rows ≤ 1000000
+  pub few : r.rows ≤ MOST_LINES
   pub cause : r.refused ≡ Some OutOfMemory → ⊥

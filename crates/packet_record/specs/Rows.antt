@@ -13,7 +13,8 @@ goes Down Down = true
 
 -- the packets of a direction up to the horizon
 abbrev pub entering : Direction → ℕ → List Row → List Timed
-entering d horizon rows = map (λ (r : Row). r.timed) (filter (λ (r : Row). goes d r.direction && nat_le r.timed.moment horizon) rows)
+entering d horizon rows =
+    map (λ (r : Row). r.timed) (filter (λ (r : Row). goes d r.direction && nat_le r.timed.moment horizon) rows)
 
 -- the moments are at least this one, and never fall
 abbrev pub Rises : ℕ → List Row → Type 0

@@ -1,12 +1,14 @@
 -- What contracts see of a schedule that is read piece by piece.
-use Rattle.std.specs.Prelude.{◌≡◌, true}
+use Rattle.std.specs.Prelude.{◌≡◌, ◌≤◌, length, true}
 use Rattle.mm_base.specs.Lines.{is_one_line}
 use Rattle.packet_record.specs.PartsRead.{PartRead}
+use Rattle.packet_record.specs.declared.text.TheConstants.{MOST_KEPT}
 use Rattle.packet_record.specs.declared.text.ScheduleText.TheInside.{Inside}
 
 abbrev pub text_view : Inside → PartRead
 text_view t = record { gathered = t.rows; kept = t.kept }
 
--- what is kept is of one line
-abbrev pub KeepsOneLine : Inside → Type 0
-KeepsOneLine t = is_one_line t.kept ≡ true
+-- What is kept is of one line, and no more than is enough of it.
+pub record KeepsOneLine (t : Inside) : Type 0 where
+  pub one_line : is_one_line t.kept ≡ true
+  pub few : length t.kept ≤ MOST_KEPT

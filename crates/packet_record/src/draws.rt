@@ -4,8 +4,8 @@ ghost use Rattle.packet_record.specs.Draws.{draw_start, next_draw};
 
 use std::marker::Model;
 
-/// A linear congruential generator with the multiplier 75 and the increment 74 modulo 65537. Contracts see it as its last draw. It is
-/// for test loads alone, and its draws are no good random numbers.
+/// A linear congruential generator with the multiplier 75 and the increment 74 modulo 65537. Contracts see it as its
+/// last draw. It is for test loads alone, and its draws are no good random numbers.
 #[derive(Drop)]
 pub struct Draws {
     last: u32,

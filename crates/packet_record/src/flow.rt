@@ -8,8 +8,8 @@ use mm_base::OutOfMemory;
 use std::alloc::Global;
 use std::marker::Model;
 
-/// What a stream of items was: its packets in order, the greatest moment that any item named (0 at first), and how it ended. Contracts
-/// see these three as a `Stream`, and beside it a number `spare`: so many more packets take no memory.
+/// What a stream of items was: its packets in order, the greatest moment that any item named (0 at first), and how it
+/// ended. Contracts see these three as a `Stream`, and beside it a number `spare`: so many more packets take no memory.
 #[derive(Drop)]
 pub struct Flow {
     packets: Vec<Timed>,
@@ -102,7 +102,8 @@ impl Flow {
     /// Adds an item. Only a packet takes memory, and only where there is no spare room; else it takes one of it.
     pub fn push(&mut self, item: Item) -> Result<(), OutOfMemory>
         requires { MayFollow self.old.stream item }
-        ensures stream { OnOk result ((self.new.stream ≡ after self.old.stream item) × (self.new.spare ≡ spare_after self.old.spare item)) }
+        ensures stream { OnOk result ((self.new.stream ≡ after self.old.stream item)
+            × (self.new.spare ≡ spare_after self.old.spare item)) }
         ensures err { OnErr result ((self.new ≡ self.old) × NeedsRoom self.old.spare item) }
     {
         if let Item::Packet(_) = item {

@@ -1,11 +1,12 @@
 // The rows of a schedule, gathered line by line.
-ghost use Rattle.std.specs.Prelude.{◌≡◌, ◌≢◌, ◌≤◌, ◌∷◌, ℕ, List, [], None, Some, IfSome, IfOk, IfErr, OnOk, MatchResult};
+ghost use Rattle.std.specs.Prelude.{◌≡◌, ◌≢◌, ◌≤◌, ◌∷◌, ℕ, List, [], None, Some, IfSome, is_some, IfOk, IfErr, OnOk, MatchResult};
 ghost use Rattle.packet_record.specs.Said.{said_of};
 ghost use Rattle.packet_record.specs.Schedules.{AreRows, first_fault};
 
 use crate::reading::row_of;
 use crate::{Direction, Row, Schedule, ScheduleError};
 use mm_base::OutOfMemory;
+use mm_base::limits::GREATEST_MOMENT;
 use std::alloc::Global;
 use std::marker::Model;
 
@@ -47,9 +48,11 @@ impl ScheduleRows {
     #[inline]
     fn add(&mut self, says: Option<(u64, Direction, u64)>) -> Result<(), ScheduleError>
         requires going { self.old.refused ≡ None }
-        requires within { IfSome says (λ s. s.0 ≤ 9999999999) }
-        ensures ok { OnOk result ((all rest : List (List ℕ)) (line : List ℕ) → said_of line ≡ says → Awaits all (line ∷ rest) self.old → Awaits all rest self.new) }
-        ensures err { IfErr result (λ e. (all rest : List (List ℕ)) (line : List ℕ) → said_of line ≡ says → Awaits all (line ∷ rest) self.old
+        requires within { IfSome says (λ s. s.0 ≤ GREATEST_MOMENT) }
+        ensures ok { OnOk result ((all rest : List (List ℕ)) (line : List ℕ) → said_of line ≡ says
+            → Awaits all (line ∷ rest) self.old → Awaits all rest self.new) }
+        ensures err { IfErr result (λ e. (all rest : List (List ℕ)) (line : List ℕ) → said_of line ≡ says
+            → Awaits all (line ∷ rest) self.old
             → Awaits all rest (refusing e self.new)) }
     {
         let row = row_of(self.rows.len() as u32, self.low, says)?;
@@ -61,15 +64,23 @@ impl ScheduleRows {
     // Takes what the next line says, or that it says nothing. After a refusal it is passed over.
     #[inline]
     pub(crate) fn take(&mut self, says: Option<(u64, Direction, u64)>)
-        requires within { IfSome says (λ s. s.0 ≤ 9999999999) }
-        ensures { (all rest : List (List ℕ)) (line : List ℕ) → said_of line ≡ says → Awaits all (line ∷ rest) self.old → Awaits all rest self.new }
+        requires within { IfSome says (λ s. s.0 ≤ GREATEST_MOMENT) }
+        ensures { (all rest : List (List ℕ)) (line : List ℕ) → said_of line ≡ says
+            → Awaits all (line ∷ rest) self.old → Awaits all rest self.new }
     {
-        if self.refused.is_some() {
+        if self.is_refused() {
             return;
         }
         if let Err(fault) = self.add(says) {
             self.refused = Some(fault);
         }
+    }
+
+    // Whether a line was refused, or memory was wanting.
+    pub(crate) fn is_refused(&self) -> bool
+        ensures { result ≡ is_some self.now.refused }
+    {
+        self.refused.is_some()
     }
 
     // Memory is wanting.
@@ -82,7 +93,8 @@ impl ScheduleRows {
     // The schedule, or the first refusal.
     pub(crate) fn finish(self) -> Result<Schedule, ScheduleError>
         ensures found { (all : List (List ℕ)) → Awaits all [] self → IfOk result (λ rows. AreRows 1 0 all rows) }
-        ensures exact { (all : List (List ℕ)) → Awaits all [] self → MatchResult result (λ _. first_fault 1 0 all ≡ None)
+        ensures exact { (all : List (List ℕ)) → Awaits all [] self → MatchResult result
+            (λ _. first_fault 1 0 all ≡ None)
             (λ e. (e ≢ ScheduleError.OutOfMemory) → first_fault 1 0 all ≡ Some e) }
     {
         match self.refused {

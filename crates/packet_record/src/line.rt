@@ -7,13 +7,15 @@ ghost use Rattle.packet_record.specs.Printing.{direction_text};
 ghost use Rattle.packet_record.specs.declared.packet.Direction.{Direction as DirectionValue};
 
 use crate::Direction;
+use mm_base::limits::GREATEST_MOMENT;
 use mm_base::split_decimal;
 
 // The direction between two spaces at the front of a text, and what follows.
 #[inline]
 fn split_direction(text: &[u8]) -> Option<(Direction, &[u8])>
     ensures read { IfSome result (λ r. text.now ≡ direction_text r.0 ++ r.1.now) }
-    ensures every { (d : DirectionValue) (rest : List ℕ) → text.now ≡ direction_text d ++ rest → MatchOption result ⊥ (λ r. (r.0 ≡ d) × (r.1.now ≡ rest)) }
+    ensures every { (d : DirectionValue) (rest : List ℕ) → text.now ≡ direction_text d ++ rest → MatchOption result ⊥
+        (λ r. (r.0 ≡ d) × (r.1.now ≡ rest)) }
 {
     match text {
         [b' ', b'u', b'p', b' ', rest @ ..] => Some((Direction::Up, rest)),
@@ -26,7 +28,8 @@ fn split_direction(text: &[u8]) -> Option<(Direction, &[u8])>
 #[inline]
 fn split_said(text: &[u8]) -> Option<((u64, Direction, u64), &[u8])>
     ensures read { IfSome result (λ r. (line : List ℕ) × (text.now ≡ line ++ r.1.now) × (said_of line ≡ Some r.0)) }
-    ensures every { (line rest : List ℕ) (says : ℕ × DirectionValue × ℕ) → text.now ≡ line ++ rest → said_of line ≡ Some says → BeginsOtherwise rest
+    ensures every { (line rest : List ℕ) (says : ℕ × DirectionValue × ℕ) → text.now ≡ line ++ rest
+        → said_of line ≡ Some says → BeginsOtherwise rest
         → MatchOption result ⊥ (λ r. (r.0 ≡ says) × (r.1.now ≡ rest)) }
 {
     let (moment, rest) = split_decimal(text)?;
@@ -35,13 +38,16 @@ fn split_said(text: &[u8]) -> Option<((u64, Direction, u64), &[u8])>
     Some(((moment, direction, size), rest))
 }
 
-// What the line at the front of a text says, and what follows its line feed. None where the text has no line feed, or the line says nothing.
+// What the line at the front of a text says, and what follows its line feed. None where the text has no line feed, or
+// the line says nothing.
 #[inline]
 #[tactic(auto, using(crate::proofs::LineLemmas::line_in_front, crate::proofs::SaidLemmas::said_within))]
 pub(crate) fn split_line(text: &[u8]) -> Option<((u64, Direction, u64), &[u8])>
-    ensures read { IfSome result (λ r. (line : List ℕ) × (text.now ≡ line ++ 10 ∷ r.1.now) × (is_one_line line ≡ true) × (said_of line ≡ Some r.0)) }
-    ensures within { IfSome result (λ r. r.0.0 ≤ 9999999999) }
-    ensures every { (line rest : List ℕ) (says : ℕ × DirectionValue × ℕ) → text.now ≡ line ++ 10 ∷ rest → said_of line ≡ Some says
+    ensures read { IfSome result (λ r. (line : List ℕ) × (text.now ≡ line ++ 10 ∷ r.1.now)
+        × (is_one_line line ≡ true) × (said_of line ≡ Some r.0)) }
+    ensures within { IfSome result (λ r. r.0.0 ≤ GREATEST_MOMENT) }
+    ensures every { (line rest : List ℕ) (says : ℕ × DirectionValue × ℕ) → text.now ≡ line ++ 10 ∷ rest
+        → said_of line ≡ Some says
         → MatchOption result ⊥ (λ r. (r.0 ≡ says) × (r.1.now ≡ rest)) }
 {
     let (said, rest) = split_said(text)?;
@@ -55,7 +61,7 @@ pub(crate) fn split_line(text: &[u8]) -> Option<((u64, Direction, u64), &[u8])>
 #[tactic(auto, using(crate::proofs::SaidLemmas::said_within))]
 pub(crate) fn read_line(line: &[u8]) -> Option<(u64, Direction, u64)>
     ensures value { result ≡ said_of line.now }
-    ensures within { IfSome result (λ s. s.0 ≤ 9999999999) }
+    ensures within { IfSome result (λ s. s.0 ≤ GREATEST_MOMENT) }
 {
     let (said, rest) = split_said(line)?;
     rest.is_empty().then_some(said)

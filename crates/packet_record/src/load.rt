@@ -6,14 +6,15 @@ ghost use Rattle.packet_record.specs.Schedules.{said};
 
 use crate::{Direction, Draws, Packet, Row, Schedule, Timed};
 use mm_base::OutOfMemory;
+use mm_base::limits::MOST_LINES;
 use std::alloc::Global;
 
-/// The schedule of so many packets, 1 to 1,000,000, that the generator makes of a number. Each packet takes three draws: the first
-/// modulo 4 is the milliseconds since the packet before (the first since moment 0), the second modulo 4 gives the direction (0 and 1
-/// go up), and the third modulo 1461 plus 40 is the size in bytes.
+/// The schedule of so many packets, 1 to 1,000,000, that the generator makes of a number. Each packet takes three
+/// draws: the first modulo 4 is the milliseconds since the packet before (the first since moment 0), the second modulo
+/// 4 gives the direction (0 and 1 go up), and the third modulo 1461 plus 40 is the size in bytes.
 pub fn make_load(alloc: Global, number: u64, packets: u32) -> Result<Schedule, OutOfMemory>
     requires some { 1 ≤ packets }
-    requires most { packets ≤ 1000000 }
+    requires most { packets ≤ MOST_LINES }
     ensures { IfOk result (λ rows. map said rows ≡ load_of number packets) }
 {
     let mut draws = Draws::new(number);
@@ -29,11 +30,15 @@ pub fn make_load(alloc: Global, number: u64, packets: u32) -> Result<Schedule, O
 
 // The row after so many, the last at this moment.
 fn draw_row(draws: &mut Draws, before: u32, moment: u64) -> Row
-    requires few { before < 1000000 }
+    requires few { before < MOST_LINES }
     requires low { moment ≤ 3 * before }
     ensures after { draws.new ≡ next_draw (next_draw (next_draw draws.old)) }
     ensures id { result.timed.packet.id ≡ before + 1 }
-    ensures said { said result ≡ (moment + next_draw draws.old % 4, drawn_direction (next_draw (next_draw draws.old)), 40 + next_draw (next_draw (next_draw draws.old)) % 1461) }
+    ensures said { said result ≡ (
+      moment + next_draw draws.old % 4,
+      drawn_direction (next_draw (next_draw draws.old)),
+      40 + next_draw (next_draw (next_draw draws.old)) % 1461,
+    ) }
 {
     let moment = moment + u64::from(draws.draw() % 4);
     let direction = if draws.draw() % 4 < 2 {

@@ -41,17 +41,14 @@ fn refuses_the_first(rt: HostRuntime) {
         (b"5 up 1\n4 up 0\n", 2, 2),
         (b"5 up 1\n4 down 7\n3 up\n", 3, 2),
     ] {
-        match read_schedule(rt.alloc(), text) {
-            Ok(_) => assert!(rt; false, "{number} at {line} was read"),
-            Err(fault) => {
-                assert_eq!(rt; fault.number(), number);
-                assert_eq!(rt; fault.line(), line);
-            }
-        }
+        let refused = read_schedule(rt.alloc(), text).err();
+        let fault = refused.map(|fault| (fault.number(), fault.line()));
+        assert_eq!(rt; fault, Some((number, line)));
     }
 }
 
-// What is read of a text that is cut into these pieces: what is printed of its rows, or the number of its refusal and the line that it names.
+// What is read of a text that is cut into these pieces: what is printed of its rows, or the number of its refusal and
+// the line that it names.
 fn read_pieces(rt: &HostRuntime, pieces: [&[u8]; 3]) -> Result<Bytes, Fail> {
     let alloc = rt.alloc();
     let mut reading = ScheduleText::new(alloc, 0)?;
@@ -97,6 +94,24 @@ fn reads_a_text_wherever_it_is_cut(rt: HostRuntime) -> Result<(), Fail> {
                 assert_eq!(rt; read.as_slice(), said);
             }
         }
+    }
+    Ok(())
+}
+
+#[test]
+fn ten_thousand_rows_are_read_in_pieces_of_any_size(rt: HostRuntime) -> Result<(), Fail> {
+    let alloc = rt.alloc();
+    let text = print_schedule(alloc, &make_load(alloc, 7, 10_000)?)?;
+    let whole = read_schedule(alloc, text.as_slice())?;
+    assert_eq!(rt; whole.rows().len(), 10_000);
+    assert_eq!(rt; print_schedule(alloc, &whole)?.as_slice(), text.as_slice());
+    for size in [1usize, 2, 13, 27, 65_536] {
+        let mut reading = ScheduleText::new(alloc, text.len())?;
+        for piece in text.as_slice().chunks(size) {
+            reading.push(piece);
+        }
+        let printed = print_schedule(alloc, &reading.finish()?)?;
+        assert_eq!(rt; printed.as_slice(), text.as_slice(), "in pieces of {size}");
     }
     Ok(())
 }

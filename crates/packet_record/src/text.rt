@@ -1,21 +1,24 @@
 // A schedule read from its text piece by piece.
-ghost use Rattle.std.specs.Prelude.{◌≡◌, ◌≢◌, ◌<◌, ◌∷◌, ◌++◌, ◌-◌, ℕ, List, [], length, take, None, Some, true, IfSome, IfNone, IfOk, IfErr, MatchResult};
+ghost use Rattle.std.specs.Prelude.{◌≡◌, ◌≢◌, ◌≤◌, ◌<◌, ◌∷◌, ◌++◌, ◌+◌, ◌-◌, ◌/◌, ℕ, List, [], length, take, None, Some, true, IfSome, IfNone, IfOk, IfErr, MatchResult};
 ghost use Rattle.mm_base.specs.Lines.{is_one_line, lines_of};
 ghost use Rattle.packet_record.specs.Schedules.{IsScheduleText, first_fault};
+ghost use Rattle.packet_record.specs.declared.packet.Row.{Row as RowValue};
 
 use crate::cut::cut_line;
 use crate::gathering::ScheduleRows;
 use crate::line::{read_line, split_line};
 use crate::{Schedule, ScheduleError};
+use mm_base::limits::MOST_LINES;
 use mm_base::{Bytes, OutOfMemory, PieceReader};
 use std::alloc::Global;
 use std::marker::Model;
 
-// A byte more than the longest line that says something: two decimals of ten digits, and a direction between two spaces.
+// A byte more than the longest line that says something: two decimals of ten digits, and a direction between two
+// spaces.
 const MOST_KEPT: usize = 27;
 
-/// A schedule that is read from its text piece by piece, wherever the text is cut. Of the text no more is kept than the first 27 bytes of
-/// a line that a piece has begun.
+/// A schedule that is read from its text piece by piece, wherever the text is cut. Of the text no more is kept than the
+/// first 27 bytes of a line that a piece has begun.
 #[derive(Drop)]
 pub struct ScheduleText {
     rows: ScheduleRows,
@@ -53,6 +56,9 @@ impl ScheduleText {
         requires { is_one_line part.now ≡ true }
         ensures { (whole rest : List ℕ) → IsLeft whole (part.now ++ rest) self.old → IsLeft whole rest self.new }
     {
+        if self.rows.is_refused() {
+            return;
+        }
         let front = kept_front(self.kept.len(), part);
         if self.kept.append(front).is_err() {
             self.rows.want_memory();
@@ -73,10 +79,12 @@ impl ScheduleText {
         self.kept.clear();
     }
 
-    // Reads a text up to its first line feed, and answers what follows. None where it has no line feed: then nothing is read.
+    // Reads a text up to its first line feed, and answers what follows. None where it has no line feed: then nothing is
+    // read.
     #[inline]
     fn next_line<'a>(&mut self, text: &'a [u8]) -> Option<&'a [u8]>
-        ensures some { IfSome result (λ after. (whole rest : List ℕ) → IsLeft whole (text.now ++ rest) self.old → IsLeft whole (after.now ++ rest) self.new) }
+        ensures some { IfSome result (λ after. (whole rest : List ℕ) → IsLeft whole (text.now ++ rest) self.old
+            → IsLeft whole (after.now ++ rest) self.new) }
         ensures shorter { IfSome result (λ after. length after.now < length text.now) }
         ensures none { IfNone result ((self.new ≡ self.old) × (is_one_line text.now ≡ true)) }
     {
@@ -105,7 +113,8 @@ impl ScheduleText {
     /// The schedule of the text that was read, or its first refusal, as `read_schedule` answers for the text.
     pub fn finish(self) -> Result<Schedule, ScheduleError>
         ensures found { (text : List ℕ) → HasRead text self → IfOk result (λ rows. IsScheduleText text rows) }
-        ensures exact { (text : List ℕ) → HasRead text self → MatchResult result (λ _. first_fault 1 0 (lines_of text) ≡ None)
+        ensures exact { (text : List ℕ) → HasRead text self → MatchResult result
+            (λ _. first_fault 1 0 (lines_of text) ≡ None)
             (λ e. (e ≢ ScheduleError.OutOfMemory) → first_fault 1 0 (lines_of text) ≡ Some e) }
     {
         self.into_rows().finish()
@@ -113,12 +122,19 @@ impl ScheduleText {
 }
 
 impl PieceReader for ScheduleText {
-    ghost use Rattle.packet_record.specs.PartsRead.{HasRead};
+    ghost use Rattle.packet_record.specs.PartsRead.{HasRead, IsRefused};
 
     ghost has_read = { HasRead };
 
-    /// Reads the next piece of the text. After a refusal it is passed over.
-    fn push(&mut self, piece: &[u8]) {
+    /// Reads the next piece of the text. After a refusal it is passed over: nothing changes, so no memory is taken, and
+    /// none can be wanting.
+    fn push(&mut self, piece: &[u8])
+        ensures read { (text : List ℕ) → HasRead text self.old → HasRead (text ++ piece.now) self.new }
+        ensures settled { IsRefused self.old → self.new ≡ self.old }
+    {
+        if self.rows.is_refused() {
+            return;
+        }
         let mut rest = piece;
         'lines: while let Some(after) = self.next_line(rest) {
             rest = after;
@@ -127,14 +143,21 @@ impl PieceReader for ScheduleText {
     }
 }
 
-// What is kept of a part of a line, after so many bytes of the line: a line that has more than 26 bytes says nothing, however it goes on.
+// What is kept of a part of a line, after so many bytes of the line: a line that has more than 26 bytes says nothing,
+// however it goes on.
 fn kept_front(kept: usize, part: &[u8]) -> &[u8]
-    ensures { result.now ≡ take (27 - kept) part.now }
+    ensures { result.now ≡ take (MOST_KEPT - kept) part.now }
 {
     &part[..part.len().min(MOST_KEPT.saturating_sub(kept))]
 }
 
-// No schedule of so many bytes has more rows: the shortest line has six bytes and its line feed.
-fn most_rows(bytes: usize) -> usize {
-    (bytes / 7 + 1).min(1_000_000)
+// How many rows the schedule of a text of so many bytes has at most: a line has no fewer than six bytes and its line
+// feed.
+#[tactic(auto, using(crate::proofs::RoomLemmas::rows_fit))]
+fn most_rows(bytes: usize) -> usize
+    ensures enough { (text : List ℕ) (rows : List RowValue) → length text ≤ bytes → IsScheduleText text rows
+        → length rows ≤ result }
+    ensures most { result ≤ bytes / 7 + 1 }
+{
+    (bytes / 7 + 1).min(MOST_LINES as usize)
 }

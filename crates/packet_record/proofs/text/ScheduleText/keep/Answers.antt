@@ -1,9 +1,11 @@
-use Rattle.std.proofs.Common.{◌≡◌, ◌-◌, ◌++◌, Result, Ok, Err, OnOk, length, take, true, false, ap, sym, subst, ◌∙◌}
+use Rattle.std.proofs.Common.{◌≡◌, ◌-◌, ◌++◌, Result, Ok, Err, OnOk, length, take, true, false, ap, sym, subst, ◌∙◌, arith, length-append}
+use Rattle.std.proofs.lemmas.List.{length-take}
 use Rattle.std.specs.Result.{is_err}
 use Rattle.mm_base.specs.Lines.{lines_of, is_one_line}
 use Rattle.mm_base.proofs.TextLemmas.{is_one_line-append}
 use Rattle.packet_record.specs.Gathered.{Awaits}
 use Rattle.packet_record.specs.PartsRead.{IsLeft}
+use Rattle.packet_record.proofs.PartLemmas.{awaits_any}
 use Rattle.packet_record.proofs.LongLines.{one_line_take, enough_kept}
 use Rattle.packet_record.proofs.text.ScheduleText.keep.Goals as goal
 
@@ -17,8 +19,13 @@ invariant_of-self-else-is_err c =
     let part = c.args.part.now in
     let added = no_error c.append.result (sym c.if-is_err.false ∙ c.is_err.ensures.value) c.append.ensures.ok in
     let front = c.kept_front-front.ensures ∙ ap (λ n. take (27 - n) part) c.len.ensures in
-    subst (λ t. is_one_line t ≡ true) (sym (added ∙ ap (λ l. kept ++ l) front))
-    (is_one_line-append kept (take (27 - length kept) part) c.self.invariant (one_line_take (27 - length kept) part c.requires))
+    let held = added ∙ ap (λ l. kept ++ l) front in
+    let few = c.self.invariant.few in
+    record {
+      one_line = subst (λ t. is_one_line t ≡ true) (sym held)
+          (is_one_line-append kept (take (27 - length kept) part) c.self.invariant.one_line (one_line_take (27 - length kept) part c.requires));
+      few = omega (arith, few, ap length held, length-append kept (take (27 - length kept) part), length-take (27 - length kept) part);
+    }
 
 pub returns-else-is_err : goal.returns-else-is_err
 returns-else-is_err c = λ whole rest left.
@@ -28,4 +35,11 @@ returns-else-is_err c = λ whole rest left.
     let added = no_error c.append.result (sym c.if-is_err.false ∙ c.is_err.ensures.value) c.append.ensures.ok in
     let front = c.kept_front-front.ensures ∙ ap (λ n. take (27 - n) part) c.len.ensures in
     subst (λ t. Awaits (lines_of whole) (lines_of (t ++ rest)) c.self.inside.rows) (sym (added ∙ ap (λ l. kept ++ l) front))
-    (enough_kept (lines_of whole) kept part rest c.self.inside.rows c.self.invariant c.requires inside)
+    (enough_kept (lines_of whole) kept part rest c.self.inside.rows c.self.invariant.one_line c.requires inside)
+
+pub returns-then-is_refused : goal.returns-then-is_refused
+returns-then-is_refused c = λ whole rest left.
+    let refused = sym c.is_refused.ensures ∙ c.if-is_refused.true in
+    let inside = subst (IsLeft whole (c.args.part.now ++ rest)) (sym c.self.view_is) left in
+    subst (IsLeft whole rest) c.self.view_is
+    (awaits_any (lines_of whole) _ (lines_of (c.self.inside.kept ++ rest)) c.self.inside.rows refused inside)
