@@ -189,12 +189,12 @@ fn link_spec(
 {
     match direction {
         Direction::Up => Ok(DirSpec::Link {
-            trace: up_trace.copy(alloc)?,
+            trace: up_trace.copy()?,
             once,
             queue: sides.0.queue,
         }),
         Direction::Down => Ok(DirSpec::Link {
-            trace: down_trace.copy(alloc)?,
+            trace: down_trace.copy()?,
             once,
             queue: sides.1.queue,
         }),

@@ -8,3 +8,4 @@ pub mod TextLaws
 pub mod TextFaults
 pub mod MadeLemmas
 pub mod CountLaws
+pub mod RoomLemmas

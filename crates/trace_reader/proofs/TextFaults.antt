@@ -17,7 +17,8 @@ use Rattle.trace_reader.specs.Opps.{last_moment}
 use Rattle.trace_reader.specs.Traces.{TraceView, IsTrace, AreOfForm}
 use Rattle.mm_base.specs.Words.{first_word, other_words}
 use Rattle.trace_reader.specs.TraceText.{form_of, lines_before, stated, said_of, said, IsTraceText, trace_text}
-use Rattle.trace_reader.specs.Reading.{fault_of, end_fault, moment_after, or_else, first_fault, trace_fault}
+use Rattle.mm_base.specs.Refusals.{or_later}
+use Rattle.trace_reader.specs.Reading.{fault_of, end_fault, moment_after, first_fault, trace_fault}
 use Rattle.trace_reader.proofs.OrderLemmas.{each_map, each_append, rising-append, last_latest}
 use Rattle.trace_reader.proofs.TextLaws.{printed_text, same_trace}
 
@@ -53,9 +54,9 @@ lines_no_fault form count low (line ∷ lines) (o ∷ opps) e few c =
     let room : nat_le 1000000 count ≡ false = lt-leb 1000000 count (omega arith) in
     let number = lines_before form + count + 1 in
     let sum : count + 1 + length opps ≡ count + suc (length opps) = omega arith in
-    ap (λ b. cond b (Some errors.TooManyLines) (or_else (fault_of number low (said_of form line)) (first_fault form (count + 1) (moment_after (said_of form line)) lines))) room
-    ∙ ap (λ s. or_else (fault_of number low s) (first_fault form (count + 1) (moment_after s) lines)) first
-    ∙ ap (λ f. or_else f (first_fault form (count + 1) o.moment lines)) (no_fault number low o c.0)
+    ap (λ b. cond b (Some errors.TooManyLines) (or_later (fault_of number low (said_of form line)) (first_fault form (count + 1) (moment_after (said_of form line)) lines))) room
+    ∙ ap (λ s. or_later (fault_of number low s) (first_fault form (count + 1) (moment_after s) lines)) first
+    ∙ ap (λ f. or_later f (first_fault form (count + 1) o.moment lines)) (no_fault number low o c.0)
     ∙ lines_no_fault form (count + 1) o.moment lines opps rest (omega arith) c.1
     ∙ ap (λ (n : ℕ). end_fault n (last_from o.moment opps)) sum
 

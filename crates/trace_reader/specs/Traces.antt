@@ -1,5 +1,6 @@
 -- A trace as its callers see it, and what holds of each.
 use Rattle.std.specs.Prelude.{◌≡◌, ◌<◌, ◌≤◌, List, length}
+use Rattle.mm_base.specs.declared.limits.TheConstants.{GREATEST_MOMENT, MOST_LINES}
 use Rattle.trace_reader.specs.declared.opportunity.Opportunity.{Opportunity}
 use Rattle.trace_reader.specs.declared.opportunity.Form.{Form}
 use Rattle.trace_reader.specs.declared.opportunity.Form.TheVariants.{Moments, MomentsAndBytes}
@@ -17,8 +18,8 @@ AreOfForm MomentsAndBytes opps = Unit {0}
 
 pub record IsTrace (t : TraceView) : Type 0 where
   pub some : 0 < length t.opportunities
-  pub few : length t.opportunities ≤ 1000000
+  pub few : length t.opportunities ≤ MOST_LINES
   pub rising : AreRising t.opportunities
   pub last_some : 0 < last_moment t.opportunities
-  pub last_most : last_moment t.opportunities ≤ 9999999999
+  pub last_most : last_moment t.opportunities ≤ GREATEST_MOMENT
   pub bytes : AreOfForm t.form t.opportunities

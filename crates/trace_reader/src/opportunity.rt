@@ -4,7 +4,9 @@ ghost use Rattle.std.specs.Prelude.{◌≤◌};
 /// A chance to deliver 1 to 1000000 bytes, at a moment in milliseconds from the start of the run.
 #[derive(Clone, Copy, Debug, PartialEq, Eq)]
 pub struct Opportunity {
+    /// Whole milliseconds from the start of the run.
     pub moment: u64,
+    /// How many bytes it can deliver.
     pub bytes: u32,
     pub ghost some: { 1 ≤ bytes },
     pub ghost most: { bytes ≤ 1000000 },

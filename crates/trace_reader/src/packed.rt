@@ -2,6 +2,7 @@
 ghost use Rattle.std.specs.Prelude.{◌≡◌, ◌≤◌, ◌%◌};
 
 use crate::Opportunity;
+use mm_base::limits::GREATEST_MOMENT;
 use std::marker::Model;
 
 // The bytes of an opportunity are below this.
@@ -22,12 +23,17 @@ impl Model for PackedOpportunity {
 
     ghost Value = { Opportunity };
 
-    ghost view = { λ p. record { moment = p.number / 1048576; bytes = p.number % 1048576; some = p.some; most = p.most } };
+    ghost view = { λ p. record {
+      moment = p.number / 1048576;
+      bytes = p.number % 1048576;
+      some = p.some;
+      most = p.most;
+    } };
 }
 
 impl PackedOpportunity {
     pub(crate) fn new(o: Opportunity) -> Self
-        requires { o.moment ≤ 9999999999 }
+        requires { o.moment ≤ GREATEST_MOMENT }
         ensures { result ≡ o }
     {
         PackedOpportunity {

@@ -1,5 +1,5 @@
 // Traces read from their text.
-ghost use Rattle.std.specs.Prelude.{◌≡◌, ◌≢◌, ◌≤◌, ◌<◌, ◌+◌, ◌∷◌, ℕ, List, Option, Some, None, MatchResult, IfOk, OnOk, length};
+ghost use Rattle.std.specs.Prelude.{◌≡◌, ◌≢◌, ◌≤◌, ◌<◌, ◌+◌, ◌/◌, ◌∷◌, ℕ, List, Option, Some, None, MatchResult, IfOk, OnOk, length};
 ghost use Rattle.trace_reader.specs.declared.reading.TraceError.TheVariants as errors;
 ghost use Rattle.trace_reader.specs.Opps.{last_moment};
 ghost use Rattle.trace_reader.specs.Traces.{TraceView, IsTrace};
@@ -11,6 +11,7 @@ ghost use Rattle.mm_base.specs.LinesLeft.{lines_left};
 use crate::line::read_line;
 use crate::packed::PackedOpportunity;
 use crate::{Form, Opportunity, Trace};
+use mm_base::limits::MOST_LINES;
 use mm_base::{Lines, OutOfMemory};
 use std::alloc::{AllocError, AllocFailed, Global};
 
@@ -25,7 +26,7 @@ pub enum TraceError {
     Decreasing { line: u32 },
     /// The last moment is 0.
     ZeroLength,
-    /// There is an opportunity number 1,000,001.
+    /// There is an opportunity past the first `MOST_LINES`. It names no line.
     TooManyLines,
     /// The bytes are below 1 or above 1,000,000.
     BadBytes { line: u32 },
@@ -34,7 +35,7 @@ pub enum TraceError {
 }
 
 impl TraceError {
-    ghost use Rattle.trace_reader.specs.Reading.{number_of, line_named};
+    ghost use Rattle.trace_reader.specs.Reading.{number_of, place_of};
 
     /// The number of the refusal, 1 to 6 in the order of the variants, or 0 for want of memory.
     pub fn number(self) -> u32
@@ -52,13 +53,13 @@ impl TraceError {
     }
 
     /// The line that the refusal names, or 0 where it names none.
-    pub fn line(self) -> u32
-        ensures { result ≡ line_named self }
+    pub fn line(self) -> u64
+        ensures { result ≡ place_of self }
     {
         match self {
             TraceError::BadLine { line }
             | TraceError::Decreasing { line }
-            | TraceError::BadBytes { line } => line,
+            | TraceError::BadBytes { line } => u64::from(line),
             TraceError::Empty
             | TraceError::ZeroLength
             | TraceError::TooManyLines
@@ -128,10 +129,15 @@ fn read_text(alloc: Global, text: &[u8]) -> Result<Trace, TraceError>
     Ok(Trace::from_list(form, list)?)
 }
 
-// No text of so many bytes has more lines of opportunities, of which there are at most 1000000: the shortest has one
-// byte and its line feed.
-fn most_lines(bytes: usize) -> usize {
-    (bytes / 2 + 1).min(1_000_000)
+// How many opportunities the trace of a text of so many bytes has at most: a line has no fewer than a byte and its line
+// feed.
+#[tactic(auto, using(crate::proofs::RoomLemmas::opportunities_fit))]
+fn most_lines(bytes: usize) -> usize
+    ensures enough { (text : List ℕ) (t : TraceView) → length text ≤ bytes → IsTraceText text t
+        → length t.opportunities ≤ result }
+    ensures most { result ≤ bytes / 2 + 1 }
+{
+    (bytes / 2 + 1).min(MOST_LINES as usize)
 }
 
 // The form of a text, and the lines of its opportunities.
@@ -153,15 +159,15 @@ fn next_opportunity(
     low: u64,
     line: &[u8],
 ) -> Result<Opportunity, TraceError>
-    requires { count ≤ 1000000 }
-    ensures few { OnOk result (count < 1000000) }
+    requires { count ≤ MOST_LINES }
+    ensures few { OnOk result (count < MOST_LINES) }
     ensures said { IfOk result (λ o. said_of form line.now ≡ Some (said o)) }
     ensures order { IfOk result (λ o. low ≤ o.moment) }
     ensures fault { (rest : List (List ℕ)) → MatchResult result
         (λ o. first_fault form count low (line.now ∷ rest) ≡ first_fault form (count + 1) o.moment rest)
         (λ e. first_fault form count low (line.now ∷ rest) ≡ Some e) }
 {
-    if count >= 1_000_000 {
+    if count >= MOST_LINES as usize {
         return Err(TraceError::TooManyLines);
     }
     let number = count_before(form) + count as u32 + 1;

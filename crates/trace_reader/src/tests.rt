@@ -48,13 +48,28 @@ fn traces_are_printed(rt: HostRuntime) -> Result<(), Fail> {
     let trace = read_trace(alloc, b"007".as_slice())?;
     is_shared(&trace);
     assert_eq!(rt;
-        print_trace(alloc, &trace.copy(alloc)?)?.as_slice(),
+        print_trace(alloc, &trace.copy()?)?.as_slice(),
         b"7\n".as_slice()
     );
     let text = b"# mm-trace 2\n1 500\n2 3000\n".as_slice();
     let stated = read_trace(alloc, text)?;
     assert_eq!(rt; stated.form(), Form::MomentsAndBytes);
     assert_eq!(rt; print_trace(alloc, &stated)?.as_slice(), text);
+    Ok(())
+}
+
+#[test]
+fn ten_thousand_lines_are_read_and_printed(rt: HostRuntime) -> Result<(), Fail> {
+    let alloc = rt.alloc();
+    for (first, bytes) in [("", ""), ("# mm-trace 2\n", " 1000000")] {
+        let mut text = format!(in alloc; "{first}")?;
+        for moment in 0..10_000u32 {
+            write!(text; "{moment}{bytes}\n")?;
+        }
+        let trace = read_trace(alloc, text.as_bytes())?;
+        assert_eq!(rt; trace.len(), 10_000);
+        assert_eq!(rt; print_trace(alloc, &trace)?.as_slice(), text.as_bytes());
+    }
     Ok(())
 }
 

@@ -7,13 +7,12 @@ ghost use Rattle.trace_reader.specs.Traces.{IsTrace};
 use crate::packed::PackedOpportunity;
 use crate::{Form, Opportunity};
 use mm_base::OutOfMemory;
-use std::alloc::Global;
 use std::marker::Model;
 use std::sync::ArcSlice;
 
-/// A packet delivery trace (mm-link): 1 to 1000000 opportunities whose moments never decrease, the last above 0 and
-/// at most 9999999999. The trace begins again at its last moment, unless it is played once.
-/// Its list of opportunities is shared by its copies. Contracts see its form and its list of opportunities.
+/// A packet delivery trace (mm-link): 1 to `MOST_LINES` opportunities whose moments never decrease, the last above 0
+/// and at most `GREATEST_MOMENT`. The trace begins again at its last moment, unless it is played once. Its list of
+/// opportunities is shared by its copies. Contracts see its form and its list of opportunities.
 #[derive(Drop)]
 pub struct Trace {
     form: Form,
@@ -86,8 +85,8 @@ impl Trace {
         self.list.as_slice()
     }
 
-    /// Opportunity number `j`, counted from 0, over as many laps as it takes. Where the trace is played `once`, there is
-    /// none past its list.
+    /// Opportunity number `j`, counted from 0, over as many laps as it takes. Where the trace is played `once`, there
+    /// is none past its list.
     pub fn opportunity(&self, j: u64, once: bool) -> Option<Opportunity>
         requires { j < 2 ^ 30 }
         ensures value { result ≡ opportunity_at self.now.opportunities once j }
@@ -110,7 +109,8 @@ impl Trace {
     pub fn count_to(&self, h: u64, once: bool) -> u64
         requires { h ≤ 10000000000 }
         ensures count { result ≡ length (opps self.now.opportunities once h) }
-        ensures which { (j : ℕ) (o : OpportunityValue) → opportunity_at self.now.opportunities once j ≡ Some o → (j < result) ↔ (o.moment ≤ h) }
+        ensures which { (j : ℕ) (o : OpportunityValue) → opportunity_at self.now.opportunities once j ≡ Some o
+            → (j < result) ↔ (o.moment ≤ h) }
         ensures trace { IsTrace self.now }
     {
         let list = self.list();
@@ -123,7 +123,7 @@ impl Trace {
 
     /// The same trace, which shares its list and copies none of it. `OutOfMemory` comes only beyond the greatest number
     /// of owners that a list can count.
-    pub fn copy(&self, _alloc: Global) -> Result<Trace, OutOfMemory>
+    pub fn copy(&self) -> Result<Trace, OutOfMemory>
         ensures { IfOk result (λ t. t ≡ self.now) }
     {
         Ok(Trace {
