@@ -64,7 +64,7 @@ fn ten_thousand_lines_are_read_and_printed(rt: HostRuntime) -> Result<(), Fail> 
     for (first, bytes) in [("", ""), ("# mm-trace 2\n", " 1000000")] {
         let mut text = format!(in alloc; "{first}")?;
         for moment in 0..10_000u32 {
-            write!(text; "{moment}{bytes}\n")?;
+            write!(text, "{moment}{bytes}\n")?;
         }
         let trace = read_trace(alloc, text.as_bytes())?;
         assert_eq!(rt; trace.len(), 10_000);
