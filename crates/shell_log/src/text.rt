@@ -70,6 +70,7 @@ impl LogText {
         ensures entry { IfSome result (λ r. IsEntry r.0) }
         ensures shorter { IfSome result (λ r. length r.1.now < length piece.now) }
         ensures none { IfNone result ((whole rest : List ℕ) (es : List EntryValue) → IsLeft whole (piece.now ++ rest) es self.old → IsLeft whole rest es self.new) }
+        ensures stays { self.new.refused ≡ None → self.old.refused ≡ None }
     {
         if self.refused.is_some() {
             return None;

@@ -1,0 +1,3 @@
+pub mod RankLaws
+pub mod CountLaws
+pub mod SumLaws

@@ -1,0 +1,6 @@
+pub mod Ranks
+pub mod Reports
+pub mod ReportText
+pub mod Counted
+pub mod Summed
+pub mod ReportTexts

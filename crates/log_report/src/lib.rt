@@ -1,0 +1,17 @@
+//! What a log of a link's direction comes to: its entries counted and summed by kind, the share of the offered bytes that
+//! was used, and the delays of its departures by rank. A report is made of a log, or of a log's text as it is read.
+#![tactic(auto)]
+
+mod delays;
+mod figures;
+mod printing;
+mod sums;
+#[cfg(test)]
+mod tests;
+mod text;
+mod whole;
+
+pub use figures::{Delays, Report, ReportError};
+pub use printing::{EMPTY, print_report};
+pub use text::ReportText;
+pub use whole::report;

@@ -1,0 +1,139 @@
+// Sums over the entries of a log.
+ghost use Rattle.std.specs.Prelude.{◌≡◌, ◌≤◌, ◌<◌, ◌+◌, ◌*◌, ◌^◌, ◌==◌, ◌++◌, ◌∷◌, List, [], OnOk, IfOk, if◌then◌else◌};
+ghost use Rattle.shell_log.specs.declared.entry.Entry.{Entry as EntryValue};
+ghost use Rattle.shell_log.specs.Entries.{IsEntry};
+ghost use Rattle.log_report.specs.Reports.{report_of, thousandths};
+
+use crate::Report;
+use crate::delays::DelayCounts;
+use mm_base::OutOfMemory;
+use shell_log::Entry;
+use std::alloc::Global;
+
+// More entries count as want of memory: their sums might not fit 64 bits.
+const MOST_ENTRIES: u64 = 134_217_728;
+
+// How many there are, and how many bytes they have.
+#[derive(Clone, Copy)]
+pub(crate) struct Sum {
+    pub count: u64,
+    pub bytes: u64,
+}
+
+impl Sum {
+    const NOTHING: Sum = Sum { count: 0, bytes: 0 };
+}
+
+// The sums over the entries so far, and the delays of the departures among them.
+#[derive(Drop)]
+pub(crate) struct Sums {
+    pub entries: u64,
+    pub first: u64,
+    pub last: u64,
+    pub arrived: Sum,
+    pub offered: Sum,
+    pub departed: Sum,
+    pub dropped: Sum,
+    pub delays: DelayCounts,
+    ghost few: { entries ≤ 134217728 },
+    ghost delays_few: { delays.count ≤ entries },
+    ghost arrived_within: { (arrived.count ≤ entries) × (arrived.bytes ≤ 1504 * entries) },
+    ghost offered_within: { (offered.count ≤ entries) × (offered.bytes ≤ 1000000 * entries) },
+    ghost departed_within: { (departed.count ≤ entries) × (departed.bytes ≤ 1504 * entries) },
+    ghost dropped_within: { (dropped.count ≤ 9999999999 * entries) × (dropped.bytes ≤ 9999999999 * entries) },
+}
+
+impl Sums {
+    ghost use Rattle.log_report.specs.Summed.{AreSums};
+
+    // Over no entry.
+    pub(crate) fn new(alloc: Global) -> Result<Self, OutOfMemory>
+        ensures { IfOk result (AreSums []) }
+    {
+        Ok(Sums {
+            entries: 0,
+            first: 0,
+            last: 0,
+            arrived: Sum::NOTHING,
+            offered: Sum::NOTHING,
+            departed: Sum::NOTHING,
+            dropped: Sum::NOTHING,
+            delays: DelayCounts::new(alloc)?,
+        })
+    }
+
+    // One entry more.
+    #[inline]
+    pub(crate) fn add(&mut self, entry: Entry) -> Result<(), OutOfMemory>
+        requires { IsEntry entry }
+        ensures { OnOk result ((es : List EntryValue) → AreSums es self.old → AreSums (es ++ entry ∷ []) self.new) }
+    {
+        if self.entries >= MOST_ENTRIES {
+            return Err(OutOfMemory);
+        }
+        self.first = self.first_with(entry.moment());
+        self.last = entry.moment();
+        self.entries += 1;
+        match entry {
+            Entry::Arrival { size, .. } => {
+                self.arrived.count += 1;
+                self.arrived.bytes += u64::from(size);
+            }
+            Entry::Opportunity { bytes, .. } => {
+                self.offered.count += 1;
+                self.offered.bytes += u64::from(bytes);
+            }
+            Entry::Departure { size, delay, .. } => {
+                self.delays.add(delay)?;
+                self.departed.count += 1;
+                self.departed.bytes += u64::from(size);
+            }
+            Entry::Drop { packets, bytes, .. } => {
+                self.dropped.count += packets;
+                self.dropped.bytes += bytes;
+            }
+        }
+        Ok(())
+    }
+
+    // The moment of the first entry, where the next one has this.
+    #[inline]
+    fn first_with(&self, moment: u64) -> u64
+        ensures { result ≡ (if self.now.entries == 0 then moment else self.now.first) }
+    {
+        if self.entries == 0 {
+            moment
+        } else {
+            self.first
+        }
+    }
+
+    // The report of the entries, if there is one.
+    pub(crate) fn report(self) -> Option<Report>
+        ensures { (es : List EntryValue) → AreSums es self → result ≡ report_of es }
+    {
+        if self.entries == 0 {
+            return None;
+        }
+        let used = thousandths(self.departed.bytes, self.offered.bytes);
+        Some(Report {
+            entries: self.entries,
+            first: self.first,
+            last: self.last,
+            arrived: (self.arrived.count, self.arrived.bytes),
+            offered: (self.offered.count, self.offered.bytes),
+            departed: (self.departed.count, self.departed.bytes),
+            dropped: (self.dropped.count, self.dropped.bytes),
+            used,
+            delays: self.delays.ranks(),
+        })
+    }
+}
+
+// A part in thousandths of the whole, rounded down, if there is a whole.
+fn thousandths(part: u64, whole: u64) -> Option<u64>
+    requires { 1000 * part < 2 ^ 64 }
+    ensures { result ≡ thousandths part whole }
+{
+    (part * 1000).checked_div(whole)
+}

@@ -1,0 +1,66 @@
+// A report of a log that is read from its text piece by piece.
+ghost use Rattle.std.specs.Prelude.{◌≡◌, ◌≢◌, ◌++◌, ℕ, List, [], None, Some, IfOk, MatchResult};
+ghost use Rattle.shell_log.specs.declared.entry.Entry.{Entry as EntryValue};
+ghost use Rattle.shell_log.specs.Entries.{IsLog};
+ghost use Rattle.shell_log.specs.LogText.{log_text};
+ghost use Rattle.shell_log.specs.Reading.{log_fault};
+ghost use Rattle.log_report.specs.Reports.{report_of};
+
+use crate::Report;
+use crate::sums::Sums;
+use mm_base::{OutOfMemory, PieceReader};
+use shell_log::{LogError, LogText};
+use std::alloc::Global;
+
+/// The report of a log whose text is read piece by piece, wherever the text is cut. Each entry is added to the sums as
+/// it is read; of the entries only what the ranks of their delays ask for is kept: 256 KiB of counts, and 8 bytes for
+/// each delay of 65,536 milliseconds and more.
+#[derive(Drop)]
+pub struct ReportText {
+    text: LogText,
+    sums: Sums,
+}
+
+impl ReportText {
+    ghost use Rattle.log_report.specs.ReportTexts.{HasRead};
+
+    /// Nothing is read so far.
+    pub fn new(alloc: Global) -> Result<Self, OutOfMemory>
+        ensures { IfOk result (HasRead []) }
+    {
+        Ok(ReportText {
+            text: LogText::new(alloc),
+            sums: Sums::new(alloc)?,
+        })
+    }
+
+    /// The report of the log whose text was read, None where that has no entry, or the first refusal of the text, as
+    /// `read_log` answers for it. A log of more than 134,217,728 entries, whose text has 768 MiB and more, counts as want of memory.
+    pub fn finish(self) -> Result<Option<Report>, LogError>
+        ensures found { (text : List ℕ) → HasRead text self → IfOk result (λ r. (es : List EntryValue) × IsLog es × (text ≡ log_text es) × (r ≡ report_of es)) }
+        ensures every { (es : List EntryValue) → IsLog es → HasRead (log_text es) self → MatchResult result (λ r. r ≡ report_of es) (λ e. e ≡ LogError.OutOfMemory) }
+        ensures exact { (text : List ℕ) → HasRead text self → MatchResult result (λ _. log_fault text ≡ None)
+            (λ e. e ≢ LogError.OutOfMemory → log_fault text ≡ Some e) }
+    {
+        let ReportText { text, sums } = self;
+        text.finish()?;
+        Ok(sums.report())
+    }
+}
+
+impl PieceReader for ReportText {
+    ghost use Rattle.log_report.specs.ReportTexts.{HasRead};
+
+    ghost has_read = { HasRead };
+
+    /// Reads the next piece of the text. After a refusal it is passed over.
+    fn push(&mut self, piece: &[u8]) {
+        let mut rest = piece;
+        'entries: while let Some((entry, after)) = self.text.next(rest) {
+            if self.sums.add(entry).is_err() {
+                self.text.want_memory();
+            }
+            rest = after;
+        }
+    }
+}
