@@ -1,8 +1,10 @@
 -- Pieces that are written one after another.
-use Rattle.std.proofs.Common.{◌≡◌, ◌∙◌, ◌++◌, ℕ, ◌+◌, ◌<◌, List, [], ◌∷◌, length, take, get_or, Ok, Err, sym, ap, append_assoc}
+use Rattle.std.proofs.Common.{true, false, Bool, arith, length-append, ◌≡◌, ◌∙◌, ◌++◌, ℕ, ◌+◌, ◌<◌, List, [], ◌∷◌, length, take, get_or, Ok, Err, sym, ap, append_assoc}
 use Rattle.std.specs.Prelude.{Result, OnOk}
 use Rattle.std.proofs.lemmas.List.{take_more, flat_map_more}
-use Rattle.record_store.specs.StoreText.{magic, record_text, store_text}
+use Rattle.record_store.specs.StoreText.{magic, record_text, records_text, store_text}
+use Rattle.record_store.specs.Headers.{header_line}
+use Rattle.record_store.specs.Pieces.{text_left}
 use Rattle.record_store.specs.declared.header.Form.TheVariants.{Two}
 use Rattle.record_store.specs.declared.record.Record.{Record}
 
@@ -29,3 +31,18 @@ pub record_more : (rs : List Record) (i : ℕ) (r : Record) (out next : List ℕ
 record_more rs i r out next within read so_far added =
     added ∙ ap (λ (l : List ℕ). l ++ record_text Two r) so_far ∙ flat_map_more (record_text Two) (magic Two) (take i rs) r
     ∙ ap (store_text Two) (ap (λ (x : Record). take i rs ++ x ∷ []) read ∙ sym (take_more rs i r within))
+
+-- ---- texts that aren't empty
+
+pub record_some : (r : Record) → 0 < length (record_text Two r)
+record_some r =
+    let line = header_line Two r.port (length r.request.bytes) (length r.response.bytes) in
+    omega (arith, length-append line (10 ∷ (r.request.bytes ++ (r.response.bytes ++ 10 ∷ []))))
+
+pub records_some : (rs : List Record) → 0 < length rs → 0 < length (records_text Two rs)
+records_some [] some = absurd (omega (arith, some))
+records_some (r ∷ rs) some = omega (arith, record_some r, length-append (record_text Two r) (records_text Two rs))
+
+pub left_some : (begun : Bool) (rs : List Record) → 0 < length rs → 0 < length (text_left begun rs)
+left_some true rs some = records_some rs some
+left_some false rs some = omega (arith, length-append (magic Two) (records_text Two rs))

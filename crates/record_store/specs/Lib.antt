@@ -6,3 +6,4 @@ pub mod Headers
 pub mod Cuts
 pub mod Exchanges
 pub mod StoreText
+pub mod Pieces

@@ -6,6 +6,7 @@ mod errors;
 mod exchange;
 mod header;
 mod pairing;
+mod pieces;
 mod printing;
 mod reading;
 mod record;
@@ -16,6 +17,7 @@ mod tests;
 
 pub use errors::PairError;
 pub use pairing::pair;
+pub use pieces::StorePieces;
 pub use printing::print_store;
 pub use reading::read_store;
 pub use record::{Record, Store};

@@ -22,7 +22,7 @@ pub fn print_store(alloc: Global, store: &Store) -> Result<Bytes, OutOfMemory>
     Ok(out)
 }
 
-fn write_record(out: &mut Bytes, exchange: &Record) -> Result<(), OutOfMemory>
+pub(crate) fn write_record(out: &mut Bytes, exchange: &Record) -> Result<(), OutOfMemory>
     ensures { OnOk result (out.new ≡ out.old ++ record_text forms.Two exchange.now) }
 {
     let request = exchange.request.bytes.as_slice();

@@ -1,0 +1,94 @@
+// A store's text, piece by piece.
+ghost use Rattle.std.specs.Prelude.{◌≡◌, ◌<◌, ◌++◌, [], IsTrue, IfOk, OnErr, length};
+ghost use Rattle.record_store.specs.declared.header.Form.TheVariants as forms;
+ghost use Rattle.record_store.specs.StoreText.{records_text, store_text};
+
+use crate::printing::write_record;
+use crate::record::{Record, Store};
+use mm_base::{Bytes, OutOfMemory};
+use std::alloc::Global;
+use std::marker::Model;
+
+// A piece ends after the record that brings it to so many bytes.
+const FULL: usize = 65536;
+
+/// A store's text in form 2 in pieces of whole records, some 64 KiB or one record each, so that it never stands whole.
+/// Contracts see the piece in hand, and the text that is still to come.
+#[derive(Drop)]
+pub struct StorePieces<'a> {
+    records: &'a [Record],
+    /// The text's first line was given.
+    begun: bool,
+    piece: Bytes,
+}
+
+// Writes records until the piece is full, and gives those that are left.
+fn fill<'a>(piece: &mut Bytes, records: &'a [Record]) -> Result<&'a [Record], OutOfMemory>
+    ensures same { IfOk result (λ left. piece.old ++ records_text forms.Two records.now ≡ piece.new ++ records_text forms.Two left.now) }
+    ensures some { IfOk result (λ left. 0 < length (piece.old ++ records_text forms.Two records.now) → 0 < length piece.new) }
+    ensures err { OnErr result (0 < length records.now) }
+{
+    let mut left = records;
+    'records: while piece.len() < FULL {
+        let Some((first, others)) = left.split_first() else {
+            return Ok(left);
+        };
+        write_record(piece, first)?;
+        left = others;
+    }
+    Ok(left)
+}
+
+impl<'a> Model for StorePieces<'a> {
+    ghost use Rattle.record_store.specs.Pieces.{Pieces, text_left};
+
+    ghost Value = { Pieces };
+
+    ghost view = { λ p. record { piece = p.piece; rest = text_left p.begun p.records.now } };
+}
+
+impl<'a> StorePieces<'a> {
+    /// The pieces of a store's text, none of them in hand.
+    pub fn new(alloc: Global, store: &'a Store) -> Self
+        ensures { result ≡ record { piece = []; rest = store_text forms.Two store.now } }
+    {
+        StorePieces {
+            records: store.records(),
+            begun: false,
+            piece: Bytes::new(alloc),
+        }
+    }
+
+    /// Goes on to the next piece, which isn't empty. False: there is no more, and no piece in hand. After `OutOfMemory`,
+    /// which is want of memory and comes only where there is more, no piece is in hand, and the next one goes on from
+    /// there.
+    pub fn next(&mut self) -> Result<bool, OutOfMemory>
+        ensures same { self.old.rest ≡ self.new.piece ++ self.new.rest }
+        ensures some { IfOk result (λ more. IsTrue more → 0 < length self.new.piece) }
+        ensures none { IfOk result (λ more. ¬ IsTrue more → (self.new.piece ≡ []) × (self.new.rest ≡ [])) }
+        ensures err { OnErr result (0 < length self.old.rest) }
+    {
+        self.piece.clear();
+        if !self.begun {
+            self.piece.append(b"MMSTORE 2\n")?;
+        }
+        match fill(&mut self.piece, self.records) {
+            Ok(left) => {
+                self.begun = true;
+                self.records = left;
+                Ok(!self.piece.is_empty())
+            }
+            Err(error) => {
+                self.piece.clear();
+                Err(error)
+            }
+        }
+    }
+
+    /// The piece in hand.
+    pub fn piece(&self) -> &[u8]
+        ensures { result.now ≡ self.now.piece }
+    {
+        self.piece.as_slice()
+    }
+}
