@@ -16,7 +16,7 @@ use Rattle.shell_state.specs.Steps.{after_feed, after_take, answer_of, stream_af
 use Rattle.shell_state.specs.Standing.{Stands, left_of}
 use Rattle.shell_state.proofs.Equations.{feed_fed, feed_taken, feed_horizon, feed_spec, feed_breaks, take_taken, take_fed, take_horizon, take_spec, take_broken}
 use Rattle.shell_state.proofs.Progress.{take_goes}
-use Rattle.nest_spec.specs.Fates.{AreApart}
+use Rattle.nest_spec.specs.Passed.{AreApart}
 
 pub from_at : (m : ℕ) (ts : List Timed) (i : ℕ) (t : Timed) → i < length ts → t ≡ get_or ts i t → AreFrom m (drop i ts) → m ≤ t.moment
 from_at m [] i t lt read f = absurd (omega arith)

@@ -1,95 +1,101 @@
--- The fates by overwriting are the fates through the shells.
-use Rattle.std.proofs.Common.{◌≡◌, ℕ, ◌≤◌, ◌&&◌, Bool, true, cond, List, [], ◌∷◌, Option, Some, None, map, ap, sym, ◌∙◌, refl}
+-- The fates by overwriting are the fates in the walk.
+use Rattle.std.proofs.Common.{◌≡◌, ℕ, ◌+◌, ◌≤◌, Bool, true, cond, eqb, List, [], ◌∷◌, Option, Some, None, find, ap, sym, ◌∙◌, refl, arith}
+use Rattle.std.specs.List.{list_any}
+use Rattle.std.specs.Option.{is_none, option_map_or}
 use Rattle.packet_record.specs.declared.packet.Timed.{Timed}
 use Rattle.packet_record.specs.declared.packet.Row.{Row}
-use Rattle.packet_record.specs.declared.packet.Direction.{Direction}
 use Rattle.link_core.specs.Numbers.{number}
-use Rattle.shell_core.specs.declared.spec.DirSpec.{DirSpec}
 use Rattle.shell_core.specs.Shells.{whole_out, whole_lost}
 use Rattle.nest_spec.specs.declared.fate.Fate.{Fate}
 use Rattle.nest_spec.specs.declared.fate.Fate.TheVariants as fates
 use Rattle.nest_spec.specs.declared.mark.Mark.TheVariants.{Drops, Leaves}
-use Rattle.nest_spec.specs.Fates.{Stage, found_fate, is_sent, is_among, marked, stopped, next_number, stage_fates}
-use Rattle.nest_spec.specs.Passing.{find_id, passed_fate, fate_in, whole_inside}
-use Rattle.nest_spec.proofs.NumberLemmas.{is_id, none_found, without_found, some_number, some_found, none_among, some_among, out_without, lost_without, inside_without, stays_inside}
-use Rattle.nest_spec.proofs.PassedLemmas.{ArePassed}
+use Rattle.nest_spec.specs.declared.shell.ShellDirection.{ShellDirection}
+use Rattle.nest_spec.specs.Links.{AreBuilt, specs_in}
+use Rattle.nest_spec.specs.Walk.{Step, step, walk, whole_inside, last_list}
+use Rattle.nest_spec.specs.Fates.{find_id, ended_at, departed_at, fate_in}
+use Rattle.nest_spec.specs.Marks.{mark_fate, passed, walked, ids_of}
+use Rattle.nest_spec.proofs.NumberLemmas.{is_id, all_three, none_found, without_found, some_number, none_among, some_among}
 
--- one shell's markings, at a row that is sent
-step : (d : Direction) (h n : ℕ) (s : Stage) (f : Row → Fate) (r : Row) (l : List Timed) (ids : List ℕ) → is_sent d h r ≡ true → s.number ≡ n → s.lost ≡ l → s.held ≡ ids
-    → stopped d h s f r ≡ found_fate (find_id r.timed.packet.id l) (Drops n) (cond (is_among r.timed.packet.id ids) (fates.Inside n) (f r))
-step d h n s f r l ids sent en el ei =
+abbrev pub marked_through : ℕ → List ShellDirection → List Timed → (Row → Fate) → Row → Fate
+marked_through h shells arrived f = walked (walk h shells arrived) (last_list arrived (walk h shells arrived)) f
+
+-- one shell marks, and then those after it
+pub one_step : (h n : ℕ) (shells rest : List ShellDirection) (s : ShellDirection) (arrived departed lost : List Timed) (held : List ℕ) (f : Row → Fate) → shells ≡ s ∷ rest → n ≡ s.number
+    → departed ≡ whole_out s.spec h arrived → lost ≡ whole_lost s.spec h arrived → held ≡ ids_of (whole_inside s.spec h arrived)
+    → marked_through h rest departed (passed n lost held f) ≡ marked_through h shells arrived f
+one_step h n shells rest s arrived departed lost held f is en ed el eh =
+    ap (λ m. marked_through h rest departed (passed m lost held f)) en
+    ∙ ap (λ l. marked_through h rest l (passed s.number lost held f)) ed
+    ∙ ap (λ l. marked_through h rest (whole_out s.spec h arrived) (passed s.number l held f)) el
+    ∙ ap (λ l. marked_through h rest (whole_out s.spec h arrived) (passed s.number (whole_lost s.spec h arrived) l f)) eh
+    ∙ ap (λ l. marked_through h l arrived f) (sym is)
+
+-- one shell marks a row: by what it lost, else by what stays inside
+abbrev marks : ℕ → Option Timed → Bool → Fate → Fate
+marks n lost held so_far = option_map_or (mark_fate (Drops n)) lost (cond held (fates.Inside n) so_far)
+
+-- a row whose packet doesn't arrive isn't touched
+pub untouched : (h : ℕ) (shells : List ShellDirection) (arrived : List Timed) (f : Row → Fate) (r : Row) → AreBuilt (specs_in shells)
+    → number (is_id r.timed.packet.id) arrived ≡ 0 → marked_through h shells arrived f r ≡ f r
+untouched h [] arrived f r built none = ap (λ o. option_map_or (mark_fate Leaves) o (f r)) (none_found r.timed.packet.id arrived none)
+untouched h (s ∷ shells) arrived f r built none =
     let id = r.timed.packet.id in
-    let inner : Bool → Fate = λ b. cond (b && is_among id s.held) (fates.Inside s.number) (f r) in
-    ap (λ b. cond b (found_fate (find_id id s.lost) (Drops s.number) (inner b)) (inner b)) sent
-    ∙ ap (λ m. found_fate (find_id id s.lost) (Drops m) (cond (is_among id s.held) (fates.Inside m) (f r))) en
-    ∙ ap (λ ts. found_fate (find_id id ts) (Drops n) (cond (is_among id s.held) (fates.Inside n) (f r))) el
-    ∙ ap (λ is. found_fate (find_id id l) (Drops n) (cond (is_among id is) (fates.Inside n) (f r))) ei
+    let all = all_three (is_id id) s.spec h arrived built.0 in
+    let lost = none_found id (whole_lost s.spec h arrived) (omega arith) in
+    let held = none_among id (whole_inside s.spec h arrived) (omega arith) in
+    untouched h shells (whole_out s.spec h arrived) (passed s.number (whole_lost s.spec h arrived) (ids_of (whole_inside s.spec h arrived)) f) r built.1 (omega arith)
+    ∙ ap (λ o. marks s.number o (list_any (λ i. eqb i id) (ids_of (whole_inside s.spec h arrived))) (f r)) lost
+    ∙ ap (λ b. marks s.number None b (f r)) held
 
--- what passes all shells has departed
-last : (d : Direction) (h : ℕ) (departed arrivals : List Timed) (f : Row → Fate) (r : Row) → is_sent d h r ≡ true → departed ≡ arrivals
-    → marked d h departed Leaves f r ≡ found_fate (find_id r.timed.packet.id arrivals) Leaves (f r)
-last d h departed arrivals f r sent e =
-    let id = r.timed.packet.id in
-    ap (λ b. cond b (found_fate (find_id id departed) Leaves (f r)) (f r)) sent ∙ ap (λ ts. found_fate (find_id id ts) Leaves (f r)) e
+-- what arrives and doesn't depart is lost, or stays inside
+ends_here : (n : ℕ) (o : Option Timed) (held : Bool) (so_far : Fate) → (o ≡ None → held ≡ true)
+    → marks n o held so_far ≡ option_map_or (λ (t : Timed). fates.Dropped n t.moment) o (fates.Inside n)
+ends_here n None held so_far stays = ap (λ b. cond b (fates.Inside n) so_far) (stays refl)
+ends_here n (Some t) held so_far stays = refl
 
--- a packet that does not arrive is not touched
-untouched : (d : Direction) (h n : ℕ) (shells : List DirSpec) (arrivals : List Timed) (stages : List Stage) (departed : List Timed) (f : Row → Fate) (r : Row) → is_sent d h r ≡ true
-    → ArePassed d h n shells arrivals stages departed → number (is_id r.timed.packet.id) arrivals ≡ 0 → stage_fates d h stages departed f r ≡ f r
-untouched d h n [] arrivals [] departed f r sent p w =
-    last d h departed arrivals f r sent p ∙ ap (λ x. found_fate x Leaves (f r)) (none_found r.timed.packet.id arrivals w)
-untouched d h n [] arrivals (s ∷ stages) departed f r sent p w = absurd p
-untouched d h n (q ∷ shells) arrivals [] departed f r sent p w = absurd p
-untouched d h n (q ∷ shells) arrivals (s ∷ stages) departed f r sent p w =
-    let id = r.timed.packet.id in
-    let o = whole_out q h arrivals in
-    let l = whole_lost q h arrivals in
-    let ids = map (λ (t : Timed). t.packet.id) (whole_inside q h arrivals) in
-    untouched d h (next_number d n) shells o stages departed (stopped d h s f) r sent p.3 (out_without id q h arrivals p.4 w)
-    ∙ step d h n s f r l ids sent p.0 p.1 p.2
-    ∙ ap (λ x. found_fate x (Drops n) (cond (is_among id ids) (fates.Inside n) (f r))) (none_found id l (lost_without id q h arrivals p.4 w))
-    ∙ ap (λ b. cond b (fates.Inside n) (f r)) (none_among id (whole_inside q h arrivals) (inside_without id q h arrivals p.4 w))
+last : (o : Option Timed) (so_far : Fate) → (o ≡ None → so_far ≡ fates.Unsent) → option_map_or (mark_fate Leaves) o so_far ≡ option_map_or (λ (t : Timed). fates.Departed t.moment) o fates.Unsent
+last None so_far none = none refl
+last (Some t) so_far none = refl
 
--- what arrives and is not passed on is lost, or stays inside
-ends_here : (n : ℕ) (o : Option Timed) (a : Bool) (x : Fate) → (o ≡ None → a ≡ true) → found_fate o (Drops n) (cond a (fates.Inside n) x) ≡ found_fate o (Drops n) (fates.Inside n)
-ends_here n None a x stays = ap (λ b. cond b (fates.Inside n) x) (stays refl)
-ends_here n (Some t) a x stays = refl
-
-pub natural : (d : Direction) (h n : ℕ) (shells : List DirSpec) (arrivals : List Timed) (stages : List Stage) (departed : List Timed) (f : Row → Fate) (r : Row) → is_sent d h r ≡ true
-    → ArePassed d h n shells arrivals stages departed → 1 ≤ number (is_id r.timed.packet.id) arrivals
-    → stage_fates d h stages departed f r ≡ fate_in d h n shells arrivals r.timed.packet.id
-natural d h n [] arrivals [] departed f r sent p some =
-    let found = some_found r.timed.packet.id arrivals some in
-    last d h departed arrivals f r sent p
-    ∙ ap (λ x. found_fate x Leaves (f r)) found.1
-    ∙ sym (ap (λ x. found_fate x Leaves fates.Unsent) found.1)
-natural d h n [] arrivals (s ∷ stages) departed f r sent p some = absurd p
-natural d h n (q ∷ shells) arrivals [] departed f r sent p some = absurd p
-natural d h n (q ∷ shells) arrivals (s ∷ stages) departed f r sent p some =
-    by (find_id r.timed.packet.id (whole_out q h arrivals)) refl (λ more. natural d h (next_number d n) shells (whole_out q h arrivals) stages departed (stopped d h s f) r sent p.3 more)
+-- a row whose packet arrives has the fate of its packet
+pub natural : (h : ℕ) (shells : List ShellDirection) (arrived : List Timed) (f : Row → Fate) (r : Row) → AreBuilt (specs_in shells) → 1 ≤ number (is_id r.timed.packet.id) arrived
+    → marked_through h shells arrived f r ≡ fate_in r.timed.packet.id arrived (walk h shells arrived)
+natural h [] arrived f r built some =
+    last (find_id r.timed.packet.id arrived) (f r) (λ none. absurd (let no = without_found r.timed.packet.id arrived none in omega arith))
+natural h (s ∷ shells) arrived f r built some =
+    by (find_id id out) refl (λ more. natural h shells out (passed s.number lost (ids_of inside) f) r built.1 more)
   where
     id : ℕ
     id = r.timed.packet.id
 
-    o : List Timed
-    o = whole_out q h arrivals
+    out : List Timed
+    out = whole_out s.spec h arrived
 
-    l : List Timed
-    l = whole_lost q h arrivals
+    lost : List Timed
+    lost = whole_lost s.spec h arrived
 
-    ids : List ℕ
-    ids = map (λ (t : Timed). t.packet.id) (whole_inside q h arrivals)
+    inside : List Timed
+    inside = whole_inside s.spec h arrived
 
-    here : Fate
-    here = found_fate (find_id id l) (Drops n) (fates.Inside n)
+    steps : List Step
+    steps = walk h shells out
 
-    next : Fate
-    next = fate_in d h (next_number d n) shells o id
+    here : Step
+    here = step h s arrived
 
-    by : (x : Option Timed) → find_id id o ≡ x → (1 ≤ number (is_id id) o → stage_fates d h stages departed (stopped d h s f) r ≡ next)
-        → stage_fates d h stages departed (stopped d h s f) r ≡ passed_fate (find_id id o) next here
-    by (Some u) ex rest = rest (some_number id o u ex) ∙ sym (ap (λ x. passed_fate x next here) ex)
-    by None ex rest =
-        untouched d h (next_number d n) shells o stages departed (stopped d h s f) r sent p.3 (without_found id o ex)
-        ∙ step d h n s f r l ids sent p.0 p.1 p.2
-        ∙ ends_here n (find_id id l) (is_among id ids) (f r) (λ none. some_among id (whole_inside q h arrivals) (stays_inside id q h arrivals p.4 some ex none))
-        ∙ sym (ap (λ x. passed_fate x next here) ex)
+    next : Option Step → Fate
+    next o = option_map_or (ended_at id) o (departed_at id (last_list out steps))
+
+    rest : Option Step
+    rest = find (λ (x : Step). is_none (find_id id x.departed)) steps
+
+    by : (o : Option Timed) → find_id id out ≡ o → (1 ≤ number (is_id id) out → marked_through h shells out (passed s.number lost (ids_of inside) f) r ≡ next rest)
+        → marked_through h shells out (passed s.number lost (ids_of inside) f) r ≡ next (cond (is_none (find_id id out)) (Some here) rest)
+    by (Some u) found more = more (some_number id out u found) ∙ sym (ap (λ x. next (cond (is_none x) (Some here) rest)) found)
+    by None found more =
+        let all = all_three (is_id id) s.spec h arrived built.0 in
+        let no_out = without_found id out found in
+        untouched h shells out (passed s.number lost (ids_of inside) f) r built.1 no_out
+        ∙ ends_here s.number (find_id id lost) (list_any (λ i. eqb i id) (ids_of inside)) (f r)
+          (λ none. some_among id inside (let no_lost = without_found id lost none in omega arith))
+        ∙ sym (ap (λ x. next (cond (is_none x) (Some here) rest)) found)

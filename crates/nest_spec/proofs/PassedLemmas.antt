@@ -1,84 +1,63 @@
--- The lists of states that have run are those of the shells over what arrives.
-use Rattle.std.proofs.Common.{◌≡◌, ℕ, ◌<◌, List, [], ◌∷◌, length, map, ap, subst, ◌∙◌, refl, arith}
+-- The lists of a state that has run are those of the shell over what arrived.
+use Rattle.std.proofs.Common.{◌≡◌, ℕ, suc, ◌<◌, ◌≤◌, List, [], ◌∷◌, length, get_or, refl, ap, subst, ◌∙◌, arith}
+use Rattle.std.proofs.lemmas.List.{length-map}
 use Rattle.packet_record.specs.declared.packet.Timed.{Timed}
-use Rattle.packet_record.specs.declared.packet.Direction.{Direction}
 use Rattle.packet_record.specs.declared.item.FlowEnd.TheVariants.{Ended}
 use Rattle.shell_core.specs.declared.spec.DirSpec.{DirSpec}
-use Rattle.shell_core.specs.Shells.{IsBuilt, lost, inside, shell_log, whole_out, whole_lost, whole_log}
+use Rattle.shell_core.specs.Shells.{opportunities, lost, inside, shell_log, whole_out, whole_lost, whole_log}
 use Rattle.shell_state.specs.States.{State}
 use Rattle.shell_state.specs.Standing.{Stands}
 use Rattle.shell_state.proofs.Foretelling.{taken_whole}
-use Rattle.nest_spec.specs.Fates.{Stage, stages_of, last_taken, next_number, AllStand}
-use Rattle.nest_spec.specs.Passing.{HavePassed, AreBuilt, whole_inside, whole_stages, whole_departed}
-use Rattle.nest_spec.specs.Nests.{state_logs, whole_logs}
+use Rattle.packet_record.specs.declared.item.Stream.{Stream}
+use Rattle.nest_spec.specs.declared.shell.ShellDirection.{ShellDirection}
+use Rattle.nest_spec.specs.Links.{specs_in}
+use Rattle.nest_spec.specs.Passed.{HavePassed}
+use Rattle.nest_spec.specs.Walk.{whole_inside}
 
--- the stages are those of these shells over what arrives
-abbrev pub ArePassed : Direction → ℕ → ℕ → List DirSpec → List Timed → List Stage → List Timed → Type 0
-ArePassed d h n [] arrivals [] departed = departed ≡ arrivals
-ArePassed d h n [] arrivals (s ∷ stages) departed = ⊥
-ArePassed d h n (c ∷ specs) arrivals [] departed = ⊥
-ArePassed d h n (c ∷ specs) arrivals (s ∷ stages) departed =
-    (s.number ≡ n) × (s.lost ≡ whole_lost c h arrivals) × (s.held ≡ map (λ (t : Timed). t.packet.id) (whole_inside c h arrivals))
-    × ArePassed d h (next_number d n) specs (whole_out c h arrivals) stages departed × IsBuilt c
+pub record HasRun (c : DirSpec) (h : ℕ) (arrived : List Timed) (s : State) : Type 0 where
+  pub departed : s.taken.packets ≡ whole_out c h arrived
+  pub dropped : lost s.spec s.horizon s.burnt s.fed.packets ≡ whole_lost c h arrived
+  pub held : inside s.spec s.horizon s.burnt s.fed.packets ≡ whole_inside c h arrived
+  pub log : shell_log s.spec s.horizon s.burnt s.fed.packets ≡ whole_log c h arrived
 
--- so are those of whole lists
-pub whole_passed : (d : Direction) (h n : ℕ) (specs : List DirSpec) (arrivals : List Timed) → AreBuilt specs
-    → ArePassed d h n specs arrivals (whole_stages d h n specs arrivals) (whole_departed h specs arrivals)
-whole_passed d h n [] arrivals built = refl
-whole_passed d h n (c ∷ specs) arrivals built = (refl, refl, refl, whole_passed d h (next_number d n) specs (whole_out c h arrivals) built.1, built.0)
+pub has_run : (c : DirSpec) (h : ℕ) (arrived : List Timed) (s : State) → Stands s → s.spec ≡ c → s.horizon ≡ h → s.fed.packets ≡ arrived → s.taken.end ≡ Ended → HasRun c h arrived s
+has_run c h arrived s stands es eh ef ended =
+    let burnt = (stands.ended ended).1 in record {
+      departed = (taken_whole s stands ended).1 ∙ same whole_out;
+      dropped = ap (λ b. lost s.spec s.horizon b s.fed.packets) burnt ∙ same whole_lost;
+      held = ap (λ b. inside s.spec s.horizon b s.fed.packets) burnt ∙ same whole_inside;
+      log = ap (λ b. shell_log s.spec s.horizon b s.fed.packets) burnt ∙ same whole_log;
+    }
+  where
+    same : {A : Type 0} → (f : DirSpec → ℕ → List Timed → A) → f s.spec s.horizon s.fed.packets ≡ f c h arrived
+    same f = ap (λ x. f x s.horizon s.fed.packets) es ∙ ap (λ x. f c x s.fed.packets) eh ∙ ap (f c h) ef
 
--- a state that has run
-pub has_out : (c : DirSpec) (h : ℕ) (arrivals : List Timed) (s : State) → Stands s → s.spec ≡ c → s.horizon ≡ h → s.fed.packets ≡ arrivals → s.taken.end ≡ Ended → s.taken.packets ≡ whole_out c h arrivals
-has_out c h arrivals s stands es eh ef ended =
-    (taken_whole s stands ended).1 ∙ ap (λ x. whole_out x s.horizon s.fed.packets) es ∙ ap (λ x. whole_out c x s.fed.packets) eh ∙ ap (whole_out c h) ef
+-- as many states as shells, the first of which was fed what arrived
+passed_long : (h : ℕ) (specs : List DirSpec) (arrived : List Timed) (states : List State) → HavePassed h specs arrived states → length states ≡ length specs
+passed_long h [] arrived [] have = refl
+passed_long h [] arrived (s ∷ states) have = absurd have
+passed_long h (c ∷ specs) arrived [] have = absurd have
+passed_long h (c ∷ specs) arrived (s ∷ states) have = ap suc (passed_long h specs s.taken.packets states have.4)
 
-pub has_lost : (c : DirSpec) (h : ℕ) (arrivals : List Timed) (s : State) → Stands s → s.spec ≡ c → s.horizon ≡ h → s.fed.packets ≡ arrivals → s.taken.end ≡ Ended
-    → lost s.spec s.horizon s.burnt s.fed.packets ≡ whole_lost c h arrivals
-has_lost c h arrivals s stands es eh ef ended =
-    ap (λ b. lost s.spec s.horizon b s.fed.packets) (stands.ended ended).1
-    ∙ ap (λ x. whole_lost x s.horizon s.fed.packets) es ∙ ap (λ x. whole_lost c x s.fed.packets) eh ∙ ap (whole_lost c h) ef
+first_fed : (h : ℕ) (specs : List DirSpec) (arrived : List Timed) (states : List State) (d : State) → HavePassed h specs arrived states → 0 < length states
+    → (get_or states 0 d).fed.packets ≡ arrived
+first_fed h specs arrived [] d have some = absurd (omega arith)
+first_fed h [] arrived (s ∷ states) d have some = absurd have
+first_fed h (c ∷ specs) arrived (s ∷ states) d have some = have.2
 
-pub has_held : (c : DirSpec) (h : ℕ) (arrivals : List Timed) (s : State) → Stands s → s.spec ≡ c → s.horizon ≡ h → s.fed.packets ≡ arrivals → s.taken.end ≡ Ended
-    → inside s.spec s.horizon s.burnt s.fed.packets ≡ whole_inside c h arrivals
-has_held c h arrivals s stands es eh ef ended =
-    ap (λ b. inside s.spec s.horizon b s.fed.packets) (stands.ended ended).1
-    ∙ ap (λ x. whole_inside x s.horizon s.fed.packets) es ∙ ap (λ x. whole_inside c x s.fed.packets) eh ∙ ap (whole_inside c h) ef
+pub some_states : (h : ℕ) (shells : List ShellDirection) (list : List ShellDirection) (arrived : List Timed) (states : List State) → list ≡ shells → HavePassed h (specs_in shells) arrived states
+    → 1 ≤ length list → 0 < length states
+some_states h shells list arrived states is have some =
+    let long = passed_long h (specs_in shells) arrived states have in omega (arith, long, length-map shells (λ (s : ShellDirection). s.spec), ap length is)
 
-pub have_passed : (d : Direction) (h n : ℕ) (specs : List DirSpec) (arrivals packets : List Timed) (states : List State) → AllStand states → HavePassed h specs arrivals states → packets ≡ arrivals
-    → ArePassed d h n specs arrivals (stages_of d n states) (last_taken packets states)
-have_passed d h n [] arrivals packets [] stand have same = same
-have_passed d h n [] arrivals packets (s ∷ states) stand have same = absurd have
-have_passed d h n (c ∷ specs) arrivals packets [] stand have same = absurd have
-have_passed d h n (c ∷ specs) arrivals packets (s ∷ states) stand have same =
-    let out_is = has_out c h arrivals s stand.0 have.0 have.1 have.2 have.3 in (
-      refl,
-      has_lost c h arrivals s stand.0 have.0 have.1 have.2 have.3,
-      ap (map (λ (t : Timed). t.packet.id)) (has_held c h arrivals s stand.0 have.0 have.1 have.2 have.3),
-      subst (λ l. ArePassed d h (next_number d n) specs l (stages_of d (next_number d n) states) (last_taken s.taken.packets states)) out_is
-          (have_passed d h (next_number d n) specs s.taken.packets s.taken.packets states stand.1 have.4 refl),
-      subst IsBuilt have.0 stand.0.built,
-    )
+pub first_arrivals : (h : ℕ) (specs : List DirSpec) (arrived packets : List Timed) (states : List State) (s : State) (fed : Stream) → HavePassed h specs arrived states → 0 < length states
+    → packets ≡ fed.packets → fed ≡ s.fed → s ≡ get_or states 0 s → packets ≡ arrived
+first_arrivals h specs arrived packets states s fed have some ep ef es =
+    ep ∙ ap (λ (f : Stream). f.packets) ef ∙ ap (λ (x : State). x.fed.packets) es ∙ first_fed h specs arrived states s have some
 
--- the packets that are said to enter some shells don't matter
-pub last_some : (packets packets' : List Timed) (states : List State) → 0 < length states → last_taken packets states ≡ last_taken packets' states
-last_some packets packets' [] some = absurd (omega arith)
-last_some packets packets' (s ∷ states) some = refl
-
-pub have_built : (h : ℕ) (specs : List DirSpec) (arrivals : List Timed) (states : List State) → AllStand states → HavePassed h specs arrivals states → AreBuilt specs
-have_built h [] arrivals [] stand have = tt
-have_built h [] arrivals (s ∷ states) stand have = absurd have
-have_built h (c ∷ specs) arrivals [] stand have = absurd have
-have_built h (c ∷ specs) arrivals (s ∷ states) stand have = (subst IsBuilt have.0 stand.0.built, have_built h specs s.taken.packets states stand.1 have.4)
-
--- the logs of states that have run
-pub have_logs : (h : ℕ) (specs : List DirSpec) (arrivals : List Timed) (states : List State) → AllStand states → HavePassed h specs arrivals states → state_logs states ≡ whole_logs h specs arrivals
-have_logs h [] arrivals [] stand have = refl
-have_logs h [] arrivals (s ∷ states) stand have = absurd have
-have_logs h (c ∷ specs) arrivals [] stand have = absurd have
-have_logs h (c ∷ specs) arrivals (s ∷ states) stand have =
-    let here : shell_log s.spec s.horizon s.burnt s.fed.packets ≡ whole_log c h arrivals =
-    ap (λ b. shell_log s.spec s.horizon b s.fed.packets) (stand.0.ended have.3).1
-    ∙ ap (λ x. whole_log x s.horizon s.fed.packets) have.0 ∙ ap (λ x. whole_log c x s.fed.packets) have.1 ∙ ap (whole_log c h) have.2 in
-    ap (λ l. l ∷ state_logs states) here
-    ∙ ap (λ ls. whole_log c h arrivals ∷ ls) (have_logs h specs s.taken.packets states stand.1 have.4
-    ∙ ap (whole_logs h specs) (has_out c h arrivals s stand.0 have.0 have.1 have.2 have.3))
+-- the first of states that have passed has run
+pub first_has_run : (h : ℕ) (specs more : List DirSpec) (c : DirSpec) (arrived : List Timed) (states rest : List State) (s : State) → specs ≡ c ∷ more → states ≡ s ∷ rest
+    → HavePassed h specs arrived states → Stands s → HasRun c h arrived s
+first_has_run h specs more c arrived states rest s specs_are states_are have stands =
+    let first = subst (λ l. HavePassed h (c ∷ more) arrived l) states_are (subst (λ l. HavePassed h l arrived states) specs_are have) in
+    has_run c h arrived s stands first.0 first.1 first.2 first.3

@@ -1,4 +1,4 @@
--- What contracts see of a nest that is being read.
+-- For proofs: a nest that is being read.
 use Rattle.std.specs.Prelude.{ℕ, List, map, string_bytes, String}
 use Rattle.std.specs.declared.alloc.Global.{Global}
 use Rattle.std.specs.Borrow.{Bor}

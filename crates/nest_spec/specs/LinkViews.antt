@@ -1,4 +1,4 @@
--- What a link's words gave, as contracts see it.
+-- For proofs: what the words of a link gave.
 use Rattle.std.specs.Prelude.{Option, Some, None, map, string_bytes}
 use Rattle.std.specs.Borrow.{Bor}
 use Rattle.nest_spec.specs.Words.{Text, SideGiven, LinkGiven, OptionRead, option_read, LinkRead, link_read}

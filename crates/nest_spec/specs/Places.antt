@@ -1,4 +1,4 @@
--- Where the rows of numbers stand.
+-- For proofs: where the rows of numbers stand.
 use Rattle.std.specs.Prelude.{List}
 use Rattle.packet_record.specs.declared.packet.Row.{Row}
 use Rattle.nest_spec.specs.Index.{IsIndex, AreFromOne}

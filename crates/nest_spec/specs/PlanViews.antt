@@ -1,4 +1,4 @@
--- What contracts see of the words for a nest.
+-- For proofs: the words for a nest as their callers see them.
 use Rattle.nest_spec.specs.Words.{NestPlan}
 use Rattle.nest_spec.specs.Plans.{IsPlan}
 use Rattle.nest_spec.specs.declared.nest_words.NestWords.TheInside.{Inside}

@@ -1,4 +1,4 @@
--- A run's result as its callers see it.
+-- For proofs: the result of a run as its callers see it.
 use Rattle.nest_spec.specs.Nests.{RunLists}
 use Rattle.nest_spec.specs.RunViews.{all_named}
 use Rattle.nest_spec.specs.declared.run_result.RunResult.TheInside.{Inside}

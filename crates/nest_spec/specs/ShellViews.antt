@@ -1,4 +1,4 @@
--- What was read of one shell, as contracts see it.
+-- For proofs: what was read of one shell.
 use Rattle.std.specs.Prelude.{◌++◌, map, string_bytes, option_to_list}
 use Rattle.nest_spec.specs.Words.{ShellRead, shell_read}
 use Rattle.nest_spec.specs.LinkViews.{text_of}

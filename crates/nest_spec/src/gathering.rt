@@ -1,91 +1,95 @@
 // The result of a run, from the states of the shells.
-ghost use Rattle.std.specs.Prelude.{◌≡◌, ◌≤◌, length, reverse, IfOk, OnOk};
+ghost use Rattle.std.specs.Prelude.{◌≡◌, ◌++◌, map, option_map, IfOk, OnOk};
 ghost use Rattle.packet_record.specs.declared.packet.Row.{Row as RowValue};
 ghost use Rattle.packet_record.specs.declared.packet.Direction.TheVariants.{Up, Down};
 ghost use Rattle.packet_record.specs.Rows.{entering};
 ghost use Rattle.nest_spec.specs.declared.fate.Fate.{Fate as FateValue};
-ghost use Rattle.nest_spec.specs.Fates.{AreApart, AllStand, IsFew, stages_of, last_taken, stage_fates};
-ghost use Rattle.nest_spec.specs.Passing.{HavePassed, fated, fates_of};
-ghost use Rattle.nest_spec.specs.Nests.{directions_of, named_logs, state_logs, result_of};
+ghost use Rattle.nest_spec.specs.Fates.{fated};
+ghost use Rattle.nest_spec.specs.Links.{AreBuilt, specs_in};
+ghost use Rattle.nest_spec.specs.Marks.{walked};
+ghost use Rattle.nest_spec.specs.Nests.{directions_of, walk_of, result_of};
 ghost use Rattle.nest_spec.specs.Once.{HaveOneFate};
-ghost use Rattle.nest_spec.specs.RunViews.{all_named};
+ghost use Rattle.nest_spec.specs.Passed.{AreApart, HavePassed};
+ghost use Rattle.nest_spec.specs.RunViews.{entries_in, named_by};
+ghost use Rattle.nest_spec.specs.Walk.{walk, last_list, named_entries, named_log};
 
-use crate::copying::copy_logs;
+use crate::copying::copy_log;
 use crate::marking::Marking;
-use crate::naming::name_logs;
-use crate::passing_order::{first_number, next_number};
-use crate::{FateRow, NamedLog, Nest, RunResult};
-use mm_base::OutOfMemory;
+use crate::naming::in_nest_order;
+use crate::{Named, NamedLog, Nest, RunResult, ShellDirection};
+use mm_base::{OutOfMemory, Text};
 use packet_record::{Direction, Row, Timed};
+use shell_log::Log;
 use shell_state::ShellState;
 use std::alloc::Global;
 
-// Marks the fates of packets in these shells, in passing order, the first with this number, and of those that pass them all. Only where
-// there is no shell do the packets count that are handed in.
-fn walk(
+// Marks the fates of what arrived at these shells, and of what passed them all, and adds the log of each, where it has a name.
+fn gather_shells(
     marking: &mut Marking<'_>,
-    direction: Direction,
-    number: u32,
-    packets: &[Timed],
+    logs: &mut Vec<Option<NamedLog>>,
+    horizon: u64,
+    shells: &[ShellDirection],
+    arrived: &[Timed],
     states: &[ShellState],
 ) -> Result<(), OutOfMemory>
-    requires few { IsFew direction number (length states.now) }
+    requires passed { HavePassed horizon (specs_in shells.now) arrived.now states.now }
     ensures rows { marking.new.rows ≡ marking.old.rows }
-    ensures horizon { marking.new.horizon ≡ marking.old.horizon }
     ensures fates { OnOk result ((f : RowValue → FateValue) → marking.old.fates ≡ fated f marking.old.rows
-        → marking.new.fates ≡ fated (stage_fates direction marking.old.horizon (stages_of direction number states.now) (last_taken packets.now states.now) f) marking.old.rows) }
-    ensures stand { OnOk result (AllStand states.now) }
+        → marking.new.fates ≡ fated (walked (walk horizon shells.now arrived.now) (last_list arrived.now (walk horizon shells.now arrived.now)) f) marking.old.rows) }
+    ensures logs { OnOk result (map (option_map (named_by entries_in)) logs.new.items ≡ map (option_map (named_by entries_in)) logs.old.items ++ map named_log (walk horizon shells.now arrived.now)) }
+    ensures built { OnOk result (AreBuilt (specs_in shells.now)) }
 {
-    let Some((state, rest)) = states.split_first() else {
-        marking.depart(direction, packets);
+    let Some((shell, shells)) = shells.split_first() else {
+        marking.depart(arrived);
         return Ok(());
     };
+    let (state, states) = states.split_first().unwrap();
+    // What holds of every state that stands: what was lost, held and logged is the whole shell's.
     state.stands();
     let held = state.inside()?;
-    marking.pass(direction, number, state.lost(), held.as_slice());
-    let next = next_number(direction, number);
-    walk(marking, direction, next, state.taken().packets(), rest)
+    marking.pass(shell.number, state.lost(), held.as_slice());
+    logs.push(copy_named(*logs.allocator(), &shell.log, state.log())?)?;
+    gather_shells(marking, logs, horizon, shells, state.taken().packets(), states)
 }
 
-// The fate of each row.
-fn gather_fates(
+// A copy of the log, where it has a name.
+fn copy_named(
     alloc: Global,
+    name: &Option<Text>,
+    log: &Log,
+) -> Result<Option<NamedLog>, OutOfMemory>
+    ensures { IfOk result (λ named. option_map (named_by entries_in) named ≡ option_map (λ n. named_entries n log.now.entries) name.now) }
+{
+    let Some(name) = name else {
+        return Ok(None);
+    };
+    Ok(Some(Named {
+        name: Text::from_text(alloc, name.as_str())?,
+        log: copy_log(alloc, log)?,
+    }))
+}
+
+// Marks the fates of a direction's rows: the logs of its shells in passing order, where they have names.
+fn gather_direction(
+    alloc: Global,
+    marking: &mut Marking<'_>,
     nest: &Nest,
+    direction: Direction,
     rows: &[Row],
-    up: &[ShellState],
-    down: &[ShellState],
-) -> Result<Vec<FateRow>, OutOfMemory>
-    requires apart { AreApart rows.now }
-    requires up { HavePassed nest.now.horizon (directions_of Up nest.now) (entering Up nest.now.horizon rows.now) up.now }
-    requires down { HavePassed nest.now.horizon (directions_of Down nest.now) (entering Down nest.now.horizon rows.now) down.now }
-    ensures stand { OnOk result (AllStand up.now × AllStand down.now) }
-    ensures fates { IfOk result (λ v. v.items ≡ fates_of nest.now.horizon (directions_of Up nest.now) (directions_of Down nest.now) rows.now) }
+    states: &[ShellState],
+) -> Result<Vec<Option<NamedLog>>, OutOfMemory>
+    requires passed { HavePassed nest.now.horizon (directions_of direction nest.now) (entering direction nest.now.horizon rows.now) states.now }
+    ensures rows { marking.new.rows ≡ marking.old.rows }
+    ensures fates { OnOk result ((f : RowValue → FateValue) → marking.old.fates ≡ fated f marking.old.rows
+        → marking.new.fates ≡ fated (walked (walk_of direction nest.now rows.now) (last_list (entering direction nest.now.horizon rows.now) (walk_of direction nest.now rows.now)) f) marking.old.rows) }
+    ensures logs { IfOk result (λ logs. map (option_map (named_by entries_in)) logs.items ≡ map named_log (walk_of direction nest.now rows.now)) }
+    ensures built { OnOk result (AreBuilt (directions_of direction nest.now)) }
 {
-    let shells = nest.shells();
-    let mut marking = Marking::new(alloc, rows, nest.horizon(), shells)?;
-    let first_up = first_number(Direction::Up, shells);
-    let first_down = first_number(Direction::Down, shells);
-    walk(&mut marking, Direction::Up, first_up, &[], up)?;
-    walk(&mut marking, Direction::Down, first_down, &[], down)?;
-    Ok(marking.into_rows())
-}
-
-// The logs that have a name.
-fn gather_logs(
-    alloc: Global,
-    nest: &Nest,
-    up: &[ShellState],
-    down: &[ShellState],
-) -> Result<Vec<NamedLog>, OutOfMemory>
-    requires up { length up.now ≡ length nest.now.shells }
-    requires down { length down.now ≡ length nest.now.shells }
-    ensures { IfOk result (λ list. all_named list.items ≡ named_logs nest.now.shells (reverse (state_logs up.now)) (state_logs down.now) nest.now.logs) }
-{
-    let up_flags = nest.logged(Direction::Up)?;
-    let up_logs = copy_logs(alloc, up_flags.as_slice(), up)?;
-    let down_flags = nest.logged(Direction::Down)?;
-    let down_logs = copy_logs(alloc, down_flags.as_slice(), down)?;
-    name_logs(alloc, nest, up_logs, down_logs)
+    let shells = nest.shells_in(direction)?;
+    let arrived = states[0].fed().packets();
+    let mut logs = Vec::with_capacity(alloc, shells.len())?;
+    gather_shells(marking, &mut logs, nest.horizon(), shells.as_slice(), arrived, states)?;
+    Ok(logs)
 }
 
 /// The result of a run: the fate of each row, and the logs of the nest that have a name. The states are those of the nest's shells in
@@ -104,8 +108,9 @@ pub fn gather(
     ensures value { IfOk result (λ r. r ≡ result_of nest.now rows.now) }
     ensures once { OnOk result (HaveOneFate nest.now rows.now) }
 {
-    let _ = nest.shells();
-    let fates = gather_fates(alloc, nest, rows, up, down)?;
-    let logs = gather_logs(alloc, nest, up, down)?;
-    Ok(RunResult::new(fates, logs))
+    let mut marking = Marking::new(alloc, rows)?;
+    let up = gather_direction(alloc, &mut marking, nest, Direction::Up, rows, up)?;
+    let down = gather_direction(alloc, &mut marking, nest, Direction::Down, rows, down)?;
+    let logs = in_nest_order(alloc, up, down)?;
+    Ok(RunResult::new(marking.into_rows(), logs))
 }

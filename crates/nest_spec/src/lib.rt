@@ -1,6 +1,7 @@
 //! Nests of shells: their words, what becomes of their packets, and its text.
 #![tactic(auto)]
 
+mod build_shells;
 mod copying;
 mod error;
 mod fate;
@@ -12,9 +13,9 @@ mod marking;
 mod naming;
 mod nest;
 mod nest_words;
-mod passing_order;
 mod places;
 mod run_result;
+mod shell;
 mod shell_reading;
 mod shell_words;
 #[cfg(test)]
@@ -29,9 +30,9 @@ pub use fate::{Fate, FateRow};
 pub use fates_text::print_fates;
 pub use gathering::gather;
 pub use marking::Marking;
-pub use naming::name_logs;
+pub use naming::in_nest_order;
 pub use nest::{Nest, build};
 pub use nest_words::{NestWords, read_nest};
-pub use passing_order::{first_number, next_number};
 pub use run_result::{Named, NamedLog, RunResult};
+pub use shell::{Shell, ShellDirection, Side};
 pub use shell_words::{LinkSide, ShellKind, ShellWords};

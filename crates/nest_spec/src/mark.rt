@@ -1,6 +1,6 @@
 // What a list of packets says of each of them.
 ghost use Rattle.std.specs.Prelude.{◌≡◌};
-ghost use Rattle.nest_spec.specs.Fates.{mark_fate};
+ghost use Rattle.nest_spec.specs.Marks.{mark_fate};
 
 use crate::Fate;
 use packet_record::Timed;

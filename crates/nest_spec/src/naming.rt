@@ -1,87 +1,34 @@
 // The logs of a run by name.
-ghost use Rattle.std.specs.Prelude.{◌≡◌, ◌∷◌, ◌++◌, [], List, length, map, reverse, OnOk, IfOk};
-ghost use Rattle.packet_record.specs.declared.packet.Direction.TheVariants.{Up, Down};
-ghost use Rattle.shell_log.specs.declared.entry.Entry.{Entry};
-ghost use Rattle.nest_spec.specs.Words.{Text as TextValue};
-ghost use Rattle.nest_spec.specs.Nests.{NamedEntries, is_logged, kept_log, kept_logs, logged, logged_of, named_logs};
-ghost use Rattle.nest_spec.specs.RunViews.{named_by};
+ghost use Rattle.std.specs.Prelude.{◌≡◌, ◌++◌, ◌↔◌, length, option_to_list, OnOk, IfOk};
+ghost use Rattle.nest_spec.specs.Walk.{in_nest_order};
 
-use crate::{Named, Nest, ShellWords};
-use mm_base::{OutOfMemory, Text};
+use mm_base::OutOfMemory;
 use std::alloc::Global;
 
-// Adds the last of the logs, where the direction is logged, under the next name, and gives the names that are left.
-fn push_side<'a, T: Drop>(
-    list: &mut Vec<Named<T>>,
-    is_logged: bool,
-    logs: &mut Vec<T>,
-    names: &'a [Text],
-) -> Result<&'a [Text], OutOfMemory>
-    ensures { IfOk result (λ rest. (entries : T → List Entry) (log : List Entry) (others : List (List Entry)) (more : List TextValue → List NamedEntries)
-        → reverse (map entries logs.old.items) ≡ kept_log is_logged log others
-        → (reverse (map entries logs.new.items) ≡ others)
-        × (named_by entries list.new.items ++ more rest.now ≡ named_by entries list.old.items ++ logged is_logged log names.now more)) }
-{
-    if !is_logged {
-        return Ok(names);
-    }
-    let Some(log) = logs.pop() else {
-        return Ok(names);
-    };
-    let Some((name, rest)) = names.split_first() else {
-        return Ok(names);
-    };
-    let alloc = *list.allocator();
-    let name = Text::from_text(alloc, name.as_str())?;
-    list.push(Named { name, log })?;
-    Ok(rest)
-}
-
-// Adds the logs of these shells, of which the last logs are those of the first shell that is logged.
-fn push_logs<T: Drop>(
-    list: &mut Vec<Named<T>>,
-    shells: &[ShellWords],
-    up: Vec<T>,
-    down: Vec<T>,
-    names: &[Text],
-) -> Result<(), OutOfMemory>
-    ensures { OnOk result ((entries : T → List Entry) (ups downs : List (List Entry)) → length ups ≡ length shells.now → length downs ≡ length shells.now
-        → reverse (map entries up.items) ≡ kept_logs (map (is_logged Up) shells.now) ups → reverse (map entries down.items) ≡ kept_logs (map (is_logged Down) shells.now) downs
-        → named_by entries list.new.items ≡ named_by entries list.old.items ++ named_logs shells.now ups downs names.now) }
-{
-    let mut up = up;
-    let mut down = down;
-    let Some((words, shells)) = shells.split_first() else {
-        return Ok(());
-    };
-    let ShellWords::Link {
-        up: up_side,
-        down: down_side,
-        ..
-    } = *words
-    else {
-        return push_logs(list, shells, up, down, names);
-    };
-    let names = push_side(list, up_side.logged, &mut up, names)?;
-    let names = push_side(list, down_side.logged, &mut down, names)?;
-    push_logs(list, shells, up, down, names)
-}
-
-/// The logs of a run by name, in the order of the shells, up before down: these are the logs of the directions that have a name for
-/// theirs, in the order in which packets pass them. `OutOfMemory` is want of memory.
-pub fn name_logs<T: Drop>(
+/// What the shells have of each direction, in the nest's order, up before down: the lists are in passing order, an entry for each shell.
+pub fn in_nest_order<T: Drop>(
     alloc: Global,
-    nest: &Nest,
-    up: Vec<T>,
-    down: Vec<T>,
-) -> Result<Vec<Named<T>>, OutOfMemory>
-    ensures { IfOk result (λ list. (entries : T → List Entry) (ups downs : List (List Entry)) → length ups ≡ length nest.now.shells → length downs ≡ length nest.now.shells
-        → map entries up.items ≡ kept_logs (logged_of Up nest.now) ups → map entries down.items ≡ kept_logs (logged_of Down nest.now) downs
-        → named_by entries list.items ≡ named_logs nest.now.shells (reverse ups) downs nest.now.logs) }
+    mut ups: Vec<Option<T>>,
+    downs: Vec<Option<T>>,
+) -> Result<Vec<T>, OutOfMemory>
+    requires { length ups.items ≡ length downs.items }
+    ensures { IfOk result (λ list. list.items ≡ in_nest_order ups.items downs.items) }
 {
-    let mut down = down;
-    down.reverse();
     let mut list = Vec::new(alloc);
-    push_logs(&mut list, nest.shell_words(), up, down, nest.log_names())?;
+    // The outermost shell is the first that packets pass down, and the last that they pass up.
+    for down in downs {
+        let up = ups.pop().unwrap();
+        push_some(&mut list, up)?;
+        push_some(&mut list, down)?;
+    }
     Ok(list)
+}
+
+fn push_some<T: Drop>(list: &mut Vec<T>, entry: Option<T>) -> Result<(), OutOfMemory>
+    ensures { OnOk result (list.new.items ≡ list.old.items ++ option_to_list entry) }
+{
+    if let Some(entry) = entry {
+        list.push(entry)?;
+    }
+    Ok(())
 }

@@ -1,23 +1,21 @@
 // A nest of shells.
-ghost use Rattle.std.specs.Prelude.{◌≡◌, ◌≤◌, ◌+◌, ◌++◌, if◌then◌else◌, length, map, OnOk, IfOk};
-ghost use Rattle.packet_record.specs.Rows.{goes};
-ghost use Rattle.nest_spec.specs.Nests.{built, directions_of, in_passing_order, specs_from, opportunities_of, stream_of, link_spec, is_logged, logged_of, IsNest, AllFit};
+ghost use Rattle.std.specs.Prelude.{◌≡◌, ◌≤◌, ◌+◌, ◌++◌, length, OnOk, IfOk};
+ghost use Rattle.nest_spec.specs.Nests.{built, directions_of, shells_in, in_passing_order, all_in_direction, opportunities_of, IsNest, AllFit};
+ghost use Rattle.nest_spec.specs.Links.{NamedAreLinks, specs_in};
 
-use crate::{LinkSide, NestWords, ShellWords};
-use loss_core::Rate;
-use mm_base::{OutOfMemory, Text};
+use crate::build_shells::build_shells;
+use crate::{NestWords, Shell, ShellDirection};
+use mm_base::OutOfMemory;
 use packet_record::Direction;
 use shell_core::DirSpec;
 use std::alloc::Global;
 use std::marker::Model;
 use trace_reader::Trace;
 
-/// A nest of 1 to 8 shells with its traces, the seed of its losses and its horizon.
+/// A nest of 1 to 8 shells, the outermost first, with the seed of its losses and its horizon.
 #[derive(Drop)]
 pub struct Nest {
-    shells: Vec<ShellWords>,
-    traces: Vec<Trace>,
-    logs: Vec<Text>,
+    shells: Vec<Shell>,
     seed: u64,
     horizon: u64,
 }
@@ -48,12 +46,9 @@ pub fn build(
     requires few { opportunities_of horizon words.shells traces.items ≤ 16000000 }
     ensures { IfOk result (λ nest. nest ≡ built words traces.items seed horizon) }
 {
-    let _ = alloc;
-    let (shells, logs) = words.into_parts();
+    let shells = build_shells(alloc, words, traces)?;
     Ok(Nest {
         shells,
-        traces,
-        logs,
         seed,
         horizon,
     })
@@ -76,170 +71,56 @@ impl Nest {
         self.horizon
     }
 
-    /// What the shells do in a direction, in the order in which its packets pass them: up the innermost first, down the outermost.
+    /// The shells in a direction, in the order in which its packets pass them: up the innermost first, down the outermost.
+    pub fn shells_in(&self, direction: Direction) -> Result<Vec<ShellDirection>, OutOfMemory>
+        ensures list { IfOk result (λ list. list.items ≡ shells_in direction self.now) }
+        ensures some { IfOk result (λ list. 1 ≤ length list.items) }
+        ensures fit { IfOk result (λ list. AllFit self.now.horizon (specs_in list.items)) }
+        ensures links { IfOk result (λ list. NamedAreLinks list.items) }
+        ensures horizon { self.now.horizon ≤ 3600000 }
+    {
+        let mut list = Vec::new(*self.shells.allocator());
+        push_directions(&mut list, direction, self.seed, 1, self.shells.as_slice())?;
+        Ok(in_passing_order(direction, list))
+    }
+
+    /// What the shells do in a direction, in the same order.
     pub fn directions(&self, direction: Direction) -> Result<Vec<DirSpec>, OutOfMemory>
         ensures list { IfOk result (λ list. list.items ≡ directions_of direction self.now) }
         ensures fit { IfOk result (λ list. AllFit self.now.horizon list.items) }
         ensures horizon { self.now.horizon ≤ 3600000 }
     {
-        let mut list = Vec::new(*self.shells.allocator());
-        push_specs(
-            &mut list,
-            direction,
-            self.seed,
-            1,
-            self.shells.as_slice(),
-            self.traces.as_slice(),
-        )?;
-        Ok(in_passing_order(direction, list))
-    }
-
-    /// Which shells have a direction whose log has a name, in the order in which its packets pass them.
-    pub fn logged(&self, direction: Direction) -> Result<Vec<bool>, OutOfMemory>
-        ensures { IfOk result (λ flags. flags.items ≡ logged_of direction self.now) }
-    {
         let alloc = *self.shells.allocator();
-        let flags = flags_of(alloc, direction, self.shells.as_slice())?;
-        Ok(in_passing_order(direction, flags))
-    }
-
-    pub(crate) fn shell_words(&self) -> &[ShellWords]
-        ensures words { result.now ≡ self.now.shells }
-        ensures nest { IsNest self.now }
-    {
-        self.shells.as_slice()
-    }
-
-    pub(crate) fn log_names(&self) -> &[Text]
-        ensures { result.now ≡ self.now.logs }
-    {
-        self.logs.as_slice()
+        let shells = self.shells_in(direction)?;
+        let list = shells.into_iter().map(|shell| shell.spec).collect(alloc)?;
+        Ok(list)
     }
 }
 
-fn is_logged(direction: Direction, words: ShellWords) -> bool
-    ensures { result ≡ is_logged direction words }
-{
-    match words {
-        ShellWords::Delay { .. } | ShellWords::Loss { .. } => false,
-        ShellWords::Link { up, down, .. } => match direction {
-            Direction::Up => up.logged,
-            Direction::Down => down.logged,
-        },
-    }
-}
-
-fn flags_of(
-    alloc: Global,
-    direction: Direction,
-    shells: &[ShellWords],
-) -> Result<Vec<bool>, OutOfMemory>
-    ensures { IfOk result (λ flags. flags.items ≡ map (is_logged direction) shells.now) }
-{
-    let flags = shells
-        .iter()
-        .map(|words| is_logged(direction, *words))
-        .collect(alloc)?;
-    Ok(flags)
-}
-
-fn in_passing_order<T>(direction: Direction, list: Vec<T>) -> Vec<T>
+fn in_passing_order<T>(direction: Direction, mut list: Vec<T>) -> Vec<T>
     ensures { result.items ≡ in_passing_order direction list.items }
 {
-    match direction {
-        Direction::Up => {
-            let mut turned = list;
-            turned.reverse();
-            turned
-        }
-        Direction::Down => list,
+    if direction == Direction::Up {
+        list.reverse();
     }
+    list
 }
 
-// The stream of a loss's words: twice the shell's number for up, one more for down.
-fn stream_of(shell: u32, direction: Direction) -> u64
-    requires { shell ≤ 8 }
-    ensures { result ≡ stream_of shell direction }
-{
-    match direction {
-        Direction::Up => 2 * u64::from(shell),
-        Direction::Down => 2 * u64::from(shell) + 1,
-    }
-}
-
-fn loss_spec(direction: Direction, named: Direction, rate: Rate, seed: u64, stream: u64) -> DirSpec
-    ensures { result ≡ (if goes direction named then DirSpec.Loss rate seed stream else DirSpec.Pass) }
-{
-    if direction == named {
-        DirSpec::Loss { rate, seed, stream }
-    } else {
-        DirSpec::Pass
-    }
-}
-
-fn link_spec(
-    alloc: Global,
-    direction: Direction,
-    once: bool,
-    sides: (LinkSide, LinkSide),
-    up_trace: &Trace,
-    down_trace: &Trace,
-) -> Result<DirSpec, OutOfMemory>
-    ensures { IfOk result (λ spec. spec ≡ link_spec direction once sides.0 sides.1 up_trace.now down_trace.now) }
-{
-    match direction {
-        Direction::Up => Ok(DirSpec::Link {
-            trace: up_trace.copy()?,
-            once,
-            queue: sides.0.queue,
-        }),
-        Direction::Down => Ok(DirSpec::Link {
-            trace: down_trace.copy()?,
-            once,
-            queue: sides.1.queue,
-        }),
-    }
-}
-
-// Adds what these shells do in a direction, the first with this number; each link takes the next two traces.
-fn push_specs(
-    list: &mut Vec<DirSpec>,
+// Adds these shells in a direction, the first with this number.
+fn push_directions(
+    list: &mut Vec<ShellDirection>,
     direction: Direction,
     seed: u64,
-    shell: u32,
-    shells: &[ShellWords],
-    traces: &[Trace],
+    number: u32,
+    shells: &[Shell],
 ) -> Result<(), OutOfMemory>
-    requires { shell + length shells.now ≤ 9 }
-    ensures { OnOk result (list.new.items ≡ list.old.items ++ specs_from direction seed shell shells.now traces.now) }
+    requires { number + length shells.now ≤ 9 }
+    ensures { OnOk result (list.new.items ≡ list.old.items ++ all_in_direction direction seed number shells.now) }
 {
-    let Some((words, shells)) = shells.split_first() else {
+    let Some((shell, shells)) = shells.split_first() else {
         return Ok(());
     };
-    match *words {
-        ShellWords::Delay { ms } => {
-            list.push(DirSpec::Delay { ms })?;
-            push_specs(list, direction, seed, shell + 1, shells, traces)
-        }
-        ShellWords::Loss {
-            direction: named,
-            rate,
-        } => {
-            let stream = stream_of(shell, direction);
-            list.push(loss_spec(direction, named, rate, seed, stream))?;
-            push_specs(list, direction, seed, shell + 1, shells, traces)
-        }
-        ShellWords::Link { once, up, down } => {
-            let Some((up_trace, traces)) = traces.split_first() else {
-                return Ok(());
-            };
-            let Some((down_trace, traces)) = traces.split_first() else {
-                return Ok(());
-            };
-            let alloc = *list.allocator();
-            let spec = link_spec(alloc, direction, once, (up, down), up_trace, down_trace)?;
-            list.push(spec)?;
-            push_specs(list, direction, seed, shell + 1, shells, traces)
-        }
-    }
+    let alloc = *list.allocator();
+    list.push(shell.in_direction(alloc, direction, seed, number)?)?;
+    push_directions(list, direction, seed, number + 1, shells)
 }

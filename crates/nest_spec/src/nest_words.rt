@@ -1,7 +1,7 @@
 // The words for a nest.
 ghost use Rattle.std.specs.Prelude.{◌≡◌, ◌≢◌, ◌≤◌, ◌+◌, ◌*◌, ◌++◌, Ok, Err, length, map, string_bytes, option_map, option_to_list, MatchResult, OnOk};
 ghost use Rattle.nest_spec.specs.Words.{with_shell, passed_over, shells_from, nest_of};
-ghost use Rattle.nest_spec.specs.Plans.{IsPlan};
+ghost use Rattle.nest_spec.specs.Plans.{IsPlan, trace_count};
 ghost use Rattle.nest_spec.specs.LinkViews.{text_of};
 ghost use Rattle.nest_spec.specs.ShellViews.{shell_given};
 ghost use Rattle.nest_spec.specs.Nests.{opportunities_of};
@@ -89,6 +89,7 @@ impl NestWords {
 }
 
 fn count_opportunities(shells: &[ShellWords], traces: &[Trace], horizon: u64) -> u64
+    requires traces { length traces.now ≡ trace_count shells.now }
     requires horizon { horizon ≤ 3600000 }
     requires few { length shells.now ≤ 8 }
     ensures count { result ≡ opportunities_of horizon shells.now traces.now }
@@ -100,15 +101,9 @@ fn count_opportunities(shells: &[ShellWords], traces: &[Trace], horizon: u64) ->
     let ShellWords::Link { once, .. } = *words else {
         return count_opportunities(shells, traces, horizon);
     };
-    let Some((up, traces)) = traces.split_first() else {
-        return 0;
-    };
-    let Some((down, traces)) = traces.split_first() else {
-        return 0;
-    };
-    count_in(up, once, horizon)
-        + count_in(down, once, horizon)
-        + count_opportunities(shells, traces, horizon)
+    count_in(&traces[0], once, horizon)
+        + count_in(&traces[1], once, horizon)
+        + count_opportunities(shells, &traces[2..], horizon)
 }
 
 #[tactic(auto, using(crate::proofs::CountLemmas::count_within))]

@@ -5,7 +5,7 @@ ghost use Rattle.packet_record.specs.Rows.{entering, Rises};
 ghost use Rattle.shell_core.specs.Shells.{IsInRange, opportunities};
 ghost use Rattle.shell_state.specs.States.{new_state};
 ghost use Rattle.nest_spec.specs.Nests.{AllFit, directions_of};
-ghost use Rattle.nest_spec.specs.Passing.{HavePassed};
+ghost use Rattle.nest_spec.specs.Passed.{HavePassed};
 
 use crate::{Nest, RunResult, build, gather, print_fates, read_nest};
 use mm_base::OutOfMemory;

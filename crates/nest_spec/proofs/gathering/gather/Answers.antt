@@ -1,48 +1,22 @@
-use Rattle.std.proofs.Common.{List, reverse, ap, ◌∙◌}
-use Rattle.packet_record.specs.declared.packet.Direction.TheVariants.{Up, Down}
-use Rattle.packet_record.specs.Rows.{entering}
-use Rattle.nest_spec.specs.declared.fate.FateRow.{FateRow}
-use Rattle.nest_spec.specs.Passing.{fates_of}
-use Rattle.nest_spec.specs.Nests.{NamedEntries, RunLists, directions_of, named_logs, state_logs, whole_logs}
-use Rattle.nest_spec.specs.RunViews.{all_named}
-use Rattle.nest_spec.proofs.NestLemmas.{have_long}
-use Rattle.nest_spec.proofs.PassedLemmas.{have_logs, have_built}
+use Rattle.std.proofs.Common.{map, ap, ◌∙◌}
+use Rattle.nest_spec.specs.Nests.{run_lists}
+use Rattle.nest_spec.specs.RunViews.{entries_in, named_by}
 use Rattle.nest_spec.proofs.OnceLemmas.{one_fate}
+use Rattle.nest_spec.proofs.Results.{same_long, result_is}
 use Rattle.nest_spec.proofs.gathering.gather.Goals as goal
 
-pub gather_logs-requires : goal.gather_logs-requires
-gather_logs-requires c =
-    let nest = c.args.nest.now in
-    let rows = c.args.rows.now in
-    let is = c.shells.ensures.nest in
-    record {
-      up = have_long Up nest (entering Up nest.horizon rows) c.args.up.now is c.requires.up;
-      down = have_long Down nest (entering Down nest.horizon rows) c.args.down.now is c.requires.down;
-    }
-
-abbrev lists : List FateRow → List NamedEntries → RunLists
-lists fates logs = record { fates = fates; logs = logs }
-
-pub returns-clause-once : goal.returns-clause-once
-returns-clause-once c =
-    let nest = c.args.nest.now in
-    let rows = c.args.rows.now in
-    let stand = c.in_ok-fates.ensures.stand in
-    one_fate nest rows c.requires.apart
-    (have_built nest.horizon (directions_of Up nest) (entering Up nest.horizon rows) c.args.up.now stand.0 c.requires.up)
-    (have_built nest.horizon (directions_of Down nest) (entering Down nest.horizon rows) c.args.down.now stand.1 c.requires.down)
+pub in_nest_order-requires : goal.in_nest_order-requires
+in_nest_order-requires c = same_long c.args.nest.now c.args.rows.now entries_in c.in_ok-up.up.items c.in_ok-down.down.items c.in_ok-up.ensures.logs c.in_ok-down.ensures.logs
 
 pub returns-clause-value : goal.returns-clause-value
 returns-clause-value c =
-    let nest = c.args.nest.now in
-    let rows = c.args.rows.now in
-    let ups = directions_of Up c.args.nest.now in
-    let downs = directions_of Down c.args.nest.now in
-    let stand = c.in_ok-fates.ensures.stand in
-    let logs =
-    c.in_ok-logs.ensures
-    ∙ ap (λ l. named_logs nest.shells (reverse l) (state_logs c.args.down.now) nest.logs) (have_logs nest.horizon ups (entering Up nest.horizon rows) c.args.up.now stand.0 c.requires.up)
-    ∙ ap (λ l. named_logs nest.shells (reverse (whole_logs nest.horizon ups (entering Up nest.horizon rows))) l nest.logs) (have_logs nest.horizon downs (entering Down nest.horizon rows) c.args.down.now stand.1 c.requires.down) in
-    c.new.ensures
-    ∙ ap (λ f. lists f (all_named c.in_ok-logs.logs.items)) c.in_ok-fates.ensures.fates
-    ∙ ap (λ l. lists (fates_of nest.horizon ups downs rows) l) logs
+    let up = c.in_ok-up.ensures in
+    let down = c.in_ok-down.ensures in
+    c.new-2.ensures
+    ∙ ap (λ f. run_lists f (map (named_by entries_in) c.in_ok-logs.logs.items)) c.into_rows.ensures
+    ∙ result_is c.args.nest.now c.args.rows.now entries_in c.in_ok-marking.marking c.gather_direction.new.marking c.gather_direction-2.new.marking c.in_ok-up.up.items c.in_ok-down.down.items c.in_ok-logs.logs.items
+    c.requires.apart c.in_ok-marking.ensures (record { same = up.rows; fates = up.fates; named = up.logs; built = up.built })
+    (record { same = down.rows; fates = down.fates; named = down.logs; built = down.built }) c.in_ok-logs.ensures
+
+pub returns-clause-once : goal.returns-clause-once
+returns-clause-once c = one_fate c.args.nest.now c.args.rows.now c.requires.apart c.in_ok-up.ensures.built c.in_ok-down.ensures.built

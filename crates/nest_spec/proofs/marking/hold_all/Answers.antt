@@ -1,6 +1,6 @@
 use Rattle.std.proofs.Common.{◌≡◌, ◌≤◌, ◌-◌, ◌∙◌, suc, length, drop, ap, arith}
-use Rattle.nest_spec.specs.Fates.{held_in}
-use Rattle.nest_spec.specs.Passing.{fated}
+use Rattle.nest_spec.specs.Fates.{fated}
+use Rattle.nest_spec.specs.Marks.{held_in}
 use Rattle.nest_spec.proofs.MarkLemmas.{holds_none_yet, holds_more}
 use Rattle.nest_spec.proofs.marking.hold_all.Goals as goal
 
@@ -8,26 +8,25 @@ pub ids-init : goal.ids-init
 ids-init c = record {
   left = omega arith;
   long = c.requires.length;
-  fates = λ f e. e ∙ holds_none_yet c.args.direction c.args.horizon c.args.ids.now c.args.shell f c.args.rows.now;
+  fates = λ f e. e ∙ holds_none_yet c.args.ids.now c.args.shell f c.args.rows.now;
 }
 
 pub ids-preserved : goal.ids-preserved
 ids-preserved c =
     let a = c.args in
     let left = c.ids.left - 1 in
-    let inv = c.ids.invariant in
     let back : c.ids.left ≡ suc left = omega arith in
     let le : suc left ≤ length a.ids.now = omega arith in
     record {
       left = omega arith;
       long = c.put.ensures.length;
       fates = λ f e.
-          c.put.ensures.fates (held_in a.direction a.horizon (drop (suc left) a.ids.now) a.shell f)
-          (inv.fates f e ∙ ap (λ n. fated (held_in a.direction a.horizon (drop n a.ids.now) a.shell f) a.rows.now) back)
-          ∙ holds_more a.direction a.horizon a.ids.now left a.shell f a.rows.now le;
+          c.put.ensures.fates (held_in (drop (suc left) a.ids.now) a.shell f)
+          (c.ids.invariant.fates f e ∙ ap (λ n. fated (held_in (drop n a.ids.now) a.shell f) a.rows.now) back)
+          ∙ holds_more a.ids.now left a.shell f a.rows.now le;
     }
 
 pub returns-clause-fates : goal.returns-clause-fates
 returns-clause-fates c = λ f e.
     let done : c.ids.left ≡ 0 = omega arith in
-    c.ids.invariant.fates f e ∙ ap (λ n. fated (held_in c.args.direction c.args.horizon (drop n c.args.ids.now) c.args.shell f) c.args.rows.now) done
+    c.ids.invariant.fates f e ∙ ap (λ n. fated (held_in (drop n c.args.ids.now) c.args.shell f) c.args.rows.now) done

@@ -1,15 +1,15 @@
 use Rattle.std.proofs.Common.{◌≡◌, ◌≤◌, length, drop}
 use Rattle.packet_record.specs.declared.packet.Row.{Row}
 use Rattle.nest_spec.specs.declared.fate.Fate.{Fate}
-use Rattle.nest_spec.specs.Fates.{held_in}
-use Rattle.nest_spec.specs.Passing.{fated}
+use Rattle.nest_spec.specs.Fates.{fated}
+use Rattle.nest_spec.specs.Marks.{held_in}
 use Rattle.nest_spec.proofs.marking.hold_all.Given as goal
 
 abbrev pub invariant-ids : goal.invariant-ids
 invariant-ids l = record {
   left : l.left ≤ length l.ids;
   long : length l.list.items ≡ length l.rows;
-  fates : (f : Row → Fate) → l.fn.list.items ≡ fated f l.rows → l.list.items ≡ fated (held_in l.direction l.horizon (drop l.left l.ids) l.shell f) l.rows;
+  fates : (f : Row → Fate) → l.fn.list.items ≡ fated f l.rows → l.list.items ≡ fated (held_in (drop l.left l.ids) l.shell f) l.rows;
 }
 
 abbrev pub decreases-ids : goal.decreases-ids

@@ -1,6 +1,6 @@
 use Rattle.std.proofs.Common.{◌≡◌, ◌≤◌, ◌-◌, ◌∙◌, suc, length, drop, ap, arith}
-use Rattle.nest_spec.specs.Fates.{marked, put}
-use Rattle.nest_spec.specs.Passing.{fated}
+use Rattle.nest_spec.specs.Fates.{fated}
+use Rattle.nest_spec.specs.Marks.{marked, put}
 use Rattle.nest_spec.proofs.MarkLemmas.{marks_none_yet, marks_more}
 use Rattle.nest_spec.proofs.marking.mark_all.Goals as goal
 
@@ -8,7 +8,6 @@ pub packets-preserved : goal.packets-preserved
 packets-preserved c =
     let a = c.args in
     let left = c.packets.left - 1 in
-    let inv = c.packets.invariant in
     let back : c.packets.left ≡ suc left = omega arith in
     let le : suc left ≤ length a.packets.now = omega arith in
     let t = c.index-packets-left.result in
@@ -16,20 +15,20 @@ packets-preserved c =
       left = omega arith;
       long = c.put.ensures.length;
       fates = λ f e.
-          c.put.ensures.fates (marked a.direction a.horizon (drop (suc left) a.packets.now) a.mark f)
-          (inv.fates f e ∙ ap (λ n. fated (marked a.direction a.horizon (drop n a.packets.now) a.mark f) a.rows.now) back)
-          ∙ ap (λ x. fated (put a.direction a.horizon t.packet.id x (marked a.direction a.horizon (drop (suc left) a.packets.now) a.mark f)) a.rows.now) c.fate_by.ensures
-          ∙ marks_more a.direction a.horizon a.packets.now left t a.mark f a.rows.now le c.index-packets-left.is;
+          c.put.ensures.fates (marked (drop (suc left) a.packets.now) a.mark f)
+          (c.packets.invariant.fates f e ∙ ap (λ n. fated (marked (drop n a.packets.now) a.mark f) a.rows.now) back)
+          ∙ ap (λ x. fated (put t.packet.id x (marked (drop (suc left) a.packets.now) a.mark f)) a.rows.now) c.fate_by.ensures
+          ∙ marks_more a.packets.now left t a.mark f a.rows.now le c.index-packets-left.is;
     }
 
 pub packets-init : goal.packets-init
 packets-init c = record {
   left = omega arith;
   long = c.requires.length;
-  fates = λ f e. e ∙ marks_none_yet c.args.direction c.args.horizon c.args.packets.now c.args.mark f c.args.rows.now;
+  fates = λ f e. e ∙ marks_none_yet c.args.packets.now c.args.mark f c.args.rows.now;
 }
 
 pub returns-clause-fates : goal.returns-clause-fates
 returns-clause-fates c = λ f e.
     let done : c.packets.left ≡ 0 = omega arith in
-    c.packets.invariant.fates f e ∙ ap (λ n. fated (marked c.args.direction c.args.horizon (drop n c.args.packets.now) c.args.mark f) c.args.rows.now) done
+    c.packets.invariant.fates f e ∙ ap (λ n. fated (marked (drop n c.args.packets.now) c.args.mark f) c.args.rows.now) done

@@ -1,14 +1,13 @@
 use Rattle.std.proofs.Common.{◌∙◌, length, ap, subst, sym}
 use Rattle.std.proofs.lemmas.List.{length-map}
 use Rattle.packet_record.specs.declared.packet.Row.{Row}
-use Rattle.nest_spec.specs.Fates.{first_fate}
+use Rattle.nest_spec.specs.declared.fate.Fate.TheVariants.{Unsent}
+use Rattle.nest_spec.specs.Fates.{fate_row}
 use Rattle.nest_spec.specs.Index.{AreFromOne}
-use Rattle.nest_spec.specs.Passing.{fate_row}
 use Rattle.nest_spec.proofs.Scheduled.{numbered}
 use Rattle.nest_spec.proofs.marking.Marking.of_schedule.Goals as goal
 
 pub invariant_of-result : goal.invariant_of-result
 invariant_of-result c =
-    let first = first_fate c.args.horizon c.args.shells 1 in
-    let long = length-map c.rows-rows.result.now (λ (row : Row). fate_row row (first row)) in
-    (subst AreFromOne (sym c.rows-rows.ensures.rows) (numbered c.args.schedule.now c.rows-rows.ensures.schedule), ap length c.in_ok-list.ensures ∙ long)
+    let long = length-map c.rows-rows.result.now (λ (row : Row). fate_row row Unsent) in
+    (subst AreFromOne (sym c.rows-rows.ensures.rows) (numbered c.args.schedule.now c.rows-rows.ensures.schedule), ap length c.in_ok-all_unsent.ensures ∙ long)

@@ -1,0 +1,126 @@
+// A shell of a nest.
+ghost use Rattle.std.specs.Prelude.{◌≡◌, ◌≤◌, IfOk};
+ghost use Rattle.nest_spec.specs.Nests.{stream_of, spec_in, log_name, in_direction, side_in};
+
+use loss_core::Rate;
+use mm_base::{OutOfMemory, Text};
+use packet_queue::QueueSpec;
+use packet_record::Direction;
+use shell_core::DirSpec;
+use std::alloc::Global;
+use trace_reader::Trace;
+
+/// One direction of a link: its trace, its queue, and the name of its log, if it has one.
+#[derive(Drop)]
+pub struct Side {
+    pub trace: Trace,
+    pub queue: QueueSpec,
+    pub log: Option<Text>,
+}
+
+/// A shell of a nest, with all that its words name.
+#[derive(Drop)]
+pub enum Shell {
+    /// Packets depart so many milliseconds after they arrive.
+    Delay { ms: u64 },
+    /// Packets of the direction are dropped at the rate.
+    Loss { direction: Direction, rate: Rate },
+    /// Packets depart when a trace lets them. `once` holds for both directions.
+    Link { once: bool, up: Side, down: Side },
+}
+
+/// What a shell is in one direction: its number, from 1 for the outermost, what it does there, and the name of its log there, if it has
+/// one.
+#[derive(Drop)]
+pub struct ShellDirection {
+    pub number: u32,
+    pub spec: DirSpec,
+    pub log: Option<Text>,
+}
+
+impl Shell {
+    pub(crate) fn in_direction(
+        &self,
+        alloc: Global,
+        direction: Direction,
+        seed: u64,
+        number: u32,
+    ) -> Result<ShellDirection, OutOfMemory>
+        requires { number ≤ 8 }
+        ensures { IfOk result (λ shell. shell ≡ in_direction direction seed number self.now) }
+    {
+        Ok(ShellDirection {
+            number,
+            spec: self.spec(alloc, direction, seed, number)?,
+            log: self.log_name(alloc, direction)?,
+        })
+    }
+
+    fn spec(
+        &self,
+        alloc: Global,
+        direction: Direction,
+        seed: u64,
+        number: u32,
+    ) -> Result<DirSpec, OutOfMemory>
+        requires { number ≤ 8 }
+        ensures { IfOk result (λ spec. spec ≡ spec_in direction seed number self.now) }
+    {
+        match self {
+            Shell::Delay { ms } => Ok(DirSpec::Delay { ms: *ms }),
+            Shell::Loss {
+                direction: named,
+                rate,
+            } => Ok(if direction == *named {
+                let stream = stream_of(number, direction);
+                DirSpec::Loss {
+                    rate: *rate,
+                    seed,
+                    stream,
+                }
+            } else {
+                DirSpec::Pass
+            }),
+            Shell::Link { once, up, down } => {
+                let side = side_in(direction, up, down);
+                Ok(DirSpec::Link {
+                    trace: side.trace.copy(alloc)?,
+                    once: *once,
+                    queue: side.queue,
+                })
+            }
+        }
+    }
+
+    fn log_name(&self, alloc: Global, direction: Direction) -> Result<Option<Text>, OutOfMemory>
+        ensures { IfOk result (λ name. name ≡ log_name direction self.now) }
+    {
+        let Shell::Link { up, down, .. } = self else {
+            return Ok(None);
+        };
+        match &side_in(direction, up, down).log {
+            Some(name) => Ok(Some(Text::from_text(alloc, name.as_str())?)),
+            None => Ok(None),
+        }
+    }
+}
+
+fn side_in<'a>(direction: Direction, up: &'a Side, down: &'a Side) -> &'a Side
+    ensures { result.now ≡ side_in direction up.now down.now }
+{
+    match direction {
+        Direction::Up => up,
+        Direction::Down => down,
+    }
+}
+
+// The stream of a loss's words: twice the shell's number for up, one more for down.
+fn stream_of(number: u32, direction: Direction) -> u64
+    requires { number ≤ 8 }
+    ensures { result ≡ stream_of number direction }
+{
+    match direction {
+        Direction::Up => 2 * u64::from(number),
+        Direction::Down => 2 * u64::from(number) + 1,
+    }
+}
