@@ -1,4 +1,4 @@
--- A run as its callers see it.
+-- For proofs: a run as its callers see it.
 use Rattle.nest_spec.specs.Nests.{RunLists}
 use Rattle.nest_plain.specs.Unwritten.{unwritten}
 use Rattle.nest_plain.specs.declared.nest_run.NestRun.TheInside.{Inside}

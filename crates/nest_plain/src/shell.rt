@@ -1,103 +1,88 @@
 // Each shell over its whole list of arrivals, then the next.
-ghost use Rattle.std.specs.Prelude.{◌≡◌, ◌≤◌, ◌++◌, [], IsTrue, length, option_to_list, OnOk, IfOk};
+ghost use Rattle.std.specs.Prelude.{◌≡◌, ◌≤◌, ◌++◌, IsSome, length, map, option_map, OnOk, IfOk};
 ghost use Rattle.std.specs.Vec.Iter.{into_iter_items};
 ghost use Rattle.packet_record.specs.declared.packet.Row.{Row as RowValue};
 ghost use Rattle.packet_record.specs.Moments.{AreUpTo, Rise};
+ghost use Rattle.shell_core.specs.Shells.{IsInRange, IsBuilt, opportunities, whole_out, whole_lost};
 ghost use Rattle.shell_core.specs.Wholes.{IsLink};
-ghost use Rattle.shell_core.specs.Shells.{IsInRange, IsBuilt, opportunities, whole_out, whole_log};
 ghost use Rattle.nest_spec.specs.declared.fate.Fate.{Fate as FateValue};
-ghost use Rattle.nest_spec.specs.Fates.{IsFew, stopped, stage_fates};
-ghost use Rattle.nest_spec.specs.Passing.{AreBuilt, fated, whole_stage, whole_stages, whole_departed};
-ghost use Rattle.nest_spec.specs.Nests.{AllFit, AreOfLinks, kept_log, kept_logs, whole_logs};
+ghost use Rattle.nest_spec.specs.Fates.{fated};
+ghost use Rattle.nest_spec.specs.Links.{AreBuilt, NamedAreLinks, specs_in};
+ghost use Rattle.nest_spec.specs.Marks.{ids_of, passed, walked};
+ghost use Rattle.nest_spec.specs.Nests.{AllFit};
+ghost use Rattle.nest_spec.specs.Walk.{step, walk, whole_inside, last_list, named_log};
+ghost use Rattle.nest_plain.specs.Unwritten.{unwritten_log};
 
-use link_core::LinkLog;
+use crate::nest_run::UnwrittenLog;
 use mm_base::OutOfMemory;
-use nest_spec::{Marking, next_number};
-use packet_record::{Direction, Timed};
-use shell_core::{DirSpec, Passage, run_whole};
+use nest_spec::{Marking, Named, ShellDirection};
+use packet_record::Timed;
+use shell_core::{Passage, run_whole};
 use std::alloc::Global;
 use std::vec::IntoIter;
 
-// One shell over all packets, whose fates in it are marked: what departs, and the log where it is asked for.
+// One shell over all that arrives, whose fates in it are marked: what departs, and the log, where it has a name.
 fn run_shell(
     alloc: Global,
     marking: &mut Marking<'_>,
-    direction: Direction,
-    number: u32,
-    spec: DirSpec,
-    packets: Vec<Timed>,
-    is_logged: bool,
-) -> Result<(Vec<Timed>, Option<LinkLog>), OutOfMemory>
-    requires range { IsInRange spec }
-    requires horizon { marking.old.horizon ≤ 3600000 }
-    requires few { length (opportunities spec marking.old.horizon) ≤ 16000000 }
-    requires link { IsTrue is_logged → IsLink spec }
-    requires rises { Rise packets.items }
-    requires within { AreUpTo marking.old.horizon packets.items }
+    horizon: u64,
+    shell: ShellDirection,
+    arrived: Vec<Timed>,
+) -> Result<(Vec<Timed>, Option<UnwrittenLog>), OutOfMemory>
+    requires range { IsInRange shell.spec }
+    requires horizon { horizon ≤ 3600000 }
+    requires few { length (opportunities shell.spec horizon) ≤ 16000000 }
+    requires link { IsSome shell.log → IsLink shell.spec }
+    requires rises { Rise arrived.items }
+    requires within { AreUpTo horizon arrived.items }
     ensures rows { marking.new.rows ≡ marking.old.rows }
-    ensures horizon { marking.new.horizon ≡ marking.old.horizon }
     ensures fates { OnOk result ((f : RowValue → FateValue) → marking.old.fates ≡ fated f marking.old.rows
-        → marking.new.fates ≡ fated (stopped direction marking.old.horizon (whole_stage marking.old.horizon number spec packets.items) f) marking.old.rows) }
-    ensures departed { IfOk result (λ r. r.0.items ≡ whole_out spec marking.old.horizon packets.items) }
-    ensures log { IfOk result (λ r. option_to_list r.1 ≡ kept_log is_logged (whole_log spec marking.old.horizon packets.items) []) }
-    ensures built { OnOk result (IsBuilt spec) }
+        → marking.new.fates ≡ fated (passed shell.number (whole_lost shell.spec horizon arrived.items) (ids_of (whole_inside shell.spec horizon arrived.items)) f) marking.old.rows) }
+    ensures departed { IfOk result (λ r. r.0.items ≡ whole_out shell.spec horizon arrived.items) }
+    ensures log { IfOk result (λ r. option_map unwritten_log r.1 ≡ named_log (step horizon shell arrived.items)) }
+    ensures built { OnOk result (IsBuilt shell.spec) }
 {
+    let ShellDirection {
+        number,
+        spec,
+        log: name,
+    } = shell;
     let Passage {
         departed,
         lost,
         held,
         log,
-    } = run_whole(alloc, spec, marking.horizon(), packets)?;
-    marking.pass(direction, number, lost.as_slice(), held.as_slice());
-    let log = if is_logged { log } else { None };
-    Ok((departed, log))
+    } = run_whole(alloc, spec, horizon, arrived)?;
+    marking.pass(number, lost.as_slice(), held.as_slice());
+    let named = name.zip(log).map(|(name, log)| Named { name, log });
+    Ok((departed, named))
 }
 
-// Adds the log, where there is one.
-fn push_log(logs: &mut Vec<LinkLog>, log: Option<LinkLog>) -> Result<(), OutOfMemory>
-    ensures { OnOk result (logs.new.items ≡ logs.old.items ++ option_to_list log) }
-{
-    if let Some(log) = log {
-        logs.push(log)?;
-    }
-    Ok(())
-}
-
-// Each shell over what the one before it passed on, in passing order, the first with this number. Adds the log of each that is logged.
+// Each shell over what departed from the one before it. Adds the log of each, where it has a name.
 pub(crate) fn run_shells(
     marking: &mut Marking<'_>,
-    logs: &mut Vec<LinkLog>,
-    direction: Direction,
-    number: u32,
-    specs: IntoIter<DirSpec>,
-    flags: &[bool],
-    packets: Vec<Timed>,
+    logs: &mut Vec<Option<UnwrittenLog>>,
+    horizon: u64,
+    mut shells: IntoIter<ShellDirection>,
+    arrived: Vec<Timed>,
 ) -> Result<(), OutOfMemory>
-    requires fit { AllFit marking.old.horizon (into_iter_items specs) }
-    requires horizon { marking.old.horizon ≤ 3600000 }
-    requires few { IsFew direction number (length (into_iter_items specs)) }
-    requires flags { AreOfLinks flags.now (into_iter_items specs) }
-    requires rises { Rise packets.items }
-    requires within { AreUpTo marking.old.horizon packets.items }
+    requires fit { AllFit horizon (specs_in (into_iter_items shells)) }
+    requires links { NamedAreLinks (into_iter_items shells) }
+    requires horizon { horizon ≤ 3600000 }
+    requires rises { Rise arrived.items }
+    requires within { AreUpTo horizon arrived.items }
     ensures rows { marking.new.rows ≡ marking.old.rows }
-    ensures horizon { marking.new.horizon ≡ marking.old.horizon }
     ensures fates { OnOk result ((f : RowValue → FateValue) → marking.old.fates ≡ fated f marking.old.rows
-        → marking.new.fates ≡ fated (stage_fates direction marking.old.horizon (whole_stages direction marking.old.horizon number (into_iter_items specs) packets.items)
-        (whole_departed marking.old.horizon (into_iter_items specs) packets.items) f) marking.old.rows) }
-    ensures logs { OnOk result (logs.new.items ≡ logs.old.items ++ kept_logs flags.now (whole_logs marking.old.horizon (into_iter_items specs) packets.items)) }
-    ensures built { OnOk result (AreBuilt (into_iter_items specs)) }
+        → marking.new.fates ≡ fated (walked (walk horizon (into_iter_items shells) arrived.items) (last_list arrived.items (walk horizon (into_iter_items shells) arrived.items)) f) marking.old.rows) }
+    ensures logs { OnOk result (map (option_map unwritten_log) logs.new.items ≡ map (option_map unwritten_log) logs.old.items ++ map named_log (walk horizon (into_iter_items shells) arrived.items)) }
+    ensures built { OnOk result (AreBuilt (specs_in (into_iter_items shells))) }
 {
-    let mut specs = specs;
-    let Some(spec) = specs.next() else {
-        marking.depart(direction, packets.as_slice());
-        return Ok(());
-    };
-    let Some((is_logged, flags)) = flags.split_first() else {
+    let Some(shell) = shells.next() else {
+        marking.depart(arrived.as_slice());
         return Ok(());
     };
     let alloc = *logs.allocator();
-    let (packets, log) = run_shell(alloc, marking, direction, number, spec, packets, *is_logged)?;
-    push_log(logs, log)?;
-    let next = next_number(direction, number);
-    run_shells(marking, logs, direction, next, specs, flags, packets)
+    let (departed, log) = run_shell(alloc, marking, horizon, shell, arrived)?;
+    logs.push(log)?;
+    run_shells(marking, logs, horizon, shells, departed)
 }

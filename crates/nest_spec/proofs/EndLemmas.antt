@@ -133,13 +133,15 @@ no_end p h (s ∷ shells) arrived (Departed m) built none end =
 no_end p h (s ∷ shells) arrived (Dropped n m) built none end =
     let all = all_three (is_packet p) s.spec h arrived built.0 in
     elim (any_either (DropsIt p n m) (step h s arrived) (walk h shells (whole_out s.spec h arrived)) end) [
-      inl here ↦ let some = stands_counted p m (whole_lost s.spec h arrived) here.1 in omega arith
-    | inr later ↦ no_end p h shells (whole_out s.spec h arrived) (Dropped n m) built.1 (omega arith) later ]
+      | inl here ↦ let some = stands_counted p m (whole_lost s.spec h arrived) here.1 in omega arith
+      | inr later ↦ no_end p h shells (whole_out s.spec h arrived) (Dropped n m) built.1 (omega arith) later
+    ]
 no_end p h (s ∷ shells) arrived (Inside n) built none end =
     let all = all_three (is_packet p) s.spec h arrived built.0 in
     elim (any_either (HoldsIt p n) (step h s arrived) (walk h shells (whole_out s.spec h arrived)) end) [
-      inl here ↦ let some = stands_counted p here.1.0.0 arrived here.1.0.1 in omega arith
-    | inr later ↦ no_end p h shells (whole_out s.spec h arrived) (Inside n) built.1 (omega arith) later ]
+      | inl here ↦ let some = stands_counted p here.1.0.0 arrived here.1.0.1 in omega arith
+      | inr later ↦ no_end p h shells (whole_out s.spec h arrived) (Inside n) built.1 (omega arith) later
+    ]
 
 -- the packet, and its number, stand once in the list
 pub record IsOnce (p : Packet) (ts : List Timed) : Type 0 where
@@ -225,11 +227,12 @@ module _ (p : Packet) (h : ℕ) (s : ShellDirection) (shells : List ShellDirecti
   only_dropped t none found stands one (Departed m) end = absurd (nothing_later (Departed m) none end)
   only_dropped t none found stands one (Dropped n m) end =
       elim (any_either (DropsIt p n m) here steps end) [
-        inl at ↦ let timed : Timed = record { moment = m; packet = p } in
-          let same : Some t ≡ Some timed = sym found ∙ one_found p m lost at.1 (omega arith) in
-          let is : t ≡ timed = cc same in
-          ap (λ k. Dropped k m) (sym at.0) ∙ ap (λ (u : Timed). Dropped s.number u.moment) (sym is)
-      | inr later ↦ absurd (nothing_later (Dropped n m) none later) ]
+        | inl at ↦ let timed : Timed = record { moment = m; packet = p } in
+            let same : Some t ≡ Some timed = sym found ∙ one_found p m lost at.1 (omega arith) in
+            let is : t ≡ timed = cc same in
+            ap (λ k. Dropped k m) (sym at.0) ∙ ap (λ (u : Timed). Dropped s.number u.moment) (sym is)
+        | inr later ↦ absurd (nothing_later (Dropped n m) none later)
+      ]
   only_dropped t none found stands one (Inside n) end =
       elim (any_either (HoldsIt p n) here steps end) [ inl at ↦ absurd (at.1.2 (t.moment, stands)) | inr later ↦ absurd (nothing_later (Inside n) none later) ]
   only_dropped t none found stands one Unsent end = absurd end
@@ -239,8 +242,9 @@ module _ (p : Packet) (h : ℕ) (s : ShellDirection) (shells : List ShellDirecti
   only_inside none kept (Departed m) end = absurd (nothing_later (Departed m) none end)
   only_inside none kept (Dropped n m) end =
       elim (any_either (DropsIt p n m) here steps end) [
-        inl at ↦ absurd (let some = stands_counted p m lost at.1 in omega arith)
-      | inr later ↦ absurd (nothing_later (Dropped n m) none later) ]
+        | inl at ↦ absurd (let some = stands_counted p m lost at.1 in omega arith)
+        | inr later ↦ absurd (nothing_later (Dropped n m) none later)
+      ]
   only_inside none kept (Inside n) end =
       elim (any_either (HoldsIt p n) here steps end) [ inl at ↦ ap Inside (sym at.0) | inr later ↦ absurd (nothing_later (Inside n) none later) ]
   only_inside none kept Unsent end = absurd end
@@ -271,8 +275,14 @@ module _ (p : Packet) (h : ℕ) (s : ShellDirection) (shells : List ShellDirecti
           let kept : number (is_packet p) lost ≡ 0 = let no = without_found p.id lost at in let le = fewer p lost in omega arith in
           let gone : number (is_packet p) out ≡ 0 = let no = none in let le = fewer p out in omega arith in
           subst (λ o. HasEnd p arrived (here ∷ steps) (option_map_or (λ (t : Timed). Dropped s.number t.moment) o (Inside s.number))) (sym at) (record {
-            is = any_here (HoldsIt p s.number) here steps (refl, (once_stands p arrived once.of_id once.of_packet,
-              λ st. absurd (let some = stands_counted p st.0 out st.1 in omega arith), λ st. absurd (let some = stands_counted p st.0 lost st.1 in omega arith)));
+            is = any_here (HoldsIt p s.number) here steps (
+              refl,
+              (
+                once_stands p arrived once.of_id once.of_packet,
+                λ st. absurd (let some = stands_counted p st.0 out st.1 in omega arith),
+                λ st. absurd (let some = stands_counted p st.0 lost st.1 in omega arith),
+              ),
+            );
             only = only_inside none kept;
           })
 

@@ -97,5 +97,5 @@ natural h (s ∷ shells) arrived f r built some =
         let no_out = without_found id out found in
         untouched h shells out (passed s.number lost (ids_of inside) f) r built.1 no_out
         ∙ ends_here s.number (find_id id lost) (list_any (λ i. eqb i id) (ids_of inside)) (f r)
-          (λ none. some_among id inside (let no_lost = without_found id lost none in omega arith))
+        (λ none. some_among id inside (let no_lost = without_found id lost none in omega arith))
         ∙ sym (ap (λ x. next (cond (is_none x) (Some here) rest)) found)

@@ -78,7 +78,7 @@ pub enters : (d : Direction) (h : ℕ) (rows : List Row) (i : ℕ) (r : Row) →
 enters d h rows i r apart lt =
     let p = (get_or rows i r).timed.packet in
     let differs : (j : ℕ) (x : Row) → j < length rows → j ≢ i → eqb (get_or rows j x).timed.packet.id p.id ≡ false =
-      λ j x lt' ne. ne_eqb (get_or rows j x).timed.packet.id p.id (λ same. ne (apart j i x lt' lt (same ∙ ap (λ (y : Row). y.timed.packet.id) (get_or_default rows i r x lt)))) in
+    λ j x lt' ne. ne_eqb (get_or rows j x).timed.packet.id p.id (λ same. ne (apart j i x lt' lt (same ∙ ap (λ (y : Row). y.timed.packet.id) (get_or_default rows i r x lt)))) in
     record {
       of_id = one_enters d h (is_id p.id) rows i r lt (eq-eqb p.id p.id refl) differs;
       of_packet = one_enters d h (is_packet p) rows i r lt (both_true (eqb p.id p.id) (eqb p.size p.size) (eq-eqb p.id p.id refl) (eq-eqb p.size p.size refl))
@@ -135,7 +135,7 @@ is_late_fate nest rows row built none fates.Unsent is = refl
 
 row_fate : (nest : NestParts) (rows : List Row) (row : Row) → AreBuilt (directions_of row.direction nest) → Enters row.direction nest.horizon rows row → (late : Bool) → nat_lt nest.horizon row.timed.moment ≡ late
     → (let fate : Fate = cond late fates.Unsent (fate_in row.timed.packet.id (entering row.direction nest.horizon rows) (walk_of row.direction nest rows)) in
-      IsFate nest rows row fate × ((other : Fate) → IsFate nest rows row other → other ≡ fate))
+    IsFate nest rows row fate × ((other : Fate) → IsFate nest rows row other → other ≡ fate))
 row_fate nest rows row built enters true e =
     let past : nest.horizon < row.timed.moment = search (rules, tests) in
     (past, is_late_fate nest rows row built (enters.of_packet ∙ sent_or_late row.direction row.timed.moment nest.horizon true e))
@@ -154,19 +154,19 @@ pub one_fate : (nest : NestParts) (rows : List Row) → AreApart rows → AreBui
 one_fate nest rows apart built_up built_down = record {
   long = length-map rows (λ (row : Row). fate_row row (fate_of nest rows row));
   each = λ i r printed lt.
-    let h = nest.horizon in
-    let row = get_or rows i r in
-    let at = sym (get_or-fated (fate_of nest rows) rows i r printed lt) in
-    let up = ends_once row.timed.packet.id h (shells_in Up nest) (entering Up h rows) built_up ∙ (enters Up h rows i r apart lt).of_id in
-    let down = ends_once row.timed.packet.id h (shells_in Down nest) (entering Down h rows) built_down ∙ (enters Down h rows i r apart lt).of_id in
-    let fate = row_fate nest rows row (built_in row.direction nest built_up built_down) (enters row.direction h rows i r apart lt) (nat_lt h row.timed.moment) refl in
-    subst (HasOneFate nest rows row) at (record {
-      id = refl;
-      direction = refl;
-      is = fate.0;
-      only = fate.1;
-      once = ap (λ n. cond (nat_lt h row.timed.moment) 1 0 + n + ends_in row.timed.packet.id (entering Down h rows) (walk_of Down nest rows)) up
-        ∙ ap (λ n. cond (nat_lt h row.timed.moment) 1 0 + cond (is_sent Up h row) 1 0 + n) down
-        ∙ early_or_late row.timed.moment h (nat_le row.timed.moment h) (nat_lt h row.timed.moment) refl refl row.direction;
-    });
+      let h = nest.horizon in
+      let row = get_or rows i r in
+      let at = sym (get_or-fated (fate_of nest rows) rows i r printed lt) in
+      let up = ends_once row.timed.packet.id h (shells_in Up nest) (entering Up h rows) built_up ∙ (enters Up h rows i r apart lt).of_id in
+      let down = ends_once row.timed.packet.id h (shells_in Down nest) (entering Down h rows) built_down ∙ (enters Down h rows i r apart lt).of_id in
+      let fate = row_fate nest rows row (built_in row.direction nest built_up built_down) (enters row.direction h rows i r apart lt) (nat_lt h row.timed.moment) refl in
+      subst (HasOneFate nest rows row) at (record {
+        id = refl;
+        direction = refl;
+        is = fate.0;
+        only = fate.1;
+        once = ap (λ n. cond (nat_lt h row.timed.moment) 1 0 + n + ends_in row.timed.packet.id (entering Down h rows) (walk_of Down nest rows)) up
+            ∙ ap (λ n. cond (nat_lt h row.timed.moment) 1 0 + cond (is_sent Up h row) 1 0 + n) down
+            ∙ early_or_late row.timed.moment h (nat_le row.timed.moment h) (nat_lt h row.timed.moment) refl refl row.direction;
+      });
 }

@@ -56,9 +56,9 @@ pub fates_are : (nest : NestParts) (rows : List Row) → AreApart rows → AreBu
     → fated (marked_both nest rows) rows ≡ fated (fate_of nest rows) rows
 fates_are nest rows apart built_up built_down =
     fated_same (marked_both nest rows) (fate_of nest rows) rows (λ i r lt.
-      let row = get_or rows i r in
-      at_row nest rows row built_up built_down (enters Up nest.horizon rows i r apart lt) (enters Down nest.horizon rows i r apart lt) row.direction refl
-      (nat_lt nest.horizon row.timed.moment) (nat_le row.timed.moment nest.horizon) refl refl)
+    let row = get_or rows i r in
+    at_row nest rows row built_up built_down (enters Up nest.horizon rows i r apart lt) (enters Down nest.horizon rows i r apart lt) row.direction refl
+    (nat_lt nest.horizon row.timed.moment) (nat_le row.timed.moment nest.horizon) refl refl)
 
 -- What the run of a direction makes of a marking, and its logs in passing order, where they have names.
 pub record HasRun {A : Type 0} (d : Direction) (nest : NestParts) (rows : List Row) (entries : A → List Entry) (old new : Marks) (logs : List (Option (Named A))) : Type 0 where

@@ -23,7 +23,12 @@ pub(crate) fn build_shells(
 {
     let (words, names) = words.into_parts();
     let mut shells = Vec::with_capacity(alloc, words.len())?;
-    push_shells(&mut shells, words.as_slice(), traces.into_iter(), names.into_iter())?;
+    push_shells(
+        &mut shells,
+        words.as_slice(),
+        traces.into_iter(),
+        names.into_iter(),
+    )?;
     Ok(shells)
 }
 
@@ -46,11 +51,7 @@ fn push_shells(
 }
 
 // The shell of these words, which takes the traces and names of its sides.
-fn shell_of(
-    words: ShellWords,
-    traces: &mut IntoIter<Trace>,
-    names: &mut IntoIter<Text>,
-) -> Shell
+fn shell_of(words: ShellWords, traces: &mut IntoIter<Trace>, names: &mut IntoIter<Text>) -> Shell
     requires traces { traces_in words ≤ length (into_iter_items traces.old) }
     requires names { logs_in words ≤ length (into_iter_items names.old) }
     ensures shell { (more : List WordsValue) → shells_of (words ∷ more) (into_iter_items traces.old) (into_iter_items names.old) ≡ result ∷ shells_of more (into_iter_items traces.new) (into_iter_items names.new) }

@@ -49,7 +49,14 @@ fn gather_shells(
     let held = state.inside()?;
     marking.pass(shell.number, state.lost(), held.as_slice());
     logs.push(copy_named(*logs.allocator(), &shell.log, state.log())?)?;
-    gather_shells(marking, logs, horizon, shells, state.taken().packets(), states)
+    gather_shells(
+        marking,
+        logs,
+        horizon,
+        shells,
+        state.taken().packets(),
+        states,
+    )
 }
 
 // A copy of the log, where it has a name.
@@ -88,7 +95,14 @@ fn gather_direction(
     let shells = nest.shells_in(direction)?;
     let arrived = states[0].fed().packets();
     let mut logs = Vec::with_capacity(alloc, shells.len())?;
-    gather_shells(marking, &mut logs, nest.horizon(), shells.as_slice(), arrived, states)?;
+    gather_shells(
+        marking,
+        &mut logs,
+        nest.horizon(),
+        shells.as_slice(),
+        arrived,
+        states,
+    )?;
     Ok(logs)
 }
 

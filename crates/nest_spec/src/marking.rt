@@ -78,7 +78,13 @@ impl<'a> Marking<'a> {
         ensures fates { (f : RowValue → FateValue) → self.old.fates ≡ fated f self.old.rows
             → self.new.fates ≡ fated (marked departed.now Mark.Leaves f) self.old.rows }
     {
-        mark_all(&self.places, self.rows, departed, Mark::Leaves, &mut self.list);
+        mark_all(
+            &self.places,
+            self.rows,
+            departed,
+            Mark::Leaves,
+            &mut self.list,
+        );
     }
 
     /// The fate of each row, in their order.

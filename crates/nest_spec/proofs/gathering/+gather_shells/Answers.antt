@@ -24,7 +24,7 @@ returns-clause-fates t c =
     let held = c.as_slice.ensures.value ∙ c.in_ok-held.ensures ∙ ap ids_of run.held in
     on_ok_weaker c.gather_shells.result
     (λ later f e.
-      later (passed shell.number c.lost.result.now c.as_slice.result.now f) (c.pass.ensures.fates f e ∙ ap (fated (passed shell.number c.lost.result.now c.as_slice.result.now f)) (sym c.pass.ensures.rows))
-      ∙ ap (fated (marked_through h rest c.packets.result.now (passed shell.number c.lost.result.now c.as_slice.result.now f))) c.pass.ensures.rows
-      ∙ ap (λ g. fated g rows) (one_step h shell.number a.shells.now rest shell a.arrived.now c.packets.result.now c.lost.result.now c.as_slice.result.now f shells_are refl departed lost held))
+    later (passed shell.number c.lost.result.now c.as_slice.result.now f) (c.pass.ensures.fates f e ∙ ap (fated (passed shell.number c.lost.result.now c.as_slice.result.now f)) (sym c.pass.ensures.rows))
+    ∙ ap (fated (marked_through h rest c.packets.result.now (passed shell.number c.lost.result.now c.as_slice.result.now f))) c.pass.ensures.rows
+    ∙ ap (λ g. fated g rows) (one_step h shell.number a.shells.now rest shell a.arrived.now c.packets.result.now c.lost.result.now c.as_slice.result.now f shells_are refl departed lost held))
     c.gather_shells.ensures.fates

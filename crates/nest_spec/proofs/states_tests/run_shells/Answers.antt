@@ -6,7 +6,7 @@ use Rattle.packet_record.specs.declared.item.Stream.{Stream}
 use Rattle.packet_record.specs.Moments.{AreUpTo, Rise}
 use Rattle.shell_state.specs.States.{State}
 use Rattle.nest_spec.specs.Nests.{AllFit}
-use Rattle.nest_spec.specs.Passing.{HavePassed}
+use Rattle.nest_spec.specs.Passed.{HavePassed}
 use Rattle.nest_spec.proofs.states_tests.run_shells.Goals as goal
 
 pub loop-spec-preserved : goal.loop-spec-preserved

@@ -3,7 +3,7 @@ use Rattle.std.specs.Vec.Iter.{into_iter_items}
 use Rattle.packet_record.specs.Moments.{AreUpTo, Rise}
 use Rattle.shell_state.specs.States.{State}
 use Rattle.nest_spec.specs.Nests.{AllFit}
-use Rattle.nest_spec.specs.Passing.{HavePassed}
+use Rattle.nest_spec.specs.Passed.{HavePassed}
 use Rattle.nest_spec.proofs.states_tests.run_shells.Given as goal
 
 abbrev pub invariant-loop-spec : goal.invariant-loop-spec
