@@ -51,18 +51,12 @@ impl Shell {
     {
         Ok(ShellDirection {
             number,
-            spec: self.spec(alloc, direction, seed, number)?,
+            spec: self.spec(direction, seed, number)?,
             log: self.log_name(alloc, direction)?,
         })
     }
 
-    fn spec(
-        &self,
-        alloc: Global,
-        direction: Direction,
-        seed: u64,
-        number: u32,
-    ) -> Result<DirSpec, OutOfMemory>
+    fn spec(&self, direction: Direction, seed: u64, number: u32) -> Result<DirSpec, OutOfMemory>
         requires { number ≤ 8 }
         ensures { IfOk result (λ spec. spec ≡ spec_in direction seed number self.now) }
     {
@@ -84,7 +78,7 @@ impl Shell {
             Shell::Link { once, up, down } => {
                 let side = side_in(direction, up, down);
                 Ok(DirSpec::Link {
-                    trace: side.trace.copy(alloc)?,
+                    trace: side.trace.copy()?,
                     once: *once,
                     queue: side.queue,
                 })
