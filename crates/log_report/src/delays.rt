@@ -38,7 +38,8 @@ impl DelayCounts {
     #[inline]
     pub(crate) fn add(&mut self, delay: u64) -> Result<(), OutOfMemory>
         requires { self.old.count < 134217728 }
-        ensures counts { OnOk result ((delays : List ℕ) → AreCounts delays self.old → AreCounts (delays ++ delay ∷ []) self.new) }
+        ensures counts { OnOk result ((delays : List ℕ) → AreCounts delays self.old
+            → AreCounts (delays ++ delay ∷ []) self.new) }
         ensures count { self.new.count ≤ self.old.count + 1 }
     {
         if delay < SHORT as u64 {

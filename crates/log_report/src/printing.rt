@@ -13,8 +13,10 @@ pub const EMPTY: &[u8] = b"empty\n";
 const MOST_BYTES: usize = 512;
 
 /// The text of a report, on eight lines: `entries N`, `span A B` with the moments of the first and the last entry,
-/// `arrived N B`, `offered N B`, `departed N B` and `dropped N B` with packets (or opportunities) and bytes, `used P` in
-/// thousandths or `used none`, and `delay M P X` with the median, the 95th percentile and the greatest, or `delay none`.
+/// `arrived N B`, `offered N B`, `departed N B` and `dropped N B` with packets (or opportunities) and bytes, `used P`
+/// in
+/// thousandths or `used none`, and `delay M P X` with the median, the 95th percentile and the greatest, or `delay
+/// none`.
 pub fn print_report(alloc: Global, report: &Report) -> Result<Bytes, OutOfMemory>
     ensures { IfOk result (λ text. text ≡ report_text (Some report.now)) }
 {

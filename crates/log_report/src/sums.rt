@@ -1,5 +1,6 @@
 // Sums over the entries of a log.
-ghost use Rattle.std.specs.Prelude.{◌≡◌, ◌≤◌, ◌<◌, ◌+◌, ◌*◌, ◌^◌, ◌==◌, ◌++◌, ◌∷◌, List, [], OnOk, IfOk, if◌then◌else◌};
+ghost use Rattle.std.specs.Prelude.{◌≡◌, ◌≤◌, ◌<◌, ◌+◌, ◌*◌, ◌^◌, ◌==◌, ◌++◌, ◌∷◌, List, [], OnOk, IfOk};
+ghost use Rattle.std.specs.Prelude.{if◌then◌else◌};
 ghost use Rattle.shell_log.specs.declared.entry.Entry.{Entry as EntryValue};
 ghost use Rattle.shell_log.specs.Entries.{IsEntry};
 ghost use Rattle.log_report.specs.Reports.{report_of, thousandths};

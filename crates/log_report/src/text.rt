@@ -35,10 +35,13 @@ impl ReportText {
     }
 
     /// The report of the log whose text was read, None where that has no entry, or the first refusal of the text, as
-    /// `read_log` answers for it. A log of more than 134,217,728 entries, whose text has 768 MiB and more, counts as want of memory.
+    /// `read_log` answers for it. A log of more than 134,217,728 entries, whose text has 768 MiB and more, counts as
+    /// want of memory.
     pub fn finish(self) -> Result<Option<Report>, LogError>
-        ensures found { (text : List ℕ) → HasRead text self → IfOk result (λ r. (es : List EntryValue) × IsLog es × (text ≡ log_text es) × (r ≡ report_of es)) }
-        ensures every { (es : List EntryValue) → IsLog es → HasRead (log_text es) self → MatchResult result (λ r. r ≡ report_of es) (λ e. e ≡ LogError.OutOfMemory) }
+        ensures found { (text : List ℕ) → HasRead text self → IfOk result (λ r. (es : List EntryValue)
+            × IsLog es × (text ≡ log_text es) × (r ≡ report_of es)) }
+        ensures every { (es : List EntryValue) → IsLog es → HasRead (log_text es) self → MatchResult result
+            (λ r. r ≡ report_of es) (λ e. e ≡ LogError.OutOfMemory) }
         ensures exact { (text : List ℕ) → HasRead text self → MatchResult result (λ _. log_fault text ≡ None)
             (λ e. e ≢ LogError.OutOfMemory → log_fault text ≡ Some e) }
     {

@@ -1,5 +1,6 @@
 // A log read from its text piece by piece.
-ghost use Rattle.std.specs.Prelude.{◌≡◌, ◌≢◌, ◌≤◌, ◌<◌, ◌+◌, ◌^◌, ◌∷◌, ◌++◌, ℕ, List, [], length, None, Some, true, false, IfSome, IfNone, IfOk, IfErr, OnOk, MatchResult};
+ghost use Rattle.std.specs.Prelude.{◌≡◌, ◌≢◌, ◌≤◌, ◌<◌, ◌+◌, ◌^◌, ◌∷◌, ◌++◌, ℕ, List, [], length, None, Some, true};
+ghost use Rattle.std.specs.Prelude.{false, IfSome, IfNone, IfOk, IfErr, OnOk, MatchResult};
 ghost use Rattle.std.specs.Bool.{OnTrue, OnFalse};
 ghost use Rattle.std.specs.Str.{bytes_eq};
 ghost use Rattle.mm_base.specs.Lines.{is_one_line};
@@ -45,7 +46,8 @@ impl Model for LogText {
 }
 
 impl LogText {
-    ghost use Rattle.shell_log.specs.LogParts.{IsLeft, IsRead, IsRefusing, KeepsLine, keeping, refusing, with_entry, bad_line};
+    ghost use Rattle.shell_log.specs.LogParts.{IsLeft, IsRead, IsRefusing, KeepsLine, keeping, refusing, with_entry};
+    ghost use Rattle.shell_log.specs.LogParts.{bad_line};
 
     /// Nothing is read so far.
     pub fn new(alloc: Global) -> Self
@@ -64,12 +66,14 @@ impl LogText {
     /// no entry ends in the piece, or a line is refused: then the piece is read.
     #[inline]
     pub fn next<'a>(&mut self, piece: &'a [u8]) -> Option<(Entry, &'a [u8])>
-        ensures some { IfSome result (λ r. (whole rest : List ℕ) (es : List EntryValue) → IsLeft whole (piece.now ++ rest) es self.old
+        ensures some { IfSome result (λ r. (whole rest : List ℕ) (es : List EntryValue)
+            → IsLeft whole (piece.now ++ rest) es self.old
             → IsRead whole (r.1.now ++ rest) (es ++ r.0 ∷ []) self.new) }
         ensures accepted { IfSome result (λ _. self.new.refused ≡ None) }
         ensures entry { IfSome result (λ r. IsEntry r.0) }
         ensures shorter { IfSome result (λ r. length r.1.now < length piece.now) }
-        ensures none { IfNone result ((whole rest : List ℕ) (es : List EntryValue) → IsLeft whole (piece.now ++ rest) es self.old → IsLeft whole rest es self.new) }
+        ensures none { IfNone result ((whole rest : List ℕ) (es : List EntryValue)
+            → IsLeft whole (piece.now ++ rest) es self.old → IsLeft whole rest es self.new) }
         ensures stays { self.new.refused ≡ None → self.old.refused ≡ None }
     {
         if self.refused.is_some() {
@@ -83,11 +87,13 @@ impl LogText {
     #[inline]
     fn pass_header<'a>(&mut self, piece: &'a [u8]) -> Option<&'a [u8]>
         requires { self.old.refused ≡ None }
-        ensures some { IfSome result (λ after. (whole rest : List ℕ) (es : List EntryValue) → IsRead whole (piece.now ++ rest) es self.old
+        ensures some { IfSome result (λ after. (whole rest : List ℕ) (es : List EntryValue)
+            → IsRead whole (piece.now ++ rest) es self.old
             → IsRead whole (after.now ++ rest) es self.new) }
         ensures begun { IfSome result (λ _. (self.new.refused ≡ None) × (self.new.has_begun ≡ true)) }
         ensures shorter { IfSome result (λ after. length after.now ≤ length piece.now) }
-        ensures none { IfNone result ((whole rest : List ℕ) (es : List EntryValue) → IsRead whole (piece.now ++ rest) es self.old → IsLeft whole rest es self.new) }
+        ensures none { IfNone result ((whole rest : List ℕ) (es : List EntryValue)
+            → IsRead whole (piece.now ++ rest) es self.old → IsLeft whole rest es self.new) }
     {
         if self.has_begun {
             return Some(piece);
@@ -103,9 +109,11 @@ impl LogText {
     fn end_header(&mut self) -> bool
         requires accepted { self.old.refused ≡ None }
         requires first { self.old.has_begun ≡ false }
-        ensures yes { OnTrue result ((whole rest : List ℕ) (es : List EntryValue) → IsRead whole (10 ∷ rest) es self.old → IsRead whole rest es self.new) }
+        ensures yes { OnTrue result ((whole rest : List ℕ) (es : List EntryValue)
+            → IsRead whole (10 ∷ rest) es self.old → IsRead whole rest es self.new) }
         ensures begun { OnTrue result ((self.new.refused ≡ None) × (self.new.has_begun ≡ true)) }
-        ensures no { OnFalse result ((whole more rest : List ℕ) (es : List EntryValue) → IsRead whole (10 ∷ more) es self.old → IsLeft whole rest es self.new) }
+        ensures no { OnFalse result ((whole more rest : List ℕ) (es : List EntryValue)
+            → IsRead whole (10 ∷ more) es self.old → IsLeft whole rest es self.new) }
     {
         if !is_header(self.kept.as_slice()) {
             self.refused = Some(LogError::BadHeader);
@@ -121,12 +129,14 @@ impl LogText {
     fn next_entry<'a>(&mut self, piece: &'a [u8]) -> Option<(Entry, &'a [u8])>
         requires accepted { self.old.refused ≡ None }
         requires begun { self.old.has_begun ≡ true }
-        ensures some { IfSome result (λ r. (whole rest : List ℕ) (es : List EntryValue) → IsRead whole (piece.now ++ rest) es self.old
+        ensures some { IfSome result (λ r. (whole rest : List ℕ) (es : List EntryValue)
+            → IsRead whole (piece.now ++ rest) es self.old
             → IsRead whole (r.1.now ++ rest) (es ++ r.0 ∷ []) self.new) }
         ensures accepted { IfSome result (λ _. self.new.refused ≡ None) }
         ensures entry { IfSome result (λ r. IsEntry r.0) }
         ensures shorter { IfSome result (λ r. length r.1.now < length piece.now) }
-        ensures none { IfNone result ((whole rest : List ℕ) (es : List EntryValue) → IsRead whole (piece.now ++ rest) es self.old → IsLeft whole rest es self.new) }
+        ensures none { IfNone result ((whole rest : List ℕ) (es : List EntryValue)
+            → IsRead whole (piece.now ++ rest) es self.old → IsLeft whole rest es self.new) }
     {
         if self.kept.is_empty() {
             if let Some((entry, after)) = split_entry(piece) {
@@ -144,10 +154,12 @@ impl LogText {
     fn end_line(&mut self) -> Option<Entry>
         requires accepted { self.old.refused ≡ None }
         requires begun { self.old.has_begun ≡ true }
-        ensures some { IfSome result (λ e. (whole rest : List ℕ) (es : List EntryValue) → IsRead whole (10 ∷ rest) es self.old → IsRead whole rest (es ++ e ∷ []) self.new) }
+        ensures some { IfSome result (λ e. (whole rest : List ℕ) (es : List EntryValue)
+            → IsRead whole (10 ∷ rest) es self.old → IsRead whole rest (es ++ e ∷ []) self.new) }
         ensures accepted { IfSome result (λ _. self.new.refused ≡ None) }
         ensures entry { IfSome result IsEntry }
-        ensures none { IfNone result ((whole more rest : List ℕ) (es : List EntryValue) → IsRead whole (10 ∷ more) es self.old → IsLeft whole rest es self.new) }
+        ensures none { IfNone result ((whole more rest : List ℕ) (es : List EntryValue)
+            → IsRead whole (10 ∷ more) es self.old → IsLeft whole rest es self.new) }
     {
         let said = read_entry(self.kept.as_slice());
         self.kept.clear();
@@ -158,7 +170,8 @@ impl LogText {
     #[inline]
     fn take(&mut self, said: Option<Entry>) -> Option<Entry>
         requires { self.old.refused ≡ None }
-        ensures some { IfSome result (λ e. (said ≡ Some e) × (self.old.last ≤ moment_of e) × (self.new ≡ with_entry e self.old)) }
+        ensures some { IfSome result (λ e. (said ≡ Some e) × (self.old.last ≤ moment_of e)
+            × (self.new ≡ with_entry e self.old)) }
         ensures none { IfNone result (IsRefusing (fault_of (self.old.entries + 2) self.old.last said) self.old self.new) }
     {
         match self.check(said) {
@@ -178,7 +191,8 @@ impl LogText {
     #[inline]
     fn check(&self, said: Option<Entry>) -> Result<Entry, LogError>
         ensures ok { IfOk result (λ e. (said ≡ Some e) × (self.now.last ≤ moment_of e) × (self.now.entries < 2 ^ 63)) }
-        ensures err { IfErr result (λ e. e ≢ LogError.OutOfMemory → fault_of (self.now.entries + 2) self.now.last said ≡ Some e) }
+        ensures err { IfErr result (λ e. e ≢ LogError.OutOfMemory
+            → fault_of (self.now.entries + 2) self.now.last said ≡ Some e) }
     {
         let line = self.entries + 2;
         let Some(entry) = said else {
@@ -193,11 +207,13 @@ impl LogText {
         Ok(entry)
     }
 
-    // Keeps a piece up to its first line feed, and answers what follows that. None where it has no line feed, or the line is refused.
+    // Keeps a piece up to its first line feed, and answers what follows that. None where it has no line feed, or the
+    // line is refused.
     fn keep_line<'a>(&mut self, piece: &'a [u8]) -> Option<&'a [u8]>
         requires { self.old.refused ≡ None }
         ensures some { IfSome result (λ after. KeepsLine piece.now after.now self.old self.new) }
-        ensures none { IfNone result ((whole rest : List ℕ) (es : List EntryValue) → IsRead whole (piece.now ++ rest) es self.old → IsLeft whole rest es self.new) }
+        ensures none { IfNone result ((whole rest : List ℕ) (es : List EntryValue)
+            → IsRead whole (piece.now ++ rest) es self.old → IsLeft whole rest es self.new) }
     {
         match cut_line(piece) {
             Some((part, after)) => {
@@ -218,7 +234,8 @@ impl LogText {
         requires accepted { self.old.refused ≡ None }
         requires one_line { is_one_line part.now ≡ true }
         ensures yes { OnTrue result (self.new ≡ keeping (self.old.kept ++ part.now) self.old) }
-        ensures no { OnFalse result ((whole more rest : List ℕ) (es : List EntryValue) → IsRead whole (part.now ++ more) es self.old → IsLeft whole rest es self.new) }
+        ensures no { OnFalse result ((whole more rest : List ℕ) (es : List EntryValue)
+            → IsRead whole (part.now ++ more) es self.old → IsLeft whole rest es self.new) }
     {
         if part.len() > MOST_KEPT - self.kept.len() {
             self.refused = Some(self.bad_line());
@@ -253,9 +270,11 @@ impl LogText {
 
     /// Whether the text that was read is the text of a log, or its first refusal, as `read_log` answers for the text.
     pub fn finish(&self) -> Result<(), LogError>
-        ensures found { (whole : List ℕ) (es : List EntryValue) → IsLeft whole [] es self.now → IfOk result (λ _. (whole ≡ log_text es) × IsLog es) }
+        ensures found { (whole : List ℕ) (es : List EntryValue) → IsLeft whole [] es self.now → IfOk result
+            (λ _. (whole ≡ log_text es) × IsLog es) }
         ensures exact { (whole : List ℕ) (es : List EntryValue) → IsLeft whole [] es self.now
-            → MatchResult result (λ _. log_fault whole ≡ None) (λ e. e ≢ LogError.OutOfMemory → log_fault whole ≡ Some e) }
+            → MatchResult result (λ _. log_fault whole ≡ None) (λ e. e ≢ LogError.OutOfMemory
+            → log_fault whole ≡ Some e) }
         ensures accepted { OnOk result (self.now.refused ≡ None) }
     {
         if let Some(fault) = self.refused {

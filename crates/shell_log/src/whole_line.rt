@@ -75,7 +75,8 @@ fn split_pair(text: &[u8]) -> Option<((u64, u64), &[u8])>
 #[tactic(auto, using(crate::proofs::WholeLineLemmas::arrival_in_front))]
 fn split_arrival(moment: u64, text: &[u8]) -> Option<(Entry, &[u8])>
     requires { IsShort moment }
-    ensures { IfSome result (λ r. (decimal moment ++ 32 ∷ 43 ∷ 32 ∷ text.now ≡ line_of r.0 ++ 10 ∷ r.1.now) × IsEntry r.0) }
+    ensures { IfSome result (λ r. (decimal moment ++ 32 ∷ 43 ∷ 32 ∷ text.now ≡ line_of r.0 ++ 10 ∷ r.1.now)
+        × IsEntry r.0) }
 {
     let (size, rest) = split_last(text)?;
     if size < 1 || size > 1504 {
@@ -89,7 +90,8 @@ fn split_arrival(moment: u64, text: &[u8]) -> Option<(Entry, &[u8])>
 #[tactic(auto, using(crate::proofs::WholeLineLemmas::opportunity_in_front))]
 fn split_opportunity(moment: u64, text: &[u8]) -> Option<(Entry, &[u8])>
     requires { IsShort moment }
-    ensures { IfSome result (λ r. (decimal moment ++ 32 ∷ 35 ∷ 32 ∷ text.now ≡ line_of r.0 ++ 10 ∷ r.1.now) × IsEntry r.0) }
+    ensures { IfSome result (λ r. (decimal moment ++ 32 ∷ 35 ∷ 32 ∷ text.now ≡ line_of r.0 ++ 10 ∷ r.1.now)
+        × IsEntry r.0) }
 {
     let (bytes, rest) = split_last(text)?;
     if bytes < 1 || bytes > 1_000_000 {
@@ -103,7 +105,8 @@ fn split_opportunity(moment: u64, text: &[u8]) -> Option<(Entry, &[u8])>
 #[tactic(auto, using(crate::proofs::WholeLineLemmas::departure_in_front))]
 fn split_departure(moment: u64, text: &[u8]) -> Option<(Entry, &[u8])>
     requires { IsShort moment }
-    ensures { IfSome result (λ r. (decimal moment ++ 32 ∷ 45 ∷ 32 ∷ text.now ≡ line_of r.0 ++ 10 ∷ r.1.now) × IsEntry r.0) }
+    ensures { IfSome result (λ r. (decimal moment ++ 32 ∷ 45 ∷ 32 ∷ text.now ≡ line_of r.0 ++ 10 ∷ r.1.now)
+        × IsEntry r.0) }
 {
     let ((size, delay), rest) = split_pair(text)?;
     if size < 1 || size > 1504 || delay > moment {
@@ -124,7 +127,8 @@ fn split_departure(moment: u64, text: &[u8]) -> Option<(Entry, &[u8])>
 #[tactic(auto, using(crate::proofs::WholeLineLemmas::drop_in_front))]
 fn split_drop(moment: u64, text: &[u8]) -> Option<(Entry, &[u8])>
     requires { IsShort moment }
-    ensures { IfSome result (λ r. (decimal moment ++ 32 ∷ 100 ∷ 32 ∷ text.now ≡ line_of r.0 ++ 10 ∷ r.1.now) × IsEntry r.0) }
+    ensures { IfSome result (λ r. (decimal moment ++ 32 ∷ 100 ∷ 32 ∷ text.now ≡ line_of r.0 ++ 10 ∷ r.1.now)
+        × IsEntry r.0) }
 {
     let ((packets, bytes), rest) = split_pair(text)?;
     if packets < 1 || bytes < 1 {
