@@ -8,7 +8,7 @@ use crate::{DirSpec, ShellState, Taken};
 use loss_core::read_rate;
 use packet_queue::{QueueKind, QueueSpec, read_queue};
 use packet_record::{FlowEnd, Item, Packet, Timed};
-use shell_core::run_whole;
+use shell_core::{Passage, run_whole};
 use std::alloc::Global;
 use std::process::Abort;
 use std::test::Fail;
@@ -227,56 +227,106 @@ fn many_packets(alloc: Global) -> Result<Vec<Timed>, Fail>
     Ok(packets)
 }
 
-#[tactic(auto, using(crate::proofs::Equations::feed_horizon))]
-fn feed(rt: &impl Abort, state: &mut ShellState, item: Item) -> Result<(), Fail>
+fn feed(state: &mut ShellState, item: Item) -> Result<(), Fail>
     requires { state.old.horizon ≡ 1000 }
     ensures { state.new.horizon ≡ 1000 }
 {
-    assert!(rt; state.fed().may_follow(&item));
-    assert!(rt; is_within(&item, 1000));
+    if !state.fed().may_follow(&item) {
+        return Err(Fail::new("an item out of order"));
+    }
+    if !is_within(&item, 1000) {
+        return Err(Fail::new("an item past the horizon"));
+    }
     state.feed(item)?;
     Ok(())
 }
 
-// Takes until there is nothing to take yet, or the end.
-#[tactic(auto, using(crate::proofs::Equations::take_horizon))]
-fn drain(rt: &impl Abort, state: &mut ShellState) -> Result<(), Fail>
+fn is_open(end: FlowEnd) -> bool
+    ensures { IsTrue result ↔ (end ≡ FlowEnd.Open) }
+{
+    match end {
+        FlowEnd::Open => true,
+        FlowEnd::Ended | FlowEnd::Broken => false,
+    }
+}
+
+fn is_over(end: FlowEnd) -> bool
+    ensures { IsTrue result ↔ (end ≡ FlowEnd.Ended) }
+{
+    match end {
+        FlowEnd::Ended => true,
+        FlowEnd::Open | FlowEnd::Broken => false,
+    }
+}
+
+fn waits(answer: Taken) -> bool {
+    match answer {
+        Taken::NotYet { bound: _ } => true,
+        Taken::Item(_) | Taken::Again { burnt: _ } => false,
+    }
+}
+
+// Takes once: false where there is nothing to take yet, or all was taken.
+fn take_one(state: &mut ShellState) -> Result<bool, Fail>
+    requires { state.old.horizon ≡ 1000 }
+    ensures { state.new.horizon ≡ 1000 }
+{
+    if !is_open(state.taken().end()) {
+        return Ok(false);
+    }
+    let answer = state.take(256)?;
+    Ok(!waits(answer))
+}
+
+// Takes until there is nothing to take yet, or all was taken.
+fn drain(state: &mut ShellState) -> Result<(), Fail>
     requires { state.old.horizon ≡ 1000 }
     ensures { state.new.horizon ≡ 1000 }
 {
     'takes: for _ in 0..100_000 {
-        if state.taken().end() != FlowEnd::Open {
+        if !take_one(state)? {
             break;
-        }
-        match state.take(256)? {
-            Taken::NotYet { bound: _ } => break,
-            Taken::Item(_) | Taken::Again { burnt: _ } => {}
         }
     }
     Ok(())
 }
 
+// Feeds the packets one by one, and takes after each.
+fn pass_one_by_one(state: &mut ShellState, packets: &[Timed]) -> Result<(), Fail>
+    requires { state.old.horizon ≡ 1000 }
+{
+    'packets: for t in packets {
+        feed(state, Item::Packet(*t))?;
+        drain(state)?;
+    }
+    feed(state, Item::End)?;
+    drain(state)
+}
+
+fn one_by_one(alloc: Global, spec: DirSpec, packets: &[Timed]) -> Result<Passage, Fail>
+    requires range { IsInRange spec }
+    requires few { length (opportunities spec 1000) ≤ 16000000 }
+{
+    let mut state = ShellState::new(alloc, spec, 1000)?;
+    pass_one_by_one(&mut state, packets)?;
+    if !is_over(state.taken().end()) {
+        return Err(Fail::new("the end wasn't taken"));
+    }
+    Ok(state.into_passage()?)
+}
+
 // The ten thousand packets one by one through a state, taken from after each, and all at once.
-#[tactic(auto, using(crate::proofs::Equations::feed_horizon))]
 fn agrees(rt: &impl Abort, alloc: Global, spec: DirSpec, other: DirSpec) -> Result<(), Fail>
     requires range { IsInRange spec × IsInRange other }
     requires few { (length (opportunities spec 1000) ≤ 16000000) × (length (opportunities other 1000) ≤ 16000000) }
 {
     let packets = many_packets(alloc)?;
-    let mut state = ShellState::new(alloc, spec, 1000)?;
-    'packets: for t in packets.as_slice() {
-        feed(rt, &mut state, Item::Packet(*t))?;
-        drain(rt, &mut state)?;
-    }
-    feed(rt, &mut state, Item::End)?;
-    drain(rt, &mut state)?;
-    assert!(rt; state.taken().end() == FlowEnd::Ended);
-    let one_by_one = state.into_passage()?;
-    let at_once = run_whole(alloc, other, 1000, packets)?;
-    assert!(rt; one_by_one.departed.as_slice() == at_once.departed.as_slice());
-    assert!(rt; one_by_one.lost.as_slice() == at_once.lost.as_slice());
-    assert!(rt; one_by_one.held.as_slice() == at_once.held.as_slice());
-    assert!(rt; one_by_one.log.is_some() == at_once.log.is_some());
+    let singly = one_by_one(alloc, spec, packets.as_slice())?;
+    let whole = run_whole(alloc, other, 1000, packets)?;
+    assert!(rt; singly.departed.as_slice() == whole.departed.as_slice());
+    assert!(rt; singly.lost.as_slice() == whole.lost.as_slice());
+    assert!(rt; singly.held.as_slice() == whole.held.as_slice());
+    assert!(rt; singly.log.is_some() == whole.log.is_some());
     Ok(())
 }
 
