@@ -351,7 +351,7 @@ fn links_agree(rt: &impl Abort, alloc: Global, kind: &str, args: &str) -> Result
     assert!(rt; trace.count_to(1000, false) <= 16_000_000);
     let queue = read_queue(kind, args)?;
     let other = DirSpec::Link {
-        trace: trace.copy(alloc)?,
+        trace: trace.copy()?,
         once: false,
         queue,
     };
