@@ -1,4 +1,5 @@
 // Rows of matching.
+use crate::index::Index;
 use crate::matching::best;
 use http_frame::{Request, first_request};
 use record_store::{Store, pair, read_store};
@@ -14,6 +15,22 @@ fn store(alloc: Global, client: &[u8], server: &[u8], port: u16) -> Result<Store
     Ok(pair(alloc, client, server, port).ok().ok_or("no pairs")?)
 }
 
+/// What `best` and an index answer, which is the same.
+fn chosen(
+    alloc: Global,
+    records: &Store,
+    asked: &Request,
+    port: Option<u16>,
+) -> Result<Option<usize>, Fail> {
+    let found = best(records, &asked.head, port);
+    let index = Index::new(alloc, records, port)?;
+    if index.best(&asked.head) == found {
+        Ok(found)
+    } else {
+        Err(Fail::from("an index answers otherwise"))
+    }
+}
+
 const ANSWERS: &[u8] =
     b"HTTP/1.1 200 OK\r\nContent-Length: 1\r\n\r\naHTTP/1.1 200 OK\r\nContent-Length: 1\r\n\r\nb";
 
@@ -27,19 +44,19 @@ fn greatest_score_first_of_equals(rt: HostRuntime) -> Result<(), Fail> {
         alloc,
         b"GET /a?x=1&y=35 HTTP/1.1\r\nHost: a\r\n\r\n".as_slice(),
     )?;
-    assert_eq!(rt; best(&records, &second.head, None), Some(1));
+    assert_eq!(rt; chosen(alloc, &records, &second, None)?, Some(1));
     let equal = request(
         alloc,
         b"GET /a?x=1&y=9 HTTP/1.1\r\nHost: a\r\n\r\n".as_slice(),
     )?;
-    assert_eq!(rt; best(&records, &equal.head, None), Some(0));
+    assert_eq!(rt; chosen(alloc, &records, &equal, None)?, Some(0));
     let bare = request(alloc, b"GET /a HTTP/1.1\r\nHost: a\r\n\r\n".as_slice())?;
-    assert_eq!(rt; best(&records, &bare.head, None), None);
+    assert_eq!(rt; chosen(alloc, &records, &bare, None)?, None);
     let agent = request(
         alloc,
         b"GET /a?x=1&y=2 HTTP/1.1\r\nHost: a\r\nUser-Agent: z\r\n\r\n".as_slice(),
     )?;
-    assert_eq!(rt; best(&records, &agent.head, None), None);
+    assert_eq!(rt; chosen(alloc, &records, &agent, None)?, None);
     Ok(())
 }
 
@@ -54,10 +71,43 @@ fn ports_agree(rt: HostRuntime) -> Result<(), Fail> {
     let answer = b"HTTP/1.1 200 OK\r\nContent-Length: 1\r\n\r\na";
     let asked = request(alloc, client.as_slice())?;
     let records = read_store(alloc, TWO_PORTS)?;
-    assert_eq!(rt; best(&records, &asked.head, Some(8080)), Some(1));
-    assert_eq!(rt; best(&records, &asked.head, Some(81)), None);
-    assert_eq!(rt; best(&records, &asked.head, None), Some(0));
+    assert_eq!(rt; chosen(alloc, &records, &asked, Some(8080))?, Some(1));
+    assert_eq!(rt; chosen(alloc, &records, &asked, Some(81))?, None);
+    assert_eq!(rt; chosen(alloc, &records, &asked, None)?, Some(0));
     let any = store(alloc, client.as_slice(), answer.as_slice(), 0)?;
-    assert_eq!(rt; best(&any, &asked.head, Some(81)), Some(0));
+    assert_eq!(rt; chosen(alloc, &any, &asked, Some(81))?, Some(0));
+    Ok(())
+}
+
+/// So many copies of a text.
+fn copies(alloc: Global, text: &[u8], count: u32) -> Result<Vec<u8>, Fail> {
+    let mut all = Vec::new(alloc);
+    for _ in 0..count {
+        all.extend_from_slice(text)?;
+    }
+    Ok(all)
+}
+
+#[test]
+fn a_long_query_among_many(rt: HostRuntime) -> Result<(), Fail> {
+    let alloc = rt.alloc();
+    let long = copies(alloc, b"0123456789", 100)?;
+    let mut client = Vec::new(alloc);
+    for end in [b"a", b"b", b"c", b"b"] {
+        client.extend_from_slice(b"GET /a?")?;
+        client.extend_from_slice(long.as_slice())?;
+        client.extend_from_slice(end)?;
+        client.extend_from_slice(b" HTTP/1.1\r\nHost: a\r\n\r\n")?;
+    }
+    let server = copies(alloc, ANSWERS, 2)?;
+    let records = store(alloc, client.as_slice(), server.as_slice(), 0)?;
+    let place = client.len() / 4;
+    let (_, last) = client.as_slice().split_at(client.len() - place);
+    let asked = request(alloc, last)?;
+    assert_eq!(rt; chosen(alloc, &records, &asked, None)?, Some(1));
+    let short = request(alloc, b"GET /a?0 HTTP/1.1\r\nHost: a\r\n\r\n".as_slice())?;
+    assert_eq!(rt; chosen(alloc, &records, &short, None)?, Some(0));
+    let other = request(alloc, b"GET /b HTTP/1.1\r\nHost: a\r\n\r\n".as_slice())?;
+    assert_eq!(rt; chosen(alloc, &records, &other, None)?, None);
     Ok(())
 }
