@@ -5,11 +5,12 @@ use lib.ListN.{get_elem?}
 use Rattle.crossbeam_channel.specs.Fifo.{Pushes, Pops, Forks, Merges, Learns}
 use Rattle.atomic_table.proofs.Lists.{at_set, at_snoc}
 use Rattle.packet_record.specs.declared.item.Item.{Item}
-use Rattle.packet_record.specs.declared.item.Stream.{Stream}
-use Rattle.packet_record.specs.Streams.{no_items, after, after_all, MayFollow, IsUpTo, AllFollow}
+use Rattle.packet_record.specs.Streams.{after_all, MayFollow, IsUpTo, AllFollow}
+use Rattle.mark_channel.specs.Carrying.{nothing, carrying, carrying_all}
+use Rattle.mark_channel.specs.declared.rule.Carried.{Carried}
 use Rattle.mark_channel.specs.declared.rule.View.{View}
 use Rattle.mark_channel.specs.Rules.{known, opening, sending, getting, settling, spent, Fits, FitsWriter, FitsFresh, Kept, Sends, Gets, Settles}
-use Rattle.mark_channel.proofs.Streaming.{after_all-snoc, AllFollow-snoc}
+use Rattle.mark_channel.proofs.Streaming.{carrying_all-snoc, carrying_all-flow, AllFollow-snoc}
 
 at_end : (l : List View) (a b : View) (j : ℕ) → get_elem? l j ≢ some b → get_elem? (l ++ a ∷ []) j ≡ some b → j ≡ length l
 at_end [] a b zero n e = refl
@@ -32,22 +33,23 @@ opens = record {
   horizon = 0;
   writer = 0;
   reader = 0;
-  sent = no_items;
-  got = no_items;
+  sent = nothing;
+  got = nothing;
   whole = refl;
   honest = tt;
-  fits = all_set (Fits 0 0 0 no_items no_items []) (opening ∷ []) 0 opening ((λ _. (refl, refl, refl)), (λ _. (refl, refl, refl)), λ _. (refl, refl)) (λ j u other e. absurd (other (at_end [] _ u j (λ x. some-ne-none u (sym x)) e)));
+  fits = all_set (Fits 0 0 0 nothing nothing []) (opening ∷ []) 0 opening ((λ _. (refl, refl, refl)), (λ _. (refl, refl, refl)), λ _. (refl, refl)) (λ j u other e. absurd (other (at_end [] _ u j (λ x. some-ne-none u (sym x)) e)));
 }
 
-pub sends : (n port : ℕ) (v : View) (x : Item) → v.sends ≡ true → v.fresh ≡ false → MayFollow v.sent x → IsUpTo v.horizon x → Pushes Kept n port v x (Sends v x)
+pub sends : (n port : ℕ) (v : View) (x : Item) → v.sends ≡ true → v.fresh ≡ false → MayFollow v.sent.flow x → IsUpTo v.horizon x → Pushes Kept n port v x (Sends v x)
 sends n port v x may old follows upto items views _ h at =
-    let w : View = known v.fresh v.sends v.gets v.horizon (after v.sent x) v.got in
+    let w : View = known v.fresh v.sends v.gets v.horizon (carrying v.sent x) v.got in
     let mine = h.fits port v at in
     let is = mine.0 may in
-    let s : Stream = after h.sent x in
-    let W : Stream → ℕ → Type 0 = λ f k. MayFollow f x × IsUpTo k x in
-    let fine : W h.sent h.horizon = subst (λ (y : Stream × ℕ). W y.0 y.1) (λ i. (is.1 i, is.2 i)) (follows, upto) in
-    let fine' : MayFollow (after_all h.got items) x = subst (λ f. MayFollow f x) h.whole fine.0 in (
+    let s : Carried = carrying h.sent x in
+    let W : Carried → ℕ → Type 0 = λ f k. MayFollow f.flow x × IsUpTo k x in
+    let fine : W h.sent h.horizon = subst (λ (y : Carried × ℕ). W y.0 y.1) (λ i. (is.1 i, is.2 i)) (follows, upto) in
+    let fine' : MayFollow (after_all h.got.flow items) x =
+    subst (λ f. MayFollow f x) (carrying_all-flow h.got items) (subst (λ (f : Carried). MayFollow f.flow x) h.whole fine.0) in (
       w,
       record {
         horizon = h.horizon;
@@ -55,10 +57,10 @@ sends n port v x may old follows upto items views _ h at =
         reader = h.reader;
         sent = s;
         got = h.got;
-        whole = ap (λ f. after f x) h.whole ∙ sym (after_all-snoc h.got items x);
-        honest = AllFollow-snoc h.horizon h.got items x h.honest fine' fine.1;
+        whole = ap (λ f. carrying f x) h.whole ∙ sym (carrying_all-snoc h.got items x);
+        honest = AllFollow-snoc h.horizon h.got.flow items x h.honest fine' fine.1;
         fits = all_set (Fits h.horizon h.writer h.reader s h.got (items ++ x ∷ [])) views port w
-            ((λ _. (is.0, ap (λ f. after f x) is.1, is.2)), mine.1, λ p. never (sym old ∙ p))
+            ((λ _. (is.0, ap (λ f. carrying f x) is.1, is.2)), mine.1, λ p. never (sym old ∙ p))
             (λ j u other e. let theirs = h.fits j u e in (
               (λ p. absurd (other ((theirs.0 p).0 ∙ sym is.0))),
               theirs.1,
@@ -70,12 +72,12 @@ sends n port v x may old follows upto items views _ h at =
 
 pub gets : (port : ℕ) (v : View) → v.gets ≡ true → v.fresh ≡ false → Pops Kept port v (Gets v)
 gets port v may old x items views h at =
-    let w : View = known v.fresh v.sends v.gets v.horizon v.sent (after v.got x) in
+    let w : View = known v.fresh v.sends v.gets v.horizon v.sent (carrying v.got x) in
     let mine = h.fits port v at in
     let is = mine.1 may in
-    let g : Stream = after h.got x in
-    let W : Stream → ℕ → Type 0 = λ f k. MayFollow f x × IsUpTo k x in
-    let fine : W v.got v.horizon = subst (λ (y : Stream × ℕ). W y.0 y.1) (λ i. (sym is.1 i, sym is.2 i)) (h.honest.0, h.honest.1) in (
+    let g : Carried = carrying h.got x in
+    let W : Carried → ℕ → Type 0 = λ f k. MayFollow f.flow x × IsUpTo k x in
+    let fine : W v.got v.horizon = subst (λ (y : Carried × ℕ). W y.0 y.1) (λ i. (sym is.1 i, sym is.2 i)) (h.honest.0, h.honest.1) in (
       w,
       record {
         horizon = h.horizon;
@@ -86,7 +88,7 @@ gets port v may old x items views h at =
         whole = h.whole;
         honest = h.honest.2;
         fits = all_set (Fits h.horizon h.writer h.reader h.sent g items) views port w
-            (mine.0, (λ _. (is.0, ap (λ f. after f x) is.1, is.2)), λ p. never (sym old ∙ p))
+            (mine.0, (λ _. (is.0, ap (λ f. carrying f x) is.1, is.2)), λ p. never (sym old ∙ p))
             (λ j u other e. let theirs = h.fits j u e in (
               theirs.0,
               (λ p. absurd (other ((theirs.1 p).0 ∙ sym is.0))),
@@ -96,30 +98,30 @@ gets port v may old x items views h at =
       (refl, fine.0, fine.1),
     )
 
-pub forks : (port : ℕ) (v : View) (horizon : ℕ) → v ≡ opening → Forks Kept port v (sending horizon no_items) (getting horizon no_items)
+pub forks : (port : ℕ) (v : View) (horizon : ℕ) → v ≡ opening → Forks Kept port v (sending horizon nothing) (getting horizon nothing)
 forks port v horizon is items views h at =
-    let l : View = sending horizon no_items in
-    let r : View = getting horizon no_items in
+    let l : View = sending horizon nothing in
+    let r : View = getting horizon nothing in
     let mine = h.fits port v at in
     let writes = mine.0 (ap (λ (y : View). y.sends) is) in
     let reads = mine.1 (ap (λ (y : View). y.gets) is) in
     let none = (mine.2 (ap (λ (y : View). y.fresh) is)).1 in
     let vs : List View = set views port l in
-    let Old : ℕ → View → Type 0 = λ j u. FitsWriter horizon h.writer no_items j u × (u.gets ≢ true) × FitsFresh h.writer items j u in
+    let Old : ℕ → View → Type 0 = λ j u. FitsWriter horizon h.writer nothing j u × (u.gets ≢ true) × FitsFresh h.writer items j u in
     let old : All Old vs = all_set Old views port l ((λ _. (writes.0, refl, refl)), (λ p. never p), λ p. never p)
     (λ j u other e. let theirs = h.fits j u e in (
       (λ p. absurd (other ((theirs.0 p).0 ∙ sym writes.0))),
       (λ p. other ((theirs.1 p).0 ∙ sym reads.0)),
       theirs.2,
     )) in
-    let nothing : (f : Stream) → f ≡ after_all f items = λ f. ap (after_all f) (sym none) in record {
+    let empty : (f : Carried) → f ≡ carrying_all f items = λ f. ap (carrying_all f) (sym none) in record {
       horizon = horizon;
       writer = h.writer;
       reader = length vs;
-      sent = no_items;
-      got = no_items;
-      whole = nothing no_items;
-      honest = subst (AllFollow horizon no_items) (sym none) tt;
+      sent = nothing;
+      got = nothing;
+      whole = empty nothing;
+      honest = subst (AllFollow horizon nothing.flow) (sym none) tt;
       fits = λ j u e. ⊎_elim (λ x. let o = old j u x in (o.0, (λ p. absurd (o.1 p)), o.2))
           (λ (same : r ≡ u). (
             (λ p. never (ap (λ (y : View). y.sends) same ∙ p)),
@@ -154,4 +156,4 @@ totals port v a b items views h at =
     let mine = h.fits port v at in
     let s = mine.0 a in
     let g = mine.1 b in
-    subst (λ (y : Stream × (Stream × ℕ)). (y.0 ≡ after_all y.1.0 items) × AllFollow y.1.1 y.1.0 items) (λ i. (sym s.1 i, (sym g.1 i, sym s.2 i))) (h.whole, h.honest)
+    subst (λ (y : Carried × (Carried × ℕ)). (y.0 ≡ carrying_all y.1.0 items) × AllFollow y.1.1 y.1.0.flow items) (λ i. (sym s.1 i, (sym g.1 i, sym s.2 i))) (h.whole, h.honest)

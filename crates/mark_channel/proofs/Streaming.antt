@@ -7,10 +7,20 @@ use Rattle.packet_record.specs.declared.item.Item.TheVariants.{Packet, Mark, End
 use Rattle.packet_record.specs.declared.item.FlowEnd.TheVariants.{Open}
 use Rattle.packet_record.specs.declared.item.Stream.{Stream}
 use Rattle.packet_record.specs.Streams.{after, after_all, MayFollow, IsUpTo, AllFollow, IsStreamPrefix}
+use Rattle.mark_channel.specs.Carrying.{carrying, carrying_all}
+use Rattle.mark_channel.specs.declared.rule.Carried.{Carried}
 
-pub after_all-snoc : (f : Stream) (xs : List Item) (x : Item) → after_all f (xs ++ x ∷ []) ≡ after (after_all f xs) x
-after_all-snoc f [] x = refl
-after_all-snoc f (y ∷ ys) x = after_all-snoc (after f y) ys x
+pub carrying_all-snoc : (c : Carried) (xs : List Item) (x : Item) → carrying_all c (xs ++ x ∷ []) ≡ carrying (carrying_all c xs) x
+carrying_all-snoc c [] x = refl
+carrying_all-snoc c (y ∷ ys) x = carrying_all-snoc (carrying c y) ys x
+
+pub carrying_all-flow : (c : Carried) (xs : List Item) → (carrying_all c xs).flow ≡ after_all c.flow xs
+carrying_all-flow c [] = refl
+carrying_all-flow c (y ∷ ys) = carrying_all-flow (carrying c y) ys
+
+carrying_all-items : (c : Carried) (xs : List Item) → (carrying_all c xs).items ≡ c.items ++ xs
+carrying_all-items c [] = sym (append-nil c.items)
+carrying_all-items c (y ∷ ys) = carrying_all-items (carrying c y) ys ∙ append_assoc c.items (y ∷ []) ys
 
 pub AllFollow-snoc : (h : ℕ) (f : Stream) (xs : List Item) (x : Item) → AllFollow h f xs → MayFollow (after_all f xs) x → IsUpTo h x → AllFollow h f (xs ++ x ∷ [])
 AllFollow-snoc h f [] x all may upto = (may, upto, tt)
@@ -33,10 +43,17 @@ ends : (h : ℕ) (f : Stream) (xs : List Item) → AllFollow h f xs → (f.end �
 ends h f [] all = inr refl
 ends h f (x ∷ xs) all = inl all.0.0
 
--- what may follow a stream makes it longer, and nothing follows one that has ended
-pub begins : (h : ℕ) (f g : Stream) (xs : List Item) → g ≡ after_all f xs → AllFollow h f xs → IsStreamPrefix f g
-begins h f g xs is all = subst (IsStreamPrefix f) (sym is) (let p = grows h f xs all in (p.0, p.1, ends h f xs all))
+none_left : (h : ℕ) (f : Stream) (xs : List Item) → AllFollow h f xs → f.end ≢ Open → xs ≡ []
+none_left h f [] all over = refl
+none_left h f (x ∷ xs) all over = absurd (over all.0.0)
 
-pub whole : (h : ℕ) (f g : Stream) (xs : List Item) → g ≡ after_all f xs → AllFollow h f xs → f.end ≢ Open → f ≡ g
-whole h f g [] is all over = sym is
-whole h f g (x ∷ xs) is all over = absurd (over all.0.0)
+-- what may follow a stream makes it longer, and nothing follows one that has ended
+pub begins : (h : ℕ) (f g : Carried) (xs : List Item) → g ≡ carrying_all f xs → AllFollow h f.flow xs → IsStreamPrefix f.flow g.flow
+begins h f g xs is all =
+    subst (IsStreamPrefix f.flow) (sym (ap (λ (c : Carried). c.flow) is ∙ carrying_all-flow f xs)) (let p = grows h f.flow xs all in (p.0, p.1, ends h f.flow xs all))
+
+pub items_begin : (f g : Carried) (xs : List Item) → g ≡ carrying_all f xs → IsPrefix f.items g.items
+items_begin f g xs is = (xs, sym (ap (λ (c : Carried). c.items) is ∙ carrying_all-items f xs))
+
+pub whole : (h : ℕ) (f g : Carried) (xs : List Item) → g ≡ carrying_all f xs → AllFollow h f.flow xs → f.flow.end ≢ Open → f ≡ g
+whole h f g xs is all over = sym (is ∙ ap (carrying_all f) (none_left h f.flow xs all over))

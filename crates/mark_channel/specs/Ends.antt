@@ -1,5 +1,5 @@
 -- What contracts see of an end of a channel.
-use Rattle.std.specs.Prelude.{◌≡◌, ℕ}
+use Rattle.std.specs.Prelude.{◌≡◌, ℕ, List}
 use Rattle.atomic_table.specs.Seated.{TableId}
 use Rattle.atomic_table.specs.declared.badge.Badge.{Badge}
 use Rattle.crossbeam_channel.specs.declared.flavors.array.Key.{Key}
@@ -11,9 +11,10 @@ pub record Channel : Type 0 where
   pub table : TableId
   pub key : Badge (Key Item)
 
--- the stream that went through the end, the horizon, and the channel
+-- the stream that went through the end, its items one by one, the horizon, and the channel
 pub record End : Type 0 where
   pub flow : Stream
+  pub items : List Item
   pub horizon : ℕ
   pub channel : Channel
 

@@ -12,10 +12,20 @@ abbrev pub channel_of : Pass Item View → Channel
 channel_of p = record { table = p.table_id; key = p.me.0.of }
 
 abbrev pub sender_view : SenderInside → End
-sender_view s = record { flow = (view s.pass).sent; horizon = (view s.pass).horizon; channel = channel_of s.pass }
+sender_view s = record {
+  flow = (view s.pass).sent.flow;
+  items = (view s.pass).sent.items;
+  horizon = (view s.pass).horizon;
+  channel = channel_of s.pass;
+}
 
 abbrev pub receiver_view : ReceiverInside → End
-receiver_view r = record { flow = (view r.pass).got; horizon = (view r.pass).horizon; channel = channel_of r.pass }
+receiver_view r = record {
+  flow = (view r.pass).got.flow;
+  items = (view r.pass).got.items;
+  horizon = (view r.pass).horizon;
+  channel = channel_of r.pass;
+}
 
 abbrev pub IsSender : SenderInside → Type 0
 IsSender s = IsSeatAt (sends_on s.end) s.pass × ((view s.pass).sends ≡ true) × ((view s.pass).fresh ≡ false)

@@ -1,9 +1,11 @@
 //! How a channel is made, and what its two ends show when it is over.
-ghost use Rattle.std.specs.Prelude.{◌≡◌, ◌≤◌, ◌≢◌, IfOk};
+ghost use Rattle.std.specs.Prelude.{◌≡◌, ◌≤◌, ◌≢◌, [], IfOk};
+ghost use mathlib.Core.List.{IsPrefix};
 ghost use Rattle.packet_record.specs.declared.item.FlowEnd.TheVariants.{Open};
 ghost use Rattle.packet_record.specs.Streams.{no_items, IsStreamPrefix};
 ghost use Rattle.crossbeam_channel.specs.Claims.{view, IsSeatAt};
 ghost use Rattle.crossbeam_channel.specs.Ends.{sends_on};
+ghost use Rattle.mark_channel.specs.Carrying.{nothing};
 ghost use Rattle.mark_channel.specs.Rules.{opening, sending, getting};
 
 use crate::rule::{InOrder, Limit, Roles, Together, Total, View};
@@ -21,6 +23,7 @@ pub fn open(alloc: Global, capacity: u32, horizon: u64) -> Result<(Sender, Recei
     requires some { 1 ≤ capacity }
     requires most { capacity ≤ 64 }
     ensures flows { IfOk result (λ ends. (ends.0.flow ≡ no_items) × (ends.1.flow ≡ no_items)) }
+    ensures items { IfOk result (λ ends. (ends.0.items ≡ []) × (ends.1.items ≡ [])) }
     ensures horizons { IfOk result (λ ends. (ends.0.horizon ≡ horizon) × (ends.1.horizon ≡ horizon)) }
     ensures channel { IfOk result (λ ends. ends.0.channel ≡ ends.1.channel) }
 {
@@ -44,18 +47,19 @@ fn split<L: Limit>(
     requires horizon { L.horizon ≡ horizon }
     requires seat { IsSeatAt (sends_on end.now) pass.old }
     requires first { view pass.old ≡ opening }
-    ensures left { IsSeatAt (sends_on end.now) pass.new × (view pass.new ≡ sending horizon no_items) }
-    ensures right { IsSeatAt (sends_on end.now) result × (view result ≡ getting horizon no_items) }
+    ensures left { IsSeatAt (sends_on end.now) pass.new × (view pass.new ≡ sending horizon nothing) }
+    ensures right { IsSeatAt (sends_on end.now) result × (view result ≡ getting horizon nothing) }
 {
     end.another::<Roles<L>>(pass)
 }
 
-/// Ends a channel. What was received is a prefix of what was sent, and all of it where the receiver got
-/// `End` or `Broken`. Items that are still in the channel are dropped.
+/// Ends a channel. What was received is a prefix of what was sent, item by item, and all of it where the
+/// receiver got `End` or `Broken`. Items that are still in the channel are dropped.
 pub fn settle(sender: Sender, receiver: Receiver)
     requires { sender.channel ≡ receiver.channel }
     ensures prefix { IsStreamPrefix receiver.flow sender.flow }
-    ensures whole { receiver.flow.end ≢ Open → receiver.flow ≡ sender.flow }
+    ensures items { IsPrefix receiver.items sender.items }
+    ensures whole { receiver.flow.end ≢ Open → (receiver.flow ≡ sender.flow) × (receiver.items ≡ sender.items) }
 {
     let Sender { end, mut pass } = sender;
     let Receiver {

@@ -1,7 +1,7 @@
-//! A bounded channel of items from one sender to one receiver, which loses and doubles nothing.
+//! A bounded channel of items from one sender to one receiver, which loses and doubles none, no mark either.
 //!
-//! What an end has carried is a stream that contracts see as its `flow`, and that the program keeps
-//! nowhere. The receiver gets what was sent, in order. Nothing is promised of when a call that waits
+//! What an end has carried is a stream that contracts see as its `flow`, and the list of its `items`; the program keeps
+//! neither. The receiver gets what was sent, item by item, in order. Nothing is promised of when a call that waits
 //! returns.
 #![tactic(auto)]
 

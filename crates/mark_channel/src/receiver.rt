@@ -1,5 +1,5 @@
 //! The receiving end.
-ghost use Rattle.std.specs.Prelude.{◌≡◌};
+ghost use Rattle.std.specs.Prelude.{◌≡◌, ◌++◌, ◌∷◌, []};
 ghost use Rattle.packet_record.specs.declared.item.FlowEnd.TheVariants.{Open};
 ghost use Rattle.packet_record.specs.Streams.{after, MayFollow, IsUpTo};
 ghost use Rattle.mark_channel.specs.Ends.{IsSameEnd};
@@ -10,7 +10,7 @@ use packet_record::Item;
 use std::marker::Model;
 use std::sync::Wait;
 
-/// The receiving end of a channel. Contracts see the stream of what was received, the horizon and the
+/// The receiving end of a channel. Contracts see the stream of what was received, its items, the horizon and the
 /// channel.
 #[derive(Drop)]
 pub struct Receiver {
@@ -39,6 +39,7 @@ impl Receiver {
         ensures follows { MayFollow self.old.flow result }
         ensures within { IsUpTo self.old.horizon result }
         ensures flow { self.new.flow ≡ after self.old.flow result }
+        ensures items { self.new.items ≡ self.old.items ++ result ∷ [] }
         ensures same { IsSameEnd self.old self.new }
     {
         for _ in rt.forever() {

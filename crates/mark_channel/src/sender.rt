@@ -1,5 +1,5 @@
 //! The sending end.
-ghost use Rattle.std.specs.Prelude.{◌≡◌};
+ghost use Rattle.std.specs.Prelude.{◌≡◌, ◌++◌, ◌∷◌, []};
 ghost use Rattle.packet_record.specs.Streams.{after, MayFollow, IsUpTo};
 ghost use Rattle.mark_channel.specs.Ends.{IsSameEnd};
 
@@ -9,7 +9,7 @@ use packet_record::Item;
 use std::marker::Model;
 use std::sync::Wait;
 
-/// The sending end of a channel. Contracts see the stream of what was sent, the horizon and the channel.
+/// The sending end of a channel. Contracts see the stream of what was sent, its items, the horizon and the channel.
 #[derive(Drop)]
 pub struct Sender {
     pub(crate) end: RuledSender<Item, View, InOrder>,
@@ -37,6 +37,7 @@ impl Sender {
         requires follows { MayFollow self.old.flow item }
         requires within { IsUpTo self.old.horizon item }
         ensures flow { self.new.flow ≡ after self.old.flow item }
+        ensures items { self.new.items ≡ self.old.items ++ item ∷ [] }
         ensures same { IsSameEnd self.old self.new }
     {
         for _ in rt.forever() {

@@ -40,6 +40,31 @@ fn carries_two(rt: HostRuntime) -> Result<(), Fail> {
     Ok(())
 }
 
+// A mark at the moment of the one before is an item of its own.
+#[test]
+fn carries_each_mark_once(rt: HostRuntime) -> Result<(), Fail> {
+    let (mut sender, mut receiver) = open(rt.alloc(), 4, 20)?;
+    sender.send(&rt, Item::Mark(5));
+    sender.send(&rt, Item::Mark(5));
+    sender.send(&rt, Item::Packet(timed(1, 5)));
+    sender.send(&rt, Item::Broken);
+    let Item::Mark(first) = receiver.recv(&rt) else {
+        return Err(Fail::from("no mark"));
+    };
+    let Item::Mark(second) = receiver.recv(&rt) else {
+        return Err(Fail::from("no second mark"));
+    };
+    assert_eq!(rt; (first, second), (5, 5));
+    let Item::Packet(third) = receiver.recv(&rt) else {
+        return Err(Fail::from("no packet"));
+    };
+    assert_eq!(rt; third, timed(1, 5));
+    let last = receiver.recv(&rt);
+    assert_eq!(rt; last, Item::Broken);
+    settle(sender, receiver);
+    Ok(())
+}
+
 // Sends packets at the moments below `count`, and then the end. `begun` counts the sends that have begun.
 fn send_all<R: Wait>(rt: &R, sender: &mut Sender, count: u32, begun: &AtomicU64)
     requires empty { sender.old.flow ≡ no_items }
@@ -84,12 +109,17 @@ fn receive_all<R: Wait>(rt: &R, receiver: &mut Receiver) -> u32
     unreachable!()
 }
 
-// Waits until 65 sends have begun, gives way, and looks how many have begun. Then it receives all.
-fn receive_late<R: Wait>(rt: &R, receiver: &mut Receiver, begun: &AtomicU64) -> (u64, u32)
+// Waits until so many sends have begun, gives way, and looks how many have begun. Then it receives all.
+fn receive_late<R: Wait>(
+    rt: &R,
+    receiver: &mut Receiver,
+    begun: &AtomicU64,
+    goal: u64,
+) -> (u64, u32)
     requires open { receiver.old.flow.end ≡ Open }
     ensures same { IsSameEnd receiver.old receiver.new }
 {
-    let full = reached(begun, 65);
+    let full = reached(begun, goal);
     for _ in 0..10_000 {
         yield_now();
     }
@@ -105,6 +135,7 @@ fn meet<R: Threads + Wait + Sync>(
     rt: &R,
     sender: &mut Sender,
     receiver: &mut Receiver,
+    goal: u64,
 ) -> (u64, u32)
     requires empty { sender.old.flow ≡ no_items }
     requires within { 1000 ≤ sender.old.horizon }
@@ -116,17 +147,21 @@ fn meet<R: Threads + Wait + Sync>(
     let (_, seen) = join_mut(
         rt,
         &mut || send_all(rt, sender, 1000, &begun),
-        &mut || receive_late(rt, receiver, &begun),
+        &mut || receive_late(rt, receiver, &begun, goal),
     );
     seen
 }
 
+// As many items as the channel holds are sent while nothing is received, and one send more waits.
 #[test]
-fn holds_64_and_one_waits(rt: HostRuntime) -> Result<(), Fail> {
-    let (mut sender, mut receiver) = open(rt.alloc(), 64, 1000)?;
-    let (held, came) = meet(&rt, &mut sender, &mut receiver);
-    settle(sender, receiver);
-    assert_eq!(rt; held, 65);
-    assert_eq!(rt; came, 1000);
+fn holds_its_capacity_and_one_waits(rt: HostRuntime) -> Result<(), Fail> {
+    for capacity in [2u32, 64] {
+        let full = u64::from(capacity) + 1;
+        let (mut sender, mut receiver) = open(rt.alloc(), capacity, 1000)?;
+        let (held, came) = meet(&rt, &mut sender, &mut receiver, full);
+        settle(sender, receiver);
+        assert_eq!(rt; held, full);
+        assert_eq!(rt; came, 1000);
+    }
     Ok(())
 }
