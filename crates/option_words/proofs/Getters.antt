@@ -16,7 +16,7 @@ use Rattle.option_words.proofs.Rules.{same_text}
 abbrev pub look : Text → List Row → Option Row
 look n rs = find (λ r. bytes_eq r.id n) rs
 
-abbrev or_some : Option Row → Option Row → Option Row
+abbrev pub or_some : Option Row → Option Row → Option Row
 or_some None y = y
 or_some (Some x) y = Some x
 

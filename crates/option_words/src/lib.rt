@@ -5,9 +5,24 @@
 #![tactic(auto)]
 
 mod fit;
+mod given;
+mod make;
+mod matching;
+mod merge;
+mod migrate;
+mod recording;
+mod replay;
+mod report;
 mod run;
 mod table;
 #[cfg(test)]
 mod tests;
 
+pub use make::{MakeWords, parse_make};
+pub use matching::{MatchWords, parse_match};
+pub use merge::{MergeWords, parse_merge};
+pub use migrate::{MigrateWords, parse_migrate};
+pub use recording::{RecordWords, parse_record};
+pub use replay::{ReplayWords, parse_replay};
+pub use report::{ReportWords, parse_report};
 pub use run::{RunWords, parse_run};

@@ -1,6 +1,7 @@
 // A command's table of options, as clap reads it.
 ghost use Rattle.std.specs.Prelude.{◌≡◌, IfOk, map, string_bytes, true, false, if◌then◌else◌};
 ghost use Rattle.std.specs.List.{list_all};
+ghost use Rattle.option_words.specs.Givens.{flag, valued};
 ghost use Rattle.option_words.specs.Options.{is_fit};
 ghost use Rattle.option_words.specs.Found.{IsMatchOf};
 ghost use Rattle.option_words.specs.View.{opt};
@@ -16,6 +17,26 @@ use std::alloc::{AllocError, Global};
 pub(crate) struct OptionSpec<'a> {
     pub name: &'a str,
     pub takes_value: bool,
+}
+
+// An option that takes a value.
+pub(crate) fn valued<'a>(name: &'a str) -> OptionSpec<'a>
+    ensures { opt result ≡ valued name.now }
+{
+    OptionSpec {
+        name,
+        takes_value: true,
+    }
+}
+
+// An option that takes none.
+pub(crate) fn flag<'a>(name: &'a str) -> OptionSpec<'a>
+    ensures { opt result ≡ flag name.now }
+{
+    OptionSpec {
+        name,
+        takes_value: false,
+    }
 }
 
 fn action_for(takes_value: bool) -> ArgAction
