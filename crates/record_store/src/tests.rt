@@ -1,5 +1,6 @@
 //! Rows of pairing, reading and printing.
-use crate::{Store, pair, print_store, read_store};
+use crate::{Store, StorePieces, pair, print_store, read_store};
+use mm_base::Bytes;
 use std::alloc::Global;
 use std::test::Fail;
 
@@ -94,5 +95,44 @@ fn refusals_of_texts(rt: HostRuntime) -> Result<(), Fail> {
     }
     assert_eq!(rt; refusal(alloc, &OLD[..90]), (3, 10));
     assert_eq!(rt; refusal(alloc, OLD), (100, 1));
+    Ok(())
+}
+
+/// So many copies of a text.
+fn copies(alloc: Global, text: &[u8], count: u32) -> Result<Bytes, Fail> {
+    let mut all = Bytes::new(alloc);
+    for _ in 0..count {
+        all.append(text)?;
+    }
+    Ok(all)
+}
+
+/// A store's text, put together from its pieces.
+fn in_pieces(alloc: Global, store: &Store) -> Result<Bytes, Fail> {
+    let mut text = Bytes::new(alloc);
+    let mut pieces = StorePieces::new(alloc, store);
+    'pieces: while pieces.next()? {
+        text.append(pieces.piece())?;
+    }
+    Ok(text)
+}
+
+#[test]
+fn a_hundred_records(rt: HostRuntime) -> Result<(), Fail> {
+    let alloc = rt.alloc();
+    let body = copies(alloc, b"0123456789", 100)?;
+    let head = b"HTTP/1.1 200 OK\r\nContent-Length: 1000\r\n\r\n";
+    let mut answer = Bytes::from_slice(alloc, head)?;
+    answer.append(body.as_slice())?;
+    let client = copies(alloc, CLIENT, 100)?;
+    let server = copies(alloc, answer.as_slice(), 100)?;
+    let store = pair(alloc, client.as_slice(), server.as_slice(), 80)?;
+    assert_eq!(rt; store.records().len(), 100);
+    let text = print_store(alloc, &store)?;
+    assert_eq!(rt; text.len(), 10 + 100 * (23 + 27 + 1041 + 1));
+    let again = read_store(alloc, text.as_slice())?;
+    assert_eq!(rt; in_pieces(alloc, &again)?.as_slice(), text.as_slice());
+    let none = in_pieces(alloc, &Store::new(alloc))?;
+    assert_eq!(rt; none.as_slice(), b"MMSTORE 2\n".as_slice());
     Ok(())
 }
