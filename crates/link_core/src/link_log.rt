@@ -1,5 +1,5 @@
 // The log of a link over all its arrivals, not written out.
-ghost use Rattle.std.specs.Prelude.{◌≡◌, ◌≤◌, [], length, IfOk};
+ghost use Rattle.std.specs.Prelude.{◌≡◌, [], IfOk};
 ghost use Rattle.packet_record.specs.Moments.{AreUpTo, Rise};
 ghost use Rattle.trace_reader.specs.Opps.{opps};
 ghost use Rattle.link_core.specs.Links.{link_log};
@@ -14,7 +14,6 @@ use packet_record::Timed;
 use shell_log::Log;
 use std::alloc::Global;
 use std::marker::Model;
-use trace_reader::Trace;
 
 /// The log of a link over all its arrivals, with every opportunity up to the horizon. It isn't written out: it is made
 /// again from the arrivals, piece by piece. Contracts see its entries.
@@ -41,25 +40,6 @@ impl Model for LinkLog {
 }
 
 impl LinkLog {
-    /// The log of a link over these arrivals, which are in order and up to the horizon.
-    pub fn new(
-        alloc: Global,
-        trace: Trace,
-        once: bool,
-        queue: QueueSpec,
-        horizon: u64,
-        arrivals: Vec<Timed>,
-    ) -> LinkLog
-        requires horizon { horizon ≤ 3600000 }
-        requires few { length (opps trace.opportunities once horizon) ≤ 16000000 }
-        requires rises { Rise arrivals.items }
-        requires within { AreUpTo horizon arrivals.items }
-        ensures { result ≡ link_log queue (opps trace.opportunities once horizon) arrivals.items }
-    {
-        let opportunities = Opportunities::new(trace, once, horizon);
-        LinkLog::of(alloc, opportunities, queue, arrivals)
-    }
-
     // The log of a link with these opportunities.
     pub(crate) fn of(
         alloc: Global,
