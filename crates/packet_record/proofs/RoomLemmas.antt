@@ -1,5 +1,5 @@
 -- How many rows a text of so many bytes can have.
-use Rattle.std.proofs.Common.{◌≡◌, ℕ, ◌+◌, ◌*◌, ◌/◌, ◌≤◌, ◌==◌, eqb, Bool, true, false, cond, List, [], ◌∷◌, ◌++◌, length, min, Some, sum, map, refl, ap, sym, subst, ◌∙◌, arith, length-append}
+use Rattle.std.proofs.Common.{◌≡◌, ℕ, ◌+◌, ◌*◌, ◌/◌, ◌≤◌, eqb, true, false, cond, List, [], ◌∷◌, ◌++◌, length, min, Some, ap, arith, length-append}
 use Rattle.std.specs.List.{onto_first}
 use Rattle.mm_base.specs.Lines.{lines_of}
 use Rattle.mm_base.proofs.NumbersLemmas.{decimal_of-Some}
@@ -9,7 +9,7 @@ use Rattle.packet_record.specs.Schedules.{AreRows, IsScheduleText, said}
 use Rattle.packet_record.specs.declared.packet.Direction.{Direction}
 use Rattle.packet_record.specs.declared.packet.Direction.TheVariants.{Up, Down}
 use Rattle.packet_record.specs.declared.packet.Row.{Row}
-use Rattle.packet_record.proofs.LineLemmas.{HasParts, has_parts}
+use Rattle.packet_record.proofs.LineLemmas.{has_parts}
 use Rattle.packet_record.proofs.OrdersLemmas.{text_schedule}
 
 long_word : (d : Direction) → 4 ≤ length (direction_text d)

@@ -1,4 +1,4 @@
-use Rattle.std.proofs.Common.{◌++◌, append_assoc, subst, sym, ◌∙◌, ap}
+use Rattle.std.proofs.Common.{◌++◌, append_assoc, subst, sym, ◌∙◌}
 use Rattle.mm_base.specs.Lines.{lines_of}
 use Rattle.packet_record.specs.PartsRead.{IsLeft}
 use Rattle.packet_record.proofs.PartLemmas.{awaits_any}
