@@ -1,5 +1,5 @@
 -- From one shell to the next.
-use Rattle.std.proofs.Common.{◌≡◌, ℕ, IsSome, List, Option, Some, None, option_map, refl, subst, sym, length}
+use Rattle.std.proofs.Common.{◌≡◌, ℕ, List, subst, sym, length}
 use Rattle.packet_record.specs.declared.packet.Timed.{Timed}
 use Rattle.packet_record.specs.Moments.{AreUpTo, Rise}
 use Rattle.shell_core.specs.declared.spec.DirSpec.{DirSpec}

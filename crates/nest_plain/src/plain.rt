@@ -5,10 +5,10 @@ ghost use Rattle.packet_record.specs.Rows.{entering, Rises};
 ghost use Rattle.nest_spec.specs.declared.fate.Fate.{Fate as FateValue};
 ghost use Rattle.nest_spec.specs.Fates.{fated};
 ghost use Rattle.nest_spec.specs.Links.{AreBuilt};
-ghost use Rattle.nest_spec.specs.Marks.{walked};
-ghost use Rattle.nest_spec.specs.Nests.{directions_of, walk_of, result_of};
+ghost use Rattle.nest_spec.specs.Marks.{marked_through};
+ghost use Rattle.nest_spec.specs.Nests.{directions_of, shells_in, walk_of, result_of};
 ghost use Rattle.nest_spec.specs.Once.{HaveOneFate};
-ghost use Rattle.nest_spec.specs.Walk.{last_list, named_log};
+ghost use Rattle.nest_spec.specs.Walk.{named_log};
 ghost use Rattle.nest_plain.specs.Unwritten.{unwritten_log};
 
 use crate::NestRun;
@@ -36,7 +36,8 @@ fn entering(
     Ok(packets)
 }
 
-// A direction's packets through its shells, their fates marked: the logs of its shells in passing order, where they have names.
+// A direction's packets through its shells, their fates marked: the logs of its shells in passing order, where they have
+// names.
 fn run_direction(
     alloc: Global,
     nest: &Nest,
@@ -47,8 +48,11 @@ fn run_direction(
     requires { Rises 0 rows.now }
     ensures rows { marking.new.rows ≡ marking.old.rows }
     ensures fates { OnOk result ((f : RowValue → FateValue) → marking.old.fates ≡ fated f marking.old.rows
-        → marking.new.fates ≡ fated (walked (walk_of direction nest.now rows.now) (last_list (entering direction nest.now.horizon rows.now) (walk_of direction nest.now rows.now)) f) marking.old.rows) }
-    ensures logs { IfOk result (λ logs. map (option_map unwritten_log) logs.items ≡ map named_log (walk_of direction nest.now rows.now)) }
+        → marking.new.fates
+        ≡ fated (marked_through nest.now.horizon (shells_in direction nest.now) (entering direction nest.now.horizon rows.now) f)
+        marking.old.rows) }
+    ensures logs { IfOk result (λ logs. map (option_map unwritten_log) logs.items
+        ≡ map named_log (walk_of direction nest.now rows.now)) }
     ensures built { OnOk result (AreBuilt (directions_of direction nest.now)) }
 {
     let horizon = nest.horizon();
@@ -59,8 +63,8 @@ fn run_direction(
     Ok(logs)
 }
 
-/// Runs the schedule through the nest, each shell over its whole list of arrivals and then the next: the fate of each packet and the
-/// named logs, as the composition of the shells' functions gives them. The logs aren't written out.
+/// Runs the schedule through the nest, each shell over its whole list of arrivals and then the next: the fate of each
+/// packet and the named logs, as the composition of the shells' functions gives them. The logs aren't written out.
 pub fn run_nest(alloc: Global, nest: &Nest, schedule: &Schedule) -> Result<NestRun, OutOfMemory>
     ensures value { IfOk result (λ r. r ≡ result_of nest.now schedule.now) }
     ensures once { OnOk result (HaveOneFate nest.now schedule.now) }

@@ -8,9 +8,9 @@ ghost use Rattle.shell_core.specs.Wholes.{IsLink};
 ghost use Rattle.nest_spec.specs.declared.fate.Fate.{Fate as FateValue};
 ghost use Rattle.nest_spec.specs.Fates.{fated};
 ghost use Rattle.nest_spec.specs.Links.{AreBuilt, NamedAreLinks, specs_in};
-ghost use Rattle.nest_spec.specs.Marks.{ids_of, passed, walked};
+ghost use Rattle.nest_spec.specs.Marks.{ids_of, marked_through, passed};
 ghost use Rattle.nest_spec.specs.Nests.{AllFit};
-ghost use Rattle.nest_spec.specs.Walk.{step, walk, whole_inside, last_list, named_log};
+ghost use Rattle.nest_spec.specs.Walk.{step, walk, whole_inside, named_log};
 ghost use Rattle.nest_plain.specs.Unwritten.{unwritten_log};
 
 use crate::nest_run::UnwrittenLog;
@@ -37,7 +37,8 @@ fn run_shell(
     requires within { AreUpTo horizon arrived.items }
     ensures rows { marking.new.rows ≡ marking.old.rows }
     ensures fates { OnOk result ((f : RowValue → FateValue) → marking.old.fates ≡ fated f marking.old.rows
-        → marking.new.fates ≡ fated (passed shell.number (whole_lost shell.spec horizon arrived.items) (ids_of (whole_inside shell.spec horizon arrived.items)) f) marking.old.rows) }
+        → marking.new.fates ≡ fated (passed shell.number (whole_lost shell.spec horizon arrived.items)
+        (ids_of (whole_inside shell.spec horizon arrived.items)) f) marking.old.rows) }
     ensures departed { IfOk result (λ r. r.0.items ≡ whole_out shell.spec horizon arrived.items) }
     ensures log { IfOk result (λ r. option_map unwritten_log r.1 ≡ named_log (step horizon shell arrived.items)) }
     ensures built { OnOk result (IsBuilt shell.spec) }
@@ -73,8 +74,9 @@ pub(crate) fn run_shells(
     requires within { AreUpTo horizon arrived.items }
     ensures rows { marking.new.rows ≡ marking.old.rows }
     ensures fates { OnOk result ((f : RowValue → FateValue) → marking.old.fates ≡ fated f marking.old.rows
-        → marking.new.fates ≡ fated (walked (walk horizon (into_iter_items shells) arrived.items) (last_list arrived.items (walk horizon (into_iter_items shells) arrived.items)) f) marking.old.rows) }
-    ensures logs { OnOk result (map (option_map unwritten_log) logs.new.items ≡ map (option_map unwritten_log) logs.old.items ++ map named_log (walk horizon (into_iter_items shells) arrived.items)) }
+        → marking.new.fates ≡ fated (marked_through horizon (into_iter_items shells) arrived.items f) marking.old.rows) }
+    ensures logs { OnOk result (map (option_map unwritten_log) logs.new.items
+        ≡ map (option_map unwritten_log) logs.old.items ++ map named_log (walk horizon (into_iter_items shells) arrived.items)) }
     ensures built { OnOk result (AreBuilt (specs_in (into_iter_items shells))) }
 {
     let Some(shell) = shells.next() else {

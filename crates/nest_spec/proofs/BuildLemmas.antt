@@ -12,7 +12,7 @@ use Rattle.nest_spec.specs.declared.shell_words.ShellWords.TheVariants.{Delay, L
 use Rattle.nest_spec.specs.declared.shell_words.LinkSide.{LinkSide}
 use Rattle.nest_spec.specs.Plans.{AreShells, trace_count, log_in, IsPlan}
 use Rattle.nest_spec.specs.Words.{Text, NestPlan}
-use Rattle.nest_spec.specs.Nests.{NestParts, built, shells_of, side_with, AreInRange, all_opportunities, opportunities_of, IsNest}
+use Rattle.nest_spec.specs.Nests.{built, shells_of, side_with, AreInRange, all_opportunities, opportunities_of, IsNest}
 
 -- a side that takes the next trace, and the next name where it is logged
 pub record Takes (words : LinkSide) (traces traces' : List Trace) (names names' : List Text) (side : Side) : Type 0 where

@@ -1,14 +1,12 @@
--- What a run of one shell feeds and takes, and that the rows of a schedule are apart, for the tests of what is gathered.
+-- What a run of one shell feeds and takes, for the tests of what is gathered.
 use Rattle.std.proofs.Common.{◌≡◌, ◌⊎◌, inl, inr, ℕ, zero, suc, ◌+◌, ◌≤◌, ◌<◌, false, List, [], ◌∷◌, ◌++◌, length, get_or, take, drop, ap, sym, subst, ◌∙◌, refl, arith}
 use Rattle.std.proofs.lemmas.List.{take_more}
 use Rattle.packet_record.specs.declared.packet.Timed.{Timed}
-use Rattle.packet_record.specs.declared.packet.Row.{Row}
 use Rattle.packet_record.specs.declared.item.Stream.{Stream}
 use Rattle.packet_record.specs.declared.item.Item.TheVariants.{Packet, End}
 use Rattle.packet_record.specs.declared.item.FlowEnd.TheVariants.{Open, Ended}
 use Rattle.packet_record.specs.Streams.{after}
 use Rattle.packet_record.specs.Moments.{AreFrom, Rise}
-use Rattle.packet_record.specs.Orders.{AreInOrder}
 use Rattle.shell_state.specs.declared.taken.Taken.{Taken}
 use Rattle.shell_state.specs.declared.taken.Taken.TheVariants.{Item as Gives}
 use Rattle.shell_state.specs.States.{State, new_state}
@@ -16,7 +14,6 @@ use Rattle.shell_state.specs.Steps.{after_feed, after_take, answer_of, stream_af
 use Rattle.shell_state.specs.Standing.{Stands, left_of}
 use Rattle.shell_state.proofs.Equations.{feed_fed, feed_taken, feed_horizon, feed_spec, feed_breaks, take_taken, take_fed, take_horizon, take_spec, take_broken}
 use Rattle.shell_state.proofs.Progress.{take_goes}
-use Rattle.nest_spec.specs.Passed.{AreApart}
 
 pub from_at : (m : ℕ) (ts : List Timed) (i : ℕ) (t : Timed) → i < length ts → t ≡ get_or ts i t → AreFrom m (drop i ts) → m ≤ t.moment
 from_at m [] i t lt read f = absurd (omega arith)
@@ -117,15 +114,3 @@ goes s s' most a st ended open' whole some ea es not_end = by (take_goes s most 
 pub ends : (s s' : State) (most : ℕ) (a : Taken) → a ≡ answer_of s most → s' ≡ after_take s most → a ≡ Gives End → s'.taken.end ≡ Ended
 ends s s' most a ea es e =
     ap (λ (x : State). x.taken.end) es ∙ ap (λ (f : Stream). f.end) (take_taken s most) ∙ ap (λ (x : Taken). (stream_after s.taken x).end) (sym ea ∙ e)
-
-id_at : (place low : ℕ) (rows : List Row) (i : ℕ) (d : Row) → AreInOrder place low rows → i < length rows → (get_or rows i d).timed.packet.id ≡ place + i
-id_at place low [] i d order lt = absurd (omega arith)
-id_at place low (row ∷ rows) zero d order lt = omega (arith, order.0)
-id_at place low (row ∷ rows) (suc i) d order lt = let rest = id_at (place + 1) row.timed.moment rows i d order.2 (omega arith) in omega arith
-
--- the rows of a schedule have distinct numbers
-pub apart : (rows : List Row) → AreInOrder 1 0 rows → AreApart rows
-apart rows order i j d lt lt' same =
-    let one = id_at 1 0 rows i d order lt in
-    let two = id_at 1 0 rows j d order lt' in
-    omega arith

@@ -1,5 +1,5 @@
 -- The fates by overwriting are the fates in the walk.
-use Rattle.std.proofs.Common.{◌≡◌, ℕ, ◌+◌, ◌≤◌, Bool, true, cond, eqb, List, [], ◌∷◌, Option, Some, None, find, ap, sym, ◌∙◌, refl, arith}
+use Rattle.std.proofs.Common.{◌≡◌, ℕ, ◌≤◌, Bool, true, cond, eqb, List, [], ◌∷◌, Option, Some, None, find, ap, sym, ◌∙◌, refl, arith}
 use Rattle.std.specs.List.{list_any}
 use Rattle.std.specs.Option.{is_none, option_map_or}
 use Rattle.packet_record.specs.declared.packet.Timed.{Timed}
@@ -13,11 +13,8 @@ use Rattle.nest_spec.specs.declared.shell.ShellDirection.{ShellDirection}
 use Rattle.nest_spec.specs.Links.{AreBuilt, specs_in}
 use Rattle.nest_spec.specs.Walk.{Step, step, walk, whole_inside, last_list}
 use Rattle.nest_spec.specs.Fates.{find_id, ended_at, departed_at, fate_in}
-use Rattle.nest_spec.specs.Marks.{mark_fate, passed, walked, ids_of}
+use Rattle.nest_spec.specs.Marks.{mark_fate, passed, ids_of, marked_through}
 use Rattle.nest_spec.proofs.NumberLemmas.{is_id, all_three, none_found, without_found, some_number, none_among, some_among}
-
-abbrev pub marked_through : ℕ → List ShellDirection → List Timed → (Row → Fate) → Row → Fate
-marked_through h shells arrived f = walked (walk h shells arrived) (last_list arrived (walk h shells arrived)) f
 
 -- one shell marks, and then those after it
 pub one_step : (h n : ℕ) (shells rest : List ShellDirection) (s : ShellDirection) (arrived departed lost : List Timed) (held : List ℕ) (f : Row → Fate) → shells ≡ s ∷ rest → n ≡ s.number

@@ -1,12 +1,11 @@
 -- The shells of a nest in a direction.
-use Rattle.std.proofs.Common.{◌≡◌, ℕ, suc, ◌+◌, ◌≤◌, Bool, true, false, cond, List, [], ◌∷◌, ◌++◌, Option, IsSome, length, map, reverse, refl, ap, sym, subst, ◌∙◌, arith}
+use Rattle.std.proofs.Common.{◌≡◌, ℕ, suc, ◌+◌, ◌≤◌, Bool, true, false, cond, List, [], ◌∷◌, ◌++◌, IsSome, length, reverse, refl, ap, sym, subst, ◌∙◌, arith}
 use Rattle.std.proofs.lemmas.List.{reverse-append, length-reverse}
 use Rattle.packet_record.specs.declared.packet.Direction.{Direction}
 use Rattle.packet_record.specs.declared.packet.Direction.TheVariants.{Up, Down}
 use Rattle.packet_record.specs.declared.packet.Timed.{Timed}
 use Rattle.packet_record.specs.Rows.{goes}
 use Rattle.loss_core.specs.declared.rate.Rate.{Rate}
-use Rattle.shell_core.specs.declared.spec.DirSpec.{DirSpec}
 use Rattle.shell_core.specs.declared.spec.DirSpec.TheVariants as specs
 use Rattle.shell_core.specs.Shells.{IsInRange, opportunities}
 use Rattle.shell_core.specs.Wholes.{IsLink}
@@ -15,8 +14,8 @@ use Rattle.nest_spec.specs.declared.shell.Shell.TheVariants.{Delay, Loss, Link}
 use Rattle.nest_spec.specs.declared.shell.Side.{Side}
 use Rattle.nest_spec.specs.declared.shell.ShellDirection.{ShellDirection}
 use Rattle.nest_spec.specs.Links.{NamedAreLinks, specs_in}
-use Rattle.nest_spec.specs.Nests.{NestParts, IsNest, AllFit, AreInRange, all_opportunities, side_opportunities, spec_in, in_direction, all_in_direction, in_passing_order, shells_in, directions_of}
-use Rattle.nest_spec.specs.Walk.{Step, walk}
+use Rattle.nest_spec.specs.Nests.{NestParts, IsNest, AllFit, AreInRange, all_opportunities, side_opportunities, spec_in, all_in_direction, in_passing_order, shells_in}
+use Rattle.nest_spec.specs.Walk.{walk}
 
 -- a shell in a direction is in its range, has few opportunities, and logs only where it is a link
 pub record IsFit (h : ℕ) (s : ShellDirection) : Type 0 where

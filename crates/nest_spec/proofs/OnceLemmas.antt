@@ -17,10 +17,10 @@ use Rattle.nest_spec.specs.Links.{AreBuilt, specs_in}
 use Rattle.nest_spec.specs.Passed.{AreApart}
 use Rattle.nest_spec.specs.Walk.{walk}
 use Rattle.nest_spec.specs.Fates.{fate_row, fated, fate_in}
-use Rattle.nest_spec.specs.Nests.{NestParts, shells_in, directions_of, walk_of, fate_of, result_of}
-use Rattle.nest_spec.specs.Once.{IsEnd, IsFate, ends_in, ends_of, HasOneFate, HaveOneFate}
+use Rattle.nest_spec.specs.Nests.{NestParts, shells_in, directions_of, walk_of, fate_of}
+use Rattle.nest_spec.specs.Once.{IsEnd, IsFate, ends_in, HasOneFate, HaveOneFate}
 use Rattle.nest_spec.proofs.NumberLemmas.{is_id, all_three}
-use Rattle.nest_spec.proofs.EndLemmas.{is_packet, fewer, IsOnce, HasEnd, no_end, one_end}
+use Rattle.nest_spec.proofs.EndLemmas.{is_packet, HasEnd, no_end, one_end}
 
 -- what arrives ends in one of the lists, as often as it arrives
 ends_once : (id h : ℕ) (shells : List ShellDirection) (arrived : List Timed) → AreBuilt (specs_in shells) → ends_in id arrived (walk h shells arrived) ≡ number (is_id id) arrived

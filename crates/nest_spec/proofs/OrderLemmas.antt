@@ -1,5 +1,5 @@
 -- What shells have of each direction, in the nest's order.
-use Rattle.std.proofs.Common.{◌≡◌, ℕ, suc, ◌≤◌, List, [], ◌∷◌, ◌++◌, Option, Some, None, option_map, option_to_list, length, map, reverse, refl, ap, sym, ◌∙◌, arith}
+use Rattle.std.proofs.Common.{◌≡◌, List, [], ◌∷◌, ◌++◌, Option, Some, None, option_map, option_to_list, map, reverse, refl, ap, sym, ◌∙◌}
 use Rattle.std.proofs.lemmas.List.{append_assoc, map-append, reverse-append}
 use Rattle.std.specs.List.{zip, flat_map}
 use Rattle.nest_spec.specs.Walk.{in_nest_order}

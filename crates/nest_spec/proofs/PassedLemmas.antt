@@ -4,7 +4,7 @@ use Rattle.std.proofs.lemmas.List.{length-map}
 use Rattle.packet_record.specs.declared.packet.Timed.{Timed}
 use Rattle.packet_record.specs.declared.item.FlowEnd.TheVariants.{Ended}
 use Rattle.shell_core.specs.declared.spec.DirSpec.{DirSpec}
-use Rattle.shell_core.specs.Shells.{opportunities, lost, inside, shell_log, whole_out, whole_lost, whole_log}
+use Rattle.shell_core.specs.Shells.{lost, inside, shell_log, whole_out, whole_lost, whole_log}
 use Rattle.shell_state.specs.States.{State}
 use Rattle.shell_state.specs.Standing.{Stands}
 use Rattle.shell_state.proofs.Foretelling.{taken_whole}

@@ -11,17 +11,16 @@ use Rattle.nest_spec.specs.Passed.{AreApart}
 use Rattle.nest_spec.specs.Fates.{fated, fate_in}
 use Rattle.std.proofs.lemmas.List.{length-map}
 use Rattle.shell_log.specs.declared.entry.Entry.{Entry}
-use Rattle.nest_spec.specs.declared.fate.FateRow.{FateRow}
 use Rattle.nest_spec.specs.declared.run_result.Named.{Named}
 use Rattle.nest_spec.specs.RunViews.{named_by}
-use Rattle.nest_spec.specs.Marks.{Marks, marks}
-use Rattle.nest_spec.specs.Walk.{Step, NamedEntries, walk, named_log, in_nest_order}
-use Rattle.nest_spec.specs.Nests.{NestParts, shells_in, directions_of, walk_of, fate_of, logs_of, run_lists, result_of}
+use Rattle.nest_spec.specs.Marks.{Marks, marks, marked_through}
+use Rattle.nest_spec.specs.Walk.{named_log, in_nest_order}
+use Rattle.nest_spec.specs.Nests.{NestParts, shells_in, directions_of, walk_of, fate_of, run_lists, result_of}
 use Rattle.nest_spec.proofs.MarkLemmas.{fated_same, marks_on}
 use Rattle.nest_spec.proofs.NestLemmas.{shells_long, walk_long}
 use Rattle.nest_spec.proofs.OrderLemmas.{map-in_nest_order}
-use Rattle.nest_spec.proofs.Natural.{marked_through, untouched, natural}
-use Rattle.nest_spec.proofs.OnceLemmas.{is_sent, Enters, enters}
+use Rattle.nest_spec.proofs.Natural.{untouched, natural}
+use Rattle.nest_spec.proofs.OnceLemmas.{Enters, enters}
 
 -- the fates when a direction's packets have passed its shells
 abbrev pub marked_in : Direction → NestParts → List Row → (Row → Fate) → Row → Fate

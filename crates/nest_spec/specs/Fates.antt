@@ -23,7 +23,8 @@ departed_at id departed = option_map_or (λ (t : Timed). fates.Departed t.moment
 -- of a packet that enters: the first shell that it doesn't depart from has it, or it has passed them all
 abbrev pub fate_in : ℕ → List Timed → List Step → Fate
 fate_in id entering steps =
-    option_map_or (ended_at id) (find (λ (s : Step). is_none (find_id id s.departed)) steps) (departed_at id (last_list entering steps))
+    option_map_or (ended_at id) (find (λ (s : Step). is_none (find_id id s.departed)) steps)
+    (departed_at id (last_list entering steps))
 
 abbrev pub fate_row : Row → Fate → FateRow
 fate_row row fate = record { id = row.timed.packet.id; direction = row.direction; fate = fate }

@@ -1,6 +1,6 @@
--- What contracts see of a marking, and what marking does: the fates of rows, overwritten shell by shell. That this gives the fates of the
--- walk is proved.
-use Rattle.std.specs.Prelude.{ℕ, ◌==◌, List, [], ◌∷◌, find, map, if◌then◌else◌}
+-- What contracts see of a marking, and what marking does: the fates of rows, overwritten shell by shell. That this gives
+-- the fates of the walk is proved.
+use Rattle.std.specs.Prelude.{ℕ, ◌==◌, List, [], ◌∷◌, map, if◌then◌else◌}
 use Rattle.std.specs.List.{list_any}
 use Rattle.std.specs.Option.{option_map_or}
 use Rattle.packet_record.specs.declared.packet.Timed.{Timed}
@@ -10,7 +10,8 @@ use Rattle.nest_spec.specs.declared.fate.Fate.TheVariants as fates
 use Rattle.nest_spec.specs.declared.fate.FateRow.{FateRow}
 use Rattle.nest_spec.specs.declared.mark.Mark.{Mark}
 use Rattle.nest_spec.specs.declared.mark.Mark.TheVariants.{Drops, Leaves}
-use Rattle.nest_spec.specs.Walk.{Step}
+use Rattle.nest_spec.specs.declared.shell.ShellDirection.{ShellDirection}
+use Rattle.nest_spec.specs.Walk.{Step, walk, last_list}
 use Rattle.nest_spec.specs.Fates.{find_id}
 
 -- the rows, and the fates so far
@@ -49,3 +50,7 @@ ids_of packets = map (λ (t : Timed). t.packet.id) packets
 abbrev pub walked : List Step → List Timed → (Row → Fate) → Row → Fate
 walked [] departed f = marked departed Leaves f
 walked (s ∷ steps) departed f = walked steps departed (passed s.number s.lost (ids_of s.inside) f)
+
+-- where what arrived has passed these shells
+abbrev pub marked_through : ℕ → List ShellDirection → List Timed → (Row → Fate) → Row → Fate
+marked_through h shells arrived f = walked (walk h shells arrived) (last_list arrived (walk h shells arrived)) f

@@ -1,10 +1,9 @@
 -- A nest, what its shells do in each direction, and what a run of it gives.
-use Rattle.std.specs.Prelude.{ℕ, ◌+◌, ◌*◌, ◌≤◌, Bool, true, false, List, [], ◌∷◌, Option, Some, None, length, drop, map, reverse, nat_lt, if◌then◌else◌}
+use Rattle.std.specs.Prelude.{ℕ, ◌+◌, ◌*◌, ◌≤◌, Bool, List, [], ◌∷◌, Option, None, length, drop, map, reverse, nat_lt, if◌then◌else◌}
 use Rattle.std.specs.List.{slice_get}
 use Rattle.packet_record.specs.declared.packet.Direction.{Direction}
 use Rattle.packet_record.specs.declared.packet.Direction.TheVariants.{Up, Down}
 use Rattle.packet_record.specs.declared.packet.Row.{Row}
-use Rattle.packet_record.specs.declared.packet.Timed.{Timed}
 use Rattle.packet_record.specs.Rows.{goes, entering}
 use Rattle.trace_reader.specs.declared.trace.Trace.{Trace}
 use Rattle.trace_reader.specs.Opps.{opps}
@@ -35,9 +34,11 @@ pub record NestParts : Type 0 where
 
 -- one direction of a link with its trace, and with the first of these names where it is logged
 abbrev pub side_with : LinkSide → Trace → List Text → Side
-side_with side trace names = record { trace = trace; queue = side.queue; log = if side.logged then slice_get names 0 else None }
+side_with side trace names =
+    record { trace = trace; queue = side.queue; log = if side.logged then slice_get names 0 else None }
 
--- The shells of these words. Each link takes the next two traces, and each of its sides that is logged the next name, up before down.
+-- The shells of these words. Each link takes the next two traces, and each of its sides that is logged the next name, up
+-- before down.
 abbrev pub shells_of : List ShellWords → List Trace → List Text → List Shell
 shells_of [] traces names = []
 shells_of (words.Delay ms ∷ more) traces names = Delay ms ∷ shells_of more traces names
@@ -45,7 +46,8 @@ shells_of (words.Loss d rate ∷ more) traces names = Loss d rate ∷ shells_of 
 shells_of (words.Link once up down ∷ more) [] names = []
 shells_of (words.Link once up down ∷ more) (t ∷ []) names = []
 shells_of (words.Link once up down ∷ more) (t ∷ u ∷ traces) names =
-    Link once (side_with up t names) (side_with down u (drop (log_in up) names)) ∷ shells_of more traces (drop (log_in down) (drop (log_in up) names))
+    Link once (side_with up t names) (side_with down u (drop (log_in up) names))
+    ∷ shells_of more traces (drop (log_in down) (drop (log_in up) names))
 
 abbrev pub built : NestPlan → List Trace → ℕ → ℕ → NestParts
 built plan traces seed horizon = record { shells = shells_of plan.shells traces plan.logs; seed = seed; horizon = horizon }
@@ -58,7 +60,8 @@ abbrev pub all_opportunities : ℕ → List Shell → ℕ
 all_opportunities h [] = 0
 all_opportunities h (Delay ms ∷ shells) = all_opportunities h shells
 all_opportunities h (Loss d rate ∷ shells) = all_opportunities h shells
-all_opportunities h (Link once up down ∷ shells) = side_opportunities h once up + side_opportunities h once down + all_opportunities h shells
+all_opportunities h (Link once up down ∷ shells) =
+    side_opportunities h once up + side_opportunities h once down + all_opportunities h shells
 
 -- of the nest of these words with these traces, whatever the names of its logs
 abbrev pub opportunities_of : ℕ → List ShellWords → List Trace → ℕ
@@ -76,7 +79,8 @@ side_in Down up down = down
 -- What the shell of this number does in a direction. A loss is of one direction, and the other passes every packet.
 abbrev pub spec_in : Direction → ℕ → ℕ → Shell → DirSpec
 spec_in d seed number (Delay ms) = specs.Delay ms
-spec_in d seed number (Loss named rate) = if goes d named then specs.Loss rate seed (stream_of number d) else specs.Pass
+spec_in d seed number (Loss named rate) =
+    if goes d named then specs.Loss rate seed (stream_of number d) else specs.Pass
 spec_in d seed number (Link once up down) = specs.Link (side_in d up down).trace once (side_in d up down).queue
 
 -- the name of its log, if it has one

@@ -8,13 +8,15 @@ use Rattle.shell_state.specs.States.{State}
 
 -- no two rows have one number
 abbrev pub AreApart : List Row → Type 0
-AreApart rows = (i j : ℕ) (d : Row) → i < length rows → j < length rows → (get_or rows i d).timed.packet.id ≡ (get_or rows j d).timed.packet.id → i ≡ j
+AreApart rows = (i j : ℕ) (d : Row) → i < length rows → j < length rows
+    → (get_or rows i d).timed.packet.id ≡ (get_or rows j d).timed.packet.id → i ≡ j
 
--- the states of these directions in passing order: each was fed what was taken from the one before it, the first these packets, and was
--- taken to its end
+-- The states of these directions in passing order: each was fed what was taken from the one before it, the first these
+-- packets, and was taken to its end.
 abbrev pub HavePassed : ℕ → List DirSpec → List Timed → List State → Type 0
 HavePassed h [] arrived [] = Unit {0}
 HavePassed h [] arrived (s ∷ states) = ⊥
 HavePassed h (c ∷ specs) arrived [] = ⊥
 HavePassed h (c ∷ specs) arrived (s ∷ states) =
-    (s.spec ≡ c) × (s.horizon ≡ h) × (s.fed.packets ≡ arrived) × (s.taken.end ≡ Ended) × HavePassed h specs s.taken.packets states
+    (s.spec ≡ c) × (s.horizon ≡ h) × (s.fed.packets ≡ arrived) × (s.taken.end ≡ Ended)
+    × HavePassed h specs s.taken.packets states

@@ -1,4 +1,5 @@
--- The walk of packets through shells, step by step in the order in which they pass them. What a run gives is said over its steps.
+-- The walk of packets through shells, step by step in the order in which they pass them. What a run gives is said over
+-- its steps.
 use Rattle.std.specs.Prelude.{ℕ, List, [], ◌∷◌, ◌++◌, Option, length, map, reverse, option_map, option_to_list}
 use Rattle.std.specs.List.{flat_map, zip}
 use Rattle.packet_record.specs.declared.packet.Timed.{Timed}
@@ -12,8 +13,8 @@ use Rattle.nest_spec.specs.Words.{Text}
 abbrev pub whole_inside : DirSpec → ℕ → List Timed → List Timed
 whole_inside c h arrivals = inside c h (length (opportunities c h)) arrivals
 
--- One shell on the way: its number, what it does, what arrived, what departed (Out), what was dropped (Lost), what stays inside
--- (Inside), its log (ShellLog), and the log's name, if it has one.
+-- One shell on the way: its number, what it does, what arrived, what departed (Out), what was dropped (Lost), what stays
+-- inside (Inside), its log (ShellLog), and the log's name, if it has one.
 pub record Step : Type 0 where
   pub number : ℕ
   pub spec : DirSpec
@@ -61,6 +62,7 @@ named_entries name entries = record { name = name; entries = entries }
 abbrev pub named_log : Step → Option NamedEntries
 named_log s = option_map (λ name. named_entries name s.log) s.name
 
--- In the nest's order, up before down, what the shells have of each direction in passing order: up the innermost first, down the outermost.
+-- In the nest's order, up before down, what the shells have of each direction in passing order: up the innermost first,
+-- down the outermost.
 abbrev pub in_nest_order : {A : Type 0} → List (Option A) → List (Option A) → List A
 in_nest_order ups downs = flat_map (λ (up, down). option_to_list up ++ option_to_list down) (zip (reverse ups) downs)

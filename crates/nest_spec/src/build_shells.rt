@@ -40,7 +40,8 @@ fn push_shells(
 ) -> Result<(), OutOfMemory>
     requires traces { length (into_iter_items traces) ≡ trace_count words.now }
     requires names { length (into_iter_items names) ≡ log_count words.now }
-    ensures { OnOk result (shells.new.items ≡ shells.old.items ++ shells_of words.now (into_iter_items traces) (into_iter_items names)) }
+    ensures { OnOk result (shells.new.items
+        ≡ shells.old.items ++ shells_of words.now (into_iter_items traces) (into_iter_items names)) }
 {
     let Some((shell, words)) = words.split_first() else {
         return Ok(());
@@ -54,7 +55,8 @@ fn push_shells(
 fn shell_of(words: ShellWords, traces: &mut IntoIter<Trace>, names: &mut IntoIter<Text>) -> Shell
     requires traces { traces_in words ≤ length (into_iter_items traces.old) }
     requires names { logs_in words ≤ length (into_iter_items names.old) }
-    ensures shell { (more : List WordsValue) → shells_of (words ∷ more) (into_iter_items traces.old) (into_iter_items names.old) ≡ result ∷ shells_of more (into_iter_items traces.new) (into_iter_items names.new) }
+    ensures shell { (more : List WordsValue) → shells_of (words ∷ more) (into_iter_items traces.old) (into_iter_items names.old)
+        ≡ result ∷ shells_of more (into_iter_items traces.new) (into_iter_items names.new) }
     ensures traces { length (into_iter_items traces.old) ≡ traces_in words + length (into_iter_items traces.new) }
     ensures names { length (into_iter_items names.old) ≡ logs_in words + length (into_iter_items names.new) }
 {

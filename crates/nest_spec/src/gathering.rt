@@ -6,12 +6,12 @@ ghost use Rattle.packet_record.specs.Rows.{entering};
 ghost use Rattle.nest_spec.specs.declared.fate.Fate.{Fate as FateValue};
 ghost use Rattle.nest_spec.specs.Fates.{fated};
 ghost use Rattle.nest_spec.specs.Links.{AreBuilt, specs_in};
-ghost use Rattle.nest_spec.specs.Marks.{walked};
-ghost use Rattle.nest_spec.specs.Nests.{directions_of, walk_of, result_of};
+ghost use Rattle.nest_spec.specs.Marks.{marked_through};
+ghost use Rattle.nest_spec.specs.Nests.{directions_of, shells_in, walk_of, result_of};
 ghost use Rattle.nest_spec.specs.Once.{HaveOneFate};
 ghost use Rattle.nest_spec.specs.Passed.{AreApart, HavePassed};
 ghost use Rattle.nest_spec.specs.RunViews.{entries_in, named_by};
-ghost use Rattle.nest_spec.specs.Walk.{walk, last_list, named_entries, named_log};
+ghost use Rattle.nest_spec.specs.Walk.{walk, named_entries, named_log};
 
 use crate::copying::copy_log;
 use crate::marking::Marking;
@@ -23,7 +23,8 @@ use shell_log::Log;
 use shell_state::ShellState;
 use std::alloc::Global;
 
-// Marks the fates of what arrived at these shells, and of what passed them all, and adds the log of each, where it has a name.
+// Marks the fates of what arrived at these shells, and of what passed them all, and adds the log of each, where it has a
+// name.
 fn gather_shells(
     marking: &mut Marking<'_>,
     logs: &mut Vec<Option<NamedLog>>,
@@ -35,8 +36,9 @@ fn gather_shells(
     requires passed { HavePassed horizon (specs_in shells.now) arrived.now states.now }
     ensures rows { marking.new.rows ≡ marking.old.rows }
     ensures fates { OnOk result ((f : RowValue → FateValue) → marking.old.fates ≡ fated f marking.old.rows
-        → marking.new.fates ≡ fated (walked (walk horizon shells.now arrived.now) (last_list arrived.now (walk horizon shells.now arrived.now)) f) marking.old.rows) }
-    ensures logs { OnOk result (map (option_map (named_by entries_in)) logs.new.items ≡ map (option_map (named_by entries_in)) logs.old.items ++ map named_log (walk horizon shells.now arrived.now)) }
+        → marking.new.fates ≡ fated (marked_through horizon shells.now arrived.now f) marking.old.rows) }
+    ensures logs { OnOk result (map (option_map (named_by entries_in)) logs.new.items
+        ≡ map (option_map (named_by entries_in)) logs.old.items ++ map named_log (walk horizon shells.now arrived.now)) }
     ensures built { OnOk result (AreBuilt (specs_in shells.now)) }
 {
     let Some((shell, shells)) = shells.split_first() else {
@@ -65,7 +67,8 @@ fn copy_named(
     name: &Option<Text>,
     log: &Log,
 ) -> Result<Option<NamedLog>, OutOfMemory>
-    ensures { IfOk result (λ named. option_map (named_by entries_in) named ≡ option_map (λ n. named_entries n log.now.entries) name.now) }
+    ensures { IfOk result (λ named. option_map (named_by entries_in) named
+        ≡ option_map (λ n. named_entries n log.now.entries) name.now) }
 {
     let Some(name) = name else {
         return Ok(None);
@@ -85,11 +88,15 @@ fn gather_direction(
     rows: &[Row],
     states: &[ShellState],
 ) -> Result<Vec<Option<NamedLog>>, OutOfMemory>
-    requires passed { HavePassed nest.now.horizon (directions_of direction nest.now) (entering direction nest.now.horizon rows.now) states.now }
+    requires passed { HavePassed nest.now.horizon (directions_of direction nest.now)
+        (entering direction nest.now.horizon rows.now) states.now }
     ensures rows { marking.new.rows ≡ marking.old.rows }
     ensures fates { OnOk result ((f : RowValue → FateValue) → marking.old.fates ≡ fated f marking.old.rows
-        → marking.new.fates ≡ fated (walked (walk_of direction nest.now rows.now) (last_list (entering direction nest.now.horizon rows.now) (walk_of direction nest.now rows.now)) f) marking.old.rows) }
-    ensures logs { IfOk result (λ logs. map (option_map (named_by entries_in)) logs.items ≡ map named_log (walk_of direction nest.now rows.now)) }
+        → marking.new.fates
+        ≡ fated (marked_through nest.now.horizon (shells_in direction nest.now) (entering direction nest.now.horizon rows.now) f)
+        marking.old.rows) }
+    ensures logs { IfOk result (λ logs. map (option_map (named_by entries_in)) logs.items
+        ≡ map named_log (walk_of direction nest.now rows.now)) }
     ensures built { OnOk result (AreBuilt (directions_of direction nest.now)) }
 {
     let shells = nest.shells_in(direction)?;
@@ -106,9 +113,9 @@ fn gather_direction(
     Ok(logs)
 }
 
-/// The result of a run: the fate of each row, and the logs of the nest that have a name. The states are those of the nest's shells in
-/// passing order, each of which was fed what the one before it passed on, the first the direction's rows up to the horizon, and was
-/// taken to its end.
+/// The result of a run: the fate of each row, and the logs of the nest that have a name. The states are those of the
+/// nest's shells in passing order, each of which was fed what the one before it passed on, the first the direction's rows
+/// up to the horizon, and was taken to its end.
 pub fn gather(
     alloc: Global,
     nest: &Nest,
@@ -117,8 +124,10 @@ pub fn gather(
     down: &[ShellState],
 ) -> Result<RunResult, OutOfMemory>
     requires apart { AreApart rows.now }
-    requires up { HavePassed nest.now.horizon (directions_of Up nest.now) (entering Up nest.now.horizon rows.now) up.now }
-    requires down { HavePassed nest.now.horizon (directions_of Down nest.now) (entering Down nest.now.horizon rows.now) down.now }
+    requires up { HavePassed nest.now.horizon (directions_of Up nest.now)
+        (entering Up nest.now.horizon rows.now) up.now }
+    requires down { HavePassed nest.now.horizon (directions_of Down nest.now)
+        (entering Down nest.now.horizon rows.now) down.now }
     ensures value { IfOk result (λ r. r ≡ result_of nest.now rows.now) }
     ensures once { OnOk result (HaveOneFate nest.now rows.now) }
 {

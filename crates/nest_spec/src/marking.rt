@@ -15,7 +15,7 @@ use packet_record::{Row, Schedule, Timed};
 use std::alloc::Global;
 use std::marker::Model;
 
-/// The fates of a run's rows while its packets pass the shells. Contracts see the rows and the fates, one for each row.
+/// The fates of a run's rows while its packets pass the shells. Contracts see the rows and their fates, one for each.
 #[derive(Drop)]
 pub struct Marking<'a> {
     rows: &'a [Row],
@@ -48,7 +48,7 @@ impl<'a> Marking<'a> {
         })
     }
 
-    /// The fates before any packet of a schedule is sent, as in `new`. That the rows are numbered from 1 isn't looked at.
+    /// The fates before any packet of a schedule is sent, as in `new`. That its rows are numbered from 1 isn't looked at.
     pub fn of_schedule(alloc: Global, schedule: &'a Schedule) -> Result<Marking<'a>, OutOfMemory>
         ensures { IfOk result (λ m. m ≡ marks schedule.now (fated (λ _. Fate.Unsent) schedule.now)) }
     {
@@ -60,8 +60,8 @@ impl<'a> Marking<'a> {
         })
     }
 
-    /// The packets have passed the shell of this number: those that it lost are dropped there, and those of these numbers are still
-    /// inside it.
+    /// The packets have passed the shell of this number: those that it lost are dropped there, and those of these
+    /// numbers are still inside it.
     pub fn pass(&mut self, number: u32, lost: &[Timed], held: &[u32])
         ensures rows { self.new.rows ≡ self.old.rows }
         ensures fates { (f : RowValue → FateValue) → self.old.fates ≡ fated f self.old.rows
@@ -100,7 +100,8 @@ fn put(places: &Places, rows: &[Row], id: u32, fate: Fate, list: &mut Vec<FateRo
     requires places { ArePlaces rows.now places.now }
     requires length { length list.old.items ≡ length rows.now }
     ensures length { length list.new.items ≡ length rows.now }
-    ensures fates { (f : RowValue → FateValue) → list.old.items ≡ fated f rows.now → list.new.items ≡ fated (put id fate f) rows.now }
+    ensures fates { (f : RowValue → FateValue) → list.old.items ≡ fated f rows.now
+        → list.new.items ≡ fated (put id fate f) rows.now }
 {
     if let Some(place) = place_of(places, rows, id) {
         list[place] = row_with(rows[place], fate);
@@ -112,7 +113,8 @@ fn mark_all(places: &Places, rows: &[Row], packets: &[Timed], mark: Mark, list: 
     requires places { ArePlaces rows.now places.now }
     requires length { length list.old.items ≡ length rows.now }
     ensures length { length list.new.items ≡ length rows.now }
-    ensures fates { (f : RowValue → FateValue) → list.old.items ≡ fated f rows.now → list.new.items ≡ fated (marked packets.now mark f) rows.now }
+    ensures fates { (f : RowValue → FateValue) → list.old.items ≡ fated f rows.now
+        → list.new.items ≡ fated (marked packets.now mark f) rows.now }
 {
     let mut left = packets.len();
     'packets: while left > 0 {
@@ -127,7 +129,8 @@ fn hold_all(places: &Places, rows: &[Row], ids: &[u32], shell: u32, list: &mut V
     requires places { ArePlaces rows.now places.now }
     requires length { length list.old.items ≡ length rows.now }
     ensures length { length list.new.items ≡ length rows.now }
-    ensures fates { (f : RowValue → FateValue) → list.old.items ≡ fated f rows.now → list.new.items ≡ fated (held_in ids.now shell f) rows.now }
+    ensures fates { (f : RowValue → FateValue) → list.old.items ≡ fated f rows.now
+        → list.new.items ≡ fated (held_in ids.now shell f) rows.now }
 {
     let mut left = ids.len();
     'ids: while left > 0 {

@@ -5,7 +5,8 @@ ghost use Rattle.nest_spec.specs.Walk.{in_nest_order};
 use mm_base::OutOfMemory;
 use std::alloc::Global;
 
-/// What the shells have of each direction, in the nest's order, up before down: the lists are in passing order, an entry for each shell.
+/// What the shells have of each direction, in the nest's order, up before down. The lists are in passing order, with an
+/// entry for each shell.
 pub fn in_nest_order<T: Drop>(
     alloc: Global,
     mut ups: Vec<Option<T>>,

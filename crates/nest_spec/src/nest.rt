@@ -1,6 +1,7 @@
 // A nest of shells.
 ghost use Rattle.std.specs.Prelude.{◌≡◌, ◌≤◌, ◌+◌, ◌++◌, length, OnOk, IfOk};
-ghost use Rattle.nest_spec.specs.Nests.{built, directions_of, shells_in, in_passing_order, all_in_direction, opportunities_of, IsNest, AllFit};
+ghost use Rattle.nest_spec.specs.Nests.{IsNest, AllFit, built, opportunities_of};
+ghost use Rattle.nest_spec.specs.Nests.{all_in_direction, directions_of, in_passing_order, shells_in};
 ghost use Rattle.nest_spec.specs.Links.{NamedAreLinks, specs_in};
 
 use crate::build_shells::build_shells;
@@ -32,8 +33,8 @@ impl Model for Nest {
     ghost invariant = { HasNest };
 }
 
-/// The nest of these words with these traces, one for each of the words' traces in their order. At most 16,000,000 opportunities are
-/// up to the horizon, which is at most 3,600,000 ms.
+/// The nest of these words with these traces, one for each of the words' traces in their order. At most 16,000,000
+/// opportunities are up to the horizon, which is at most 3,600,000 ms.
 pub fn build(
     alloc: Global,
     words: NestWords,
@@ -71,7 +72,8 @@ impl Nest {
         self.horizon
     }
 
-    /// The shells in a direction, in the order in which its packets pass them: up the innermost first, down the outermost.
+    /// The shells in a direction, in the order in which its packets pass them: up the innermost first, down the
+    /// outermost.
     pub fn shells_in(&self, direction: Direction) -> Result<Vec<ShellDirection>, OutOfMemory>
         ensures list { IfOk result (λ list. list.items ≡ shells_in direction self.now) }
         ensures some { IfOk result (λ list. 1 ≤ length list.items) }

@@ -29,8 +29,8 @@ pub enum Shell {
     Link { once: bool, up: Side, down: Side },
 }
 
-/// What a shell is in one direction: its number, from 1 for the outermost, what it does there, and the name of its log there, if it has
-/// one.
+/// What a shell is in one direction: its number, from 1 for the outermost, what it does there, and the name of its log
+/// there, if it has one.
 #[derive(Drop)]
 pub struct ShellDirection {
     pub number: u32,

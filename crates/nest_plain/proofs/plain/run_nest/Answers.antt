@@ -1,4 +1,4 @@
-use Rattle.std.proofs.Common.{◌∙◌, List, map, ap, subst, sym}
+use Rattle.std.proofs.Common.{◌∙◌, List, ap, subst, sym}
 use Rattle.packet_record.specs.declared.packet.Row.{Row}
 use Rattle.packet_record.specs.Orders.{AreInOrder}
 use Rattle.packet_record.specs.Rows.{Rises}

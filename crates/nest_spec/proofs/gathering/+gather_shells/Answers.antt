@@ -1,10 +1,9 @@
-use Rattle.std.proofs.Common.{List, ap, refl, sym, ◌∙◌}
+use Rattle.std.proofs.Common.{ap, refl, sym, ◌∙◌}
 use Rattle.std.proofs.lemmas.Result.{on_ok_weaker}
-use Rattle.packet_record.specs.declared.packet.Timed.{Timed}
 use Rattle.nest_spec.specs.Fates.{fated}
 use Rattle.nest_spec.specs.Links.{specs_in}
-use Rattle.nest_spec.specs.Marks.{passed, ids_of}
-use Rattle.nest_spec.proofs.Natural.{marked_through, one_step}
+use Rattle.nest_spec.specs.Marks.{passed, ids_of, marked_through}
+use Rattle.nest_spec.proofs.Natural.{one_step}
 use Rattle.nest_spec.proofs.PassedLemmas.{first_has_run}
 use Rattle.nest_spec.proofs.gathering.+gather_shells.Goals as goal
 

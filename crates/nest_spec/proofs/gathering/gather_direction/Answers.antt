@@ -3,11 +3,11 @@ use Rattle.packet_record.specs.Rows.{entering}
 use Rattle.nest_spec.specs.declared.shell.ShellDirection.{ShellDirection}
 use Rattle.nest_spec.specs.Fates.{fated}
 use Rattle.nest_spec.specs.Links.{specs_in}
-use Rattle.nest_spec.specs.Nests.{directions_of, shells_in}
+use Rattle.nest_spec.specs.Nests.{shells_in}
 use Rattle.nest_spec.specs.Passed.{HavePassed}
 use Rattle.nest_spec.specs.RunViews.{entries_in, named_by}
 use Rattle.nest_spec.specs.Walk.{named_log, walk}
-use Rattle.nest_spec.proofs.Natural.{marked_through}
+use Rattle.nest_spec.specs.Marks.{marked_through}
 use Rattle.nest_spec.proofs.PassedLemmas.{some_states, first_arrivals}
 use Rattle.nest_spec.proofs.gathering.gather_direction.Goals as goal
 

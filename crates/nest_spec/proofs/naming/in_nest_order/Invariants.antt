@@ -1,4 +1,4 @@
-use Rattle.std.proofs.Common.{◌≡◌, ◌+◌, ◌++◌, length}
+use Rattle.std.proofs.Common.{◌≡◌, ◌++◌, length}
 use Rattle.std.specs.Vec.Iter.{into_iter_items}
 use Rattle.nest_spec.specs.Walk.{in_nest_order}
 use Rattle.nest_spec.proofs.naming.in_nest_order.Given as goal

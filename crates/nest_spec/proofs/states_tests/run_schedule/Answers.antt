@@ -2,7 +2,7 @@ use Rattle.std.proofs.Common.{subst, sym}
 use Rattle.packet_record.specs.Rows.{Rises}
 use Rattle.packet_record.proofs.RowsLemmas.{rises-in_order}
 use Rattle.nest_spec.specs.Passed.{AreApart}
-use Rattle.nest_spec.proofs.FeedingLemmas.{apart}
+use Rattle.nest_spec.proofs.Scheduled.{apart}
 use Rattle.nest_spec.proofs.states_tests.run_schedule.Goals as goal
 
 pub run_direction-requires : goal.run_direction-requires

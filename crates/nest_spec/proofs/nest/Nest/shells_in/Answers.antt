@@ -1,7 +1,5 @@
-use Rattle.std.proofs.Common.{◌≡◌, ◌≤◌, List, length, ap, subst, sym, ◌∙◌, arith, rules}
-use Rattle.nest_spec.specs.declared.shell.ShellDirection.{ShellDirection}
-use Rattle.nest_spec.specs.Links.{NamedAreLinks, specs_in}
-use Rattle.nest_spec.specs.Nests.{AllFit, IsNest, in_passing_order, shells_in}
+use Rattle.std.proofs.Common.{◌≡◌, length, ap, subst, sym, arith, rules}
+use Rattle.nest_spec.specs.Nests.{IsNest, shells_in}
 use Rattle.nest_spec.proofs.NestLemmas.{AreFit, shells_fit, specs_fit, named_links, shells_long}
 use Rattle.nest_spec.proofs.nest.Nest.shells_in.Goals as goal
 
