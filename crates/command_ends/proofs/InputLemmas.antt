@@ -11,7 +11,7 @@ use Rattle.mm_base.specs.declared.errors.LoadError.TheVariants as load_errors
 use Rattle.mm_base.proofs.FilesLemmas.{is_held}
 use Rattle.command_ends.specs.Causes.{Text}
 use Rattle.command_ends.specs.Loads.{cause_of_disk, cause_of_load}
-use Rattle.command_ends.specs.Readings.{Gives, input_of}
+use Rattle.command_ends.specs.Readings.{Holds, input_of}
 use Rattle.command_ends.specs.Stops.{StopsAtFile, FileRefused, FileFault, FileWants}
 use Rattle.command_ends.specs.declared.cause.Limit.TheVariants.{File}
 use Rattle.command_ends.specs.declared.cause.Refusal.TheVariants.{Absent, Limit}
@@ -34,7 +34,7 @@ none_some : (m : Files) → None ≡ Some m → ⊥
 none_some m e = cc e
 
 large_given : (told : Option Files) (name : Text) (size : ℕ) → 67108864 < size → IsThere told name → IfHeld told name (λ bytes. size ≡ length bytes)
-    → (given : Option (List ℕ)) × Gives told name given × (input_of name given ≡ Err (Limit (File name)))
+    → (given : Option (List ℕ)) × Holds told name given × (input_of name given ≡ Err (Limit (File name)))
 large_given None name size lt there held =
     (Some (replicate size 0), (λ m e. absurd (none_some m e)), large_is name (replicate size 0) (omega (arith, length-replicate {A = ℕ} size 0)))
 large_given (Some m) name size lt there held =

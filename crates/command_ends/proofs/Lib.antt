@@ -6,3 +6,4 @@ pub mod NameLemmas
 pub mod PieceLemmas
 pub mod InputLemmas
 pub mod OutputLemmas
+pub mod CountLemmas

@@ -1,11 +1,11 @@
 -- Where files lead.
-use Rattle.std.proofs.Common.{◌≡◌, ◌≢◌, ℕ, ◌≤◌, Bool, true, false, cond, nat_lt, List, Option, Some, None, Result, Ok, Err, length, subst, refl, ap, sym, ◌∙◌, rules, tests, arith}
+use Rattle.std.proofs.Common.{◌≡◌, ◌≢◌, inl, inr, ℕ, ◌≤◌, Bool, true, false, cond, nat_lt, List, Option, Some, None, Result, Ok, Err, IfErr, MatchResult, length, subst, refl, ap, sym, ◌∙◌, rules, tests, arith}
 use Rattle.mm_base.specs.Disk.{DiskView, OnlyReads}
 use Rattle.mm_base.proofs.Then.{Rose-later}
 use Rattle.mm_base.specs.Files.{Files}
 use Rattle.command_ends.specs.Causes.{Text, status_of_refusal}
-use Rattle.command_ends.specs.Readings.{Reading, Done, Refuses, Reads, Gives, Leads, Stays, Goes, after, input_of, outcome, outcome_after, refused_first, unless}
-use Rattle.command_ends.specs.Stops.{IsInput, ReadsOn, StopsAtFile, FileRefused, FileFault, FileWants, StopsReading, ReadingRefused, ReadingFault, ReadingWants}
+use Rattle.command_ends.specs.Readings.{Reading, Done, Refuses, Reads, Holds, Leads, Stays, Goes, after, input_of, outcome, outcome_after, reading_text, refused_first, unless}
+use Rattle.command_ends.specs.Stops.{IsInput, ReadsOn, RefusesText, StopsAtFile, FileRefused, FileFault, FileWants, StopsReading, ReadingRefused, ReadingFault, ReadingWants}
 use Rattle.command_ends.specs.declared.cause.Cause.{Cause}
 use Rattle.command_ends.specs.declared.cause.Cause.TheVariants.{Refused}
 use Rattle.command_ends.specs.declared.cause.Limit.TheVariants.{File}
@@ -30,7 +30,7 @@ leads_past told name next bytes is =
     (subst (λ (r : Result (List ℕ) Refusal). Leads told (after next r) (next bytes)) (sym (input_within name bytes is.few)) (Stays (next bytes)))
 
 -- to the refusal of an input
-pub leads_refused : {A : Type 0} (told : Option Files) (name : Text) (next : List ℕ → Reading A) (given : Option (List ℕ)) (refusal : Refusal) → Gives told name given
+pub leads_refused : {A : Type 0} (told : Option Files) (name : Text) (next : List ℕ → Reading A) (given : Option (List ℕ)) (refusal : Refusal) → Holds told name given
     → input_of name given ≡ Err refusal → Leads told (Reads name next) (Refuses refusal)
 leads_refused told name next given refusal holds e =
     Goes name next given (Refuses refusal) holds
@@ -135,3 +135,41 @@ pub reads_later : {A T : Type 0} (a b : Reading A) (next : T → Reading A) (old
     → ReadsOn b next mid new result → ReadsOn a next old new result
 reads_later {A} a b next old mid new (Ok value) leads reads on = leads_then leads (subst (λ (told : Option Files). Leads told b (next value)) reads.same_files on)
 reads_later a b next old mid new (Err cause) leads reads on = stops_later a b old mid new cause leads reads on
+
+-- past a text that is accepted
+pub leads_text : {A : Type 0} (told : Option Files) (grammar : List ℕ → Option Refusal) (name : Text) (next : List ℕ → Reading A) (text : List ℕ) → IsInput told name text
+    → grammar text ≡ None → Leads told (reading_text grammar name next) (next text)
+leads_text told grammar name next text input accepted =
+    leads_then (leads_past told name (λ t. unless (grammar t) (next t)) text input) (leads_unless told (grammar text) (next text) accepted)
+
+-- a text that isn't
+pub text_stops : {A : Type 0} (old new : DiskView) (grammar : List ℕ → Option Refusal) (name : Text) (next : List ℕ → Reading A) (text : List ℕ) (cause : Cause)
+    → IsInput old.files name text → ((refusal : Refusal) → grammar text ≡ Some refusal → status_of_refusal refusal ≢ 3) → RefusesText (grammar text) cause
+    → StopsReading (reading_text grammar name next) old new cause
+text_stops old new grammar name next text cause input there (inl is) = ReadingWants is
+text_stops old new grammar name next text cause input there (inr p) =
+    ReadingRefused p.0 p.1
+    (leads_then (leads_past old.files name (λ t. unless (grammar t) (next t)) text input) (leads_to_refusal old.files (grammar text) (next text) p.0 p.2))
+    (λ missing e. absurd (there p.0 p.2 (ap status_of_refusal e)))
+
+-- the answer of a text's reader
+pub text_stopped : (A : Type 0) {T : Type 0} (old new : DiskView) (grammar : List ℕ → Option Refusal) (name : Text) (text : List ℕ) (result : Result T Cause)
+    → IsInput old.files name text → ((refusal : Refusal) → grammar text ≡ Some refusal → status_of_refusal refusal ≢ 3)
+    → MatchResult result (λ _. grammar text ≡ None) (λ cause. RefusesText (grammar text) cause)
+    → IfErr result (λ cause. (next : List ℕ → Reading A) → StopsReading (reading_text grammar name next) old new cause)
+text_stopped A old new grammar name text (Ok value) input there answer = tt
+text_stopped A old new grammar name text (Err cause) input there answer = λ next. text_stops old new grammar name next text cause input there answer
+
+-- what stops at a file after others were read
+pub file_later : (name : Text) (old mid new : DiskView) (cause : Cause) → OnlyReads old mid → StopsAtFile name mid new cause → StopsAtFile name old new cause
+file_later name old mid new cause reads (FileRefused refusal is given holds e counts) =
+    FileRefused refusal is given (subst (λ (told : Option Files). Holds told name given) reads.same_files holds) e (λ missing h. Rose-later _ _ _ reads.lacks (counts missing h))
+file_later name old mid new cause reads (FileFault is rose) = FileFault is (Rose-later _ _ _ reads.reads rose)
+file_later name old mid new cause reads (FileWants is) = FileWants is
+
+-- what is refused where no more is read
+pub found_stop : {A : Type 0} (found : Option Refusal) (next : Reading A) (old new : DiskView) (cause : Cause) → ((refusal : Refusal) → found ≡ Some refusal → status_of_refusal refusal ≢ 3)
+    → RefusesText found cause → StopsReading (unless found next) old new cause
+found_stop found next old new cause there (inl is) = ReadingWants is
+found_stop found next old new cause there (inr p) =
+    ReadingRefused p.0 p.1 (leads_to_refusal old.files found next p.0 p.2) (λ missing e. absurd (there p.0 p.2 (ap status_of_refusal e)))

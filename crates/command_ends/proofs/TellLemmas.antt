@@ -40,13 +40,13 @@ within (Limit limit) = (omega arith, omega arith)
 pub own_status : (status : ℕ) (answer : Option Cause) (old new : SinkView) → Concludes answer old new status → status ≢ 9 → status ≡ status_by answer
 own_status status answer old new c other = elim c.status_is [ inl e ↦ e | inr nine ↦ absurd (other nine) ]
 
-module _ {A : Type 0} (Makes : A → Output → Type 0) (reading : Reading A) (old : Outside) (disk : DiskView) (mid out : SinkView) where
+module _ {A : Type 0} (Gives : A → Output → Type 0) (reading : Reading A) (old : Outside) (disk : DiskView) (mid out : SinkView) where
   -- an end by its answer, where the answer's status isn't that of want of memory
-  pub tells_done : (answer : Option Cause) (status : ℕ) → Ends Makes reading old (outside disk mid) answer → Concludes answer mid out status → status ≡ 0
-      → IsDone Makes reading old (outside disk out)
+  pub tells_done : (answer : Option Cause) (status : ℕ) → Ends Gives reading old (outside disk mid) answer → Concludes answer mid out status → status ≡ 0
+      → IsDone Gives reading old (outside disk out)
   tells_done None status ends c zero =
       let done = ends in
-      subst (λ (o : SinkView). IsDone Makes reading old (outside disk o)) (sym (c.explains (λ nine. let no : 0 ≡ 9 = sym zero ∙ nine in omega arith))) done
+      subst (λ (o : SinkView). IsDone Gives reading old (outside disk o)) (sym (c.explains (λ nine. let no : 0 ≡ 9 = sym zero ∙ nine in omega arith))) done
   tells_done (Some cause) status ends c zero = absurd (not_zero cause (sym (own_status status (Some cause) mid out c (λ nine. let no : 0 ≡ 9 = sym zero ∙ nine in omega arith)) ∙ zero))
     where
       not_zero : (cause : Cause) → status_of cause ≡ 0 → ⊥
@@ -57,16 +57,16 @@ module _ {A : Type 0} (Makes : A → Output → Type 0) (reading : Reading A) (o
       not_zero NetFault e = omega arith
       not_zero OutOfMemory e = omega arith
 
-  pub tells_answered : (answer : Option Cause) (status : ℕ) → Ends Makes reading old (outside disk mid) answer → Concludes answer mid out status → status ≢ 9
-      → Answers Makes reading old (outside disk out) status
+  pub tells_answered : (answer : Option Cause) (status : ℕ) → Ends Gives reading old (outside disk mid) answer → Concludes answer mid out status → status ≢ 9
+      → Answers Gives reading old (outside disk out) status
   tells_answered answer status ends c other =
       record { answer = answer; status_is = own_status status answer mid out c other; ended = mid; ends = ends; explains = c.explains other }
 
-  pub tells_stopped : (answer : Option Cause) (status : ℕ) → Ends Makes reading old (outside disk mid) answer → Concludes answer mid out status → status ≡ 9
-      → StopsShort Makes reading old (outside disk out)
+  pub tells_stopped : (answer : Option Cause) (status : ℕ) → Ends Gives reading old (outside disk mid) answer → Concludes answer mid out status → status ≡ 9
+      → StopsShort Gives reading old (outside disk out)
   tells_stopped answer status ends c nine =
       let s = c.stops nine in
-      record { cause = s.0; ended = mid; ends = subst (λ (a : Option Cause). Ends Makes reading old (outside disk mid) a) s.1 ends; count = s.2; front = s.3; cut = s.4 }
+      record { cause = s.0; ended = mid; ends = subst (λ (a : Option Cause). Ends Gives reading old (outside disk mid) a) s.1 ends; count = s.2; front = s.3; cut = s.4 }
 
   -- what holds at the statuses by themselves
   pub record Tells (status : ℕ) : Type 0 where
@@ -78,26 +78,26 @@ module _ {A : Type 0} (Makes : A → Output → Type 0) (reading : Reading A) (o
     pub by_words : (refusal : Refusal) → refused_first reading ≡ Some refusal → (status ≡ status_of_refusal refusal) ⊎ (status ≡ 9)
     pub by_files : (m : Files) (refusal : Refusal) → old.disk.files ≡ Some m → outcome m reading ≡ Err refusal → ¬ Rose old.disk.read_faults disk.read_faults
         → (status ≡ status_of_refusal refusal) ⊎ (status ≡ 9)
-    pub complete : (m : Files) (task : A) → old.disk.files ≡ Some m → outcome m reading ≡ Ok task → IsFaultless Makes task old (outside disk out)
+    pub complete : (m : Files) (task : A) → old.disk.files ≡ Some m → outcome m reading ≡ Ok task → IsFaultless Gives task old (outside disk out)
         → (status ≡ 0) ⊎ (status ≡ 9)
 
   status_at : (wanted status : ℕ) (cause : Cause) → status_of cause ≡ wanted → (status ≡ status_of cause) ⊎ (status ≡ 9) → (status ≡ wanted) ⊎ (status ≡ 9)
   status_at wanted status cause e (inl own) = inl (own ∙ e)
   status_at wanted status cause e (inr nine) = inr nine
 
-  finished_task : (m : Files) (task : A) (output : Output) → old.disk.files ≡ Some m → outcome m reading ≡ Ok task → Finishes Makes reading old.disk.files output → Makes task output
+  finished_task : (m : Files) (task : A) (output : Output) → old.disk.files ≡ Some m → outcome m reading ≡ Ok task → Finishes Gives reading old.disk.files output → Gives task output
   finished_task m task output told e f =
       let same : Ok f.task ≡ Ok task = sym (same_outcome m told f.read) ∙ e in
       let same_task : f.task ≡ task = cc same in
-      subst (λ (t : A). Makes t output) same_task f.makes
+      subst (λ (t : A). Gives t output) same_task f.gives
 
-  finished_first : (refusal : Refusal) (output : Output) → refused_first reading ≡ Some refusal → Finishes Makes reading old.disk.files output → ⊥
+  finished_first : (refusal : Refusal) (output : Output) → refused_first reading ≡ Some refusal → Finishes Gives reading old.disk.files output → ⊥
   finished_first refusal output e f = let no : None ≡ Some refusal = first_kept refusal f.read e in cc no
 
-  finished_told : (m : Files) (refusal : Refusal) (output : Output) → old.disk.files ≡ Some m → outcome m reading ≡ Err refusal → Finishes Makes reading old.disk.files output → ⊥
+  finished_told : (m : Files) (refusal : Refusal) (output : Output) → old.disk.files ≡ Some m → outcome m reading ≡ Err refusal → Finishes Gives reading old.disk.files output → ⊥
   finished_told m refusal output told e f = let no : Ok f.task ≡ Err refusal = sym (same_outcome m told f.read) ∙ e in cc no
 
-  tells_none : Ends Makes reading old (outside disk mid) None → Tells 0
+  tells_none : Ends Gives reading old (outside disk mid) None → Tells 0
   tells_none ends = record {
     usage = λ e _. absurd (omega arith);
     absent = λ e. absurd (omega arith);
@@ -109,7 +109,7 @@ module _ {A : Type 0} (Makes : A → Output → Type 0) (reading : Reading A) (o
     complete = λ m task told e _. inl refl;
   }
 
-  tells_refused : (refusal : Refusal) → Ends Makes reading old (outside disk mid) (Some (Refused refusal)) → Tells (status_of_refusal refusal)
+  tells_refused : (refusal : Refusal) → Ends Gives reading old (outside disk mid) (Some (Refused refusal)) → Tells (status_of_refusal refusal)
   tells_refused refusal ends = record {
     usage = λ two first.
         let w = words_of refusal two in
@@ -129,7 +129,7 @@ module _ {A : Type 0} (Makes : A → Output → Type 0) (reading : Reading A) (o
     complete = λ m task told e _. absurd (let no : Err refusal ≡ Ok task = sym (same_outcome m told ends.first) ∙ e in cc no);
   }
 
-  tells_read_fault : (name : List ℕ) → Ends Makes reading old (outside disk mid) (Some (ReadFault name)) → Tells 6
+  tells_read_fault : (name : List ℕ) → Ends Gives reading old (outside disk mid) (Some (ReadFault name)) → Tells 6
   tells_read_fault name ends = record {
     usage = λ e _. absurd (omega arith);
     absent = λ e. absurd (omega arith);
@@ -141,7 +141,7 @@ module _ {A : Type 0} (Makes : A → Output → Type 0) (reading : Reading A) (o
     complete = λ m task told e faultless. absurd (faultless.read ends.rose);
   }
 
-  tells_write_fault : (name : List ℕ) → Ends Makes reading old (outside disk mid) (Some (WriteFault name)) → Tells 7
+  tells_write_fault : (name : List ℕ) → Ends Gives reading old (outside disk mid) (Some (WriteFault name)) → Tells 7
   tells_write_fault name ends = record {
     usage = λ e _. absurd (omega arith);
     absent = λ e. absurd (omega arith);
@@ -153,7 +153,7 @@ module _ {A : Type 0} (Makes : A → Output → Type 0) (reading : Reading A) (o
     complete = λ m task told e faultless. absurd (faultless.write ends.rose);
   }
 
-  tells_out_fault : mid.faults ≤ out.faults → Ends Makes reading old (outside disk mid) (Some OutFault) → Tells 7
+  tells_out_fault : mid.faults ≤ out.faults → Ends Gives reading old (outside disk mid) (Some OutFault) → Tells 7
   tells_out_fault more ends =
       let rose : Rose old.out.faults out.faults = Rose-before _ _ _ ends.rose more in record {
         usage = λ e _. absurd (omega arith);
@@ -180,7 +180,7 @@ module _ {A : Type 0} (Makes : A → Output → Type 0) (reading : Reading A) (o
     complete = λ m task told e faultless. inr refl;
   }
 
-  tells_own : (answer : Option Cause) → mid.faults ≤ out.faults → Ends Makes reading old (outside disk mid) answer → Tells (status_by answer)
+  tells_own : (answer : Option Cause) → mid.faults ≤ out.faults → Ends Gives reading old (outside disk mid) answer → Tells (status_by answer)
   tells_own None more ends = tells_none ends
   tells_own (Some (Refused refusal)) more ends = tells_refused refusal ends
   tells_own (Some (ReadFault name)) more ends = tells_read_fault name ends
@@ -189,7 +189,7 @@ module _ {A : Type 0} (Makes : A → Output → Type 0) (reading : Reading A) (o
   tells_own (Some NetFault) more ends = absurd ends
   tells_own (Some OutOfMemory) more ends = tells_memory
 
-  pub tells : (answer : Option Cause) (status : ℕ) → Ends Makes reading old (outside disk mid) answer → Concludes answer mid out status → Tells status
+  pub tells : (answer : Option Cause) (status : ℕ) → Ends Gives reading old (outside disk mid) answer → Concludes answer mid out status → Tells status
   tells answer status ends c = elim c.status_is [
     | inl e ↦ subst (λ n. Tells n) (sym e) (tells_own answer c.counts.grows ends)
     | inr e ↦ subst (λ n. Tells n) (sym e) tells_memory

@@ -1,6 +1,7 @@
 -- What a command line leaves, by the status that is answered.
-use Rattle.std.specs.Prelude.{◌≡◌, ◌≢◌, ◌⊎◌, ◌<◌, ℕ, take, List, Option, Some, None, Result, Ok, Err, length}
+use Rattle.std.specs.Prelude.{◌≡◌, ◌≢◌, ◌⊎◌, ◌<◌, ◌≤◌, ℕ, IsTrue, take, List, Option, Some, None, Result, Ok, Err, length}
 use Rattle.mm_base.specs.Counts.{Rose}
+use Rattle.mm_base.specs.Disk.{DiskView}
 use Rattle.mm_base.specs.Sink.{SinkView, CountsSinkFaults, sending}
 use Rattle.command_ends.specs.Causes.{line_of, status_by}
 use Rattle.command_ends.specs.Ends.{Ends, Outside, outside}
@@ -21,27 +22,27 @@ Explains None old new = new ≡ old
 Explains (Some cause) old new = Writes (line_of cause) old new
 
 -- The command ended by an answer, whose status this is, and then the answer was explained.
-pub record Answers {A : Type 0} (Makes : A → Output → Type 0) (reading : Reading A) (old new : Outside) (status : ℕ) : Type 0 where
+pub record Answers {A : Type 0} (Gives : A → Output → Type 0) (reading : Reading A) (old new : Outside) (status : ℕ) : Type 0 where
   pub answer : Option Cause
   pub status_is : status ≡ status_by answer
   pub ended : SinkView
-  pub ends : Ends Makes reading old (outside new.disk ended) answer
+  pub ends : Ends Gives reading old (outside new.disk ended) answer
   pub explains : Explains answer ended new.out
 
 -- The command ended for a cause, and a front of its line was written: not all of it where the cause isn't want of memory.
-pub record StopsShort {A : Type 0} (Makes : A → Output → Type 0) (reading : Reading A) (old new : Outside) : Type 0 where
+pub record StopsShort {A : Type 0} (Gives : A → Output → Type 0) (reading : Reading A) (old new : Outside) : Type 0 where
   pub cause : Cause
   pub ended : SinkView
-  pub ends : Ends Makes reading old (outside new.disk ended) (Some cause)
+  pub ends : Ends Gives reading old (outside new.disk ended) (Some cause)
   pub count : ℕ
   pub front : new.out.written ≡ sending (take count (line_of cause)) ended.written
   pub cut : cause ≢ OutOfMemory → count < length (line_of cause)
 
 -- No fault was counted: in reading, in writing, and in printing where the task prints.
-pub record IsFaultless {A : Type 0} (Makes : A → Output → Type 0) (task : A) (old new : Outside) : Type 0 where
+pub record IsFaultless {A : Type 0} (Gives : A → Output → Type 0) (task : A) (old new : Outside) : Type 0 where
   pub read : ¬ Rose old.disk.read_faults new.disk.read_faults
   pub write : ¬ Rose old.disk.write_faults new.disk.write_faults
-  pub print : (output : Output) → Makes task output → 0 < length output.printed → ¬ Rose old.out.faults new.out.faults
+  pub print : (output : Output) → Gives task output → 0 < length output.printed → ¬ Rose old.out.faults new.out.faults
 
 -- the cause of a result, if it has one
 abbrev pub cause_in : {T : Type 0} → Result T Cause → Option Cause
@@ -55,3 +56,11 @@ pub record Concludes (answer : Option Cause) (old new : SinkView) (status : ℕ)
   pub stops : status ≡ 9 → (cause : Cause) × (answer ≡ Some cause) × (count : ℕ) × (new.written ≡ sending (take count (line_of cause)) old.written)
       × (cause ≢ OutOfMemory → count < length (line_of cause))
   pub counts : CountsSinkFaults old new
+
+-- A disk's counts never fall, and where it never fails it goes on so, and no fault is counted.
+pub record CountsDisk (old new : DiskView) : Type 0 where
+  pub asks : old.reads ≤ new.reads
+  pub reads : old.read_faults ≤ new.read_faults
+  pub writes : old.write_faults ≤ new.write_faults
+  pub lacks : old.absences ≤ new.absences
+  pub steady : IsTrue old.never_fails → IsTrue new.never_fails × (new.read_faults ≡ old.read_faults) × (new.write_faults ≡ old.write_faults)

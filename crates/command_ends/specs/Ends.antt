@@ -1,4 +1,4 @@
--- How a command ends, by its cause, before the cause is explained. `Makes task output` says that a task gives this output.
+-- How a command ends, by its cause, before the cause is explained. `Gives task output` says that a task gives this output.
 use Rattle.std.specs.Prelude.{◌≡◌, ◌<◌, ℕ, take, List, Option, Some, None, length}
 use Rattle.mm_base.specs.Counts.{Rose}
 use Rattle.mm_base.specs.Disk.{DiskView}
@@ -26,15 +26,15 @@ pub record KeepsFiles (old new : DiskView) : Type 0 where
   pub faults : new.write_faults ≡ old.write_faults
 
 -- The files lead to a task, and it gives this output.
-pub record Finishes {A : Type 0} (Makes : A → Output → Type 0) (reading : Reading A) (told : Option Files) (output : Output) : Type 0 where
+pub record Finishes {A : Type 0} (Gives : A → Output → Type 0) (reading : Reading A) (told : Option Files) (output : Output) : Type 0 where
   pub task : A
   pub read : Leads told reading (Done task)
-  pub makes : Makes task output
+  pub gives : Gives task output
 
 -- Each file has its text, no other file is changed, and the text is printed, and nothing else.
-pub record IsDone {A : Type 0} (Makes : A → Output → Type 0) (reading : Reading A) (old new : Outside) : Type 0 where
+pub record IsDone {A : Type 0} (Gives : A → Output → Type 0) (reading : Reading A) (old new : Outside) : Type 0 where
   pub output : Output
-  pub finishes : Finishes Makes reading old.disk.files output
+  pub finishes : Finishes Gives reading old.disk.files output
   pub written : new.disk.files ≡ holding_all output.files old.disk.files
   pub printed : new.out.written ≡ sending output.printed old.out.written
 
@@ -54,41 +54,41 @@ pub record HasReadFault {A : Type 0} (reading : Reading A) (old new : Outside) (
   pub silent : new.out ≡ old.out
 
 -- Writing stopped at the file of this name: those before are whole, it is as before or has a front of its text, later ones are as before.
-pub record IsPartlyWritten {A : Type 0} (Makes : A → Output → Type 0) (reading : Reading A) (old new : Outside) (name : Text) : Type 0 where
+pub record IsPartlyWritten {A : Type 0} (Gives : A → Output → Type 0) (reading : Reading A) (old new : Outside) (name : Text) : Type 0 where
   pub output : Output
-  pub finishes : Finishes Makes reading old.disk.files output
+  pub finishes : Finishes Gives reading old.disk.files output
   pub held : HoldsFirst output.files old.disk.files new.disk.files name
   pub silent : new.out ≡ old.out
 
-pub record HasWriteFault {A : Type 0} (Makes : A → Output → Type 0) (reading : Reading A) (old new : Outside) (name : Text) : Type 0 where
-  pub partly : IsPartlyWritten Makes reading old new name
+pub record HasWriteFault {A : Type 0} (Gives : A → Output → Type 0) (reading : Reading A) (old new : Outside) (name : Text) : Type 0 where
+  pub partly : IsPartlyWritten Gives reading old new name
   pub rose : Rose old.disk.write_faults new.disk.write_faults
 
 -- A front of the text was printed, and not all of it. No file is changed.
-pub record IsPartlyPrinted {A : Type 0} (Makes : A → Output → Type 0) (reading : Reading A) (old new : Outside) : Type 0 where
+pub record IsPartlyPrinted {A : Type 0} (Gives : A → Output → Type 0) (reading : Reading A) (old new : Outside) : Type 0 where
   pub output : Output
-  pub finishes : Finishes Makes reading old.disk.files output
+  pub finishes : Finishes Gives reading old.disk.files output
   pub count : ℕ
   pub short : count < length output.printed
   pub front : new.out.written ≡ sending (take count output.printed) old.out.written
   pub keeps : KeepsFiles old.disk new.disk
 
-pub record HasOutFault {A : Type 0} (Makes : A → Output → Type 0) (reading : Reading A) (old new : Outside) : Type 0 where
-  pub partly : IsPartlyPrinted Makes reading old new
+pub record HasOutFault {A : Type 0} (Gives : A → Output → Type 0) (reading : Reading A) (old new : Outside) : Type 0 where
+  pub partly : IsPartlyPrinted Gives reading old new
   pub rose : Rose old.out.faults new.out.faults
 
 -- Memory ran out: before anything was changed, in writing, or in printing.
-pub data WantsMemory {A : Type 0} (Makes : A → Output → Type 0) (reading : Reading A) (old new : Outside) : Type 0 where
-  Early : KeepsFiles old.disk new.disk → new.out ≡ old.out → WantsMemory Makes reading old new
-  Writing : (name : Text) → IsPartlyWritten Makes reading old new name → WantsMemory Makes reading old new
-  Printing : IsPartlyPrinted Makes reading old new → WantsMemory Makes reading old new
+pub data WantsMemory {A : Type 0} (Gives : A → Output → Type 0) (reading : Reading A) (old new : Outside) : Type 0 where
+  Early : KeepsFiles old.disk new.disk → new.out ≡ old.out → WantsMemory Gives reading old new
+  Writing : (name : Text) → IsPartlyWritten Gives reading old new name → WantsMemory Gives reading old new
+  Printing : IsPartlyPrinted Gives reading old new → WantsMemory Gives reading old new
 
 -- How a command ended that was done, or for this cause wasn't.
 abbrev pub Ends : {A : Type 0} → (A → Output → Type 0) → Reading A → Outside → Outside → Option Cause → Type 0
-Ends Makes reading old new None = IsDone Makes reading old new
-Ends Makes reading old new (Some (Refused refusal)) = IsRefused reading old new refusal
-Ends Makes reading old new (Some (ReadFault name)) = HasReadFault reading old new name
-Ends Makes reading old new (Some (WriteFault name)) = HasWriteFault Makes reading old new name
-Ends Makes reading old new (Some OutFault) = HasOutFault Makes reading old new
-Ends Makes reading old new (Some NetFault) = ⊥
-Ends Makes reading old new (Some OutOfMemory) = WantsMemory Makes reading old new
+Ends Gives reading old new None = IsDone Gives reading old new
+Ends Gives reading old new (Some (Refused refusal)) = IsRefused reading old new refusal
+Ends Gives reading old new (Some (ReadFault name)) = HasReadFault reading old new name
+Ends Gives reading old new (Some (WriteFault name)) = HasWriteFault Gives reading old new name
+Ends Gives reading old new (Some OutFault) = HasOutFault Gives reading old new
+Ends Gives reading old new (Some NetFault) = ⊥
+Ends Gives reading old new (Some OutOfMemory) = WantsMemory Gives reading old new

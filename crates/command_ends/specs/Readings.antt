@@ -19,6 +19,10 @@ abbrev pub unless : {A : Type 0} → Option Refusal → Reading A → Reading A
 unless None next = next
 unless (Some refusal) next = Refuses refusal
 
+-- The file of this name is read, and its text is refused by its grammar, or not.
+abbrev pub reading_text : {A : Type 0} → (List ℕ → Option Refusal) → Text → (List ℕ → Reading A) → Reading A
+reading_text grammar name next = Reads name (λ text. unless (grammar text) (next text))
+
 -- The bytes of an input, where the file of this name holds these bytes, or isn't there. An input has at most 67,108,864 bytes.
 unfoldable pub input_of : Text → Option (List ℕ) → Result (List ℕ) Refusal
 input_of name None = Err (Absent name)
@@ -46,11 +50,11 @@ refused_first (Refuses refusal) = Some refusal
 refused_first (Reads name next) = None
 
 -- where the disk tells its files, the one of this name holds these bytes, or isn't there
-abbrev pub Gives : Option Files → Text → Option (List ℕ) → Type 0
-Gives told name given = (m : Files) → told ≡ Some m → file m name ≡ given
+abbrev pub Holds : Option Files → Text → Option (List ℕ) → Type 0
+Holds told name given = (m : Files) → told ≡ Some m → file m name ≡ given
 
 -- The files, told or untold, lead from one reading to another: to itself, or past a file that is read.
 pub data Leads {A : Type 0} (told : Option Files) : Reading A → Reading A → Type 0 where
   Stays : (reading : Reading A) → Leads told reading reading
-  Goes : (name : Text) (next : List ℕ → Reading A) (given : Option (List ℕ)) (to : Reading A) → Gives told name given
+  Goes : (name : Text) (next : List ℕ → Reading A) (given : Option (List ℕ)) (to : Reading A) → Holds told name given
       → Leads told (after next (input_of name given)) to → Leads told (Reads name next) to

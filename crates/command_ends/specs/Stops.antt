@@ -8,7 +8,7 @@ use Rattle.mm_base.specs.declared.errors.EndError.{EndError}
 use Rattle.mm_base.specs.declared.errors.EndError.TheVariants.{Failed}
 use Rattle.command_ends.specs.Causes.{Text}
 use Rattle.command_ends.specs.Outputs.{NamedText, HoldsFirst}
-use Rattle.command_ends.specs.Readings.{Reading, Refuses, Reads, Gives, Leads, input_of}
+use Rattle.command_ends.specs.Readings.{Reading, Refuses, Reads, Holds, Leads, input_of}
 use Rattle.command_ends.specs.declared.cause.Refusal.{Refusal}
 use Rattle.command_ends.specs.declared.cause.Refusal.TheVariants.{Absent}
 use Rattle.command_ends.specs.declared.cause.Cause.{Cause}
@@ -20,12 +20,16 @@ CountsAbsence refusal old new = (name : Text) → refusal ≡ Absent name → Ro
 
 -- the file of this name is an input, and has these bytes
 pub record IsInput (told : Option Files) (name : Text) (bytes : List ℕ) : Type 0 where
-  pub held : Gives told name (Some bytes)
+  pub held : Holds told name (Some bytes)
   pub few : length bytes ≤ 67108864
+
+-- why a text isn't accepted: its refusal, or want of memory
+abbrev pub RefusesText : Option Refusal → Cause → Type 0
+RefusesText found cause = (cause ≡ OutOfMemory) ⊎ ((refusal : Refusal) × (cause ≡ Refused refusal) × (found ≡ Some refusal))
 
 -- why the file of this name isn't read: its refusal, a fault, or want of memory
 pub data StopsAtFile (name : Text) (old new : DiskView) (cause : Cause) : Type 0 where
-  FileRefused : (refusal : Refusal) → cause ≡ Refused refusal → (given : Option (List ℕ)) → Gives old.files name given → input_of name given ≡ Err refusal
+  FileRefused : (refusal : Refusal) → cause ≡ Refused refusal → (given : Option (List ℕ)) → Holds old.files name given → input_of name given ≡ Err refusal
       → CountsAbsence refusal old new → StopsAtFile name old new cause
   FileFault : cause ≡ ReadFault name → Rose old.read_faults new.read_faults → StopsAtFile name old new cause
   FileWants : cause ≡ OutOfMemory → StopsAtFile name old new cause

@@ -1,147 +1,181 @@
--- What the file of an input is refused for.
-use Rattle.std.proofs.Common.{◌≡◌, ◌≢◌, inl, inr, ℕ, ◌<◌, ◌≤◌, true, false, cond, nat_lt, List, Option, Some, None, Result, Ok, Err, IfOk, IfErr, MatchResult, length, replicate, subst, refl, ap, sym, ◌∙◌, rules, tests, arith}
-use Rattle.std.proofs.lemmas.List.{length-replicate}
-use Rattle.mm_base.specs.Counts.{Rose}
-use Rattle.mm_base.specs.Files.{Files, file, IsThere, IfHeld}
-use Rattle.mm_base.specs.declared.errors.LoadError.{LoadError}
-use Rattle.mm_base.specs.declared.errors.LoadError.TheVariants as load_errors
-use Rattle.mm_base.proofs.FilesLemmas.{is_held}
+-- Traces and schedules that are read, and what stops them.
+use Rattle.std.proofs.Common.{◌≡◌, ◌≢◌, inl, inr, ℕ, suc, ◌+◌, ◌<◌, List, [], ◌∷◌, ◌++◌, Option, Some, None, Result, Ok, Err, IfOk, IfErr, MatchResult, length, map, take, drop, get_or, subst, refl, ap, sym, ◌∙◌, arith}
+use Rattle.std.proofs.lemmas.List.{take_more, drop_more, take-append-drop}
+use Rattle.mm_base.specs.Disk.{DiskView, OnlyReads}
+use Rattle.mm_base.specs.Files.{Files}
+use Rattle.mm_base.specs.Lines.{lines_of}
+use Rattle.packet_record.specs.Schedules.{IsScheduleText, first_fault, number_of as schedule_number, place_of as schedule_place}
 use Rattle.packet_record.specs.declared.packet.Row.{Row}
-use Rattle.packet_record.specs.Schedules.{IsScheduleText}
-use Rattle.trace_reader.specs.Traces.{TraceView}
+use Rattle.packet_record.specs.declared.reading.ScheduleError.{ScheduleError}
+use Rattle.packet_record.specs.declared.reading.ScheduleError.TheVariants as schedule_errors
+use Rattle.trace_reader.specs.Reading.{number_of as trace_number, place_of as trace_place, trace_fault}
 use Rattle.trace_reader.specs.TraceText.{IsTraceText}
-use Rattle.option_words.specs.Options.{Text}
-use Rattle.mm_program.specs.Causes.{Cause, Absent, FileSize, Memory, status_of}
-use Rattle.mm_program.specs.Disks.{DiskView, Gives}
-use Rattle.mm_program.specs.Inputs.{IsSchedule, IsTrace, IsUnread, RefusesFile}
-use Rattle.mm_program.specs.Refusals.{load_cause, refused_file, schedule_refusal, trace_refusal}
-use Rattle.mm_program.specs.View.{cause_of}
-use Rattle.mm_program.specs.declared.refusal.Refusal.{Refusal}
-use Rattle.mm_program.proofs.CauseLemmas.{IsGrammar, memory_or}
+use Rattle.trace_reader.specs.Traces.{TraceView}
+use Rattle.trace_reader.specs.declared.reading.TraceError.{TraceError}
+use Rattle.trace_reader.specs.declared.reading.TraceError.TheVariants as trace_errors
+use Rattle.command_ends.specs.Causes.{Text, status_of_refusal}
+use Rattle.command_ends.specs.Readings.{Reading, Leads, Stays}
+use Rattle.command_ends.specs.Stops.{IsInput, RefusesText, StopsReading}
+use Rattle.command_ends.specs.declared.cause.Cause.{Cause}
+use Rattle.command_ends.specs.declared.cause.Cause.TheVariants.{Refused}
+use Rattle.command_ends.specs.declared.cause.Limit.TheVariants.{Lines, Packets}
+use Rattle.command_ends.specs.declared.cause.Refusal.{Refusal}
+use Rattle.command_ends.specs.declared.cause.Refusal.TheVariants.{BadInput, Limit}
+use Rattle.command_ends.proofs.ReadingLemmas.{leads_text, leads_then, stops_later}
+use Rattle.mm_program.specs.Inputs.{AreTraceTexts, reading_trace, reading_traces, schedule_refusal, schedule_refused, trace_refusal, trace_refused}
+use Rattle.mm_program.specs.Loaded.{HasSchedule, HasTrace, HaveTraces, NoTraces, MoreTraces}
+use Rattle.mm_program.specs.Traces.{trace_in}
+use Rattle.mm_program.proofs.TraceLemmas.{trace_is}
 
--- a file that isn't there
-absent_is : (grammar : Text → List ℕ → Option Cause) (name : Text) → refused_file grammar name None ≡ Some (Absent name)
-unfolding refused_file
-absent_is grammar name = refl
+-- a refusal that isn't that of words, and not that a file is absent
+pub record IsOfText (refusal : Refusal) : Type 0 where
+  pub not_words : status_of_refusal refusal ≢ 2
+  pub not_absent : status_of_refusal refusal ≢ 3
 
--- a file that is too large
-large_is : (grammar : Text → List ℕ → Option Cause) (name bytes : List ℕ) → 67108864 < length bytes → refused_file grammar name (Some bytes) ≡ Some (FileSize name)
-unfolding refused_file
-large_is grammar name bytes lt =
-    let large : nat_lt 67108864 (length bytes) ≡ true = search (rules, tests) in
-    ap (λ b. cond b (Some (FileSize name)) (grammar name bytes)) large
+pub bad_input : (name : Text) (number place : ℕ) (refusal : Refusal) → Some (BadInput name number place) ≡ Some refusal → IsOfText refusal
+bad_input name number place refusal e =
+    let same : BadInput name number place ≡ refusal = cc e in
+    subst (λ (r : Refusal). IsOfText r) same (record { not_words = λ h. omega arith; not_absent = λ h. omega arith })
 
--- a file that isn't
-small_is : (grammar : Text → List ℕ → Option Cause) (name bytes : List ℕ) → length bytes ≤ 67108864 → refused_file grammar name (Some bytes) ≡ grammar name bytes
-unfolding refused_file
-small_is grammar name bytes le =
-    let small : nat_lt 67108864 (length bytes) ≡ false = search (rules, tests) in
-    ap (λ b. cond b (Some (FileSize name)) (grammar name bytes)) small
+-- the text of a trace
+pub trace_said : (name : Text) (text : List ℕ) (error : TraceError) (refusal : Refusal) (cause : Cause) → trace_fault text ≡ Some error → trace_refused name (Some error) ≡ Some refusal
+    → cause ≡ Refused refusal → RefusesText (trace_refusal name text) cause
+unfolding trace_refusal
+trace_said name text error refusal cause h e is = inr (refusal, is, ap (trace_refused name) h ∙ e)
 
-unread_absent : (grammar : Text → List ℕ → Option Cause) (name : Text) (old new : DiskView) → Gives old.files name None → Rose old.absences new.absences
-    → IsUnread grammar name old new (Absent name)
-unread_absent grammar name old new held rose = record { given = None; held = held; first = absent_is grammar name; absent = λ missing e. rose }
+pub trace_bad : (name : Text) (error : TraceError) → error ≢ trace_errors.TooManyLines → error ≢ trace_errors.OutOfMemory
+    → trace_refused name (Some error) ≡ Some (BadInput name (trace_number error) (trace_place error))
+trace_bad name trace_errors.Empty a b = refl
+trace_bad name (trace_errors.BadLine line) a b = refl
+trace_bad name (trace_errors.Decreasing line) a b = refl
+trace_bad name trace_errors.ZeroLength a b = refl
+trace_bad name trace_errors.TooManyLines a b = absurd (a refl)
+trace_bad name (trace_errors.BadBytes line) a b = refl
+trace_bad name trace_errors.OutOfMemory a b = absurd (b refl)
 
-absent_unread : (grammar : Text → List ℕ → Option Cause) (name : Text) (old new : DiskView) → Gives old.files name None → Rose old.absences new.absences
-    → RefusesFile grammar name old new (Absent name)
-absent_unread grammar name old new held rose = inr (inr (unread_absent grammar name old new held rose))
+pub trace_accepted : (name : Text) (text : List ℕ) → trace_fault text ≡ None → trace_refusal name text ≡ None
+unfolding trace_refusal
+trace_accepted name text e = ap (trace_refused name) e
 
-too_long : (grammar : Text → List ℕ → Option Cause) (told : Option Files) (name : Text) (size : ℕ) → 67108864 < size → IsThere told name → IfHeld told name (λ bytes. size ≡ length bytes)
-    → (given : Option (List ℕ)) × Gives told name given × (refused_file grammar name given ≡ Some (FileSize name))
-too_long grammar None name size lt there held =
-    let zeros = replicate size 0 in
-    let long : length zeros ≡ size = length-replicate size 0 in
-    (Some zeros, (λ m e. absurd (let no : None ≡ Some m = e in cc no)), large_is grammar name zeros (omega arith))
-too_long grammar (Some m) name size lt there held =
-    let h = is_held (file m name) (there m refl) in
-    let long : size ≡ length h.0 = held m h.0 refl h.1 in
-    (Some h.0, (λ n e. ap (λ k. file k name) (let same : n ≡ m = cc e in same) ∙ h.1), large_is grammar name h.0 (omega arith))
+trace_status : (name : Text) (fault : Option TraceError) (refusal : Refusal) → trace_refused name fault ≡ Some refusal → IsOfText refusal
+trace_status name None refusal e = absurd (cc e)
+trace_status name (Some trace_errors.Empty) refusal e = bad_input name 1 0 refusal e
+trace_status name (Some (trace_errors.BadLine line)) refusal e = bad_input name 2 line refusal e
+trace_status name (Some (trace_errors.Decreasing line)) refusal e = bad_input name 3 line refusal e
+trace_status name (Some trace_errors.ZeroLength) refusal e = bad_input name 4 0 refusal e
+trace_status name (Some trace_errors.TooManyLines) refusal e =
+    let same : Limit (Lines name) ≡ refusal = cc e in
+    subst (λ (r : Refusal). IsOfText r) same (record { not_words = λ h. omega arith; not_absent = λ h. omega arith })
+trace_status name (Some (trace_errors.BadBytes line)) refusal e = bad_input name 6 line refusal e
+trace_status name (Some trace_errors.OutOfMemory) refusal e = absurd (cc e)
 
-large_unread : (grammar : Text → List ℕ → Option Cause) (name : Text) (old new : DiskView) (size : ℕ) → 67108864 < size → IsThere old.files name
-    → IfHeld old.files name (λ bytes. size ≡ length bytes) → RefusesFile grammar name old new (FileSize name)
-large_unread grammar name old new size lt there held =
-    let is = too_long grammar old.files name size lt there held in
-    inr (inr (record { given = is.0; held = is.1; first = is.2; absent = λ missing e. absurd (cc e) }))
+pub trace_text : (name : Text) (text : List ℕ) (refusal : Refusal) → trace_refusal name text ≡ Some refusal → IsOfText refusal
+unfolding trace_refusal
+trace_text name text refusal e = trace_status name (trace_fault text) refusal e
 
--- a file that wasn't loaded
-pub load_unread : (grammar : Text → List ℕ → Option Cause) (name : Text) (old new : DiskView) (error : LoadError) → (error ≡ load_errors.Absent → Gives old.files name None)
-    → (error ≡ load_errors.Absent → Rose old.absences new.absences) → (error ≡ load_errors.Failed → Rose old.read_faults new.read_faults)
-    → ((size : ℕ) → error ≡ load_errors.TooLong size → (67108864 < size) × IsThere old.files name × IfHeld old.files name (λ bytes. size ≡ length bytes))
-    → RefusesFile grammar name old new (load_cause name error)
-load_unread grammar name old new load_errors.Absent absent rose failed large = absent_unread grammar name old new (absent refl) (rose refl)
-load_unread grammar name old new load_errors.Failed absent rose failed large = inr (inl (record { cause_is = refl; rose = failed refl }))
-load_unread grammar name old new load_errors.OutOfMemory absent rose failed large = inl refl
-load_unread grammar name old new (load_errors.TooLong size) absent rose failed large =
-    let is = large size refl in large_unread grammar name old new size is.0 is.1 is.2
+-- the text of a schedule
+pub schedule_said : (name : Text) (text : List ℕ) (error : ScheduleError) (refusal : Refusal) (cause : Cause) → first_fault 1 0 (lines_of text) ≡ Some error
+    → schedule_refused name (Some error) ≡ Some refusal → cause ≡ Refused refusal → RefusesText (schedule_refusal name text) cause
+unfolding schedule_refusal
+schedule_said name text error refusal cause h e is = inr (refusal, is, ap (schedule_refused name) h ∙ e)
 
--- bytes that are accepted
-accepted : (grammar : Text → List ℕ → Option Cause) (name : Text) (bytes text : List ℕ) → text ≡ bytes → length bytes ≤ 67108864 → grammar name text ≡ None
-    → refused_file grammar name (Some bytes) ≡ None
-accepted grammar name bytes text same le none = small_is grammar name bytes le ∙ ap (grammar name) (sym same) ∙ none
+pub schedule_bad : (name : Text) (error : ScheduleError) → error ≢ schedule_errors.TooMany → error ≢ schedule_errors.OutOfMemory
+    → schedule_refused name (Some error) ≡ Some (BadInput name (schedule_number error) (schedule_place error))
+schedule_bad name (schedule_errors.BadLine line) a b = refl
+schedule_bad name (schedule_errors.BadSize line) a b = refl
+schedule_bad name (schedule_errors.Decreasing line) a b = refl
+schedule_bad name schedule_errors.TooMany a b = absurd (a refl)
+schedule_bad name schedule_errors.OutOfMemory a b = absurd (b refl)
 
--- bytes that are refused
-unread : (grammar : Text → List ℕ → Option Cause) (name : Text) (old new : DiskView) (bytes text : List ℕ) (cause : Cause) → IsGrammar grammar → text ≡ bytes → length bytes ≤ 67108864
-    → Gives old.files name (Some bytes) → grammar name text ≡ Some cause → IsUnread grammar name old new cause
-unread grammar name old new bytes text cause of_text same le held refused = record {
-  given = Some bytes;
-  held = held;
-  first = small_is grammar name bytes le ∙ ap (grammar name) (sym same) ∙ refused;
-  absent = λ missing e. absurd ((of_text name text cause refused).not_absent (ap status_of e));
-}
+pub schedule_accepted : (name : Text) (text : List ℕ) → first_fault 1 0 (lines_of text) ≡ None → schedule_refusal name text ≡ None
+unfolding schedule_refusal
+schedule_accepted name text e = ap (schedule_refused name) e
 
-text_unread : (grammar : Text → List ℕ → Option Cause) (name : Text) (old new : DiskView) (bytes text : List ℕ) (cause : Cause) → IsGrammar grammar → text ≡ bytes
-    → length bytes ≤ 67108864 → Gives old.files name (Some bytes) → (cause ≢ Memory → grammar name text ≡ Some cause) → RefusesFile grammar name old new cause
-text_unread grammar name old new bytes text cause of_text same le held refused =
-    elim (memory_or cause) [
-      | inl e ↦ inl e
-      | inr ne ↦ inr (inr (unread grammar name old new bytes text cause of_text same le held (refused ne)))
-    ]
+schedule_status : (name : Text) (fault : Option ScheduleError) (refusal : Refusal) → schedule_refused name fault ≡ Some refusal → IsOfText refusal
+schedule_status name None refusal e = absurd (cc e)
+schedule_status name (Some (schedule_errors.BadLine line)) refusal e = bad_input name 1 line refusal e
+schedule_status name (Some (schedule_errors.BadSize line)) refusal e = bad_input name 2 line refusal e
+schedule_status name (Some (schedule_errors.Decreasing line)) refusal e = bad_input name 3 line refusal e
+schedule_status name (Some schedule_errors.TooMany) refusal e =
+    let same : Limit (Packets name) ≡ refusal = cc e in
+    subst (λ (r : Refusal). IsOfText r) same (record { not_words = λ h. omega arith; not_absent = λ h. omega arith })
+schedule_status name (Some schedule_errors.OutOfMemory) refusal e = absurd (cc e)
 
--- a text that is read, or not
-pub schedule_found : (told : Option Files) (name : Text) (bytes text : List ℕ) (result : Result (List Row) Refusal) → text ≡ bytes → length bytes ≤ 67108864 → Gives told name (Some bytes)
-    → IfOk result (λ rows. IsScheduleText text rows)
-    → MatchResult result (λ _. schedule_refusal name text ≡ None) (λ r. cause_of r ≢ Memory → schedule_refusal name text ≡ Some (cause_of r))
-    → IfOk result (λ rows. IsSchedule told name rows)
-schedule_found told name bytes text (Ok rows) same le held are first = record {
-  bytes = bytes;
-  held = held;
-  accepted = accepted schedule_refusal name bytes text same le first;
-  rows_are = subst (λ (b : List ℕ). IsScheduleText b rows) same are;
-}
-schedule_found told name bytes text (Err r) same le held are first = tt
+pub schedule_text : (name : Text) (text : List ℕ) (refusal : Refusal) → schedule_refusal name text ≡ Some refusal → IsOfText refusal
+unfolding schedule_refusal
+schedule_text name text refusal e = schedule_status name (first_fault 1 0 (lines_of text)) refusal e
 
-pub trace_found : (told : Option Files) (name : Text) (bytes text : List ℕ) (result : Result TraceView Refusal) → text ≡ bytes → length bytes ≤ 67108864 → Gives told name (Some bytes)
-    → IfOk result (λ trace. IsTraceText text trace)
-    → MatchResult result (λ _. trace_refusal name text ≡ None) (λ r. cause_of r ≢ Memory → trace_refusal name text ≡ Some (cause_of r))
-    → IfOk result (λ trace. IsTrace told name trace)
-trace_found told name bytes text (Ok trace) same le held is first = record {
-  bytes = bytes;
-  held = held;
-  accepted = accepted trace_refusal name bytes text same le first;
-  trace_is = subst (λ (b : List ℕ). IsTraceText b trace) same is;
-}
-trace_found told name bytes text (Err r) same le held is first = tt
+pub trace_found : (told : Option Files) (name : Text) (bytes text : List ℕ) (result : Result TraceView Cause) → text ≡ bytes → IsInput told name bytes
+    → IfOk result (λ trace. IsTraceText text trace) → MatchResult result (λ _. trace_refusal name text ≡ None) (λ cause. RefusesText (trace_refusal name text) cause)
+    → IfOk result (λ trace. ((t : List ℕ) × HasTrace told name t trace))
+trace_found told name bytes text (Ok trace) same input is accepted =
+    (text, record { input = subst (λ (t : List ℕ). IsInput told name t) (sym same) input; accepted = accepted; trace_is = is })
+trace_found told name bytes text (Err cause) same input is accepted = tt
 
-pub text_refused : {A : Type 0} (grammar : Text → List ℕ → Option Cause) (name : Text) (old new : DiskView) (bytes text : List ℕ) (result : Result A Refusal) → IsGrammar grammar → text ≡ bytes
-    → length bytes ≤ 67108864 → Gives old.files name (Some bytes)
-    → MatchResult result (λ _. grammar name text ≡ None) (λ r. cause_of r ≢ Memory → grammar name text ≡ Some (cause_of r))
-    → IfErr result (λ r. RefusesFile grammar name old new (cause_of r))
-text_refused grammar name old new bytes text (Ok value) of_text same le held first = tt
-text_refused grammar name old new bytes text (Err r) of_text same le held first = text_unread grammar name old new bytes text (cause_of r) of_text same le held first
+pub schedule_found : (told : Option Files) (name : Text) (text : List ℕ) (result : Result (List Row) Cause) → IsInput told name text
+    → IfOk result (λ rows. IsScheduleText text rows) → MatchResult result (λ _. schedule_refusal name text ≡ None) (λ cause. RefusesText (schedule_refusal name text) cause)
+    → IfOk result (λ rows. ((t : List ℕ) × HasSchedule told name t rows))
+schedule_found told name text (Ok rows) input are accepted = (text, record { input = input; accepted = accepted; rows_are = are })
+schedule_found told name text (Err cause) input are accepted = tt
 
--- a file that was read after others
-pub refused_later : (grammar : Text → List ℕ → Option Cause) (name : Text) (old mid new : DiskView) (cause : Cause) → mid.files ≡ old.files → old.read_faults ≤ mid.read_faults
-    → old.absences ≤ mid.absences → RefusesFile grammar name mid new cause → RefusesFile grammar name old new cause
-refused_later grammar name old mid new cause same reads lacks refused =
-    elim refused [
-      | inl e ↦ inl e
-      | inr h ↦ elim h [
-        | inl fault ↦ inr (inl (record { cause_is = fault.cause_is; rose = let r = fault.rose in λ lt. let k = r lt in omega arith }))
-        | inr u ↦ inr (inr (record {
-          given = u.given;
-          held = subst (λ (told : Option Files). Gives told name u.given) same u.held;
-          first = u.first;
-          absent = λ missing e. let r = u.absent missing e in λ lt. let k = r lt in omega arith;
-        }))
-      ]
-    ]
+-- traces that are read lead on
+pub leads_traces : {A : Type 0} {told : Option Files} {names : List Text} {texts : List (List ℕ)} {traces : List TraceView} (next : List (List ℕ) → Reading A)
+    → HaveTraces told names texts traces → Leads told (reading_traces names next) (next texts)
+leads_traces next NoTraces = Stays (next [])
+leads_traces {told = told} next (MoreTraces name names text texts trace traces has more) =
+    leads_then (leads_text told (trace_refusal name) name (λ t. reading_traces names (λ ts. next (t ∷ ts))) text has.input has.accepted)
+    (leads_traces (λ ts. next (text ∷ ts)) more)
+
+leads_before : {A : Type 0} {told : Option Files} {names : List Text} {texts : List (List ℕ)} {traces : List TraceView} (later : List Text) (next : List (List ℕ) → Reading A)
+    → HaveTraces told names texts traces → Leads told (reading_traces (names ++ later) next) (reading_traces later (λ more. next (texts ++ more)))
+leads_before later next NoTraces = Stays (reading_traces later next)
+leads_before {told = told} later next (MoreTraces name names text texts trace traces has more) =
+    leads_then (leads_text told (trace_refusal name) name (λ t. reading_traces (names ++ later) (λ ts. next (t ∷ ts))) text has.input has.accepted)
+    (leads_before later (λ ts. next (text ∷ ts)) more)
+
+have_push : {told : Option Files} {names : List Text} {texts : List (List ℕ)} {traces : List TraceView} (name : Text) (text : List ℕ) (trace : TraceView)
+    → HaveTraces told names texts traces → HasTrace told name text trace → HaveTraces told (names ++ name ∷ []) (texts ++ text ∷ []) (traces ++ trace ∷ [])
+have_push name text trace NoTraces has = MoreTraces name [] text [] trace [] has NoTraces
+have_push name text trace (MoreTraces n ns t ts r rs first more) has = MoreTraces n _ t _ r _ first (have_push name text trace more has)
+
+pub have_count : {told : Option Files} {names : List Text} {texts : List (List ℕ)} {traces : List TraceView} → HaveTraces told names texts traces → length traces ≡ length names
+have_count NoTraces = refl
+have_count (MoreTraces n ns t ts r rs first more) = ap (λ k. suc k) (have_count more)
+
+pub have_texts : {told : Option Files} {names : List Text} {texts : List (List ℕ)} {traces : List TraceView} → HaveTraces told names texts traces → AreTraceTexts texts traces
+have_texts NoTraces = tt
+have_texts (MoreTraces n ns t ts r rs first more) = (first.trace_is, have_texts more)
+
+pub have_said : {told : Option Files} {names : List Text} {texts : List (List ℕ)} {traces : List TraceView} → HaveTraces told names texts traces → map trace_in texts ≡ traces
+have_said NoTraces = refl
+have_said (MoreTraces n ns t ts r rs first more) =
+    let one : trace_in t ≡ r = trace_is t r first.trace_is in
+    let rest : map trace_in ts ≡ rs = have_said more in
+    λ j. one j ∷ rest j
+
+-- one trace more is read
+pub have_more : (told now : Option Files) (names : List Text) (i : ℕ) (name text : Text) (texts : List (List ℕ)) (traces all : List TraceView) (trace : TraceView) → i < length names
+    → name ≡ get_or names i name → text ≡ name → HaveTraces told (take i names) texts traces → now ≡ told → ((t : List ℕ) × HasTrace now text t trace) → all ≡ traces ++ trace ∷ []
+    → (ts : List (List ℕ)) × HaveTraces told (take (i + 1) names) ts all
+have_more told now names i name text texts traces all trace lt read same have stand is pushed =
+    let at_told : HasTrace told text is.0 trace = subst (λ (files : Option Files). HasTrace files text is.0 trace) stand is.1 in
+    let here : HasTrace told name is.0 trace = subst (λ (n : Text). HasTrace told n is.0 trace) same at_told in
+    let more : HaveTraces told (take i names ++ name ∷ []) (texts ++ is.0 ∷ []) (traces ++ trace ∷ []) = have_push name is.0 trace have here in
+    let next : take i names ++ name ∷ [] ≡ take (i + 1) names = ap (λ n. take i names ++ n ∷ []) read ∙ sym (take_more names i name lt) in (
+      texts ++ is.0 ∷ [],
+      subst (λ (l : List TraceView). HaveTraces told (take (i + 1) names) (texts ++ is.0 ∷ []) l) (sym pushed)
+          (subst (λ (l : List Text). HaveTraces told l (texts ++ is.0 ∷ []) (traces ++ trace ∷ [])) next more),
+    )
+
+-- reading stops at this one
+pub traces_stop : {A : Type 0} (names : List Text) (i : ℕ) (name text : Text) (old mid new : DiskView) (texts : List (List ℕ)) (traces : List TraceView) (cause : Cause) → i < length names
+    → name ≡ get_or names i name → text ≡ name → HaveTraces old.files (take i names) texts traces → OnlyReads old mid
+    → ((next : List ℕ → Reading A) → StopsReading (reading_trace text next) mid new cause) → (next : List (List ℕ) → Reading A) → StopsReading (reading_traces names next) old new cause
+traces_stop {A} names i name text old mid new texts traces cause lt read same have reads stopped next =
+    let order : names ≡ take i names ++ name ∷ drop (i + 1) names =
+    sym (take-append-drop i names) ∙ ap (λ l. take i names ++ l) (drop_more names i name lt ∙ ap (λ n. n ∷ drop (i + 1) names) (sym read)) in
+    let rest : List ℕ → Reading A = λ t. reading_traces (drop (i + 1) names) (λ more. next (texts ++ (t ∷ more))) in
+    let here : StopsReading (reading_trace name rest) mid new cause = subst (λ (n : Text). StopsReading (reading_trace n rest) mid new cause) same (stopped rest) in
+    subst (λ (l : List Text). StopsReading (reading_traces l next) old new cause) (sym order)
+    (stops_later (reading_traces (take i names ++ name ∷ drop (i + 1) names) next) (reading_trace name rest) old mid new cause
+    (leads_before (name ∷ drop (i + 1) names) next have) reads here)

@@ -1,46 +1,77 @@
--- What the words of a run are refused for.
-use Rattle.std.proofs.Common.{◌≡◌, ◌≢◌, ◌⊎◌, inl, inr, ℕ, ◌<◌, ◌≤◌, true, false, cond, nat_lt, List, Option, Some, None, Result, Ok, Err, refl, ap, sym, ◌∙◌, rules, tests}
+-- What a run's words and traces are refused for.
+use Rattle.std.proofs.Common.{◌≡◌, ◌≢◌, inl, inr, ℕ, ◌<◌, ◌≤◌, Bool, true, false, cond, nat_lt, List, Option, Some, None, subst, refl, ap, sym, ◌∙◌, rules, tests, arith}
+use Rattle.trace_reader.specs.Traces.{TraceView}
+use Rattle.nest_spec.specs.Nests.{opportunities_of}
 use Rattle.nest_spec.specs.Words.{NestPlan}
-use Rattle.nest_spec.specs.declared.error.NestError.{NestError}
-use Rattle.nest_spec.specs.declared.error.NestError.TheVariants as errors
-use Rattle.mm_program.specs.Causes.{Cause, Nest, Horizon, Memory}
-use Rattle.mm_program.specs.Jobs.{RunJob}
-use Rattle.mm_program.specs.Refusals.{or_later, refused_horizon, refused_names, refused_words}
-use Rattle.mm_program.specs.View.{nest_cause}
+use Rattle.nest_spec.specs.declared.shell_words.ShellWords.{ShellWords}
+use Rattle.command_ends.specs.Causes.{Text, status_of_refusal}
+use Rattle.command_ends.specs.Names.{first_taken, refused_name, refused_names}
+use Rattle.command_ends.specs.Stops.{RefusesText}
+use Rattle.command_ends.specs.declared.cause.Cause.{Cause}
+use Rattle.command_ends.specs.declared.cause.Cause.TheVariants.{Refused}
+use Rattle.command_ends.specs.declared.cause.Limit.TheVariants.{Horizon, Opportunities}
+use Rattle.command_ends.specs.declared.cause.Refusal.{Refusal}
+use Rattle.command_ends.specs.declared.cause.Refusal.TheVariants.{Limit, Words}
+use Rattle.command_ends.specs.declared.cause.WordsRefusal.TheVariants.{Name}
+use Rattle.mm_program.specs.RunReading.{refused_count, refused_horizon}
+use Rattle.mm_program.proofs.InputLemmas.{IsOfText}
 
--- a nest's refusal is for want of memory, or is its cause
-nest_or : (error : NestError) → (error ≡ errors.OutOfMemory) ⊎ ((error ≢ errors.OutOfMemory) × (nest_cause error ≡ Nest error))
-nest_or errors.OutOfMemory = inl refl
-nest_or errors.NoShell = inr ((λ e. cc e), refl)
-nest_or (errors.UnknownShell word) = inr ((λ e. cc e), refl)
-nest_or (errors.MissingWord shell) = inr ((λ e. cc e), refl)
-nest_or (errors.BadNumber shell) = inr ((λ e. cc e), refl)
-nest_or (errors.BadOption word) = inr ((λ e. cc e), refl)
-nest_or (errors.RepeatedOption word) = inr ((λ e. cc e), refl)
-nest_or errors.TooManyShells = inr ((λ e. cc e), refl)
-nest_or (errors.Queue shell fault) = inr ((λ e. cc e), refl)
-nest_or (errors.Rate shell fault) = inr ((λ e. cc e), refl)
-nest_or (errors.BadDirection shell) = inr ((λ e. cc e), refl)
+pub horizon_over : (until : ℕ) (cause : Cause) → 3600000 < until → cause ≡ Refused (Limit Horizon) → RefusesText (refused_horizon until) cause
+unfolding refused_horizon
+horizon_over until cause lt is =
+    let over : nat_lt 3600000 until ≡ true = search (rules, tests) in
+    inr (Limit Horizon, is, ap (λ b. cond b (Some (Limit Horizon)) None) over)
 
-pub nest_refused : (job : RunJob) (nest : Result NestPlan NestError) (error : NestError) (cause : Cause) → (error ≢ errors.OutOfMemory → nest ≡ Err error) → cause ≡ nest_cause error → cause ≢ Memory
-    → refused_words job nest ≡ Some cause
-nest_refused job nest error cause is e ne =
-    elim (nest_or error) [
-      | inl memory ↦ absurd (ne (e ∙ ap nest_cause memory))
-      | inr h ↦ ap (refused_words job) (is h.0) ∙ ap Some (sym (e ∙ h.1))
-    ]
+pub horizon_within : (until : ℕ) → until ≤ 3600000 → refused_horizon until ≡ None
+unfolding refused_horizon
+horizon_within until le =
+    let within : nat_lt 3600000 until ≡ false = search (rules, tests) in
+    ap (λ b. cond b (Some (Limit Horizon)) None) within
 
-pub names_refused : (job : RunJob) (nest : Result NestPlan NestError) (plan : NestPlan) (cause : Cause) → nest ≡ Ok plan → refused_names job plan ≡ Some cause → refused_words job nest ≡ Some cause
-names_refused job nest plan cause is refused = ap (refused_words job) is ∙ ap (λ o. or_later o (refused_horizon job)) refused
+pub count_over : (until : ℕ) (shells : List ShellWords) (traces : List TraceView) (cause : Cause) → 16000000 < opportunities_of until shells traces → cause ≡ Refused (Limit Opportunities)
+    → RefusesText (refused_count until shells traces) cause
+unfolding refused_count
+count_over until shells traces cause lt is =
+    let over : nat_lt 16000000 (opportunities_of until shells traces) ≡ true = search (rules, tests) in
+    inr (Limit Opportunities, is, ap (λ b. cond b (Some (Limit Opportunities)) None) over)
 
-pub horizon_refused : (job : RunJob) (nest : Result NestPlan NestError) (plan : NestPlan) → nest ≡ Ok plan → refused_names job plan ≡ None → 3600000 < job.until
-    → refused_words job nest ≡ Some Horizon
-horizon_refused job nest plan is none lt =
-    let late : nat_lt 3600000 job.until ≡ true = search (rules, tests) in
-    ap (refused_words job) is ∙ ap (λ o. or_later o (refused_horizon job)) none ∙ ap (λ b. cond b (Some Horizon) None) late
+pub count_within : (until : ℕ) (shells : List ShellWords) (traces : List TraceView) → opportunities_of until shells traces ≤ 16000000 → refused_count until shells traces ≡ None
+unfolding refused_count
+count_within until shells traces le =
+    let within : nat_lt 16000000 (opportunities_of until shells traces) ≡ false = search (rules, tests) in
+    ap (λ b. cond b (Some (Limit Opportunities)) None) within
 
-pub words_accepted : (job : RunJob) (nest : Result NestPlan NestError) (plan : NestPlan) → nest ≡ Ok plan → refused_names job plan ≡ None → job.until ≤ 3600000
-    → refused_words job nest ≡ None
-words_accepted job nest plan is none le =
-    let early : nat_lt 3600000 job.until ≡ false = search (rules, tests) in
-    ap (refused_words job) is ∙ ap (λ o. or_later o (refused_horizon job)) none ∙ ap (λ b. cond b (Some Horizon) None) early
+five : (limit : Refusal) (refusal : Refusal) (b : Bool) → status_of_refusal limit ≡ 5 → cond b (Some limit) None ≡ Some refusal → IsOfText refusal
+five limit refusal true is e =
+    let same : limit ≡ refusal = cc e in
+    let status : status_of_refusal refusal ≡ 5 = ap status_of_refusal (sym same) ∙ is in
+    record { not_words = λ h. omega arith; not_absent = λ h. omega arith }
+five limit refusal false is e = absurd (cc e)
+
+pub horizon_text : (until : ℕ) (refusal : Refusal) → refused_horizon until ≡ Some refusal → IsOfText refusal
+unfolding refused_horizon
+horizon_text until refusal e = five (Limit Horizon) refusal (nat_lt 3600000 until) refl e
+
+pub count_text : (until : ℕ) (shells : List ShellWords) (traces : List TraceView) (refusal : Refusal) → refused_count until shells traces ≡ Some refusal → IsOfText refusal
+unfolding refused_count
+count_text until shells traces refusal e = five (Limit Opportunities) refusal (nat_lt 16000000 (opportunities_of until shells traces)) refl e
+
+name_status : (found : Option Text) (refusal : Refusal) → refused_name found ≡ Some refusal → status_of_refusal refusal ≢ 3
+name_status None refusal e three = absurd (cc e)
+name_status (Some name) refusal e three =
+    let same : Words (Name name) ≡ refusal = cc e in
+    let status : 2 ≡ status_of_refusal refusal = ap status_of_refusal same in
+    omega arith
+
+pub names_there : (inputs outputs : List Text) (refusal : Refusal) → refused_names inputs outputs ≡ Some refusal → status_of_refusal refusal ≢ 3
+unfolding refused_names
+names_there inputs outputs refusal e = name_status (first_taken inputs outputs) refusal e
+
+pub names_free : (inputs outputs : List Text) → first_taken inputs outputs ≡ None → refused_names inputs outputs ≡ None
+unfolding refused_names
+names_free inputs outputs e = ap refused_name e
+
+pub names_taken : (inputs outputs : List Text) (name : Text) (cause : Cause) → first_taken inputs outputs ≡ Some name → cause ≡ Refused (Words (Name name))
+    → RefusesText (refused_names inputs outputs) cause
+unfolding refused_names
+names_taken inputs outputs name cause e is = inr (Words (Name name), is, ap refused_name e)

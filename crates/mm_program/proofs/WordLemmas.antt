@@ -4,9 +4,9 @@ use Rattle.std.specs.List.{position, prefix_len}
 use Rattle.std.specs.Prelude.{option_and_then}
 use Rattle.std.specs.List.{drop-map, take-map}
 use Rattle.std.proofs.lemmas.List.{length-map}
-use Rattle.option_words.specs.Options.{Text}
+use Rattle.command_ends.specs.Causes.{Text}
 use Rattle.option_words.specs.RunApp.{run_texts}
-use Rattle.mm_program.specs.Jobs.{ends_options, run_at, run_of, run_with}
+use Rattle.mm_program.specs.Run.{ends_options, run_at, run_of, run_with}
 
 prefix_len-map : {X Y : Type 0} (f : X → Y) (p : Y → Bool) (xs : List X) → prefix_len p (map f xs) ≡ prefix_len (λ x. p (f x)) xs
 prefix_len-map f p [] = refl

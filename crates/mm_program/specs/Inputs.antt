@@ -1,130 +1,55 @@
--- What reading the inputs of a run leaves.
-use Rattle.std.specs.Prelude.{◌≡◌, ◌⊎◌, ◌≤◌, ℕ, List, [], ◌∷◌, ◌++◌, Option, Some, None, Ok}
-use Rattle.mm_base.specs.Counts.{Rose}
-use Rattle.mm_base.specs.Files.{Files}
-use Rattle.packet_record.specs.declared.packet.Row.{Row}
-use Rattle.packet_record.specs.Schedules.{IsScheduleText}
-use Rattle.trace_reader.specs.Traces.{TraceView}
+-- The inputs of runs: what a trace and a schedule are refused for, and what is read of their files.
+use Rattle.std.specs.Prelude.{ℕ, List, [], ◌∷◌, Option, Some, None}
+use Rattle.mm_base.specs.Lines.{lines_of}
+use Rattle.packet_record.specs.Schedules.{first_fault, number_of as schedule_number, place_of as schedule_place}
+use Rattle.packet_record.specs.declared.reading.ScheduleError.{ScheduleError}
+use Rattle.packet_record.specs.declared.reading.ScheduleError.TheVariants as schedule_errors
+use Rattle.trace_reader.specs.Reading.{number_of as trace_number, place_of as trace_place, trace_fault}
 use Rattle.trace_reader.specs.TraceText.{IsTraceText}
-use Rattle.nest_spec.specs.Words.{NestPlan}
-use Rattle.nest_spec.specs.Nests.{NestParts, RunLists, built, opportunities_of, result_of}
-use Rattle.nest_spec.specs.Once.{HaveOneFate}
-use Rattle.option_words.specs.Options.{Text}
-use Rattle.mm_program.specs.Jobs.{RunJob}
-use Rattle.mm_program.specs.Causes.{Cause, ReadFault, Memory, Absent}
-use Rattle.mm_program.specs.Disks.{DiskView, Gives, AreGiven}
-use Rattle.mm_program.specs.Refusals.{refused_file, refused_files, schedule_refusal, trace_refusal}
+use Rattle.trace_reader.specs.Traces.{TraceView}
+use Rattle.trace_reader.specs.declared.reading.TraceError.{TraceError}
+use Rattle.trace_reader.specs.declared.reading.TraceError.TheVariants as trace_errors
+use Rattle.command_ends.specs.Causes.{Text}
+use Rattle.command_ends.specs.Readings.{Reading, reading_text}
+use Rattle.command_ends.specs.declared.cause.Limit.TheVariants.{Lines, Packets}
+use Rattle.command_ends.specs.declared.cause.Refusal.{Refusal}
+use Rattle.command_ends.specs.declared.cause.Refusal.TheVariants.{BadInput, Limit}
 
--- the file of this name holds the text of these rows
-pub record IsSchedule (told : Option Files) (name : Text) (rows : List Row) : Type 0 where
-  pub bytes : List ℕ
-  pub held : Gives told name (Some bytes)
-  pub accepted : refused_file schedule_refusal name (Some bytes) ≡ None
-  pub rows_are : IsScheduleText bytes rows
+-- The refusal of a trace's text. Want of memory is none of a text's.
+abbrev pub trace_refused : Text → Option TraceError → Option Refusal
+trace_refused name None = None
+trace_refused name (Some trace_errors.OutOfMemory) = None
+trace_refused name (Some trace_errors.TooManyLines) = Some (Limit (Lines name))
+trace_refused name (Some error) = Some (BadInput name (trace_number error) (trace_place error))
 
--- the file of this name holds the text of this trace
-pub record IsTrace (told : Option Files) (name : Text) (trace : TraceView) : Type 0 where
-  pub bytes : List ℕ
-  pub held : Gives told name (Some bytes)
-  pub accepted : refused_file trace_refusal name (Some bytes) ≡ None
-  pub trace_is : IsTraceText bytes trace
+unfoldable pub trace_refusal : Text → List ℕ → Option Refusal
+trace_refusal name text = trace_refused name (trace_fault text)
 
--- the files of these names hold the texts of these traces, one each
-abbrev pub AreTraces : Option Files → List Text → List TraceView → Type 0
-AreTraces told [] [] = Unit {0}
-AreTraces told [] (trace ∷ traces) = ⊥
-AreTraces told (name ∷ names) [] = ⊥
-AreTraces told (name ∷ names) (trace ∷ traces) = IsTrace told name trace × AreTraces told names traces
+-- the refusal of a schedule's text
+abbrev pub schedule_refused : Text → Option ScheduleError → Option Refusal
+schedule_refused name None = None
+schedule_refused name (Some schedule_errors.OutOfMemory) = None
+schedule_refused name (Some schedule_errors.TooMany) = Some (Limit (Packets name))
+schedule_refused name (Some error) = Some (BadInput name (schedule_number error) (schedule_place error))
 
--- a run's inputs: its traces, and the rows of its schedule
-pub record Inputs : Type 0 where
-  pub traces : List TraceView
-  pub rows : List Row
+unfoldable pub schedule_refusal : Text → List ℕ → Option Refusal
+schedule_refusal name text = schedule_refused name (first_fault 1 0 (lines_of text))
 
--- the traces are read, and have few opportunities
-pub record HasTraces (told : Option Files) (job : RunJob) (plan : NestPlan) (traces : List TraceView) : Type 0 where
-  pub traces_are : AreTraces told plan.traces traces
-  pub few : opportunities_of job.until plan.shells traces ≤ 16000000
+-- the file of this name is read, whose text is a trace, or a schedule
+abbrev pub reading_trace : {A : Type 0} → Text → (List ℕ → Reading A) → Reading A
+reading_trace name next = reading_text (trace_refusal name) name next
 
--- all of them are read and accepted
-pub record HasInputs (told : Option Files) (job : RunJob) (plan : NestPlan) (inputs : Inputs) : Type 0 where
-  pub traces : HasTraces told job plan inputs.traces
-  pub schedule : IsSchedule told job.schedule inputs.rows
+abbrev pub reading_schedule : {A : Type 0} → Text → (List ℕ → Reading A) → Reading A
+reading_schedule name next = reading_text (schedule_refusal name) name next
 
--- the nest of the shells' words with these traces
-abbrev pub nest_with : RunJob → NestPlan → List TraceView → NestParts
-nest_with job plan traces = built plan traces job.seed job.until
+-- the files of these names are read, each a trace and read before the next
+abbrev pub reading_traces : {A : Type 0} → List Text → (List (List ℕ) → Reading A) → Reading A
+reading_traces [] next = next []
+reading_traces (name ∷ names) next = reading_trace name (λ text. reading_traces names (λ texts. next (text ∷ texts)))
 
--- the result of a run over these inputs, and that each row has one fate
-abbrev pub result_with : RunJob → NestPlan → Inputs → RunLists
-result_with job plan inputs = result_of (nest_with job plan inputs.traces) inputs.rows
-
-abbrev pub IsOnce : RunJob → NestPlan → Inputs → Type 0
-IsOnce job plan inputs = HaveOneFate (nest_with job plan inputs.traces) inputs.rows
-
--- the file is refused by what it holds, or isn't there
-pub record IsUnread (refusal : Text → List ℕ → Option Cause) (name : Text) (old new : DiskView) (cause : Cause) : Type 0 where
-  pub given : Option (List ℕ)
-  pub held : Gives old.files name given
-  pub first : refused_file refusal name given ≡ Some cause
-  pub absent : (missing : Text) → cause ≡ Absent missing → Rose old.absences new.absences
-
--- a fault was counted in reading this file
-pub record HasFault (name : Text) (old new : DiskView) (cause : Cause) : Type 0 where
-  pub cause_is : cause ≡ ReadFault name
-  pub rose : Rose old.read_faults new.read_faults
-
--- why a file wasn't read
-abbrev pub RefusesFile : (Text → List ℕ → Option Cause) → Text → DiskView → DiskView → Cause → Type 0
-RefusesFile refusal name old new cause = (cause ≡ Memory) ⊎ (HasFault name old new cause ⊎ IsUnread refusal name old new cause)
-
--- why traces weren't read: those before this one were, and this one wasn't
-pub record RefusesTraces (names : List Text) (old new : DiskView) (cause : Cause) : Type 0 where
-  pub before : List Text
-  pub name : Text
-  pub later : List Text
-  pub order : names ≡ before ++ name ∷ later
-  pub traces : List TraceView
-  pub read : AreTraces old.files before traces
-  pub refused : RefusesFile trace_refusal name old new cause
-
--- The inputs before this file are read and accepted: traces alone where a trace is next, and all of them where the schedule is.
-pub record IsNext (told : Option Files) (job : RunJob) (plan : NestPlan) (name : Text) : Type 0 where
-  pub before : List Text
-  pub later : List Text
-  pub order : plan.traces ++ job.schedule ∷ [] ≡ before ++ name ∷ later
-  pub traces : List TraceView
-  pub read : AreTraces told before traces
-  pub few : later ≡ [] → opportunities_of job.until plan.shells traces ≤ 16000000
-
--- a fault was counted in reading this input
-pub record HasInputFault (job : RunJob) (plan : NestPlan) (old new : DiskView) (cause : Cause) : Type 0 where
-  pub name : Text
-  pub next : IsNext old.files job plan name
-  pub fault : HasFault name old new cause
-
--- an input is refused by what it holds, or isn't there, or there are too many opportunities
-pub record HasRefusedInput (job : RunJob) (plan : NestPlan) (old new : DiskView) (cause : Cause) : Type 0 where
-  pub traces : List (Option (List ℕ))
-  pub traces_held : AreGiven old.files plan.traces traces
-  pub schedule : Option (List ℕ)
-  pub schedule_held : Gives old.files job.schedule schedule
-  pub first : refused_files job (Ok plan) traces schedule ≡ Some cause
-  pub absent : (missing : Text) → cause ≡ Absent missing → Rose old.absences new.absences
-
--- why the inputs weren't read
-abbrev pub RefusesInputs : RunJob → NestPlan → DiskView → DiskView → Cause → Type 0
-RefusesInputs job plan old new cause = (cause ≡ Memory) ⊎ (HasInputFault job plan old new cause ⊎ HasRefusedInput job plan old new cause)
-
--- a nest of the shells' words with the traces that their files hold
-pub record IsLoaded (told : Option Files) (job : RunJob) (plan : NestPlan) (nest : NestParts) : Type 0 where
-  pub traces : List TraceView
-  pub has_traces : HasTraces told job plan traces
-  pub nest_is : nest ≡ nest_with job plan traces
-
--- the result of a run over the inputs that the files hold
-pub record IsResult (told : Option Files) (job : RunJob) (plan : NestPlan) (result : RunLists) : Type 0 where
-  pub inputs : Inputs
-  pub has_inputs : HasInputs told job plan inputs
-  pub once : IsOnce job plan inputs
-  pub result_is : result ≡ result_with job plan inputs
+-- these are the texts of these traces, one each
+abbrev pub AreTraceTexts : List (List ℕ) → List TraceView → Type 0
+AreTraceTexts [] [] = Unit {0}
+AreTraceTexts [] (trace ∷ traces) = ⊥
+AreTraceTexts (text ∷ texts) [] = ⊥
+AreTraceTexts (text ∷ texts) (trace ∷ traces) = IsTraceText text trace × AreTraceTexts texts traces

@@ -4,18 +4,23 @@ use mm_base::{Bytes, MemDisk, MemSink, Text};
 use std::alloc::Global;
 use std::test::Fail;
 
+mod report;
+
+// A disk with these files, whose calls of these numbers fail.
+fn disk_of(alloc: Global, texts: &[(&str, &str)], fails: &[u64]) -> Result<MemDisk, Fail> {
+    let mut files = Vec::new(alloc);
+    for (name, text) in texts {
+        files.push((
+            Text::from_text(alloc, name)?,
+            Bytes::from_slice(alloc, text.as_bytes())?,
+        ))?;
+    }
+    Ok(MemDisk::new(alloc, files, Vec::from_slice(alloc, fails)?))
+}
+
 // A disk with the trace `t` and the schedule `s`, whose calls of these numbers fail.
 fn disk_with(alloc: Global, trace: &str, schedule: &str, fails: &[u64]) -> Result<MemDisk, Fail> {
-    let mut files = Vec::new(alloc);
-    files.push((
-        Text::from_text(alloc, "t")?,
-        Bytes::from_slice(alloc, trace.as_bytes())?,
-    ))?;
-    files.push((
-        Text::from_text(alloc, "s")?,
-        Bytes::from_slice(alloc, schedule.as_bytes())?,
-    ))?;
-    Ok(MemDisk::new(alloc, files, Vec::from_slice(alloc, fails)?))
+    disk_of(alloc, &[("t", trace), ("s", schedule)], fails)
 }
 
 // The words between the spaces of these texts.
@@ -395,13 +400,14 @@ fn each_call_of_the_disk_fails_in_turn(rt: HostRuntime) -> Result<(), Fail> {
     let down = "# base timestamp: 0\n1 # 1504\n2 # 1504\n";
     let fates = "1 up departed 2\n";
     let first = "# base timestamp: 0\n";
-    // The calls are: a size and a read for each of `t`, `t` and `s`, a creation for each of `u`, `d` and `f`, an append for the first
+    let files = [("t", "1\n"), ("x", "1\n"), ("s", "1 up 1504\n")];
+    // The calls are: a size and a read for each of `t`, `x` and `s`, a creation for each of `u`, `d` and `f`, an append for the first
     // line of `u` and of `d`, and one for the lines of each file.
     for (call, status, line, u, d, f) in [
         (1, 6, "mm: read fault t\n", "none", "none", "none"),
         (2, 6, "mm: read fault t\n", "none", "none", "none"),
-        (3, 6, "mm: read fault t\n", "none", "none", "none"),
-        (4, 6, "mm: read fault t\n", "none", "none", "none"),
+        (3, 6, "mm: read fault x\n", "none", "none", "none"),
+        (4, 6, "mm: read fault x\n", "none", "none", "none"),
         (5, 6, "mm: read fault s\n", "none", "none", "none"),
         (6, 6, "mm: read fault s\n", "none", "none", "none"),
         (7, 7, "mm: write fault u\n", "none", "none", "none"),
@@ -417,9 +423,9 @@ fn each_call_of_the_disk_fails_in_turn(rt: HostRuntime) -> Result<(), Fail> {
         let words = words_of(
             alloc,
             "run --until 2 --schedule s --out f --",
-            "mm-link t t --downlink-log=d --uplink-log=u",
+            "mm-link t x --downlink-log=d --uplink-log=u",
         )?;
-        let disk = disk_with(alloc, "1\n", "1 up 1504\n", &[call])?;
+        let disk = disk_of(alloc, &files, &[call])?;
         let out = MemSink::new(alloc, Vec::new(alloc));
         let ran = run(&rt, alloc, &words, disk, out);
         assert_eq!(rt; ran.status, status, "at call {call}");

@@ -1,14 +1,32 @@
-use Rattle.mm_program.specs.Refusals.{trace_refusal}
-use Rattle.mm_program.proofs.CauseLemmas.{trace_grammar}
-use Rattle.mm_program.proofs.InputLemmas.{trace_found, text_refused}
+use Rattle.std.proofs.Common.{List, ℕ, IfErr, subst, sym}
+use Rattle.std.proofs.lemmas.Result.{err_from_is_err_and}
+use Rattle.command_ends.specs.Readings.{Reading, unless}
+use Rattle.command_ends.specs.Stops.{StopsReading}
+use Rattle.command_ends.specs.declared.cause.Cause.{Cause}
+use Rattle.command_ends.proofs.ReadingLemmas.{stops_at, text_stopped}
+use Rattle.mm_program.specs.Inputs.{reading_trace, trace_refusal}
+use Rattle.mm_program.specs.Tasks.{Task}
+use Rattle.mm_program.proofs.InputLemmas.{trace_found, trace_text}
 use Rattle.mm_program.proofs.inputs.load_trace.Goals as goal
 
 pub returns-clause-found : goal.returns-clause-found
 returns-clause-found g c =
-    trace_found _ c.args.name.now c.in_ok-bytes.bytes c.as_slice.result.now c.trace_of.result c.as_slice.ensures c.in_ok-bytes.ensures.short c.in_ok-bytes.ensures.held
+    trace_found (g.D.Disk.view c.args.disk.now).files c.args.name.now c.in_ok-bytes.bytes c.as_slice.result.now c.trace_of.result c.as_slice.ensures c.in_ok-bytes.ensures.input
     c.trace_of.ensures.trace c.trace_of.ensures.refused
 
-pub returns-clause-refused : goal.returns-clause-refused
-returns-clause-refused g c =
-    text_refused trace_refusal c.args.name.now _ _ c.in_ok-bytes.bytes c.as_slice.result.now c.trace_of.result trace_grammar c.as_slice.ensures c.in_ok-bytes.ensures.short
-    c.in_ok-bytes.ensures.held c.trace_of.ensures.refused
+pub returns-in_err-bytes-clause-stopped : goal.returns-in_err-bytes-clause-stopped
+returns-in_err-bytes-clause-stopped g c =
+    let p = err_from_is_err_and c.from_residual.result c.from_residual.ensures.1 in
+    let name = c.args.name.now in
+    let old = g.D.Disk.view c.args.disk.now in
+    let new = g.D.Disk.view c.read_input.new.disk in
+    rw p.1 (λ next. subst (λ (k : Cause). StopsReading (reading_trace name next) old new k) (sym p.2)
+    (stops_at name (λ text. unless (trace_refusal name text) (next text)) old new _ c.in_err-bytes.ensures.stopped))
+
+pub returns-clause-stopped : goal.returns-clause-stopped
+returns-clause-stopped g c =
+    let name = c.args.name.now in
+    let old = g.D.Disk.view c.args.disk.now in
+    let new = g.D.Disk.view c.read_input.new.disk in
+    text_stopped Task old new (trace_refusal name) name c.in_ok-bytes.bytes c.trace_of.result c.in_ok-bytes.ensures.input (λ refusal e. (trace_text name c.in_ok-bytes.bytes refusal e).not_absent)
+    (rw c.as_slice.ensures at c.trace_of.ensures.refused)

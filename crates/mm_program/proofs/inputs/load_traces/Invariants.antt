@@ -1,10 +1,10 @@
-use Rattle.std.proofs.Common.{take}
+use Rattle.std.proofs.Common.{List, ℕ, take}
 use Rattle.mm_base.specs.Disk.{OnlyReads}
-use Rattle.mm_program.specs.Inputs.{AreTraces}
+use Rattle.mm_program.specs.Loaded.{HaveTraces}
 use Rattle.mm_program.proofs.inputs.load_traces.Given as goal
 
 abbrev pub invariant-loop-name : goal.invariant-loop-name
 invariant-loop-name g l = record {
-  so_far : AreTraces (g.D.Disk.files l.fn.disk) (take l.name-index l.names) l.traces.items;
-  only_reads : OnlyReads g.D.Disk.files g.D.Disk.read_faults g.D.Disk.write_faults g.D.Disk.absences g.D.Disk.never_fails l.fn.disk l.disk;
+  so_far : (texts : List (List ℕ)) × HaveTraces (g.D.Disk.view l.fn.disk).files (take l.name-index l.names) texts l.traces.items;
+  only_reads : OnlyReads (g.D.Disk.view l.fn.disk) (g.D.Disk.view l.disk);
 }

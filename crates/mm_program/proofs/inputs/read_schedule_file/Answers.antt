@@ -1,17 +1,24 @@
-use Rattle.std.proofs.Common.{Err, ap, subst, sym, ◌∙◌}
-use Rattle.mm_program.specs.Causes.{Cause}
-use Rattle.mm_program.specs.Disks.{disk_view}
-use Rattle.mm_program.specs.Inputs.{RefusesFile}
-use Rattle.mm_program.specs.Refusals.{load_cause, schedule_refusal}
-use Rattle.mm_program.proofs.InputLemmas.{load_unread}
+use Rattle.std.proofs.Common.{Option, [], subst, sym}
+use Rattle.std.proofs.lemmas.Result.{err_from_is_err_and}
+use Rattle.mm_base.specs.Files.{Files}
+use Rattle.command_ends.specs.Stops.{IsInput, StopsAtFile}
+use Rattle.command_ends.specs.declared.cause.Cause.{Cause}
+use Rattle.command_ends.proofs.ReadingLemmas.{file_later}
 use Rattle.mm_program.proofs.inputs.read_schedule_file.Goals as goal
 
-pub returns-in_ok-from_text-in-Err-clause-refused : goal.returns-in_ok-from_text-in-Err-clause-refused
-returns-in_ok-from_text-in-Err-clause-refused g c =
+pub returns-in_err-read_pieces-clause-stopped : goal.returns-in_err-read_pieces-clause-stopped
+returns-in_err-read_pieces-clause-stopped g c =
+    let p = err_from_is_err_and c.from_residual-in_err-read_pieces.result c.from_residual-in_err-read_pieces.ensures.1 in
     let name = c.args.name.now in
-    let old = disk_view g.D.Disk.files g.D.Disk.read_faults g.D.Disk.write_faults g.D.Disk.absences c.args.disk.now in
-    let new = disk_view g.D.Disk.files g.D.Disk.read_faults g.D.Disk.write_faults g.D.Disk.absences c.load_text.new.disk in
-    let error = c.in-Err.error in
-    let why = c.in-Err.ensures in
-    subst (λ (cause : Cause). RefusesFile schedule_refusal name old new cause) (sym (c.of_load.ensures ∙ ap (λ n. load_cause n error) c.in_ok-from_text-in-Err.ensures))
-    (load_unread schedule_refusal name old new error (λ e. why.absent (ap Err e)) (λ e. why.absent_cause (ap Err e)) (λ e. why.failed_cause (ap Err e)) (λ size e. why.too_long size (ap Err e)))
+    let old = g.D.Disk.view c.args.disk.now in
+    let mid = g.D.Disk.view c.input_size.new.disk in
+    let new = g.D.Disk.view c.read_pieces.new.disk in
+    rw p.1 (subst (λ (k : Cause). StopsAtFile name old new k) (sym p.2) (file_later name old mid new _ c.input_size.ensures.only_reads c.in_err-read_pieces.ensures.stopped))
+
+pub returns-clause-read : goal.returns-clause-read
+returns-clause-read g c =
+    let read = c.in_ok-read_pieces.ensures.read in (
+      read.bytes,
+      subst (λ (told : Option Files). IsInput told c.args.name.now read.bytes) c.input_size.ensures.only_reads.same_files read.input,
+      read.goes_on [] c.in_ok-text.ensures,
+    )

@@ -1,8 +1,24 @@
-use Rattle.std.proofs.Common.{map, string_bytes, ap, sym, ◌∙◌}
-use Rattle.std.specs.Option.{option_map}
-use Rattle.mm_program.specs.View.{job_values}
-use Rattle.mm_program.proofs.EndLemmas.{ends_usage}
+use Rattle.std.proofs.Common.{Some, ap, map, string_bytes, sym, ◌∙◌}
+use Rattle.command_ends.specs.Answers.{cause_in}
+use Rattle.command_ends.specs.Ends.{outside}
+use Rattle.mm_program.specs.Commands.{reading_of, report_words, run_words, usage}
+use Rattle.mm_program.specs.View.{command_reading}
+use Rattle.mm_program.proofs.TopLemmas.{ends_of, ends_usage}
 use Rattle.mm_program.proofs.top.answer.Goals as goal
 
-pub returns-in-None-clause-ends : goal.returns-in-None-clause-ends
-returns-in-None-clause-ends g c = ends_usage (map string_bytes c.args.words.now) _ (sym c.in_ok-job.ensures ∙ ap (option_map job_values) c.in-None.is)
+pub returns-in-Run-clause-ends : goal.returns-in-Run-clause-ends
+returns-in-Run-clause-ends g c =
+    let out = g.O.Sink.view c.args.out.now in
+    ends_of (run_words (map string_bytes c.in-Run.words.now)) (reading_of (map string_bytes c.args.words.now)) (outside (g.D.Disk.view c.args.disk.now) out)
+    (outside (g.D.Disk.view c.answer_run.new.disk) out) (cause_in c.answer_run.result) (ap command_reading (sym c.in-Run.is) ∙ c.read_command.ensures) (c.answer_run.ensures.ends out)
+
+pub returns-in-Report-clause-ends : goal.returns-in-Report-clause-ends
+returns-in-Report-clause-ends g c =
+    ends_of (report_words (map string_bytes c.in-Report.words.now)) (reading_of (map string_bytes c.args.words.now))
+    (outside (g.D.Disk.view c.args.disk.now) (g.O.Sink.view c.args.out.now)) (outside (g.D.Disk.view c.answer_report.new.disk) (g.O.Sink.view c.answer_report.new.out))
+    (cause_in c.answer_report.result) (ap command_reading (sym c.in-Report.is) ∙ c.read_command.ensures) c.answer_report.ensures.ends
+
+pub returns-in-Unknown-clause-ends : goal.returns-in-Unknown-clause-ends
+returns-in-Unknown-clause-ends g c =
+    ends_usage (reading_of (map string_bytes c.args.words.now)) (outside (g.D.Disk.view c.args.disk.now) (g.O.Sink.view c.args.out.now)) c.usage.result
+    (ap command_reading (sym c.in-Unknown.is) ∙ c.read_command.ensures) c.usage.ensures

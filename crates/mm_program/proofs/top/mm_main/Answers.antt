@@ -1,74 +1,63 @@
-use Rattle.std.proofs.Common.{inl, None, Some, map, string_bytes, refl, arith}
-use Rattle.mm_program.specs.Disks.{disk_view}
-use Rattle.mm_program.specs.View.{cause_of}
-use Rattle.mm_program.proofs.TopLemmas.{early_answer, told_answer, done_answer, status_or, told_by}
+use Rattle.std.proofs.Common.{List, ℕ, map, string_bytes}
+use Rattle.mm_base.proofs.Then.{CountsFaults-then}
+use Rattle.command_ends.specs.Answers.{cause_in}
+use Rattle.command_ends.specs.Ends.{outside}
+use Rattle.command_ends.proofs.TellLemmas.{Tells, tells, tells_answered, tells_done, tells_stopped}
+use Rattle.mm_program.specs.Commands.{reading_of}
+use Rattle.mm_program.specs.Tasks.{Gives}
+use Rattle.mm_program.proofs.TopLemmas.{reading_first}
 use Rattle.mm_program.proofs.top.mm_main.Goals as goal
 
-pub returns-in-Err-clause-usage : goal.returns-in-Err-clause-usage
-returns-in-Err-clause-usage g c = λ two.
-    let old = disk_view g.D.Disk.files g.D.Disk.read_faults g.D.Disk.write_faults g.D.Disk.absences c.args.disk.now in
-    let new = disk_view g.D.Disk.files g.D.Disk.read_faults g.D.Disk.write_faults g.D.Disk.absences c.answer.new.disk in
-    (told_by (map string_bytes c.args.words.now) old new (Some (cause_of c.in-Err.refusal)) c.explain.result c.in-Err.ensures.ends c.explain.ensures.status (λ nine. omega arith)).usage two
+pub returns-clause-done : goal.returns-clause-done
+returns-clause-done g c = tells_done Gives _ _ _ (g.O.Sink.view c.answer-answer.new.out) _ (cause_in c.answer-answer.result) c.conclude.result c.answer-answer.ensures.ends c.conclude.ensures
 
-pub returns-in-Err-clause-absent : goal.returns-in-Err-clause-absent
-returns-in-Err-clause-absent g c = λ three.
-    let old = disk_view g.D.Disk.files g.D.Disk.read_faults g.D.Disk.write_faults g.D.Disk.absences c.args.disk.now in
-    let new = disk_view g.D.Disk.files g.D.Disk.read_faults g.D.Disk.write_faults g.D.Disk.absences c.answer.new.disk in
-    (told_by (map string_bytes c.args.words.now) old new (Some (cause_of c.in-Err.refusal)) c.explain.result c.in-Err.ensures.ends c.explain.ensures.status (λ nine. omega arith)).absent three
+pub returns-clause-answered : goal.returns-clause-answered
+returns-clause-answered g c =
+    tells_answered Gives _ _ _ (g.O.Sink.view c.answer-answer.new.out) _ (cause_in c.answer-answer.result) c.conclude.result c.answer-answer.ensures.ends c.conclude.ensures
 
-pub returns-in-Err-clause-read_fault : goal.returns-in-Err-clause-read_fault
-returns-in-Err-clause-read_fault g c = λ six.
-    let old = disk_view g.D.Disk.files g.D.Disk.read_faults g.D.Disk.write_faults g.D.Disk.absences c.args.disk.now in
-    let new = disk_view g.D.Disk.files g.D.Disk.read_faults g.D.Disk.write_faults g.D.Disk.absences c.answer.new.disk in
-    (told_by (map string_bytes c.args.words.now) old new (Some (cause_of c.in-Err.refusal)) c.explain.result c.in-Err.ensures.ends c.explain.ensures.status (λ nine. omega arith)).read_fault six
+pub returns-clause-stopped : goal.returns-clause-stopped
+returns-clause-stopped g c =
+    tells_stopped Gives _ _ _ (g.O.Sink.view c.answer-answer.new.out) _ (cause_in c.answer-answer.result) c.conclude.result c.answer-answer.ensures.ends c.conclude.ensures
 
-pub returns-in-Err-clause-write_fault : goal.returns-in-Err-clause-write_fault
-returns-in-Err-clause-write_fault g c = λ seven.
-    let old = disk_view g.D.Disk.files g.D.Disk.read_faults g.D.Disk.write_faults g.D.Disk.absences c.args.disk.now in
-    let new = disk_view g.D.Disk.files g.D.Disk.read_faults g.D.Disk.write_faults g.D.Disk.absences c.answer.new.disk in
-    (told_by (map string_bytes c.args.words.now) old new (Some (cause_of c.in-Err.refusal)) c.explain.result c.in-Err.ensures.ends c.explain.ensures.status (λ nine. omega arith)).write_fault seven
+pub returns-clause-usage : goal.returns-clause-usage
+returns-clause-usage g c =
+    let t = tells Gives _ _ _ (g.O.Sink.view c.answer-answer.new.out) (g.O.Sink.view c.conclude.new.out) (cause_in c.answer-answer.result) c.conclude.result c.answer-answer.ensures.ends c.conclude.ensures in
+    λ two. t.usage two (reading_first (map string_bytes c.args.words.now))
 
-pub returns-in-Err-clause-untouched : goal.returns-in-Err-clause-untouched
-returns-in-Err-clause-untouched g c = λ not_done not_partly not_stopped.
-    let old = disk_view g.D.Disk.files g.D.Disk.read_faults g.D.Disk.write_faults g.D.Disk.absences c.args.disk.now in
-    let new = disk_view g.D.Disk.files g.D.Disk.read_faults g.D.Disk.write_faults g.D.Disk.absences c.answer.new.disk in
-    (told_by (map string_bytes c.args.words.now) old new (Some (cause_of c.in-Err.refusal)) c.explain.result c.in-Err.ensures.ends c.explain.ensures.status not_stopped).untouched not_done not_partly not_stopped
+pub returns-clause-absent : goal.returns-clause-absent
+returns-clause-absent g c =
+    let t = tells Gives _ _ _ (g.O.Sink.view c.answer-answer.new.out) (g.O.Sink.view c.conclude.new.out) (cause_in c.answer-answer.result) c.conclude.result c.answer-answer.ensures.ends c.conclude.ensures in
+    t.absent
 
-pub returns-in-Err-clause-unwritten : goal.returns-in-Err-clause-unwritten
-returns-in-Err-clause-unwritten g c = λ not_done not_partly not_stopped.
-    let old = disk_view g.D.Disk.files g.D.Disk.read_faults g.D.Disk.write_faults g.D.Disk.absences c.args.disk.now in
-    let new = disk_view g.D.Disk.files g.D.Disk.read_faults g.D.Disk.write_faults g.D.Disk.absences c.answer.new.disk in
-    (told_by (map string_bytes c.args.words.now) old new (Some (cause_of c.in-Err.refusal)) c.explain.result c.in-Err.ensures.ends c.explain.ensures.status not_stopped).unwritten not_done not_partly not_stopped
+pub returns-clause-read_fault : goal.returns-clause-read_fault
+returns-clause-read_fault g c =
+    let t = tells Gives _ _ _ (g.O.Sink.view c.answer-answer.new.out) (g.O.Sink.view c.conclude.new.out) (cause_in c.answer-answer.result) c.conclude.result c.answer-answer.ensures.ends c.conclude.ensures in
+    t.read_fault
 
-pub returns-in-Err-clause-by_words : goal.returns-in-Err-clause-by_words
-returns-in-Err-clause-by_words g c = λ cause refused.
-    let old = disk_view g.D.Disk.files g.D.Disk.read_faults g.D.Disk.write_faults g.D.Disk.absences c.args.disk.now in
-    let new = disk_view g.D.Disk.files g.D.Disk.read_faults g.D.Disk.write_faults g.D.Disk.absences c.answer.new.disk in
-    status_or c.explain.result (Some (cause_of c.in-Err.refusal)) (Some cause) c.explain.ensures.status
-    (early_answer (map string_bytes c.args.words.now) old new (Some (cause_of c.in-Err.refusal)) cause c.in-Err.ensures.ends refused)
+pub returns-clause-write_fault : goal.returns-clause-write_fault
+returns-clause-write_fault g c =
+    let t = tells Gives _ _ _ (g.O.Sink.view c.answer-answer.new.out) (g.O.Sink.view c.conclude.new.out) (cause_in c.answer-answer.result) c.conclude.result c.answer-answer.ensures.ends c.conclude.ensures in
+    t.write_fault
 
-pub returns-in-Err-clause-by_files : goal.returns-in-Err-clause-by_files
-returns-in-Err-clause-by_files g c = λ m cause told refused calm.
-    let old = disk_view g.D.Disk.files g.D.Disk.read_faults g.D.Disk.write_faults g.D.Disk.absences c.args.disk.now in
-    let new = disk_view g.D.Disk.files g.D.Disk.read_faults g.D.Disk.write_faults g.D.Disk.absences c.answer.new.disk in
-    status_or c.explain.result (Some (cause_of c.in-Err.refusal)) (Some cause) c.explain.ensures.status
-    (told_answer (map string_bytes c.args.words.now) old new (Some (cause_of c.in-Err.refusal)) cause m c.in-Err.ensures.ends told refused calm)
+pub returns-clause-keeps : goal.returns-clause-keeps
+returns-clause-keeps g c =
+    let t = tells Gives _ _ _ (g.O.Sink.view c.answer-answer.new.out) (g.O.Sink.view c.conclude.new.out) (cause_in c.answer-answer.result) c.conclude.result c.answer-answer.ensures.ends c.conclude.ensures in
+    t.keeps
 
-pub returns-in-Err-clause-complete : goal.returns-in-Err-clause-complete
-returns-in-Err-clause-complete g c = λ m told none calm still.
-    let old = disk_view g.D.Disk.files g.D.Disk.read_faults g.D.Disk.write_faults g.D.Disk.absences c.args.disk.now in
-    let new = disk_view g.D.Disk.files g.D.Disk.read_faults g.D.Disk.write_faults g.D.Disk.absences c.answer.new.disk in
-    status_or c.explain.result (Some (cause_of c.in-Err.refusal)) None c.explain.ensures.status
-    (done_answer (map string_bytes c.args.words.now) old new (Some (cause_of c.in-Err.refusal)) m c.in-Err.ensures.ends told none calm still)
+pub returns-clause-by_words : goal.returns-clause-by_words
+returns-clause-by_words g c =
+    let t = tells Gives _ _ _ (g.O.Sink.view c.answer-answer.new.out) (g.O.Sink.view c.conclude.new.out) (cause_in c.answer-answer.result) c.conclude.result c.answer-answer.ensures.ends c.conclude.ensures in
+    t.by_words
 
-pub returns-in-Ok-clause-by_words : goal.returns-in-Ok-clause-by_words
-returns-in-Ok-clause-by_words g c = λ cause refused.
-    let old = disk_view g.D.Disk.files g.D.Disk.read_faults g.D.Disk.write_faults g.D.Disk.absences c.args.disk.now in
-    let new = disk_view g.D.Disk.files g.D.Disk.read_faults g.D.Disk.write_faults g.D.Disk.absences c.answer.new.disk in
-    status_or 0 None (Some cause) (inl refl) (early_answer (map string_bytes c.args.words.now) old new None cause c.in-Ok.ensures.ends refused)
+pub returns-clause-by_files : goal.returns-clause-by_files
+returns-clause-by_files g c =
+    let t = tells Gives _ _ _ (g.O.Sink.view c.answer-answer.new.out) (g.O.Sink.view c.conclude.new.out) (cause_in c.answer-answer.result) c.conclude.result c.answer-answer.ensures.ends c.conclude.ensures in
+    t.by_files
 
-pub returns-in-Ok-clause-by_files : goal.returns-in-Ok-clause-by_files
-returns-in-Ok-clause-by_files g c = λ m cause told refused calm.
-    let old = disk_view g.D.Disk.files g.D.Disk.read_faults g.D.Disk.write_faults g.D.Disk.absences c.args.disk.now in
-    let new = disk_view g.D.Disk.files g.D.Disk.read_faults g.D.Disk.write_faults g.D.Disk.absences c.answer.new.disk in
-    status_or 0 None (Some cause) (inl refl) (told_answer (map string_bytes c.args.words.now) old new None cause m c.in-Ok.ensures.ends told refused calm)
+pub returns-clause-complete : goal.returns-clause-complete
+returns-clause-complete g c =
+    let t = tells Gives _ _ _ (g.O.Sink.view c.answer-answer.new.out) (g.O.Sink.view c.conclude.new.out) (cause_in c.answer-answer.result) c.conclude.result c.answer-answer.ensures.ends c.conclude.ensures in
+    t.complete
+
+pub returns-clause-out_counts : goal.returns-clause-out_counts
+returns-clause-out_counts g c = CountsFaults-then c.answer-answer.ensures.out_counts c.conclude.ensures.counts

@@ -1,0 +1,35 @@
+-- What a command line reads and refuses, by its first word.
+use Rattle.std.specs.Prelude.{List, [], ◌∷◌, Option, Some, None, codes, if◌then◌else◌}
+use Rattle.std.specs.Str.{bytes_eq}
+use Rattle.command_ends.specs.Causes.{Text}
+use Rattle.command_ends.specs.Readings.{Reading, Refuses}
+use Rattle.command_ends.specs.declared.cause.Refusal.TheVariants.{Words}
+use Rattle.command_ends.specs.declared.cause.WordsRefusal.TheVariants.{Usage}
+use Rattle.mm_program.specs.Report.{report_job_of}
+use Rattle.mm_program.specs.ReportReading.{report_reading}
+use Rattle.mm_program.specs.Run.{run_of}
+use Rattle.mm_program.specs.RunReading.{run_reading}
+use Rattle.mm_program.specs.Tasks.{Task}
+
+-- words that ask for nothing
+abbrev pub usage : Reading Task
+usage = Refuses (Words Usage)
+
+-- the reading of a job, if the words have one
+abbrev pub asked : {J : Type 0} → Option J → (J → Reading Task) → Reading Task
+asked None reading = usage
+asked (Some job) reading = reading job
+
+-- the words after `run`, and after `report`
+abbrev pub run_words : List Text → Reading Task
+run_words words = asked (run_of words) run_reading
+
+abbrev pub report_words : List Text → Reading Task
+report_words words = asked (report_job_of words) report_reading
+
+-- The first word is the command.
+unfoldable pub reading_of : List Text → Reading Task
+reading_of [] = usage
+reading_of (command ∷ words) =
+    if bytes_eq command (codes "run") then run_words words
+    else (if bytes_eq command (codes "report") then report_words words else usage)

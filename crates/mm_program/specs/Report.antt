@@ -1,0 +1,36 @@
+-- What `report` is asked for, and what it gives.
+use Rattle.std.specs.Prelude.{◌≡◌, ℕ, List, Option}
+use Rattle.std.specs.Option.{option_map}
+use Rattle.shell_log.specs.Entries.{IsLog}
+use Rattle.shell_log.specs.LogText.{log_text}
+use Rattle.shell_log.specs.declared.entry.Entry.{Entry}
+use Rattle.log_report.specs.ReportText.{report_text}
+use Rattle.log_report.specs.Reports.{report_of}
+use Rattle.log_report.specs.declared.figures.Report.{Report}
+use Rattle.option_words.specs.Commands.{ReportTexts, report_texts}
+use Rattle.command_ends.specs.Causes.{Text}
+use Rattle.command_ends.specs.Outputs.{Output, prints}
+
+-- the name of the file of a log
+pub record ReportJob : Type 0 where
+  pub log : Text
+
+abbrev pub report_with : ReportTexts → ReportJob
+report_with texts = record { log = texts.log }
+
+-- the job of `report`'s words
+unfoldable pub report_job_of : List Text → Option ReportJob
+report_job_of words = option_map report_with (report_texts words)
+
+-- the report of the log whose text this is, or none, where it has no entry
+pub record IsReport (text : List ℕ) (report : Option Report) : Type 0 where
+  pub entries : List Entry
+  pub log : IsLog entries
+  pub text_is : text ≡ log_text entries
+  pub report_is : report ≡ report_of entries
+
+-- The report of a log's text is printed.
+pub record GivesReport (text : List ℕ) (output : Output) : Type 0 where
+  pub report : Option Report
+  pub is : IsReport text report
+  pub output_is : output ≡ prints (report_text report)

@@ -1,0 +1,23 @@
+-- What `report` reads and refuses, in order.
+use Rattle.std.specs.Prelude.{ℕ, List, Option, Some, None}
+use Rattle.shell_log.specs.Reading.{line_named, log_fault, number_of}
+use Rattle.shell_log.specs.declared.reading.LogError.{LogError}
+use Rattle.shell_log.specs.declared.reading.LogError.TheVariants.{OutOfMemory}
+use Rattle.command_ends.specs.Causes.{Text}
+use Rattle.command_ends.specs.Readings.{Reading, Done, reading_text}
+use Rattle.command_ends.specs.declared.cause.Refusal.{Refusal}
+use Rattle.command_ends.specs.declared.cause.Refusal.TheVariants.{BadInput}
+use Rattle.mm_program.specs.Report.{ReportJob}
+use Rattle.mm_program.specs.Tasks.{Task, Report}
+
+-- The refusal of a log's text. Want of memory is none of a text's.
+abbrev pub log_refused : Text → Option LogError → Option Refusal
+log_refused name None = None
+log_refused name (Some OutOfMemory) = None
+log_refused name (Some error) = Some (BadInput name (number_of error) (line_named error))
+
+unfoldable pub log_refusal : Text → List ℕ → Option Refusal
+log_refusal name text = log_refused name (log_fault text)
+
+abbrev pub report_reading : ReportJob → Reading Task
+report_reading job = reading_text (log_refusal job.log) job.log (λ text. Done (Report text))
