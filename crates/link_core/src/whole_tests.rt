@@ -104,7 +104,7 @@ fn generated_wholes_are_as_the_slow_program_says(rt: HostRuntime) -> Result<(), 
             packets.len(),
             "held in {case}"
         );
-        let pieces = put_together(alloc, whole.log)?;
+        let pieces = put_together(alloc, whole.log.ok_or("no log")?)?;
         assert_eq!(rt;
             pieces.entries.as_slice(),
             slow.log.as_slice(),
@@ -159,7 +159,7 @@ fn a_log_in_pieces_is_the_whole_log(rt: HostRuntime) -> Result<(), Fail> {
     assert_eq!(rt; whole.departed.as_slice(), departed.as_slice());
     assert_eq!(rt; whole.held.as_slice(), held.as_slice());
     assert_eq!(rt; held.as_slice(), [4].as_slice());
-    let pieces = put_together(alloc, whole.log)?;
+    let pieces = put_together(alloc, whole.log.ok_or("no log")?)?;
     assert_eq!(rt; pieces.entries.as_slice(), log.as_slice());
     assert_eq!(rt; pieces.number > 10, true);
     assert_eq!(rt; pieces.longest < 5_000, true);
@@ -170,7 +170,7 @@ fn a_log_in_pieces_is_the_whole_log(rt: HostRuntime) -> Result<(), Fail> {
 fn a_log_is_written_out(rt: HostRuntime) -> Result<(), Fail> {
     let alloc = rt.alloc();
     let Both { whole, log, .. } = run_both(alloc, 30_000, GAP)?;
-    let written = whole.log.into_log()?;
+    let written = whole.log.ok_or("no log")?.into_log()?;
     assert_eq!(rt; written.entries(), log.as_slice());
     Ok(())
 }
@@ -179,7 +179,7 @@ fn a_log_is_written_out(rt: HostRuntime) -> Result<(), Fail> {
 fn a_link_without_arrivals_has_its_opportunities(rt: HostRuntime) -> Result<(), Fail> {
     let alloc = rt.alloc();
     let Both { whole, log, .. } = run_both(alloc, 3_000, b"".as_slice())?;
-    let pieces = put_together(alloc, whole.log)?;
+    let pieces = put_together(alloc, whole.log.ok_or("no log")?)?;
     assert_eq!(rt; pieces.entries.as_slice(), log.as_slice());
     assert_eq!(rt; pieces.entries.len(), 3_000);
     Ok(())
@@ -189,7 +189,7 @@ fn a_link_without_arrivals_has_its_opportunities(rt: HostRuntime) -> Result<(), 
 fn there_is_no_piece_where_nothing_happens(rt: HostRuntime) -> Result<(), Fail> {
     let alloc = rt.alloc();
     let Both { whole, log, .. } = run_both(alloc, 0, b"".as_slice())?;
-    let pieces = put_together(alloc, whole.log)?;
+    let pieces = put_together(alloc, whole.log.ok_or("no log")?)?;
     assert_eq!(rt; pieces.number, 0);
     assert_eq!(rt; log.len(), 0);
     Ok(())
