@@ -4,6 +4,7 @@ use mm_base::{Bytes, MemDisk, MemSink, Text};
 use std::alloc::Global;
 use std::test::Fail;
 
+mod large;
 mod report;
 
 // A disk with these files, whose calls of these numbers fail.
@@ -334,41 +335,6 @@ fn refusals_have_their_status_and_line(rt: HostRuntime) -> Result<(), Fail> {
         assert_eq!(rt; text_of(&ran.disk, "u"), b"none".as_slice(), "at {line}");
         assert_eq!(rt; text_of(&ran.disk, "t"), trace.as_bytes(), "at {line}");
         assert_eq!(rt; text_of(&ran.disk, "s"), schedule.as_bytes(), "at {line}");
-    }
-    Ok(())
-}
-
-// A text that is the line, doubled so many times.
-fn doubled(alloc: Global, line: &str, times: u32) -> Result<String, Fail> {
-    let mut text = String::from_str(alloc, line)?;
-    for _ in 0..times {
-        let half = text.clone()?;
-        text.push_str(half.as_str())?;
-    }
-    Ok(text)
-}
-
-#[test]
-fn files_past_their_size_are_refused(rt: HostRuntime) -> Result<(), Fail> {
-    let alloc = rt.alloc();
-    // A line of 65 bytes.
-    let wide = "0000000000000000000000000000000000000000000000000000000000000000\n";
-    let wide = doubled(alloc, wide, 20)?;
-    for (trace, schedule, line) in [
-        (wide.as_str(), "", "mm: limit file t\n"),
-        ("1\n", wide.as_str(), "mm: limit file s\n"),
-    ] {
-        let words = words_of(
-            alloc,
-            "run --until 9 --schedule s --out f --",
-            "mm-link t t",
-        )?;
-        let disk = disk_with(alloc, trace, schedule, &[])?;
-        let out = MemSink::new(alloc, Vec::new(alloc));
-        let ran = run(&rt, alloc, &words, disk, out);
-        assert_eq!(rt; ran.status, 5, "at {line}");
-        assert_eq!(rt; ran.out.written(), line.as_bytes(), "at {line}");
-        assert_eq!(rt; text_of(&ran.disk, "f"), b"none".as_slice(), "at {line}");
     }
     Ok(())
 }
