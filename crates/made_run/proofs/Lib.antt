@@ -1,0 +1,4 @@
+pub mod Totals
+pub mod LoadLemmas
+pub mod TraceLemmas
+pub mod WordLemmas

@@ -1,0 +1,62 @@
+-- What the fates of rows come to. Fates stand in the order of the rows.
+use Rattle.std.specs.Prelude.{ℕ, ◌+◌, Bool, true, false, List, [], ◌∷◌, count_by, fold, max, Option, Some, None, if◌then◌else◌}
+use Rattle.std.specs.List.{filter_map}
+use Rattle.packet_record.specs.declared.packet.Row.{Row}
+use Rattle.nest_spec.specs.declared.fate.Fate.{Fate}
+use Rattle.nest_spec.specs.declared.fate.Fate.TheVariants as fates
+use Rattle.nest_spec.specs.declared.fate.FateRow.{FateRow}
+
+abbrev pub is_departed : Fate → Bool
+is_departed (fates.Departed moment) = true
+is_departed (fates.Dropped shell moment) = false
+is_departed (fates.Inside shell) = false
+is_departed fates.Unsent = false
+
+abbrev pub is_dropped : Fate → Bool
+is_dropped (fates.Departed moment) = false
+is_dropped (fates.Dropped shell moment) = true
+is_dropped (fates.Inside shell) = false
+is_dropped fates.Unsent = false
+
+abbrev pub is_inside : Fate → Bool
+is_inside (fates.Departed moment) = false
+is_inside (fates.Dropped shell moment) = false
+is_inside (fates.Inside shell) = true
+is_inside fates.Unsent = false
+
+abbrev pub is_unsent : Fate → Bool
+is_unsent (fates.Departed moment) = false
+is_unsent (fates.Dropped shell moment) = false
+is_unsent (fates.Inside shell) = false
+is_unsent fates.Unsent = true
+
+-- how many fates are of a kind
+abbrev pub how_many : (Fate → Bool) → List FateRow → ℕ
+how_many kind rows = count_by (λ (r : FateRow). kind r.fate) rows
+
+-- the moment of a departure, and the moments at which packets departed
+abbrev pub departed_at : Fate → Option ℕ
+departed_at (fates.Departed moment) = Some moment
+departed_at (fates.Dropped shell moment) = None
+departed_at (fates.Inside shell) = None
+departed_at fates.Unsent = None
+
+abbrev pub departures : List FateRow → List ℕ
+departures rows = filter_map (λ (r : FateRow). departed_at r.fate) rows
+
+-- the bytes of the packets that departed
+abbrev pub bytes_of : Row → Fate → ℕ
+bytes_of row fate = if is_departed fate then row.timed.packet.size else 0
+
+abbrev pub departed_bytes : List Row → List FateRow → ℕ
+departed_bytes [] fates = 0
+departed_bytes (row ∷ rows) [] = 0
+departed_bytes (row ∷ rows) (r ∷ more) = bytes_of row r.fate + departed_bytes rows more
+
+-- the greatest, if there is one
+abbrev pub or_greater : Option ℕ → ℕ → Option ℕ
+or_greater None moment = Some moment
+or_greater (Some greatest) moment = Some (max greatest moment)
+
+abbrev pub greatest : List ℕ → Option ℕ
+greatest moments = fold or_greater None moments

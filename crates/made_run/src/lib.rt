@@ -1,0 +1,12 @@
+//! A run of a stated nest over a load and a trace that are made of a number, and its summary.
+#![tactic(auto)]
+
+mod made;
+mod printing;
+mod run;
+mod summary;
+#[cfg(test)]
+mod tests;
+mod words;
+
+pub use run::make_summary;

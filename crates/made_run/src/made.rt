@@ -1,0 +1,32 @@
+// The nest that is made of a number.
+ghost use Rattle.std.specs.Prelude.{◌≡◌, ◌≤◌, [], ◌∷◌, IfOk};
+ghost use Rattle.trace_reader.specs.Traces.{IsTrace};
+ghost use Rattle.made_run.specs.Made.{IsMadeNest};
+
+use crate::words::read_words;
+use mm_base::OutOfMemory;
+use nest_spec::{Nest, build};
+use std::alloc::Global;
+use trace_reader::{Trace, make_trace};
+
+// The stated nest with the number's trace in both directions, and the number as its seed.
+pub(crate) fn made_nest(alloc: Global, number: u64, horizon: u64) -> Result<Nest, OutOfMemory>
+    requires { horizon ≤ 3001000 }
+    ensures { IfOk result (IsMadeNest number horizon) }
+{
+    let words = read_words(alloc)?;
+    let trace = make_trace(alloc, number)?;
+    let traces = twice(alloc, trace)?;
+    build(alloc, words, traces, number, horizon)
+}
+
+fn twice(alloc: Global, trace: Trace) -> Result<Vec<Trace>, OutOfMemory>
+    ensures traces { IfOk result (λ traces. traces.items ≡ trace ∷ trace ∷ []) }
+    ensures trace { IsTrace trace }
+{
+    prove!(trace.len() > 0);
+    let mut traces = Vec::with_capacity(alloc, 2)?;
+    traces.push(trace.copy()?)?;
+    traces.push(trace)?;
+    Ok(traces)
+}

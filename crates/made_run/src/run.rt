@@ -1,0 +1,40 @@
+// A run of the stated nest over what is made of a number.
+ghost use Rattle.std.specs.Prelude.{◌≡◌, ◌≤◌, IfOk};
+ghost use Rattle.made_run.specs.Made.{last_moment, made_horizon};
+ghost use Rattle.made_run.specs.SummaryText.{IsSummary};
+
+use crate::made::made_nest;
+use crate::printing::print_summary;
+use mm_base::{Bytes, OutOfMemory};
+use nest_plain::run_nest;
+use packet_record::{Row, make_load};
+use std::alloc::Global;
+
+/// The summary of a run over the load of so many packets, 1 to 1,000,000, that the generator makes of a number, through
+/// `mm-delay 20 mm-link T T --uplink-queue=droptail --uplink-queue-args=packets=50 --downlink-queue=drophead
+/// --downlink-queue-args=bytes=60000`, where T is the generator's trace of the number and the seed is the number. The run
+/// ends a second after the last packet's moment. `OutOfMemory` is want of memory.
+#[tactic(auto, using(crate::proofs::LoadLemmas::last_within))]
+pub fn make_summary(alloc: Global, number: u64, packets: u32) -> Result<Bytes, OutOfMemory>
+    requires some { 1 ≤ packets }
+    requires most { packets ≤ 1000000 }
+    ensures { IfOk result (IsSummary number packets) }
+{
+    let schedule = make_load(alloc, number, packets)?;
+    let rows = schedule.rows();
+    let nest = made_nest(alloc, number, horizon_of(rows))?;
+    let (fates, _) = run_nest(alloc, &nest, &schedule)?.into_parts();
+    print_summary(alloc, rows, fates.as_slice())
+}
+
+// A second after the last row's moment.
+fn horizon_of(rows: &[Row]) -> u64
+    requires { last_moment rows.now ≤ 3000000 }
+    ensures { result ≡ made_horizon rows.now }
+{
+    let moment = match rows.last() {
+        Some(row) => row.timed.moment,
+        None => 0,
+    };
+    moment + 1000
+}
