@@ -12,8 +12,9 @@ use Rattle.command_ends.specs.declared.cause.Refusal.TheVariants.{Words}
 use Rattle.command_ends.specs.declared.cause.WordsRefusal.TheVariants.{Usage}
 use Rattle.command_ends.proofs.EndLemmas.{ends_refused}
 use Rattle.command_ends.proofs.ReadingLemmas.{RefusesNoWords, RefusesWordsFirst, unless_first, unless_no_words}
-use Rattle.mm_program.specs.Commands.{asked, reading_of, report_words, run_words, usage}
+use Rattle.mm_program.specs.Commands.{asked, make_reading, make_words, reading_of, report_words, run_words, usage}
 use Rattle.mm_program.specs.Inputs.{reading_schedule, reading_trace, reading_traces, schedule_refusal, trace_refusal}
+use Rattle.mm_program.specs.Make.{make_job_of}
 use Rattle.mm_program.specs.Report.{ReportJob, report_job_of}
 use Rattle.mm_program.specs.ReportReading.{log_refusal, report_reading}
 use Rattle.mm_program.specs.Run.{RunJob, run_of}
@@ -93,4 +94,5 @@ unfolding reading_of
 reading_first [] = tt
 reading_first (command ∷ words) =
     either_first (bytes_eq command (codes "run")) (run_words words) _ (asked_first (run_of words) run_reading (λ job. run_first job (nest_of job.shells)))
-    (either_first (bytes_eq command (codes "report")) (report_words words) usage (asked_first (report_job_of words) report_reading report_first) tt)
+    (either_first (bytes_eq command (codes "report")) (report_words words) _ (asked_first (report_job_of words) report_reading report_first)
+    (either_first (bytes_eq command (codes "make")) (make_words words) usage (asked_first (make_job_of words) make_reading (λ job. tt)) tt))

@@ -2,6 +2,7 @@ pub mod Traces
 pub mod Inputs
 pub mod Run
 pub mod Report
+pub mod Make
 pub mod Tasks
 pub mod ReportReading
 pub mod RunReading

@@ -8,6 +8,7 @@ ghost use Rattle.mm_program.specs.View.{command_reading};
 pub(crate) enum Command<'a> {
     Run(&'a [String]),
     Report(&'a [String]),
+    Make(&'a [String]),
     Unknown,
 }
 
@@ -19,6 +20,7 @@ pub(crate) fn read_command<'a>(words: &'a [String]) -> Command<'a>
     match words {
         [command, words @ ..] if command.as_str() == "run" => Command::Run(words),
         [command, words @ ..] if command.as_str() == "report" => Command::Report(words),
+        [command, words @ ..] if command.as_str() == "make" => Command::Make(words),
         _ => Command::Unknown,
     }
 }

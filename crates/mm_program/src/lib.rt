@@ -3,6 +3,8 @@
 
 mod command;
 mod inputs;
+mod make;
+mod make_job;
 mod report;
 mod run;
 mod run_files;

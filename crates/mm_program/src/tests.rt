@@ -5,6 +5,7 @@ use std::alloc::Global;
 use std::test::Fail;
 
 mod large;
+mod make;
 mod report;
 
 // A disk with these files, whose calls of these numbers fail.

@@ -14,6 +14,7 @@ ghost use Rattle.mm_program.specs.Commands.{reading_of};
 ghost use Rattle.mm_program.specs.Tasks.{Gives, Task};
 
 use crate::command::{Command, read_command};
+use crate::make::answer_make;
 use crate::report::answer_report;
 use crate::run::answer_run;
 use command_ends::{Cause, conclude};
@@ -35,6 +36,7 @@ fn answer<D: Disk, O: Sink>(
     match read_command(words) {
         Command::Run(words) => answer_run(alloc, words, disk),
         Command::Report(words) => answer_report(alloc, words, disk, out),
+        Command::Make(words) => answer_make(alloc, words, out),
         Command::Unknown => Err(Cause::usage()),
     }
 }
@@ -43,7 +45,9 @@ fn answer<D: Disk, O: Sink>(
 ///
 /// `run --until MS --schedule FILE --out FILE [--seed N] [--plain] -- SHELLS` passes the packets of a schedule through
 /// a nest of 1 to 8 shells up to the horizon `MS` in milliseconds, and writes the logs that the shells' words name and
-/// then the fates of the packets. `report --log FILE` prints the report of a log, or `empty`. Nothing else has a job yet.
+/// then the fates of the packets. `report --log FILE` prints the report of a log, or `empty`. `make --number N
+/// --packets COUNT` prints the summary of a run of 1 to 1,000,000 packets that is made of a number, up to ten digits of it.
+/// Nothing else has a job yet.
 ///
 /// 0: it is done. 2: the words have no job, the shells' words are no nest, or an output has the name of an input or of
 /// an earlier output. 3: an input isn't there. 4: an input doesn't meet its grammar. 5: a limit is passed. 6: reading
