@@ -4,7 +4,13 @@ use Rattle.mm_base.specs.Disk.{DiskView, OnlyReads, OnlyWrites}
 use Rattle.command_ends.specs.Answers.{CountsDisk}
 
 pub counts_none : (disk : DiskView) → CountsDisk disk disk
-counts_none disk = record { asks = omega arith; reads = omega arith; writes = omega arith; lacks = omega arith; steady = λ h. (h, refl, refl) }
+counts_none disk = record {
+  asks = omega arith;
+  reads = omega arith;
+  writes = omega arith;
+  lacks = omega arith;
+  steady = λ h. (h, refl, refl);
+}
 
 pub counts_reads : {old new : DiskView} → OnlyReads old new → CountsDisk old new
 counts_reads {old} {new} r = record {
@@ -34,4 +40,11 @@ counts_then p q = record {
 }
 
 pub reads_none : (disk : DiskView) → OnlyReads disk disk
-reads_none disk = record { same_files = refl; asks = omega arith; reads = omega arith; writes = refl; lacks = omega arith; steady = λ h. (h, refl) }
+reads_none disk = record {
+  same_files = refl;
+  asks = omega arith;
+  reads = omega arith;
+  writes = refl;
+  lacks = omega arith;
+  steady = λ h. (h, refl);
+}

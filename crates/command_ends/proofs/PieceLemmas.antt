@@ -1,5 +1,6 @@
 -- Pieces of a file that are read one after another.
-use Rattle.std.proofs.Common.{ℕ, ◌+◌, ◌≤◌, List, [], ◌++◌, Option, Some, length, take, refl, ap, sym, subst, ◌∙◌, append_assoc, arith, length-append}
+use Rattle.std.proofs.Common.{ℕ, ◌+◌, ◌≤◌, List, [], ◌++◌, Option, Some, length, take, refl, ap, sym, subst, ◌∙◌}
+use Rattle.std.proofs.Common.{append_assoc, arith, length-append}
 use Rattle.std.proofs.lemmas.List.{append-nil, take_all}
 use Rattle.mm_base.specs.Files.{Files, IfHeld, file}
 use Rattle.mm_base.proofs.FilesLemmas.{is_held}
@@ -16,18 +17,22 @@ module _ {R : Type 0} (has_read : List ℕ → R → Type 0) (told : Option File
     goes_on = λ text has. subst (λ (t : List ℕ). has_read t read) (sym (append-nil text)) has;
   }
 
-  pub more_read : (at n : ℕ) (old mid new : R) → FrontIsRead has_read told name at old mid → PieceIsRead has_read told name at n mid new
+  pub more_read : (at n : ℕ) (old mid new : R) → FrontIsRead has_read told name at old mid
+      → PieceIsRead has_read told name at n mid new
       → FrontIsRead has_read told name (at + n) old new
   more_read at n old mid new front piece = record {
     bytes = front.bytes ++ piece.bytes;
     few = omega (arith, length-append front.bytes piece.bytes, front.few, piece.long);
     held = λ m whole t h.
-        ap (λ l. l ++ piece.bytes) (front.held m whole t h) ∙ ap (λ l. take at whole ++ l) (piece.held m whole t h) ∙ take-append-take whole at n;
-    goes_on = λ text has. subst (λ (t : List ℕ). has_read t new) (append_assoc text front.bytes piece.bytes) (piece.goes_on (text ++ front.bytes) (front.goes_on text has));
+        ap (λ l. l ++ piece.bytes) (front.held m whole t h) ∙ ap (λ l. take at whole ++ l) (piece.held m whole t h)
+        ∙ take-append-take whole at n;
+    goes_on = λ text has. subst (λ (t : List ℕ). has_read t new) (append_assoc text front.bytes piece.bytes)
+        (piece.goes_on (text ++ front.bytes) (front.goes_on text has));
   }
 
   -- the file ended before the size
-  pub all_read : (at size : ℕ) (old new : R) → FrontIsRead has_read told name at old new → at ≤ size → IfHeld told name (λ whole. length whole ≤ at)
+  pub all_read : (at size : ℕ) (old new : R) → FrontIsRead has_read told name at old new → at ≤ size
+      → IfHeld told name (λ whole. length whole ≤ at)
       → FrontIsRead has_read told name size old new
   all_read at size old new front le end = record {
     bytes = front.bytes;
@@ -39,7 +44,8 @@ module _ {R : Type 0} (has_read : List ℕ → R → Type 0) (told : Option File
   }
 
   -- all of an input was read
-  pub input_read : (size : ℕ) (old new : R) → HasSize told name size → FrontIsRead has_read told name size old new → InputIsRead has_read told name old new
+  pub input_read : (size : ℕ) (old new : R) → HasSize told name size → FrontIsRead has_read told name size old new
+      → InputIsRead has_read told name old new
   input_read size old new has front = record {
     bytes = front.bytes;
     input = record {

@@ -1,5 +1,6 @@
 -- What an end and its explanation say of the status.
-use Rattle.std.proofs.Common.{◌≡◌, ◌≢◌, ◌⊎◌, inl, inr, ℕ, ◌<◌, ◌≤◌, List, Option, Some, None, Ok, Err, length, subst, refl, ap, sym, ◌∙◌, arith}
+use Rattle.std.proofs.Common.{◌≡◌, ◌≢◌, ◌⊎◌, inl, inr, ℕ, ◌<◌, ◌≤◌, List, Option, Some, None, Ok, Err, length, subst}
+use Rattle.std.proofs.Common.{refl, ap, sym, ◌∙◌, arith}
 use Rattle.mm_base.specs.Counts.{Rose}
 use Rattle.mm_base.specs.Disk.{DiskView}
 use Rattle.mm_base.specs.Files.{Files}
@@ -11,7 +12,8 @@ use Rattle.command_ends.specs.Ends.{Outside, outside, Ends, Finishes, IsDone, Ke
 use Rattle.command_ends.specs.Outputs.{Output}
 use Rattle.command_ends.specs.Readings.{Reading, outcome, refused_first}
 use Rattle.command_ends.specs.declared.cause.Cause.{Cause}
-use Rattle.command_ends.specs.declared.cause.Cause.TheVariants.{Refused, ReadFault, WriteFault, OutFault, NetFault, OutOfMemory}
+use Rattle.command_ends.specs.declared.cause.Cause.TheVariants.{Refused, ReadFault, WriteFault, OutFault, NetFault}
+use Rattle.command_ends.specs.declared.cause.Cause.TheVariants.{OutOfMemory}
 use Rattle.command_ends.specs.declared.cause.Refusal.{Refusal}
 use Rattle.command_ends.specs.declared.cause.Refusal.TheVariants.{Words, Absent, BadInput, Limit}
 use Rattle.command_ends.specs.declared.cause.WordsRefusal.{WordsRefusal}
@@ -37,17 +39,23 @@ within (BadInput name number place) = (omega arith, omega arith)
 within (Limit limit) = (omega arith, omega arith)
 
 -- a status that an answer has of its own, and isn't 9
-pub own_status : (status : ℕ) (answer : Option Cause) (old new : SinkView) → Concludes answer old new status → status ≢ 9 → status ≡ status_by answer
+pub own_status : (status : ℕ) (answer : Option Cause) (old new : SinkView) → Concludes answer old new status
+    → status ≢ 9 → status ≡ status_by answer
 own_status status answer old new c other = elim c.status_is [ inl e ↦ e | inr nine ↦ absurd (other nine) ]
 
-module _ {A : Type 0} (Gives : A → Output → Type 0) (reading : Reading A) (old : Outside) (disk : DiskView) (mid out : SinkView) where
+module _ {A : Type 0} (Gives : A → Output → Type 0) (reading : Reading A) (old : Outside) (disk : DiskView)
+    (mid out : SinkView) where
   -- an end by its answer, where the answer's status isn't that of want of memory
-  pub tells_done : (answer : Option Cause) (status : ℕ) → Ends Gives reading old (outside disk mid) answer → Concludes answer mid out status → status ≡ 0
+  pub tells_done : (answer : Option Cause) (status : ℕ) → Ends Gives reading old (outside disk mid) answer
+      → Concludes answer mid out status → status ≡ 0
       → IsDone Gives reading old (outside disk out)
   tells_done None status ends c zero =
       let done = ends in
-      subst (λ (o : SinkView). IsDone Gives reading old (outside disk o)) (sym (c.explains (λ nine. let no : 0 ≡ 9 = sym zero ∙ nine in omega arith))) done
-  tells_done (Some cause) status ends c zero = absurd (not_zero cause (sym (own_status status (Some cause) mid out c (λ nine. let no : 0 ≡ 9 = sym zero ∙ nine in omega arith)) ∙ zero))
+      subst (λ (o : SinkView). IsDone Gives reading old (outside disk o))
+      (sym (c.explains (λ nine. let no : 0 ≡ 9 = sym zero ∙ nine in omega arith))) done
+  tells_done (Some cause) status ends c zero =
+      absurd (not_zero cause (sym (own_status status (Some cause) mid out c (λ nine. let no : 0 ≡ 9 = sym zero ∙ nine
+      in omega arith)) ∙ zero))
     where
       not_zero : (cause : Cause) → status_of cause ≡ 0 → ⊥
       not_zero (Refused refusal) e = omega (arith, (within refusal).0)
@@ -57,16 +65,31 @@ module _ {A : Type 0} (Gives : A → Output → Type 0) (reading : Reading A) (o
       not_zero NetFault e = omega arith
       not_zero OutOfMemory e = omega arith
 
-  pub tells_answered : (answer : Option Cause) (status : ℕ) → Ends Gives reading old (outside disk mid) answer → Concludes answer mid out status → status ≢ 9
+  pub tells_answered : (answer : Option Cause) (status : ℕ) → Ends Gives reading old (outside disk mid) answer
+      → Concludes answer mid out status → status ≢ 9
       → Answers Gives reading old (outside disk out) status
   tells_answered answer status ends c other =
-      record { answer = answer; status_is = own_status status answer mid out c other; ended = mid; ends = ends; explains = c.explains other }
+      record {
+        answer = answer;
+        status_is = own_status status answer mid out c other;
+        ended = mid;
+        ends = ends;
+        explains = c.explains other;
+      }
 
-  pub tells_stopped : (answer : Option Cause) (status : ℕ) → Ends Gives reading old (outside disk mid) answer → Concludes answer mid out status → status ≡ 9
+  pub tells_stopped : (answer : Option Cause) (status : ℕ) → Ends Gives reading old (outside disk mid) answer
+      → Concludes answer mid out status → status ≡ 9
       → StopsShort Gives reading old (outside disk out)
   tells_stopped answer status ends c nine =
       let s = c.stops nine in
-      record { cause = s.0; ended = mid; ends = subst (λ (a : Option Cause). Ends Gives reading old (outside disk mid) a) s.1 ends; count = s.2; front = s.3; cut = s.4 }
+      record {
+        cause = s.0;
+        ended = mid;
+        ends = subst (λ (a : Option Cause). Ends Gives reading old (outside disk mid) a) s.1 ends;
+        count = s.2;
+        front = s.3;
+        cut = s.4;
+      }
 
   -- what holds at the statuses by themselves
   pub record Tells (status : ℕ) : Type 0 where
@@ -75,27 +98,35 @@ module _ {A : Type 0} (Gives : A → Output → Type 0) (reading : Reading A) (o
     pub read_fault : status ≡ 6 → Rose old.disk.read_faults disk.read_faults
     pub write_fault : status ≡ 7 → Rose old.disk.write_faults disk.write_faults ⊎ Rose old.out.faults out.faults
     pub keeps : status ≢ 0 → status ≢ 7 → status ≢ 9 → KeepsFiles old.disk disk
-    pub by_words : (refusal : Refusal) → refused_first reading ≡ Some refusal → (status ≡ status_of_refusal refusal) ⊎ (status ≡ 9)
-    pub by_files : (m : Files) (refusal : Refusal) → old.disk.files ≡ Some m → outcome m reading ≡ Err refusal → ¬ Rose old.disk.read_faults disk.read_faults
+    pub by_words : (refusal : Refusal) → refused_first reading ≡ Some refusal → (status ≡ status_of_refusal refusal)
+        ⊎ (status ≡ 9)
+    pub by_files : (m : Files) (refusal : Refusal) → old.disk.files ≡ Some m → outcome m reading ≡ Err refusal
+        → ¬ Rose old.disk.read_faults disk.read_faults
         → (status ≡ status_of_refusal refusal) ⊎ (status ≡ 9)
-    pub complete : (m : Files) (task : A) → old.disk.files ≡ Some m → outcome m reading ≡ Ok task → IsFaultless Gives task old (outside disk out)
+    pub complete : (m : Files) (task : A) → old.disk.files ≡ Some m → outcome m reading ≡ Ok task
+        → IsFaultless Gives task old (outside disk out)
         → (status ≡ 0) ⊎ (status ≡ 9)
 
-  status_at : (wanted status : ℕ) (cause : Cause) → status_of cause ≡ wanted → (status ≡ status_of cause) ⊎ (status ≡ 9) → (status ≡ wanted) ⊎ (status ≡ 9)
+  status_at : (wanted status : ℕ) (cause : Cause) → status_of cause ≡ wanted → (status ≡ status_of cause)
+      ⊎ (status ≡ 9) → (status ≡ wanted) ⊎ (status ≡ 9)
   status_at wanted status cause e (inl own) = inl (own ∙ e)
   status_at wanted status cause e (inr nine) = inr nine
 
-  finished_task : (m : Files) (task : A) (output : Output) → old.disk.files ≡ Some m → outcome m reading ≡ Ok task → Finishes Gives reading old.disk.files output → Gives task output
+  finished_task : (m : Files) (task : A) (output : Output) → old.disk.files ≡ Some m → outcome m reading ≡ Ok task
+      → Finishes Gives reading old.disk.files output → Gives task output
   finished_task m task output told e f =
       let same : Ok f.task ≡ Ok task = sym (same_outcome m told f.read) ∙ e in
       let same_task : f.task ≡ task = cc same in
       subst (λ (t : A). Gives t output) same_task f.gives
 
-  finished_first : (refusal : Refusal) (output : Output) → refused_first reading ≡ Some refusal → Finishes Gives reading old.disk.files output → ⊥
+  finished_first : (refusal : Refusal) (output : Output) → refused_first reading ≡ Some refusal
+      → Finishes Gives reading old.disk.files output → ⊥
   finished_first refusal output e f = let no : None ≡ Some refusal = first_kept refusal f.read e in cc no
 
-  finished_told : (m : Files) (refusal : Refusal) (output : Output) → old.disk.files ≡ Some m → outcome m reading ≡ Err refusal → Finishes Gives reading old.disk.files output → ⊥
-  finished_told m refusal output told e f = let no : Ok f.task ≡ Err refusal = sym (same_outcome m told f.read) ∙ e in cc no
+  finished_told : (m : Files) (refusal : Refusal) (output : Output) → old.disk.files ≡ Some m
+      → outcome m reading ≡ Err refusal → Finishes Gives reading old.disk.files output → ⊥
+  finished_told m refusal output told e f = let no : Ok f.task ≡ Err refusal = sym (same_outcome m told f.read) ∙ e
+      in cc no
 
   tells_none : Ends Gives reading old (outside disk mid) None → Tells 0
   tells_none ends = record {
@@ -109,7 +140,8 @@ module _ {A : Type 0} (Gives : A → Output → Type 0) (reading : Reading A) (o
     complete = λ m task told e _. inl refl;
   }
 
-  tells_refused : (refusal : Refusal) → Ends Gives reading old (outside disk mid) (Some (Refused refusal)) → Tells (status_of_refusal refusal)
+  tells_refused : (refusal : Refusal) → Ends Gives reading old (outside disk mid) (Some (Refused refusal))
+      → Tells (status_of_refusal refusal)
   tells_refused refusal ends = record {
     usage = λ two first.
         let w = words_of refusal two in
@@ -126,7 +158,8 @@ module _ {A : Type 0} (Gives : A → Output → Type 0) (reading : Reading A) (o
         let same : Err refusal ≡ Err wanted = sym (same_outcome m told ends.first) ∙ e in
         let same_refusal : refusal ≡ wanted = cc same in
         inl (ap status_of_refusal same_refusal);
-    complete = λ m task told e _. absurd (let no : Err refusal ≡ Ok task = sym (same_outcome m told ends.first) ∙ e in cc no);
+    complete = λ m task told e _. absurd (let no : Err refusal ≡ Ok task = sym (same_outcome m told ends.first) ∙ e
+        in cc no);
   }
 
   tells_read_fault : (name : List ℕ) → Ends Gives reading old (outside disk mid) (Some (ReadFault name)) → Tells 6
@@ -162,10 +195,12 @@ module _ {A : Type 0} (Gives : A → Output → Type 0) (reading : Reading A) (o
         write_fault = λ e. inr rose;
         keeps = λ _ b _. absurd (b refl);
         by_words = λ refusal e. absurd (finished_first refusal ends.partly.output e ends.partly.finishes);
-        by_files = λ m refusal told e calm. absurd (finished_told m refusal ends.partly.output told e ends.partly.finishes);
+        by_files = λ m refusal told e calm. absurd
+            (finished_told m refusal ends.partly.output told e ends.partly.finishes);
         complete = λ m task told e faultless.
             let some : 0 < length ends.partly.output.printed = let short = ends.partly.short in omega arith in
-            absurd (faultless.print ends.partly.output (finished_task m task ends.partly.output told e ends.partly.finishes) some rose);
+            absurd (faultless.print ends.partly.output
+            (finished_task m task ends.partly.output told e ends.partly.finishes) some rose);
       }
 
   pub tells_memory : Tells 9
@@ -180,7 +215,8 @@ module _ {A : Type 0} (Gives : A → Output → Type 0) (reading : Reading A) (o
     complete = λ m task told e faultless. inr refl;
   }
 
-  tells_own : (answer : Option Cause) → mid.faults ≤ out.faults → Ends Gives reading old (outside disk mid) answer → Tells (status_by answer)
+  tells_own : (answer : Option Cause) → mid.faults ≤ out.faults → Ends Gives reading old (outside disk mid) answer
+      → Tells (status_by answer)
   tells_own None more ends = tells_none ends
   tells_own (Some (Refused refusal)) more ends = tells_refused refusal ends
   tells_own (Some (ReadFault name)) more ends = tells_read_fault name ends
@@ -189,7 +225,8 @@ module _ {A : Type 0} (Gives : A → Output → Type 0) (reading : Reading A) (o
   tells_own (Some NetFault) more ends = absurd ends
   tells_own (Some OutOfMemory) more ends = tells_memory
 
-  pub tells : (answer : Option Cause) (status : ℕ) → Ends Gives reading old (outside disk mid) answer → Concludes answer mid out status → Tells status
+  pub tells : (answer : Option Cause) (status : ℕ) → Ends Gives reading old (outside disk mid) answer
+      → Concludes answer mid out status → Tells status
   tells answer status ends c = elim c.status_is [
     | inl e ↦ subst (λ n. Tells n) (sym e) (tells_own answer c.counts.grows ends)
     | inr e ↦ subst (λ n. Tells n) (sym e) tells_memory

@@ -1,5 +1,6 @@
 -- What a command line leaves, by the status that is answered.
-use Rattle.std.specs.Prelude.{◌≡◌, ◌≢◌, ◌⊎◌, ◌<◌, ◌≤◌, ℕ, IsTrue, take, List, Option, Some, None, Result, Ok, Err, length}
+use Rattle.std.specs.Prelude.{◌≡◌, ◌≢◌, ◌⊎◌, ◌<◌, ◌≤◌, ℕ, IsTrue, take, List, Option, Some, None, Result, Ok, Err}
+use Rattle.std.specs.Prelude.{length}
 use Rattle.mm_base.specs.Counts.{Rose}
 use Rattle.mm_base.specs.Disk.{DiskView}
 use Rattle.mm_base.specs.Sink.{SinkView, CountsSinkFaults, sending}
@@ -22,21 +23,24 @@ Explains None old new = new ≡ old
 Explains (Some cause) old new = Writes (line_of cause) old new
 
 -- The command ended by an answer, whose status this is, and then the answer was explained.
-pub record Answers {A : Type 0} (Gives : A → Output → Type 0) (reading : Reading A) (old new : Outside) (status : ℕ) : Type 0 where
+pub record Answers {A : Type 0} (Gives : A → Output → Type 0) (reading : Reading A) (old new : Outside) (status : ℕ) :
+    Type 0 where
   pub answer : Option Cause
   pub status_is : status ≡ status_by answer
   pub ended : SinkView
   pub ends : Ends Gives reading old (outside new.disk ended) answer
   pub explains : Explains answer ended new.out
 
--- The command ended for a cause, and a front of its line was written: not all of it where the cause isn't want of memory.
-pub record StopsShort {A : Type 0} (Gives : A → Output → Type 0) (reading : Reading A) (old new : Outside) : Type 0 where
-  pub cause : Cause
-  pub ended : SinkView
-  pub ends : Ends Gives reading old (outside new.disk ended) (Some cause)
-  pub count : ℕ
-  pub front : new.out.written ≡ sending (take count (line_of cause)) ended.written
-  pub cut : cause ≢ OutOfMemory → count < length (line_of cause)
+-- The command ended for a cause, and a front of its line was written: not all of it where the cause isn't want of
+-- memory.
+pub record StopsShort {A : Type 0} (Gives : A → Output → Type 0) (reading : Reading A) (old new : Outside) : Type 0
+  where
+    pub cause : Cause
+    pub ended : SinkView
+    pub ends : Ends Gives reading old (outside new.disk ended) (Some cause)
+    pub count : ℕ
+    pub front : new.out.written ≡ sending (take count (line_of cause)) ended.written
+    pub cut : cause ≢ OutOfMemory → count < length (line_of cause)
 
 -- No fault was counted: in reading, in writing, and in printing where the task prints.
 pub record IsFaultless {A : Type 0} (Gives : A → Output → Type 0) (task : A) (old new : Outside) : Type 0 where
@@ -53,7 +57,8 @@ cause_in (Err cause) = Some cause
 pub record Concludes (answer : Option Cause) (old new : SinkView) (status : ℕ) : Type 0 where
   pub status_is : (status ≡ status_by answer) ⊎ (status ≡ 9)
   pub explains : status ≢ 9 → Explains answer old new
-  pub stops : status ≡ 9 → (cause : Cause) × (answer ≡ Some cause) × (count : ℕ) × (new.written ≡ sending (take count (line_of cause)) old.written)
+  pub stops : status ≡ 9 → (cause : Cause) × (answer ≡ Some cause) × (count : ℕ)
+      × (new.written ≡ sending (take count (line_of cause)) old.written)
       × (cause ≢ OutOfMemory → count < length (line_of cause))
   pub counts : CountsSinkFaults old new
 
@@ -63,4 +68,5 @@ pub record CountsDisk (old new : DiskView) : Type 0 where
   pub reads : old.read_faults ≤ new.read_faults
   pub writes : old.write_faults ≤ new.write_faults
   pub lacks : old.absences ≤ new.absences
-  pub steady : IsTrue old.never_fails → IsTrue new.never_fails × (new.read_faults ≡ old.read_faults) × (new.write_faults ≡ old.write_faults)
+  pub steady : IsTrue old.never_fails → IsTrue new.never_fails × (new.read_faults ≡ old.read_faults)
+      × (new.write_faults ≡ old.write_faults)

@@ -8,7 +8,8 @@ use Rattle.command_ends.specs.declared.cause.Limit.TheVariants as limits
 use Rattle.command_ends.specs.declared.cause.Refusal.{Refusal}
 use Rattle.command_ends.specs.declared.cause.Refusal.TheVariants as refusals
 use Rattle.command_ends.specs.declared.cause.Cause.{Cause}
-use Rattle.command_ends.specs.declared.cause.Cause.TheVariants.{Refused, ReadFault, WriteFault, OutFault, NetFault, OutOfMemory}
+use Rattle.command_ends.specs.declared.cause.Cause.TheVariants.{Refused, ReadFault, WriteFault, OutFault, NetFault}
+use Rattle.command_ends.specs.declared.cause.Cause.TheVariants.{OutOfMemory}
 
 abbrev pub Text : Type 0
 Text = List ℕ
@@ -44,7 +45,8 @@ named_pieces words name = words ∷ name ∷ codes "\n" ∷ []
 
 abbrev pub words_pieces : WordsRefusal → List (List ℕ)
 words_pieces Usage = codes "mm: usage\n" ∷ []
-words_pieces (Nest number place inner) = codes "mm: nest " ∷ decimal number ∷ codes " " ∷ decimal place ∷ inner_pieces inner
+words_pieces (Nest number place inner) = codes "mm: nest " ∷ decimal number ∷ codes " " ∷ decimal place ∷ inner_pieces
+    inner
 words_pieces (Name name) = named_pieces (codes "mm: name ") name
 
 abbrev pub limit_pieces : Limit → List (List ℕ)

@@ -1,4 +1,5 @@
--- How a command ends, by its cause, before the cause is explained. `Gives task output` says that a task gives this output.
+-- How a command ends, by its cause, before the cause is explained. `Gives task output` says that a task gives this
+-- output.
 use Rattle.std.specs.Prelude.{◌≡◌, ◌<◌, ℕ, take, List, Option, Some, None, length}
 use Rattle.mm_base.specs.Counts.{Rose}
 use Rattle.mm_base.specs.Disk.{DiskView}
@@ -10,7 +11,8 @@ use Rattle.command_ends.specs.Readings.{Reading, Done, Refuses, Reads, Leads}
 use Rattle.command_ends.specs.declared.cause.Refusal.{Refusal}
 use Rattle.command_ends.specs.declared.cause.Refusal.TheVariants.{Absent}
 use Rattle.command_ends.specs.declared.cause.Cause.{Cause}
-use Rattle.command_ends.specs.declared.cause.Cause.TheVariants.{Refused, ReadFault, WriteFault, OutFault, NetFault, OutOfMemory}
+use Rattle.command_ends.specs.declared.cause.Cause.TheVariants.{Refused, ReadFault, WriteFault, OutFault, NetFault}
+use Rattle.command_ends.specs.declared.cause.Cause.TheVariants.{OutOfMemory}
 
 -- what a command reads, changes and writes to
 pub record Outside : Type 0 where
@@ -26,7 +28,8 @@ pub record KeepsFiles (old new : DiskView) : Type 0 where
   pub faults : new.write_faults ≡ old.write_faults
 
 -- The files lead to a task, and it gives this output.
-pub record Finishes {A : Type 0} (Gives : A → Output → Type 0) (reading : Reading A) (told : Option Files) (output : Output) : Type 0 where
+pub record Finishes {A : Type 0} (Gives : A → Output → Type 0) (reading : Reading A) (told : Option Files)
+    (output : Output) : Type 0 where
   pub task : A
   pub read : Leads told reading (Done task)
   pub gives : Gives task output
@@ -53,19 +56,23 @@ pub record HasReadFault {A : Type 0} (reading : Reading A) (old new : Outside) (
   pub keeps : KeepsFiles old.disk new.disk
   pub silent : new.out ≡ old.out
 
--- Writing stopped at the file of this name: those before are whole, it is as before or has a front of its text, later ones are as before.
-pub record IsPartlyWritten {A : Type 0} (Gives : A → Output → Type 0) (reading : Reading A) (old new : Outside) (name : Text) : Type 0 where
+-- Writing stopped at the file of this name: those before are whole, it is as before or has a front of its text, later
+-- ones are as before.
+pub record IsPartlyWritten {A : Type 0} (Gives : A → Output → Type 0) (reading : Reading A) (old new : Outside)
+    (name : Text) : Type 0 where
   pub output : Output
   pub finishes : Finishes Gives reading old.disk.files output
   pub held : HoldsFirst output.files old.disk.files new.disk.files name
   pub silent : new.out ≡ old.out
 
-pub record HasWriteFault {A : Type 0} (Gives : A → Output → Type 0) (reading : Reading A) (old new : Outside) (name : Text) : Type 0 where
+pub record HasWriteFault {A : Type 0} (Gives : A → Output → Type 0) (reading : Reading A) (old new : Outside)
+    (name : Text) : Type 0 where
   pub partly : IsPartlyWritten Gives reading old new name
   pub rose : Rose old.disk.write_faults new.disk.write_faults
 
 -- A front of the text was printed, and not all of it. No file is changed.
-pub record IsPartlyPrinted {A : Type 0} (Gives : A → Output → Type 0) (reading : Reading A) (old new : Outside) : Type 0 where
+pub record IsPartlyPrinted {A : Type 0} (Gives : A → Output → Type 0) (reading : Reading A) (old new : Outside) : Type
+    0 where
   pub output : Output
   pub finishes : Finishes Gives reading old.disk.files output
   pub count : ℕ
@@ -73,9 +80,10 @@ pub record IsPartlyPrinted {A : Type 0} (Gives : A → Output → Type 0) (readi
   pub front : new.out.written ≡ sending (take count output.printed) old.out.written
   pub keeps : KeepsFiles old.disk new.disk
 
-pub record HasOutFault {A : Type 0} (Gives : A → Output → Type 0) (reading : Reading A) (old new : Outside) : Type 0 where
-  pub partly : IsPartlyPrinted Gives reading old new
-  pub rose : Rose old.out.faults new.out.faults
+pub record HasOutFault {A : Type 0} (Gives : A → Output → Type 0) (reading : Reading A) (old new : Outside) : Type 0
+  where
+    pub partly : IsPartlyPrinted Gives reading old new
+    pub rose : Rose old.out.faults new.out.faults
 
 -- Memory ran out: before anything was changed, in writing, or in printing.
 pub data WantsMemory {A : Type 0} (Gives : A → Output → Type 0) (reading : Reading A) (old new : Outside) : Type 0 where

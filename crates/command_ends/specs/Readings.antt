@@ -23,7 +23,8 @@ unless (Some refusal) next = Refuses refusal
 abbrev pub reading_text : {A : Type 0} → (List ℕ → Option Refusal) → Text → (List ℕ → Reading A) → Reading A
 reading_text grammar name next = Reads name (λ text. unless (grammar text) (next text))
 
--- The bytes of an input, where the file of this name holds these bytes, or isn't there. An input has at most 67,108,864 bytes.
+-- The bytes of an input, where the file of this name holds these bytes, or isn't there. An input has at most
+-- 67,108,864 bytes.
 unfoldable pub input_of : Text → Option (List ℕ) → Result (List ℕ) Refusal
 input_of name None = Err (Absent name)
 input_of name (Some bytes) = if nat_lt 67108864 (length bytes) then Err (Limit (File name)) else Ok bytes

@@ -1,5 +1,6 @@
 -- What the bodies of commands answer: where reading, writing or printing came, and why it stopped.
-use Rattle.std.specs.Prelude.{◌≡◌, ◌⊎◌, ◌≤◌, ◌<◌, ◌++◌, ℕ, take, drop, List, Option, Some, Result, Ok, Err, OnOk, OnErr, IsErrOf, length}
+use Rattle.std.specs.Prelude.{◌≡◌, ◌⊎◌, ◌≤◌, ◌<◌, ◌++◌, ℕ, take, drop, List, Option, Some, Result, Ok, Err, OnOk, OnErr}
+use Rattle.std.specs.Prelude.{IsErrOf, length}
 use Rattle.mm_base.specs.Counts.{Rose}
 use Rattle.mm_base.specs.Disk.{DiskView}
 use Rattle.mm_base.specs.Files.{Files, IfHeld, IsThere}
@@ -25,20 +26,24 @@ pub record IsInput (told : Option Files) (name : Text) (bytes : List ℕ) : Type
 
 -- why a text isn't accepted: its refusal, or want of memory
 abbrev pub RefusesText : Option Refusal → Cause → Type 0
-RefusesText found cause = (cause ≡ OutOfMemory) ⊎ ((refusal : Refusal) × (cause ≡ Refused refusal) × (found ≡ Some refusal))
+RefusesText found cause = (cause ≡ OutOfMemory)
+    ⊎ ((refusal : Refusal) × (cause ≡ Refused refusal) × (found ≡ Some refusal))
 
 -- why the file of this name isn't read: its refusal, a fault, or want of memory
 pub data StopsAtFile (name : Text) (old new : DiskView) (cause : Cause) : Type 0 where
-  FileRefused : (refusal : Refusal) → cause ≡ Refused refusal → (given : Option (List ℕ)) → Holds old.files name given → input_of name given ≡ Err refusal
+  FileRefused : (refusal : Refusal) → cause ≡ Refused refusal → (given : Option (List ℕ)) → Holds old.files name given
+      → input_of name given ≡ Err refusal
       → CountsAbsence refusal old new → StopsAtFile name old new cause
   FileFault : cause ≡ ReadFault name → Rose old.read_faults new.read_faults → StopsAtFile name old new cause
   FileWants : cause ≡ OutOfMemory → StopsAtFile name old new cause
 
 -- why a reading isn't done: its refusal, a fault at the file that is next, or want of memory
 pub data StopsReading {A : Type 0} (reading : Reading A) (old new : DiskView) (cause : Cause) : Type 0 where
-  ReadingRefused : (refusal : Refusal) → cause ≡ Refused refusal → Leads old.files reading (Refuses refusal) → CountsAbsence refusal old new
+  ReadingRefused : (refusal : Refusal) → cause ≡ Refused refusal → Leads old.files reading (Refuses refusal)
+      → CountsAbsence refusal old new
       → StopsReading reading old new cause
-  ReadingFault : (name : Text) (rest : List ℕ → Reading A) → cause ≡ ReadFault name → Leads old.files reading (Reads name rest)
+  ReadingFault : (name : Text) (rest : List ℕ → Reading A) → cause ≡ ReadFault name
+      → Leads old.files reading (Reads name rest)
       → Rose old.read_faults new.read_faults → StopsReading reading old new cause
   ReadingWants : cause ≡ OutOfMemory → StopsReading reading old new cause
 
@@ -58,7 +63,8 @@ abbrev pub GoesOnBy : {R : Type 0} → (List ℕ → R → Type 0) → List ℕ 
 GoesOnBy has_read bytes old new = (text : List ℕ) → has_read text old → has_read (text ++ bytes) new
 
 -- So many bytes of a file were read from this place on, none only at its end.
-pub record PieceIsRead {R : Type 0} (has_read : List ℕ → R → Type 0) (told : Option Files) (name : Text) (at read : ℕ) (old new : R) : Type 0 where
+pub record PieceIsRead {R : Type 0} (has_read : List ℕ → R → Type 0) (told : Option Files) (name : Text) (at read : ℕ)
+    (old new : R) : Type 0 where
   pub bytes : List ℕ
   pub long : length bytes ≡ read
   pub held : IfHeld told name (λ whole. bytes ≡ take read (drop at whole))
@@ -66,21 +72,24 @@ pub record PieceIsRead {R : Type 0} (has_read : List ℕ → R → Type 0) (told
   pub goes_on : GoesOnBy has_read bytes old new
 
 -- The first bytes of a file were read, up to this size.
-pub record FrontIsRead {R : Type 0} (has_read : List ℕ → R → Type 0) (told : Option Files) (name : Text) (size : ℕ) (old new : R) : Type 0 where
+pub record FrontIsRead {R : Type 0} (has_read : List ℕ → R → Type 0) (told : Option Files) (name : Text) (size : ℕ)
+    (old new : R) : Type 0 where
   pub bytes : List ℕ
   pub few : length bytes ≤ size
   pub held : IfHeld told name (λ whole. bytes ≡ take size whole)
   pub goes_on : GoesOnBy has_read bytes old new
 
 -- All bytes of an input were read.
-pub record InputIsRead {R : Type 0} (has_read : List ℕ → R → Type 0) (told : Option Files) (name : Text) (old new : R) : Type 0 where
+pub record InputIsRead {R : Type 0} (has_read : List ℕ → R → Type 0) (told : Option Files) (name : Text)
+    (old new : R) : Type 0 where
   pub bytes : List ℕ
   pub input : IsInput told name bytes
   pub goes_on : GoesOnBy has_read bytes old new
 
 -- why a file isn't written
 abbrev pub StopsAtOutput : Text → DiskView → DiskView → Cause → Type 0
-StopsAtOutput name old new cause = (cause ≡ OutOfMemory) ⊎ ((cause ≡ WriteFault name) × Rose old.write_faults new.write_faults)
+StopsAtOutput name old new cause = (cause ≡ OutOfMemory)
+    ⊎ ((cause ≡ WriteFault name) × Rose old.write_faults new.write_faults)
 
 -- writing these stopped at a file
 pub record StopsWriting (entries : List NamedText) (old new : DiskView) (cause : Cause) : Type 0 where

@@ -11,8 +11,8 @@ use std::alloc::{AllocError, AllocFailed};
 pub enum WordsRefusal {
     /// The words ask for nothing.
     Usage,
-    /// The words of the shells are no nest: the number of their refusal, the word or the shell that it names, or 0, and the number of
-    /// the refusal inside it, if it has one.
+    /// The words of the shells are no nest: the number of their refusal, the word or the shell that it names, or 0,
+    /// and the number of the refusal inside it, if it has one.
     Nest {
         number: u32,
         place: u64,
@@ -43,7 +43,8 @@ pub enum Refusal {
     Words(WordsRefusal),
     /// The file of this name, which is to be read, isn't there.
     Absent(Text),
-    /// The file of this name doesn't meet its grammar: the number of the refusal, and the line or the place that it names, or 0.
+    /// The file of this name doesn't meet its grammar: the number of the refusal, and the line or the place that it
+    /// names, or 0.
     BadInput { name: Text, number: u32, place: u64 },
     Limit(Limit),
 }

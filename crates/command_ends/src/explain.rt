@@ -2,7 +2,8 @@
 ghost use Rattle.std.specs.Prelude.{◌∷◌, [], Some, codes, decimal};
 ghost use Rattle.std.specs.List.{flat_map};
 ghost use Rattle.command_ends.specs.Answers.{Concludes, cause_in};
-ghost use Rattle.command_ends.specs.Causes.{inner_pieces, limit_pieces, line_of, named_pieces, refusal_pieces, words_pieces};
+ghost use Rattle.command_ends.specs.Causes.{inner_pieces, limit_pieces, line_of, named_pieces, refusal_pieces};
+ghost use Rattle.command_ends.specs.Causes.{words_pieces};
 ghost use Rattle.command_ends.specs.Stops.{Sends};
 
 use crate::{Cause, Limit, Refusal, WordsRefusal};
@@ -21,7 +22,8 @@ fn send_pieces<O: Sink>(out: &mut O, pieces: &[&[u8]]) -> Result<(), EndError>
 
 // Writes a line that ends with a file's name.
 fn send_named<O: Sink>(out: &mut O, words: &[u8], name: &Text) -> Result<(), EndError>
-    ensures { Sends (flat_map (λ piece. piece) (named_pieces words.now name.now)) (O.view out.old) (O.view out.new) result }
+    ensures { Sends (flat_map (λ piece. piece) (named_pieces words.now name.now)) (O.view out.old) (O.view out.new)
+        result }
 {
     send_pieces(out, &[words, name.as_str().as_bytes(), b"\n"])
 }
@@ -33,7 +35,8 @@ fn send_nest<O: Sink>(
     inner: Option<u32>,
     out: &mut O,
 ) -> Result<(), EndError>
-    ensures { Sends (flat_map (λ piece. piece) (words_pieces (WordsRefusal.Nest number place inner))) (O.view out.old) (O.view out.new) result }
+    ensures { Sends (flat_map (λ piece. piece) (words_pieces (WordsRefusal.Nest number place inner))) (O.view out.old)
+        (O.view out.new) result }
 {
     let mut digits = Buffer::new();
     let mut place_digits = Buffer::new();
@@ -46,7 +49,8 @@ fn send_nest<O: Sink>(
 }
 
 fn send_inner<O: Sink>(number: &[u8], place: &[u8], inner: u32, out: &mut O) -> Result<(), EndError>
-    ensures { Sends (flat_map (λ piece. piece) (codes "mm: nest " ∷ number.now ∷ codes " " ∷ place.now ∷ inner_pieces (Some inner)))
+    ensures { Sends (flat_map (λ piece. piece) (codes "mm: nest " ∷ number.now ∷ codes " " ∷ place.now ∷ inner_pieces
+        (Some inner)))
         (O.view out.old) (O.view out.new) result }
 {
     let mut digits = Buffer::new();
@@ -77,7 +81,8 @@ fn send_bad_input<O: Sink>(
     place: u64,
     out: &mut O,
 ) -> Result<(), EndError>
-    ensures { Sends (flat_map (λ piece. piece) (refusal_pieces (Refusal.BadInput name.now number place))) (O.view out.old) (O.view out.new) result }
+    ensures { Sends (flat_map (λ piece. piece) (refusal_pieces (Refusal.BadInput name.now number place)))
+        (O.view out.old) (O.view out.new) result }
 {
     let mut digits = Buffer::new();
     let mut place_digits = Buffer::new();
@@ -147,8 +152,8 @@ fn explain<O: Sink>(cause: &Cause, out: &mut O) -> u8
     }
 }
 
-/// Explains an answer on `out`, and answers the exit status: 0 where all is done, and nothing is written; else the cause's own, and its
-/// line or a front of it is written; or 9 where the sink found no memory for the line.
+/// Explains an answer on `out`, and answers the exit status: 0 where all is done, and nothing is written; else the
+/// cause's own, and its line or a front of it is written; or 9 where the sink found no memory for the line.
 pub fn conclude<O: Sink>(answer: Result<(), Cause>, out: &mut O) -> u8
     ensures { Concludes (cause_in answer) (O.view out.old) (O.view out.new) result }
 {

@@ -50,11 +50,14 @@ pub fn read_input<D: Disk>(alloc: Global, disk: &mut D, name: &str) -> Result<By
 fn size_within<D: Disk>(disk: &mut D, name: &str) -> Result<u64, LoadError>
     ensures size { IfOk result (λ size. HasSize (D.view disk.old).files name.now size) }
     ensures too_long { (size : ℕ) → IsErrOf result (LoadError.TooLong size)
-        → (67108864 < size) × IsThere (D.view disk.old).files name.now × IfHeld (D.view disk.old).files name.now (λ bytes. size ≡ length bytes) }
+        → (67108864 < size) × IsThere (D.view disk.old).files name.now
+        × IfHeld (D.view disk.old).files name.now (λ bytes. size ≡ length bytes) }
     ensures absent { IsErrOf result LoadError.Absent → IsAbsent (D.view disk.old).files name.now }
     ensures only_reads { OnlyReads (D.view disk.old) (D.view disk.new) }
-    ensures failed_cause { IsErrOf result LoadError.Failed → Rose (D.view disk.old).read_faults (D.view disk.new).read_faults }
-    ensures absent_cause { IsErrOf result LoadError.Absent → Rose (D.view disk.old).absences (D.view disk.new).absences }
+    ensures failed_cause { IsErrOf result LoadError.Failed
+        → Rose (D.view disk.old).read_faults (D.view disk.new).read_faults }
+    ensures absent_cause { IsErrOf result LoadError.Absent
+        → Rose (D.view disk.old).absences (D.view disk.new).absences }
 {
     let size = disk.size(name)?;
     if size > MOST_FILE_BYTES {
@@ -101,7 +104,8 @@ fn push_piece<D: Disk, P: PieceReader>(
     requires room { at < size }
     requires some { 0 < length piece.old }
     ensures short { IfOk result (λ read. at + read ≤ size) }
-    ensures piece { IfOk result (λ read. PieceIsRead P.has_read (D.view disk.old).files name.now at read reader.old reader.new) }
+    ensures piece { IfOk result (λ read. PieceIsRead P.has_read (D.view disk.old).files name.now at read reader.old
+        reader.new) }
     ensures absent { IsErrOf result DiskError.Absent → IsAbsent (D.view disk.old).files name.now }
     ensures only_reads { OnlyReads (D.view disk.old) (D.view disk.new) }
     ensures cause { HasReadCause (D.view disk.old) (D.view disk.new) result }
@@ -137,7 +141,8 @@ fn push_up_to<D: Disk, P: PieceReader>(
     Ok(())
 }
 
-/// Reads an input of this size in pieces of at most 65,536 bytes. It is read to its end, also where its text is refused before.
+/// Reads an input of this size in pieces of at most 65,536 bytes. It is read to its end, also where its text is
+/// refused before.
 pub fn read_pieces<D: Disk, P: PieceReader>(
     alloc: Global,
     disk: &mut D,

@@ -1,5 +1,5 @@
-//! How the commands of a program end: what they read and refuse, in order, what they write and print, why they stop, and how that is
-//! said. A program that takes words and leaves files stands on it.
+//! How the commands of a program end: what they read and refuse, in order, what they write and print, why they stop,
+//! and how that is said. A program that takes words and leaves files stands on it.
 #![tactic(auto)]
 
 mod cause;

@@ -11,7 +11,8 @@ use std::alloc::Global;
 /// What the disk answered for the file of this name, which was to be written.
 pub fn file_written(alloc: Global, name: &str, answer: Result<(), DiskError>) -> Result<(), Cause>
     ensures done { IsOk result ↔ IsOk answer }
-    ensures stopped { (old new : DiskView) → HasWriteCause old new answer → IfErr result (λ cause. StopsAtOutput name.now old new cause) }
+    ensures stopped { (old new : DiskView) → HasWriteCause old new answer
+        → IfErr result (λ cause. StopsAtOutput name.now old new cause) }
 {
     match answer {
         Ok(()) => Ok(()),

@@ -1,7 +1,10 @@
 -- Where the moments rise, what a delay lets out is a front of the arrivals.
-use Rattle.std.proofs.Common.{◌≡◌, ℕ, zero, suc, ◌+◌, ◌≤◌, ◌<◌, Bool, true, false, cond, not, List, [], ◌∷◌, ◌++◌, length, get_or, set, take, drop, map, filter, nat_le, ap, sym, ◌∙◌, refl, append_assoc, arith}
+use Rattle.std.proofs.Common.{◌≡◌, ℕ, zero, suc, ◌+◌, ◌≤◌, ◌<◌, Bool, true, false, cond, not, List, [], ◌∷◌, ◌++◌}
+use Rattle.std.proofs.Common.{length, get_or, set, take, drop, map, filter, nat_le, ap, sym, ◌∙◌, refl, append_assoc}
+use Rattle.std.proofs.Common.{arith}
 use Rattle.std.specs.List.Sorted.{IsNonDecreasingBy, IsPartitionedBy}
-use Rattle.std.proofs.lemmas.List.{append-nil, drop_all, drop_more, get_or_at, length-append, length-drop, length-map, length-take-le, map-append, set_at, take_all, take_more}
+use Rattle.std.proofs.lemmas.List.{append-nil, drop_all, drop_more, get_or_at, length-append, length-drop, length-map}
+use Rattle.std.proofs.lemmas.List.{length-take-le, map-append, set_at, take_all, take_more}
 use Rattle.std.proofs.lemmas.List.Sorted.{IsPartitionedBy-leb}
 use Rattle.packet_record.specs.declared.packet.Timed.{Timed}
 use Rattle.packet_record.specs.Moments.{AreUpTo, Rise}
@@ -10,27 +13,33 @@ use Rattle.delay_core.specs.Delays.{later}
 
 -- a list of which the first i pass a test, and no others
 module _ {X : Type 0} (p : X → Bool) where
-  pub filter_front : (xs : List X) (i : ℕ) → ((k : ℕ) (d : X) → k < i → p (get_or xs k d) ≡ true) → ((k : ℕ) (d : X) → i ≤ k → k < length xs → p (get_or xs k d) ≡ false)
+  pub filter_front : (xs : List X) (i : ℕ) → ((k : ℕ) (d : X) → k < i → p (get_or xs k d) ≡ true)
+      → ((k : ℕ) (d : X) → i ≤ k → k < length xs → p (get_or xs k d) ≡ false)
       → filter p xs ≡ take i xs
   filter_front [] zero passes fails = refl
   filter_front [] (suc i) passes fails = refl
   filter_front (x ∷ xs) zero passes fails =
-      let rest = filter_front xs zero (λ k d lt. absurd (omega arith)) (λ k d low lt. fails (suc k) d (omega arith) (omega arith)) in
+      let rest = filter_front xs zero (λ k d lt. absurd (omega arith))
+      (λ k d low lt. fails (suc k) d (omega arith) (omega arith)) in
       ap (λ b. cond b (x ∷ filter p xs) (filter p xs)) (fails 0 x (omega arith) (omega arith)) ∙ rest
   filter_front (x ∷ xs) (suc i) passes fails =
-      let rest = filter_front xs i (λ k d lt. passes (suc k) d (omega arith)) (λ k d low lt. fails (suc k) d (omega arith) (omega arith)) in
+      let rest = filter_front xs i (λ k d lt. passes (suc k) d (omega arith))
+      (λ k d low lt. fails (suc k) d (omega arith) (omega arith)) in
       ap (λ b. cond b (x ∷ filter p xs) (filter p xs)) (passes 0 x (omega arith)) ∙ ap (λ l. x ∷ l) rest
 
-  pub filter_rest : (xs : List X) (i : ℕ) → ((k : ℕ) (d : X) → k < i → p (get_or xs k d) ≡ true) → ((k : ℕ) (d : X) → i ≤ k → k < length xs → p (get_or xs k d) ≡ false)
+  pub filter_rest : (xs : List X) (i : ℕ) → ((k : ℕ) (d : X) → k < i → p (get_or xs k d) ≡ true)
+      → ((k : ℕ) (d : X) → i ≤ k → k < length xs → p (get_or xs k d) ≡ false)
       → filter (λ x. not (p x)) xs ≡ drop i xs
   filter_rest [] zero passes fails = refl
   filter_rest [] (suc i) passes fails = refl
   filter_rest (x ∷ xs) zero passes fails =
-      let rest = filter_rest xs zero (λ k d lt. absurd (omega arith)) (λ k d low lt. fails (suc k) d (omega arith) (omega arith)) in
+      let rest = filter_rest xs zero (λ k d lt. absurd (omega arith))
+      (λ k d low lt. fails (suc k) d (omega arith) (omega arith)) in
       let others = filter (λ x. not (p x)) xs in
       ap (λ b. cond (not b) (x ∷ others) others) (fails 0 x (omega arith) (omega arith)) ∙ ap (λ l. x ∷ l) rest
   filter_rest (x ∷ xs) (suc i) passes fails =
-      let rest = filter_rest xs i (λ k d lt. passes (suc k) d (omega arith)) (λ k d low lt. fails (suc k) d (omega arith) (omega arith)) in
+      let rest = filter_rest xs i (λ k d lt. passes (suc k) d (omega arith))
+      (λ k d low lt. fails (suc k) d (omega arith) (omega arith)) in
       let others = filter (λ x. not (p x)) xs in
       ap (λ b. cond (not b) (x ∷ others) others) (passes 0 x (omega arith)) ∙ rest
 
@@ -54,18 +63,23 @@ front_long ms ts i le = length-map (take i ts) (later ms) ∙ length-take-le i t
 
 pub length_partly : (ms : ℕ) (ts : List Timed) (i : ℕ) → i ≤ length ts → length (partly ms ts i) ≡ length ts
 unfolding partly
-length_partly ms ts i le = let a = length-append (map (later ms) (take i ts)) (drop i ts) in let b = front_long ms ts i le in let d = length-drop i ts in omega arith
+length_partly ms ts i le = let a = length-append (map (later ms) (take i ts)) (drop i ts)
+    in let b = front_long ms ts i le in let d = length-drop i ts in omega arith
 
 -- the next of them
-next_is : (ms : ℕ) (ts : List Timed) (i : ℕ) (d : Timed) → i < length ts → partly ms ts i ≡ map (later ms) (take i ts) ++ get_or ts i d ∷ drop (i + 1) ts
+next_is : (ms : ℕ) (ts : List Timed) (i : ℕ) (d : Timed) → i < length ts → partly ms ts i ≡ map (later ms) (take i ts)
+    ++ get_or ts i d ∷ drop (i + 1) ts
 unfolding partly
 next_is ms ts i d lt = ap (λ l. map (later ms) (take i ts) ++ l) (drop_more ts i d lt)
 
-pub read_partly : (ms : ℕ) (ts : List Timed) (i : ℕ) (d : Timed) → i < length ts → get_or (partly ms ts i) i d ≡ get_or ts i d
-read_partly ms ts i d lt = ap (λ l. get_or l i d) (next_is ms ts i d lt) ∙ get_or_at (map (later ms) (take i ts)) (get_or ts i d) (drop (i + 1) ts) d i (front_long ms ts i (omega arith))
+pub read_partly : (ms : ℕ) (ts : List Timed) (i : ℕ) (d : Timed) → i < length ts
+    → get_or (partly ms ts i) i d ≡ get_or ts i d
+read_partly ms ts i d lt = ap (λ l. get_or l i d) (next_is ms ts i d lt)
+    ∙ get_or_at (map (later ms) (take i ts)) (get_or ts i d) (drop (i + 1) ts) d i (front_long ms ts i (omega arith))
 
 -- one more is late
-pub partly_more : (ms : ℕ) (ts : List Timed) (i : ℕ) (d : Timed) → i < length ts → set (partly ms ts i) i (later ms (get_or ts i d)) ≡ partly ms ts (i + 1)
+pub partly_more : (ms : ℕ) (ts : List Timed) (i : ℕ) (d : Timed) → i < length ts
+    → set (partly ms ts i) i (later ms (get_or ts i d)) ≡ partly ms ts (i + 1)
 unfolding partly
 partly_more ms ts i d lt =
     let front = map (later ms) (take i ts) in
@@ -79,7 +93,8 @@ partly_more ms ts i d lt =
 
 pub partly_all : (ms : ℕ) (ts : List Timed) (i : ℕ) → length ts ≤ i → partly ms ts i ≡ map (later ms) ts
 unfolding partly
-partly_all ms ts i le = ap (λ l. map (later ms) l ++ drop i ts) (take_all i ts le) ∙ ap (λ l. map (later ms) ts ++ l) (drop_all i ts le) ∙ append-nil (map (later ms) ts)
+partly_all ms ts i le = ap (λ l. map (later ms) l ++ drop i ts) (take_all i ts le)
+    ∙ ap (λ l. map (later ms) ts ++ l) (drop_all i ts le) ∙ append-nil (map (later ms) ts)
 
 pub up_to_take : (m : ℕ) (ts : List Timed) (i : ℕ) → AreUpTo m ts → AreUpTo m (take i ts)
 up_to_take m ts zero u = tt

@@ -49,7 +49,8 @@ pub fn delay_all(
     requires rises { Rise packets.old.items }
     requires within { AreUpTo horizon packets.old.items }
     ensures departed { OnOk result (packets.new.items ≡ delayed ms horizon packets.old.items) }
-    ensures held { IfOk result (λ held. held.items ≡ map (λ t. t.packet.id) (kept_inside ms horizon packets.old.items)) }
+    ensures held { IfOk result (λ held. held.items ≡ map (λ t. t.packet.id)
+        (kept_inside ms horizon packets.old.items)) }
     ensures err { OnErr result (packets.new.items ≡ packets.old.items) }
 {
     let rule = Rule {

@@ -1,7 +1,8 @@
 -- The numbers of the errors.
 use Rattle.std.specs.Prelude.{ℕ}
 use Rattle.http_frame.specs.declared.errors.FrameError.{FrameError}
-use Rattle.http_frame.specs.declared.errors.FrameError.TheVariants.{BadHead, HeadTooLong, TooManyHeaders, BadLength, BadCoding, BadChunk, BodyTooLong, Refused}
+use Rattle.http_frame.specs.declared.errors.FrameError.TheVariants.{BadHead, HeadTooLong, TooManyHeaders, BadLength}
+use Rattle.http_frame.specs.declared.errors.FrameError.TheVariants.{BadCoding, BadChunk, BodyTooLong, Refused}
 
 abbrev pub number_of : FrameError → ℕ
 number_of BadHead = 1

@@ -1,7 +1,9 @@
 -- What readers of requests and of responses share: a form of heads, and what a head says.
 use Rattle.std.specs.Prelude.{◌==◌, ◌||◌, ℕ, ◌+◌, Bool, true, false, List, [], ◌∷◌, ◌++◌, map, slice_get, Result, codes}
 use Rattle.std.specs.Str.{bytes_eq}
-use Rattle.httparse.specs.Grammar.{RequestHead as Head, IsRequestHead, print_request, MayBecomeRequest, ResponseHead as Answer, IsResponseHead, print_response, MayBecomeResponse, status_code}
+use Rattle.httparse.specs.Grammar.{RequestHead as Head, IsRequestHead, print_request, MayBecomeRequest}
+use Rattle.httparse.specs.Grammar.{ResponseHead as Answer, IsResponseHead, print_response, MayBecomeResponse}
+use Rattle.httparse.specs.Grammar.{status_code}
 use Rattle.httparse.specs.Spans.{name_and_value}
 use Rattle.http_frame.specs.Fields.{values_of, has_close}
 use Rattle.http_frame.specs.Framing.{request_framing, response_framing}
@@ -42,7 +44,8 @@ request_said method target minor hosts agents connections = record {
 abbrev pub said_of_request : Head → RequestHead
 said_of_request h =
     let fields = map name_and_value h.fields in
-    request_said h.method h.target h.minor (values_of (codes "host") fields) (values_of (codes "user-agent") fields) (values_of (codes "connection") fields)
+    request_said h.method h.target h.minor (values_of (codes "host") fields) (values_of (codes "user-agent") fields)
+    (values_of (codes "connection") fields)
 
 -- the body ends where the input ends
 abbrev pub ends_late : Framing → Bool
@@ -58,7 +61,8 @@ response_said framing status connections = record {
 }
 
 abbrev pub said_of_response : Framing → Answer → ResponseHead
-said_of_response framing h = response_said framing (status_code h) (values_of (codes "connection") (map name_and_value h.fields))
+said_of_response framing h = response_said framing (status_code h)
+    (values_of (codes "connection") (map name_and_value h.fields))
 
 abbrev pub request_form : Form Head RequestHead Request
 request_form = record {

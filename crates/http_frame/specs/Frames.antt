@@ -1,5 +1,6 @@
 -- The state of a reader of messages, and what its answers say.
-use Rattle.std.specs.Prelude.{◌≡◌, ◌⊎◌, ℕ, ◌+◌, ◌≤◌, length, Bool, List, ◌++◌, drop, take, Option, Some, None, Result, Ok, Err}
+use Rattle.std.specs.Prelude.{◌≡◌, ◌⊎◌, ℕ, ◌+◌, ◌≤◌, length, Bool, List, ◌++◌, drop, take, Option, Some, None, Result}
+use Rattle.std.specs.Prelude.{Ok, Err}
 use Rattle.http_frame.specs.Forms.{Form}
 use Rattle.http_frame.specs.Heads.{AwaitsHead, IsHeadRead, HeadFault}
 use Rattle.http_frame.specs.Bodies.{BodyCause, MayGoOn}
@@ -13,7 +14,8 @@ use Rattle.http_frame.specs.declared.errors.Step.TheVariants as steps
 use Rattle.http_frame.specs.declared.errors.FrameFault.{FrameFault}
 use Rattle.http_frame.specs.declared.errors.FrameFault.TheVariants as faults
 use Rattle.http_frame.specs.declared.errors.FrameError.{FrameError}
-use Rattle.http_frame.specs.declared.errors.FrameError.TheVariants.{BadHead, HeadTooLong, TooManyHeaders, BadLength, BadCoding, BadChunk, BodyTooLong, Refused}
+use Rattle.http_frame.specs.declared.errors.FrameError.TheVariants.{BadHead, HeadTooLong, TooManyHeaders, BadLength}
+use Rattle.http_frame.specs.declared.errors.FrameError.TheVariants.{BadCoding, BadChunk, BodyTooLong, Refused}
 use Rattle.http_frame.specs.declared.pending.Pending.{Pending}
 use Rattle.http_frame.specs.declared.head.Found.{Found}
 use Rattle.http_frame.specs.declared.pending.Outcome.{Outcome}
@@ -37,19 +39,24 @@ pub record KeepsPlace {Said : Type 0} (p : Pending Said) (place : ℕ) (q : Opti
 
 abbrev pub FinishSays : {Said : Type 0} → Bool → List ℕ → Pending Said → Option (Pending Said) → Outcome Said → Type 0
 FinishSays ended bytes p q (outcomes.Message m) =
-    (q ≡ None) × (m.head ≡ p.head) × (k : ℕ) × (m.len ≡ p.len + k) × BodyCause ended p.framing (drop p.len bytes) (bodies.Whole k)
-FinishSays ended bytes p q outcomes.More = (place : ℕ) × KeepsPlace p place q × BodyCause ended p.framing (drop p.len bytes) (bodies.More place)
+    (q ≡ None) × (m.head ≡ p.head) × (k : ℕ) × (m.len ≡ p.len + k)
+    × BodyCause ended p.framing (drop p.len bytes) (bodies.Whole k)
+FinishSays ended bytes p q outcomes.More = (place : ℕ) × KeepsPlace p place q
+    × BodyCause ended p.framing (drop p.len bytes) (bodies.More place)
 FinishSays ended bytes p q (outcomes.Fault BadHead) = ⊥
 FinishSays ended bytes p q (outcomes.Fault HeadTooLong) = ⊥
 FinishSays ended bytes p q (outcomes.Fault TooManyHeaders) = ⊥
 FinishSays ended bytes p q (outcomes.Fault BadLength) = ⊥
 FinishSays ended bytes p q (outcomes.Fault BadCoding) = ⊥
-FinishSays ended bytes p q (outcomes.Fault BadChunk) = (q ≡ Some p) × BodyCause ended p.framing (drop p.len bytes) bodies.Bad
-FinishSays ended bytes p q (outcomes.Fault BodyTooLong) = (q ≡ Some p) × BodyCause ended p.framing (drop p.len bytes) bodies.TooLong
+FinishSays ended bytes p q (outcomes.Fault BadChunk) = (q ≡ Some p)
+    × BodyCause ended p.framing (drop p.len bytes) bodies.Bad
+FinishSays ended bytes p q (outcomes.Fault BodyTooLong) = (q ≡ Some p)
+    × BodyCause ended p.framing (drop p.len bytes) bodies.TooLong
 FinishSays ended bytes p q (outcomes.Fault Refused) = ⊥
 
 -- the bytes begin with that message
-pub record BeginsMessage {Tree Said Message : Type 0} (form : Form Tree Said Message) (ended : Bool) (bytes : List ℕ) (head : Said) (text : List ℕ) : Type 0 where
+pub record BeginsMessage {Tree Said Message : Type 0} (form : Form Tree Said Message) (ended : Bool) (bytes : List ℕ)
+    (head : Said) (text : List ℕ) : Type 0 where
   pub tree : Tree
   pub is : IsMessage form text tree
   pub says : head ≡ form.said is.framing tree
@@ -58,14 +65,16 @@ pub record BeginsMessage {Tree Said Message : Type 0} (form : Form Tree Said Mes
   pub stops : MayStop is.framing ended after
 
 -- a head within the limits is there, and its body is in that state
-pub record HasBody {Tree Said Message : Type 0} (form : Form Tree Said Message) (ended : Bool) (bytes : List ℕ) (step : BodyStep) : Type 0 where
+pub record HasBody {Tree Said Message : Type 0} (form : Form Tree Said Message) (ended : Bool) (bytes : List ℕ)
+    (step : BodyStep) : Type 0 where
   pub len : ℕ
   pub framing : Framing
   pub head : Said
   pub read : IsHeadRead form bytes len framing head
   pub body : BodyCause ended framing (drop len bytes) step
 
-pub record TakesMessage {Tree Said Message : Type 0} (form : Form Tree Said Message) (old : Frames) (m : Message) (new : Frames) : Type 0 where
+pub record TakesMessage {Tree Said Message : Type 0} (form : Form Tree Said Message) (old : Frames) (m : Message)
+    (new : Frames) : Type 0 where
   pub was : old.failed ≡ None
   pub is : new.failed ≡ None
   pub ended : new.ended ≡ old.ended
@@ -76,7 +85,8 @@ module _ {Tree Said Message : Type 0} (form : Form Tree Said Message) where
   -- the reader knows a head, and how far its body was read
   abbrev pub IsPending : List ℕ → Option (Pending Said) → Type 0
   IsPending unread None = Unit {0}
-  IsPending unread (Some p) = IsHeadRead form unread p.len p.framing p.head × MayGoOn p.framing (drop p.len unread) p.place
+  IsPending unread (Some p) = IsHeadRead form unread p.len p.framing p.head
+      × MayGoOn p.framing (drop p.len unread) p.place
 
   -- no head yet, or a head and less than its body
   abbrev pub MoreCause : Bool → List ℕ → Type 0
@@ -94,7 +104,8 @@ module _ {Tree Said Message : Type 0} (form : Form Tree Said Message) where
   FaultCause ended bytes Refused = HeadFault form bytes Refused
 
   abbrev pub AdvanceSays : Bool → List ℕ → Option (Pending Said) → Result (Outcome Said) OutOfMemory → Type 0
-  AdvanceSays ended bytes p (Ok (outcomes.Message m)) = (p ≡ None) × (m.len ≤ length bytes) × BeginsMessage form ended bytes m.head (take m.len bytes)
+  AdvanceSays ended bytes p (Ok (outcomes.Message m)) = (p ≡ None) × (m.len ≤ length bytes)
+      × BeginsMessage form ended bytes m.head (take m.len bytes)
   AdvanceSays ended bytes p (Ok outcomes.More) = IsPending bytes p × MoreCause ended bytes
   AdvanceSays ended bytes p (Ok (outcomes.Fault e)) = IsPending bytes p × FaultCause ended bytes e
   AdvanceSays ended bytes p (Err e) = IsPending bytes p
@@ -108,7 +119,8 @@ module _ {Tree Said Message : Type 0} (form : Form Tree Said Message) where
   -- what is at the front, which stays there
   abbrev pub FindSays : Frames → Result (Step (Found Said)) FrameFault → Frames → Type 0
   FindSays old (Ok (steps.Message m)) new =
-      StaysOpen old new × (m.len ≤ length old.unread) × BeginsMessage form old.ended old.unread m.head (take m.len old.unread)
+      StaysOpen old new × (m.len ≤ length old.unread)
+      × BeginsMessage form old.ended old.unread m.head (take m.len old.unread)
   FindSays old (Ok steps.More) new = StaysOpen old new × MoreCause old.ended old.unread
   FindSays old (Err (faults.Frame e)) new = Fails old e new
   FindSays old (Err faults.OutOfMemory) new = StaysOpen old new

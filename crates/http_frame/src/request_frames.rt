@@ -9,7 +9,8 @@ ghost use Rattle.http_frame.specs.declared.messages.Request.{Request as RequestV
 ghost use Rattle.http_frame.specs.declared.errors.FrameError.{FrameError as ErrorValue};
 ghost use Rattle.http_frame.specs.declared.errors.FrameError.TheVariants.{BadHead};
 ghost use Rattle.http_frame.specs.declared.errors.FrameFault.TheVariants.{Frame};
-ghost use Rattle.http_frame.specs.Frames.{IsPending, AdvanceSays, NextSays, Frames, GivesBytes, GivesFault, GivesMore, FaultCause, MoreCause, FindSays};
+ghost use Rattle.http_frame.specs.Frames.{IsPending, AdvanceSays, NextSays, Frames, GivesBytes, GivesFault, GivesMore};
+ghost use Rattle.http_frame.specs.Frames.{FaultCause, MoreCause, FindSays};
 ghost use Rattle.http_frame.specs.HeadsAlone.{NextHeadSays, GivesHead};
 ghost use Rattle.http_frame.specs.Forms.{Form};
 
@@ -40,7 +41,8 @@ pub fn requests_are_prefix_free()
 
 /// A stream has at most one list of whole requests, however it was cut.
 pub fn requests_are_found_once()
-    ensures { (bytes : List ℕ) (ms ns : List RequestValue) (rest other : List ℕ) → Messages bytes ms rest → Messages bytes ns other → (ms ≡ ns) × (rest ≡ other) }
+    ensures { (bytes : List ℕ) (ms ns : List RequestValue) (rest other : List ℕ) → Messages bytes ms rest
+        → Messages bytes ns other → (ms ≡ ns) × (rest ≡ other) }
 {}
 
 /// A stream has a list of whole requests: that it has none is absurd. (The contracts' logic has no law of the
@@ -123,9 +125,13 @@ impl RequestFrames {
     /// The first request, taken off the front; or why there is none.
     pub fn next(&mut self) -> Result<Step<Request>, FrameFault>
         ensures says { NextSays request_form self.old result self.new }
-        ensures first { (bytes after : List ℕ) (h : Head) → IsRequest bytes h → self.old.unread ≡ bytes ++ after → self.old.failed ≡ None → GivesBytes request_form bytes result }
-        ensures fails { (e : ErrorValue) → FaultCause request_form self.old.ended self.old.unread e → self.old.failed ≡ None → (e ≡ BadHead → MoreCause request_form self.old.ended self.old.unread → ⊥) → GivesFault e result }
-        ensures waits { MoreCause request_form self.old.ended self.old.unread → self.old.failed ≡ None → (NeverHas print_request IsRequestHead self.old.unread → ⊥) → GivesMore result }
+        ensures first { (bytes after : List ℕ) (h : Head) → IsRequest bytes h → self.old.unread ≡ bytes ++ after
+            → self.old.failed ≡ None → GivesBytes request_form bytes result }
+        ensures fails { (e : ErrorValue) → FaultCause request_form self.old.ended self.old.unread e
+            → self.old.failed ≡ None → (e ≡ BadHead → MoreCause request_form self.old.ended self.old.unread → ⊥)
+            → GivesFault e result }
+        ensures waits { MoreCause request_form self.old.ended self.old.unread → self.old.failed ≡ None
+            → (NeverHas print_request IsRequestHead self.old.unread → ⊥) → GivesMore result }
         ensures again { (e : ErrorValue) → self.old.failed ≡ Some e → result ≡ Err (Frame e) }
     {
         self.take_next()
@@ -135,9 +141,13 @@ impl RequestFrames {
     /// or why there is none. Its body isn't copied.
     pub fn next_head(&mut self) -> Result<Step<RequestHead>, FrameFault>
         ensures says { NextHeadSays self.old result self.new }
-        ensures first { (bytes after : List ℕ) (h : Head) → IsRequest bytes h → self.old.unread ≡ bytes ++ after → self.old.failed ≡ None → GivesHead h after result self.new }
-        ensures fails { (e : ErrorValue) → FaultCause request_form self.old.ended self.old.unread e → self.old.failed ≡ None → (e ≡ BadHead → MoreCause request_form self.old.ended self.old.unread → ⊥) → GivesFault e result }
-        ensures waits { MoreCause request_form self.old.ended self.old.unread → self.old.failed ≡ None → (NeverHas print_request IsRequestHead self.old.unread → ⊥) → GivesMore result }
+        ensures first { (bytes after : List ℕ) (h : Head) → IsRequest bytes h → self.old.unread ≡ bytes ++ after
+            → self.old.failed ≡ None → GivesHead h after result self.new }
+        ensures fails { (e : ErrorValue) → FaultCause request_form self.old.ended self.old.unread e
+            → self.old.failed ≡ None → (e ≡ BadHead → MoreCause request_form self.old.ended self.old.unread → ⊥)
+            → GivesFault e result }
+        ensures waits { MoreCause request_form self.old.ended self.old.unread → self.old.failed ≡ None
+            → (NeverHas print_request IsRequestHead self.old.unread → ⊥) → GivesMore result }
         ensures again { (e : ErrorValue) → self.old.failed ≡ Some e → result ≡ Err (Frame e) }
     {
         self.take_head()

@@ -1,5 +1,6 @@
 // Heads of requests.
-ghost use Rattle.std.specs.Prelude.{◌≡◌, ◌==◌, ◌||◌, ℕ, ◌+◌, ◌<◌, ◌≤◌, List, length, take, map, IfOk, All, IfSome, option_map, codes};
+ghost use Rattle.std.specs.Prelude.{◌≡◌, ◌==◌, ◌||◌, ℕ, ◌+◌, ◌<◌, ◌≤◌, List, length, take, map, IfOk, All, IfSome};
+ghost use Rattle.std.specs.Prelude.{option_map, codes};
 ghost use Rattle.httparse.specs.Spans.{span_bytes, IsWithin as IsSpanWithin, IsRequestWithin, IsRequestAt};
 ghost use Rattle.httparse.specs.Grammar.{RequestHead as Head};
 ghost use Rattle.http_header.specs.HeaderMap.{get_all};
@@ -86,7 +87,8 @@ fn request_step(
 ) -> Result<HeadStep<RequestHead>, OutOfMemory>
     requires within { IsRequestWithin front.now headers.now spans.now }
     requires few { length headers.now ≤ 100 }
-    ensures { IfOk result (λ step. (h : Head) → IsRequestAt front.now headers.now spans.now h → SaysHead request_form h spans.now.len step) }
+    ensures { IfOk result (λ step. (h : Head) → IsRequestAt front.now headers.now spans.now h
+        → SaysHead request_form h spans.now.len step) }
 {
     let fields = field_map(alloc, front, &headers[..spans.headers])?;
     let method = spans.method.of(front);

@@ -1,11 +1,13 @@
 // Responses from a stream in pieces.
-ghost use Rattle.std.specs.Prelude.{◌≡◌, ◌≤◌, ◌++◌, ℕ, Bool, List, [], true, false, length, drop, None, Some, Err, OnOk, OnErr};
+ghost use Rattle.std.specs.Prelude.{◌≡◌, ◌≤◌, ◌++◌, ℕ, Bool, List, [], true, false, length, drop, None, Some, Err};
+ghost use Rattle.std.specs.Prelude.{OnOk, OnErr};
 ghost use Rattle.httparse.specs.Grammar.{ResponseHead as Answer};
 ghost use Rattle.http_frame.specs.Forms.{response_form};
 ghost use Rattle.http_frame.specs.Messages.{IsResponse, MayStop};
 ghost use Rattle.http_frame.specs.declared.errors.FrameError.{FrameError as ErrorValue};
 ghost use Rattle.http_frame.specs.declared.errors.FrameFault.TheVariants.{Frame};
-ghost use Rattle.http_frame.specs.Frames.{IsPending, AdvanceSays, NextSays, Frames, GivesBytes, GivesFault, GivesMore, FaultCause, MoreCause, FindSays};
+ghost use Rattle.http_frame.specs.Frames.{IsPending, AdvanceSays, NextSays, Frames, GivesBytes, GivesFault, GivesMore};
+ghost use Rattle.http_frame.specs.Frames.{FaultCause, MoreCause, FindSays};
 
 use crate::buffer::Buffer;
 use crate::errors::{FrameError, FrameFault, Step};
@@ -32,7 +34,8 @@ pub struct ResponseFrames {
 
 /// What stands at the front of a stream is one response, where the kind of its request is known.
 pub fn responses_are_found_once()
-    ensures { (to_head ended : Bool) (a b x y : List ℕ) (h k : Answer) (p : IsResponse to_head a h) (q : IsResponse to_head b k)
+    ensures { (to_head ended : Bool) (a b x y : List ℕ) (h k : Answer) (p : IsResponse to_head a h)
+        (q : IsResponse to_head b k)
         → MayStop p.framing ended x → MayStop q.framing ended y → a ++ x ≡ b ++ y → (a ≡ b) × (h ≡ k) }
 {}
 
@@ -42,7 +45,8 @@ fn of_kind(
     read_for: bool,
     wanted: bool,
 ) -> Option<Pending<ResponseHead>>
-    ensures { (bytes : List ℕ) → IsPending (response_form read_for) bytes pending → IsPending (response_form wanted) bytes result }
+    ensures { (bytes : List ℕ) → IsPending (response_form read_for) bytes pending
+        → IsPending (response_form wanted) bytes result }
 {
     if read_for == wanted { pending } else { None }
 }
@@ -135,10 +139,13 @@ impl ResponseFrames {
     pub fn next(&mut self, head_request: bool) -> Result<Step<Response>, FrameFault>
         ensures says { NextSays (response_form head_request) self.old result self.new }
         ensures input { self.new.ended ≡ self.old.ended }
-        ensures first { (bytes after : List ℕ) (h : Answer) (r : IsResponse head_request bytes h) → self.old.unread ≡ bytes ++ after → MayStop r.framing self.old.ended after
+        ensures first { (bytes after : List ℕ) (h : Answer) (r : IsResponse head_request bytes h)
+            → self.old.unread ≡ bytes ++ after → MayStop r.framing self.old.ended after
             → self.old.failed ≡ None → GivesBytes (response_form head_request) bytes result }
-        ensures fails { (e : ErrorValue) → FaultCause (response_form head_request) self.old.ended self.old.unread e → self.old.failed ≡ None → GivesFault e result }
-        ensures waits { MoreCause (response_form head_request) self.old.ended self.old.unread → self.old.failed ≡ None → GivesMore result }
+        ensures fails { (e : ErrorValue) → FaultCause (response_form head_request) self.old.ended self.old.unread e
+            → self.old.failed ≡ None → GivesFault e result }
+        ensures waits { MoreCause (response_form head_request) self.old.ended self.old.unread → self.old.failed ≡ None
+            → GivesMore result }
         ensures again { (e : ErrorValue) → self.old.failed ≡ Some e → result ≡ Err (Frame e) }
     {
         self.take_next(head_request)

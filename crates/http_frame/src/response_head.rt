@@ -32,7 +32,8 @@ fn closes_after(framing: Framing, asks: bool) -> bool
 /// What the parts of a head say.
 fn head_of(front: &[u8], framing: Framing, status: u16, fields: &HeaderMap<Span>) -> ResponseHead
     requires { All (IsSpanWithin (length front.now)) (get_all fields.now (codes "connection")) }
-    ensures { result ≡ response_said framing status (map (span_bytes front.now) (get_all fields.now (codes "connection"))) }
+    ensures { result ≡ response_said framing status
+        (map (span_bytes front.now) (get_all fields.now (codes "connection"))) }
 {
     let closes = closes_after(framing, asks_close(front, fields));
     ResponseHead { status, closes }
@@ -48,7 +49,8 @@ fn response_step(
 ) -> Result<HeadStep<ResponseHead>, OutOfMemory>
     requires within { IsResponseWithin front.now headers.now spans.now }
     requires few { length headers.now ≤ 100 }
-    ensures { IfOk result (λ step. (h : Answer) → IsResponseAt front.now headers.now spans.now h → SaysHead (response_form to_head) h spans.now.len step) }
+    ensures { IfOk result (λ step. (h : Answer) → IsResponseAt front.now headers.now spans.now h
+        → SaysHead (response_form to_head) h spans.now.len step) }
 {
     let fields = field_map(alloc, front, &headers[..spans.headers])?;
     match framing_of_response(front, to_head, spans.code, &fields) {

@@ -1,5 +1,6 @@
 -- What a link has done stays, whatever comes later.
-use Rattle.std.proofs.Common.{reverse, ◌≡◌, ℕ, ◌<◌, ◌≤◌, ◌++◌, true, List, [], ◌∷◌, map, arith, refl, ap, sym, ◌∙◌, inl, inr}
+use Rattle.std.proofs.Common.{reverse, ◌≡◌, ℕ, ◌<◌, ◌≤◌, ◌++◌, true, List, [], ◌∷◌, map, arith, refl, ap, sym, ◌∙◌, inl}
+use Rattle.std.proofs.Common.{inr}
 use Rattle.std.proofs.lemmas.Bool.{cases_lt}
 use Rattle.std.proofs.lemmas.List.{append-nil, append_assoc}
 use Rattle.packet_record.specs.declared.packet.Timed.{Timed}
@@ -31,7 +32,8 @@ goes_on_then xs ys zs a b =
     record { more = a.more ++ b.more; is = b.is ∙ ap (λ l. l ++ b.more) a.is ∙ append_assoc xs a.more b.more }
 
 -- departures, drops and log of one link, and later; what departs later does so at this moment or later
-pub record GoesOnWhole (low : ℕ) (q : QueueSpec) (opps : List Opportunity) (arrivals : List Timed) (opps' : List Opportunity) (arrivals' : List Timed) : Type 0 where
+pub record GoesOnWhole (low : ℕ) (q : QueueSpec) (opps : List Opportunity) (arrivals : List Timed)
+    (opps' : List Opportunity) (arrivals' : List Timed) : Type 0 where
   pub left : Extends (departures (keep q opps' arrivals') opps') (departures (keep q opps arrivals) opps) low
   pub lost : GoesOn (losses q opps arrivals) (losses q opps' arrivals')
   pub log : GoesOn (log_of q opps arrivals) (log_of q opps' arrivals')
@@ -46,7 +48,8 @@ extends_on low xs ys zs a b = record {
   later = from-append low a.more b.more a.later b.later;
 }
 
-goes_then : (low : ℕ) (q : QueueSpec) (os os' os'' : List Opportunity) (ts ts' ts'' : List Timed) → GoesOnWhole low q os ts os' ts' → GoesOnWhole low q os' ts' os'' ts''
+goes_then : (low : ℕ) (q : QueueSpec) (os os' os'' : List Opportunity) (ts ts' ts'' : List Timed)
+    → GoesOnWhole low q os ts os' ts' → GoesOnWhole low q os' ts' os'' ts''
     → GoesOnWhole low q os ts os'' ts''
 goes_then low q os os' os'' ts ts' ts'' a b = record {
   left = extends_on low _ _ _ a.left b.left;
@@ -59,13 +62,24 @@ moved_from low moment [] le = tt
 moved_from low moment (t ∷ ts) le = (le, moved_from low moment ts le)
 
 tied_now : (q : QueueSpec) (opps : List Opportunity) (arrivals : List Timed) → Falling arrivals → AreFalling opps
-    → Tied q opps arrivals (rest (sent (keep q opps arrivals) opps) (keep q opps arrivals)) (begun (sent (keep q opps arrivals) opps) (keep q opps arrivals))
+    → Tied q opps arrivals (rest (sent (keep q opps arrivals) opps) (keep q opps arrivals))
+    (begun (sent (keep q opps arrivals) opps) (keep q opps arrivals))
     (departures (keep q opps arrivals) opps) (losses q opps arrivals) true (log_of q opps arrivals)
-tied_now q opps arrivals f g = record { inside_is = refl; used_is = refl; left_is = refl; lost_is = refl; log_is = refl; arrivals_fall = f; opps_fall = g }
+tied_now q opps arrivals f g = record {
+  inside_is = refl;
+  used_is = refl;
+  left_is = refl;
+  lost_is = refl;
+  log_is = refl;
+  arrivals_fall = f;
+  opps_fall = g;
+}
 
 -- a later opportunity
-pub extends_burn : (low : ℕ) (q : QueueSpec) (o : Opportunity) (opps : List Opportunity) (arrivals : List Timed) → Falling arrivals → AreFalling opps
-    → Each (λ t. t.moment < o.moment) arrivals → Each (λ p. p.moment ≤ o.moment) opps → low ≤ o.moment → GoesOnWhole low q opps arrivals (o ∷ opps) arrivals
+pub extends_burn : (low : ℕ) (q : QueueSpec) (o : Opportunity) (opps : List Opportunity) (arrivals : List Timed)
+    → Falling arrivals → AreFalling opps
+    → Each (λ t. t.moment < o.moment) arrivals → Each (λ p. p.moment ≤ o.moment) opps → low ≤ o.moment
+    → GoesOnWhole low q opps arrivals (o ∷ opps) arrivals
 extends_burn low q o opps arrivals f g a b le =
     let new = tied_burn q o opps arrivals _ _ _ _ true _ (tied_now q opps arrivals f g) a b in
     record {
@@ -75,8 +89,10 @@ extends_burn low q o opps arrivals f g a b le =
     }
 
 -- a later arrival
-pub extends_arrive : (low : ℕ) (q : QueueSpec) (t : Timed) (opps : List Opportunity) (arrivals : List Timed) → Falling arrivals → AreFalling opps
-    → Each (λ u. u.moment ≤ t.moment) arrivals → Each (λ o. o.moment ≤ t.moment) opps → GoesOnWhole low q opps arrivals opps (t ∷ arrivals)
+pub extends_arrive : (low : ℕ) (q : QueueSpec) (t : Timed) (opps : List Opportunity) (arrivals : List Timed)
+    → Falling arrivals → AreFalling opps
+    → Each (λ u. u.moment ≤ t.moment) arrivals → Each (λ o. o.moment ≤ t.moment) opps
+    → GoesOnWhole low q opps arrivals opps (t ∷ arrivals)
 extends_arrive low q t opps arrivals f g a b =
     let new = tied_arrive q t opps arrivals _ _ _ _ true _ _ _ (tied_now q opps arrivals f g) refl refl a b in
     record {
@@ -91,7 +107,8 @@ onto [] earlier = earlier
 onto (x ∷ xs) earlier = onto xs (x ∷ earlier)
 
 -- what may come: opportunities and packets in order, none before what has been
-pub record MayCome (low : ℕ) (opps : List Opportunity) (arrivals : List Timed) (opps' : List Opportunity) (arrivals' : List Timed) : Type 0 where
+pub record MayCome (low : ℕ) (opps : List Opportunity) (arrivals : List Timed) (opps' : List Opportunity)
+    (arrivals' : List Timed) : Type 0 where
   pub falling : Falling arrivals
   pub opps_falling : AreFalling opps
   pub rising : Rising arrivals'
@@ -102,11 +119,13 @@ pub record MayCome (low : ℕ) (opps : List Opportunity) (arrivals : List Timed)
   pub arrivals_arrivals : Each (λ t. Each (λ u. u.moment ≤ t.moment) arrivals) arrivals'
   pub arrivals_opps : Each (λ t. Each (λ o. o.moment ≤ t.moment) opps) arrivals'
 
-each_also : {X Y : Type 0} (R : X → Y → Type 0) (y : Y) (ys : List Y) (xs : List X) → Each (λ x. R x y) xs → Each (λ x. Each (R x) ys) xs → Each (λ x. Each (R x) (y ∷ ys)) xs
+each_also : {X Y : Type 0} (R : X → Y → Type 0) (y : Y) (ys : List Y) (xs : List X) → Each (λ x. R x y) xs
+    → Each (λ x. Each (R x) ys) xs → Each (λ x. Each (R x) (y ∷ ys)) xs
 each_also R y ys [] a b = tt
 each_also R y ys (x ∷ xs) a b = ((a.0, b.0), each_also R y ys xs a.1 b.1)
 
-come_burn : (low : ℕ) (o : Opportunity) (os opps : List Opportunity) (arrivals ts : List Timed) → MayCome low opps arrivals (o ∷ os) ts → Each (λ t. o.moment ≤ t.moment) ts
+come_burn : (low : ℕ) (o : Opportunity) (os opps : List Opportunity) (arrivals ts : List Timed)
+    → MayCome low opps arrivals (o ∷ os) ts → Each (λ t. o.moment ≤ t.moment) ts
     → MayCome low (o ∷ opps) arrivals os ts
 come_burn low o os opps arrivals ts c a = record {
   falling = c.falling;
@@ -115,12 +134,14 @@ come_burn low o os opps arrivals ts c a = record {
   opps_rising = c.opps_rising.1;
   opps_from = c.opps_from.1;
   opps_arrivals = c.opps_arrivals.1;
-  opps_opps = each_also (λ (x : Opportunity) (p : Opportunity). p.moment ≤ x.moment) o opps os c.opps_rising.0 c.opps_opps.1;
+  opps_opps = each_also (λ (x : Opportunity) (p : Opportunity). p.moment ≤ x.moment) o opps os c.opps_rising.0
+      c.opps_opps.1;
   arrivals_arrivals = c.arrivals_arrivals;
   arrivals_opps = each_also (λ (x : Timed) (p : Opportunity). p.moment ≤ x.moment) o opps ts a c.arrivals_opps;
 }
 
-come_arrive : (low : ℕ) (t : Timed) (ts arrivals : List Timed) (opps os : List Opportunity) → MayCome low opps arrivals os (t ∷ ts) → Each (λ o. t.moment < o.moment) os
+come_arrive : (low : ℕ) (t : Timed) (ts arrivals : List Timed) (opps os : List Opportunity)
+    → MayCome low opps arrivals os (t ∷ ts) → Each (λ o. t.moment < o.moment) os
     → MayCome low opps (t ∷ arrivals) os ts
 come_arrive low t ts arrivals opps os c a = record {
   falling = (c.arrivals_arrivals.0, c.falling);
@@ -130,37 +151,49 @@ come_arrive low t ts arrivals opps os c a = record {
   opps_from = c.opps_from;
   opps_arrivals = each_also (λ (x : Opportunity) (u : Timed). u.moment < x.moment) t arrivals os a c.opps_arrivals;
   opps_opps = c.opps_opps;
-  arrivals_arrivals = each_also (λ (x : Timed) (u : Timed). u.moment ≤ x.moment) t arrivals ts c.rising.0 c.arrivals_arrivals.1;
+  arrivals_arrivals = each_also (λ (x : Timed) (u : Timed). u.moment ≤ x.moment) t arrivals ts c.rising.0
+      c.arrivals_arrivals.1;
   arrivals_opps = c.arrivals_opps.1;
 }
 
-only_opps : (low : ℕ) (q : QueueSpec) (os opps : List Opportunity) (arrivals : List Timed) → MayCome low opps arrivals os [] → GoesOnWhole low q opps arrivals (onto os opps) arrivals
-only_opps low q [] opps arrivals c = record { left = extends_same low _ _ refl; lost = goes_on_same _ _ refl; log = goes_on_same _ _ refl }
+only_opps : (low : ℕ) (q : QueueSpec) (os opps : List Opportunity) (arrivals : List Timed)
+    → MayCome low opps arrivals os [] → GoesOnWhole low q opps arrivals (onto os opps) arrivals
+only_opps low q [] opps arrivals c = record {
+  left = extends_same low _ _ refl;
+  lost = goes_on_same _ _ refl;
+  log = goes_on_same _ _ refl;
+}
 only_opps low q (o ∷ os) opps arrivals c =
-    goes_then low q _ _ _ _ _ _ (extends_burn low q o opps arrivals c.falling c.opps_falling c.opps_arrivals.0 c.opps_opps.0 c.opps_from.0)
+    goes_then low q _ _ _ _ _ _ (extends_burn low q o opps arrivals c.falling c.opps_falling c.opps_arrivals.0
+    c.opps_opps.0 c.opps_from.0)
     (only_opps low q os (o ∷ opps) arrivals (come_burn low o os opps arrivals [] c tt))
 
 -- what holds of every list of packets that may come after the first
 abbrev Rest : ℕ → QueueSpec → List Timed → Type 0
-Rest low q ts = (os opps : List Opportunity) (arrivals : List Timed) → MayCome low opps arrivals os ts → GoesOnWhole low q opps arrivals (onto os opps) (onto ts arrivals)
+Rest low q ts = (os opps : List Opportunity) (arrivals : List Timed) → MayCome low opps arrivals os ts
+    → GoesOnWhole low q opps arrivals (onto os opps) (onto ts arrivals)
 
 next_packet : (low : ℕ) (q : QueueSpec) (t : Timed) (ts : List Timed) → Rest low q ts
-    → (os opps : List Opportunity) (arrivals : List Timed) → MayCome low opps arrivals os (t ∷ ts) → GoesOnWhole low q opps arrivals (onto os opps) (onto ts (t ∷ arrivals))
+    → (os opps : List Opportunity) (arrivals : List Timed) → MayCome low opps arrivals os (t ∷ ts)
+    → GoesOnWhole low q opps arrivals (onto os opps) (onto ts (t ∷ arrivals))
 next_packet low q t ts ih [] opps arrivals c =
-    goes_then low q _ _ _ _ _ _ (extends_arrive low q t opps arrivals c.falling c.opps_falling c.arrivals_arrivals.0 c.arrivals_opps.0)
+    goes_then low q _ _ _ _ _ _ (extends_arrive low q t opps arrivals c.falling c.opps_falling c.arrivals_arrivals.0
+    c.arrivals_opps.0)
     (ih [] opps (t ∷ arrivals) (come_arrive low t ts arrivals opps [] c tt))
 next_packet low q t ts ih (o ∷ os) opps arrivals c = elim (cases_lt t.moment o.moment) [
   | inl lt ↦
       let later : Each (λ p. t.moment < p.moment) (o ∷ os) =
       (lt, each_map (λ p. o.moment ≤ p.moment) (λ p. t.moment < p.moment) os (λ p le. omega arith) c.opps_rising.0)
       in
-      goes_then low q _ _ _ _ _ _ (extends_arrive low q t opps arrivals c.falling c.opps_falling c.arrivals_arrivals.0 c.arrivals_opps.0)
+      goes_then low q _ _ _ _ _ _ (extends_arrive low q t opps arrivals c.falling c.opps_falling c.arrivals_arrivals.0
+      c.arrivals_opps.0)
       (ih (o ∷ os) opps (t ∷ arrivals) (come_arrive low t ts arrivals opps (o ∷ os) c later))
   | inr le ↦
       let after : Each (λ u. o.moment ≤ u.moment) (t ∷ ts) =
       (le, each_map (λ u. t.moment ≤ u.moment) (λ u. o.moment ≤ u.moment) ts (λ u h. omega arith) c.rising.0)
       in
-      goes_then low q _ _ _ _ _ _ (extends_burn low q o opps arrivals c.falling c.opps_falling c.opps_arrivals.0 c.opps_opps.0 c.opps_from.0)
+      goes_then low q _ _ _ _ _ _ (extends_burn low q o opps arrivals c.falling c.opps_falling c.opps_arrivals.0
+      c.opps_opps.0 c.opps_from.0)
       (next_packet low q t ts ih os (o ∷ opps) arrivals (come_burn low o os opps arrivals (t ∷ ts) c after))
 ]
 
@@ -172,4 +205,5 @@ continues low q (t ∷ ts) os opps arrivals c = next_packet low q t ts (continue
 pub reverse_onto : {X : Type 0} (xs ys : List X) → reverse (xs ++ ys) ≡ onto ys (reverse xs)
 reverse_onto xs [] = ap reverse (append-nil xs)
 reverse_onto xs (y ∷ ys) =
-    ap reverse (sym (append_assoc xs (y ∷ []) ys)) ∙ reverse_onto (xs ++ y ∷ []) ys ∙ ap (λ l. onto ys l) (reverse_push xs y)
+    ap reverse (sym (append_assoc xs (y ∷ []) ys)) ∙ reverse_onto (xs ++ y ∷ []) ys
+    ∙ ap (λ l. onto ys l) (reverse_push xs y)

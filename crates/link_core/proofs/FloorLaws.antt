@@ -1,5 +1,6 @@
 -- Where departures can be, and the floor, which is the moment of the next opportunity or the one after the horizon.
-use Rattle.std.proofs.Common.{◌≡◌, ℕ, zero, suc, ◌+◌, ◌-◌, ◌<◌, ◌≤◌, List, [], ◌∷◌, Some, slice_get, length, take, drop, reverse, map, arith, refl, ap, sym, subst, ◌∙◌, inl, inr}
+use Rattle.std.proofs.Common.{◌≡◌, ℕ, zero, suc, ◌+◌, ◌-◌, ◌<◌, ◌≤◌, List, [], ◌∷◌, Some, slice_get, length, take, drop}
+use Rattle.std.proofs.Common.{reverse, map, arith, refl, ap, sym, subst, ◌∙◌, inl, inr}
 use Rattle.std.proofs.lemmas.Bool.{cases_lt}
 use Rattle.std.proofs.lemmas.List.{take-append-drop}
 use Rattle.std.proofs.lemmas.Option.{slice_get_past}
@@ -28,10 +29,12 @@ moved_to_moment : (low moment : ℕ) (ts : List Timed) → moment ≤ low → Ar
 moved_to_moment low moment [] le = tt
 moved_to_moment low moment (t ∷ ts) le = (le, moved_to_moment low moment ts le)
 
-departures_up_to : (m : ℕ) (kept : List Timed) (os : List Opportunity) → Each (λ o. o.moment ≤ m) os → AreUpTo m (back.departures kept os)
+departures_up_to : (m : ℕ) (kept : List Timed) (os : List Opportunity) → Each (λ o. o.moment ≤ m) os
+    → AreUpTo m (back.departures kept os)
 departures_up_to m kept [] a = tt
 departures_up_to m kept (o ∷ earlier) a =
-    up_to-append m (back.departures kept earlier) (map (moved_to o.moment) (back.ended kept o earlier)) (departures_up_to m kept earlier a.1)
+    up_to-append m (back.departures kept earlier) (map (moved_to o.moment) (back.ended kept o earlier))
+    (departures_up_to m kept earlier a.1)
     (moved_to_moment m o.moment (back.ended kept o earlier) a.0)
 
 rise_moved : (moment : ℕ) (ts : List Timed) → Rise (map (moved_to moment) ts)
@@ -41,25 +44,34 @@ rise_moved moment (t ∷ ts) = (moved_from moment moment ts (omega arith), rise_
 departures_rise : (kept : List Timed) (os : List Opportunity) → AreFalling os → Rise (back.departures kept os)
 departures_rise kept [] f = tt
 departures_rise kept (o ∷ earlier) f =
-    rise-append o.moment (back.departures kept earlier) (map (moved_to o.moment) (back.ended kept o earlier)) (departures_rise kept earlier f.1)
-    (departures_up_to o.moment kept earlier f.0) (moved_from o.moment o.moment (back.ended kept o earlier) (omega arith)) (rise_moved o.moment (back.ended kept o earlier))
+    rise-append o.moment (back.departures kept earlier) (map (moved_to o.moment) (back.ended kept o earlier))
+    (departures_rise kept earlier f.1)
+    (departures_up_to o.moment kept earlier f.0)
+    (moved_from o.moment o.moment (back.ended kept o earlier) (omega arith))
+    (rise_moved o.moment (back.ended kept o earlier))
 
 -- departures rise
-pub link_out_rises : (q : QueueSpec) (os : List Opportunity) (b : ℕ) (l : List Timed) → AreRising os → Rise (link_out q (take b os) l)
+pub link_out_rises : (q : QueueSpec) (os : List Opportunity) (b : ℕ) (l : List Timed) → AreRising os
+    → Rise (link_out q (take b os) l)
 link_out_rises q os b l r =
     subst Rise (sym (out_is q (take b os) l (rising_take b os r)))
-    (departures_rise (back.keep q (reverse (take b os)) (reverse l)) (reverse (take b os)) (falling_turned (take b os) (rising_take b os r)))
+    (departures_rise (back.keep q (reverse (take b os)) (reverse l)) (reverse (take b os))
+    (falling_turned (take b os) (rising_take b os r)))
 
-out_up_to : (q : QueueSpec) (os : List Opportunity) (b m : ℕ) (l : List Timed) → AreRising os → Each (λ o. o.moment ≤ m) (take b os) → AreUpTo m (link_out q (take b os) l)
+out_up_to : (q : QueueSpec) (os : List Opportunity) (b m : ℕ) (l : List Timed) → AreRising os
+    → Each (λ o. o.moment ≤ m) (take b os) → AreUpTo m (link_out q (take b os) l)
 out_up_to q os b m l r a =
     subst (AreUpTo m) (sym (out_is q (take b os) l (rising_take b os r)))
-    (departures_up_to m (back.keep q (reverse (take b os)) (reverse l)) (reverse (take b os)) (each_reverse (λ o. o.moment ≤ m) (take b os) a))
+    (departures_up_to m (back.keep q (reverse (take b os)) (reverse l)) (reverse (take b os))
+    (each_reverse (λ o. o.moment ≤ m) (take b os) a))
 
 -- none is past the horizon
-pub link_out_within : (q : QueueSpec) (os : List Opportunity) (h b : ℕ) (l : List Timed) → AreRising os → Each (λ o. o.moment ≤ h) os → AreUpTo h (link_out q (take b os) l)
+pub link_out_within : (q : QueueSpec) (os : List Opportunity) (h b : ℕ) (l : List Timed) → AreRising os
+    → Each (λ o. o.moment ≤ h) os → AreUpTo h (link_out q (take b os) l)
 link_out_within q os h b l r a = out_up_to q os b h l r (each_take (λ o. o.moment ≤ h) b os a)
 
-burnt_up_to : (os : List Opportunity) (h b : ℕ) → AreRising os → Each (λ o. o.moment ≤ h) os → Each (λ o. o.moment ≤ floor_of os h b) (take b os)
+burnt_up_to : (os : List Opportunity) (h b : ℕ) → AreRising os → Each (λ o. o.moment ≤ h) os
+    → Each (λ o. o.moment ≤ floor_of os h b) (take b os)
 burnt_up_to os h b r a = elim (cases_lt b (length os)) [
   | inl lt ↦
       let next = some_at os b lt in
@@ -71,11 +83,13 @@ burnt_up_to os h b r a = elim (cases_lt b (length os)) [
       each_map (λ x. x.moment ≤ o.moment) (λ x. x.moment ≤ floor_of os h b) (take b os) (λ x le. omega arith) first
   | inr le ↦
       let e = floor_past os h b (slice_get_past os b le) in
-      each_map (λ x. x.moment ≤ h) (λ x. x.moment ≤ floor_of os h b) (take b os) (λ x le'. omega arith) (each_take (λ o. o.moment ≤ h) b os a)
+      each_map (λ x. x.moment ≤ h) (λ x. x.moment ≤ floor_of os h b) (take b os) (λ x le'. omega arith)
+      (each_take (λ o. o.moment ≤ h) b os a)
 ]
 
 -- what has departed is not after the floor
-pub link_out_up_to : (q : QueueSpec) (os : List Opportunity) (h b : ℕ) (l : List Timed) → AreRising os → Each (λ o. o.moment ≤ h) os → AreUpTo (floor_of os h b) (link_out q (take b os) l)
+pub link_out_up_to : (q : QueueSpec) (os : List Opportunity) (h b : ℕ) (l : List Timed) → AreRising os
+    → Each (λ o. o.moment ≤ h) os → AreUpTo (floor_of os h b) (link_out q (take b os) l)
 link_out_up_to q os h b l r a = out_up_to q os b (floor_of os h b) l r (burnt_up_to os h b r a)
 
 -- the floor is within the horizon plus 1, and never sinks
@@ -93,12 +107,15 @@ get_drop : (os : List Opportunity) (b i : ℕ) → b ≤ i → slice_get (drop b
 get_drop os zero i le = ap (slice_get os) (let e : i - 0 ≡ i = omega arith in e)
 get_drop [] (suc b) i le = refl
 get_drop (o ∷ os) (suc b) zero le = absurd (omega arith)
-get_drop (o ∷ os) (suc b) (suc i) le = let e : suc i - suc b ≡ i - b = omega arith in ap (slice_get (drop b os)) e ∙ get_drop os b i (omega arith)
+get_drop (o ∷ os) (suc b) (suc i) le = let e : suc i - suc b ≡ i - b = omega arith in ap (slice_get (drop b os)) e
+    ∙ get_drop os b i (omega arith)
 
-each_get : (P : Opportunity → Type 0) (b i : ℕ) (os : List Opportunity) (o : Opportunity) → Each P (drop b os) → b ≤ i → slice_get os i ≡ Some o → P o
+each_get : (P : Opportunity → Type 0) (b i : ℕ) (os : List Opportunity) (o : Opportunity) → Each P (drop b os) → b ≤ i
+    → slice_get os i ≡ Some o → P o
 each_get P b i os o a le e = each_at P (drop b os) (i - b) o a (get_drop os b i le ∙ e)
 
-pub link_floor_grows : (os : List Opportunity) (h b b' : ℕ) → AreRising os → Each (λ o. o.moment ≤ h) os → b ≤ b' → floor_of os h b ≤ floor_of os h b'
+pub link_floor_grows : (os : List Opportunity) (h b b' : ℕ) → AreRising os → Each (λ o. o.moment ≤ h) os → b ≤ b'
+    → floor_of os h b ≤ floor_of os h b'
 link_floor_grows os h b b' r a le = elim (cases_lt b' (length os)) [
   | inl lt ↦
       let next = some_at os b' lt in
@@ -112,13 +129,15 @@ link_floor_grows os h b b' r a le = elim (cases_lt b' (length os)) [
 ]
 
 -- where all opportunities up to the bound are burnt, and one at least just now, the floor rises
-pub link_floor_rises : (os : List Opportunity) (h b bound : ℕ) → AreRising os → Each (λ o. o.moment ≤ h) os → b < count_to os bound → floor_of os h b < floor_of os h (count_to os bound)
+pub link_floor_rises : (os : List Opportunity) (h b bound : ℕ) → AreRising os → Each (λ o. o.moment ≤ h) os
+    → b < count_to os bound → floor_of os h b < floor_of os h (count_to os bound)
 link_floor_rises os h b bound r a lt =
     let n = count_to os bound in
     let few = length-up_to bound os in
     let next = some_at os b (omega arith) in
     let e = floor_at os h b next.0 next.1 in
-    let early = each_at (λ o. o.moment ≤ bound) (take n os) b next.0 (counted bound os r).0 (slice_get-take os n b lt ∙ next.1) in
+    let early = each_at (λ o. o.moment ≤ bound) (take n os) b next.0 (counted bound os r).0 (slice_get-take os n b lt
+    ∙ next.1) in
     let within = each_at (λ o. o.moment ≤ h) os b next.0 a next.1 in
     elim (cases_lt n (length os)) [
       | inl some ↦
@@ -134,7 +153,8 @@ pub link_all_at_horizon : (os : List Opportunity) (h : ℕ) → Each (λ o. o.mo
 link_all_at_horizon os h a = ap length (up_to_all h os a)
 
 -- where all opportunities up to the bound are burnt, the floor isn't below it
-pub link_floor_from : (os : List Opportunity) (h b bound : ℕ) → AreRising os → bound ≤ h + 1 → count_to os bound ≤ b → bound ≤ floor_of os h b
+pub link_floor_from : (os : List Opportunity) (h b bound : ℕ) → AreRising os → bound ≤ h + 1 → count_to os bound ≤ b
+    → bound ≤ floor_of os h b
 link_floor_from os h b bound r le all = elim (cases_lt b (length os)) [
   | inl some ↦
       let after = some_at os b some in
@@ -145,7 +165,8 @@ link_floor_from os h b bound r le all = elim (cases_lt b (length os)) [
 ]
 
 -- and it is above a bound up to the horizon
-pub link_floor_above : (os : List Opportunity) (h b bound : ℕ) → AreRising os → bound ≤ h → count_to os bound ≤ b → bound < floor_of os h b
+pub link_floor_above : (os : List Opportunity) (h b bound : ℕ) → AreRising os → bound ≤ h → count_to os bound ≤ b
+    → bound < floor_of os h b
 link_floor_above os h b bound r le all = elim (cases_lt b (length os)) [
   | inl some ↦
       let after = some_at os b some in

@@ -1,5 +1,6 @@
 -- The opportunities of one lap, and the lap of an opportunity.
-use Rattle.std.proofs.Common.{◌≡◌, ℕ, ◌+◌, ◌-◌, ◌*◌, ◌/◌, ◌<◌, ◌≤◌, List, length, Option, Some, slice_get, IfSome, Fits, w64, ap, sym, subst, ◌∙◌, arith}
+use Rattle.std.proofs.Common.{◌≡◌, ℕ, ◌+◌, ◌-◌, ◌*◌, ◌/◌, ◌<◌, ◌≤◌, List, length, Option, Some, slice_get, IfSome, Fits}
+use Rattle.std.proofs.Common.{w64, ap, sym, subst, ◌∙◌, arith}
 use Rattle.std.proofs.Math.Nat.{mul-div_cancel, div-le_self, mul-le-mul_right, zero-div}
 use Rattle.trace_reader.specs.declared.opportunity.Opportunity.{Opportunity}
 use Rattle.trace_reader.specs.Opps.{last_moment, later, entry}
@@ -11,11 +12,13 @@ first_lap trace =
     let none : 0 / length trace ≡ 0 = zero-div (length trace) in
     record { whole = rw none (omega arith); begins = rw none (omega arith) }
 
-pub is_lap : (trace : List Opportunity) (number count last : ℕ) → 0 < length trace → count ≡ length trace → last ≡ last_moment trace
+pub is_lap : (trace : List Opportunity) (number count last : ℕ) → 0 < length trace → count ≡ length trace
+    → last ≡ last_moment trace
     → IsLap trace (number * count) (number * last)
 is_lap trace number count last some e f =
     let same : number * count ≡ number * length trace = ap (λ (n : ℕ). number * n) e in
-    let lap : number * count / length trace ≡ number = ap (λ (n : ℕ). n / length trace) same ∙ mul-div_cancel number some in
+    let lap : number * count / length trace ≡ number = ap (λ (n : ℕ). n / length trace) same
+    ∙ mul-div_cancel number some in
     record { whole = rw lap (sym same); begins = rw lap (ap (λ (n : ℕ). number * n) (sym f)) }
 
 pub start_fits : (j count last : ℕ) → j < 16000000 → last ≤ 9999999999 → Fits w64 (j / count * last)
@@ -25,7 +28,8 @@ start_fits j count last lt most =
     omega arith
 
 -- opportunity number j, in its lap
-pub entry_at : (trace : List Opportunity) (first start j : ℕ) (o : Opportunity) → IsLap trace first start → first ≤ j → j < first + length trace
+pub entry_at : (trace : List Opportunity) (first start j : ℕ) (o : Opportunity) → IsLap trace first start → first ≤ j
+    → j < first + length trace
     → slice_get trace (j - first) ≡ Some o → entry trace j ≡ Some (later start o)
 entry_at trace first start j o lap low high here =
     let k = first / length trace in
@@ -35,5 +39,7 @@ entry_at trace first start j o lap low high here =
     let within : i < length trace = omega arith in
     ap (entry trace) place ∙ entry_in_lap trace k i o within here ∙ ap (λ (by : ℕ). Some (later by o)) lap.begins
 
-pub moment_within : (found : Option Opportunity) (start : ℕ) (o : Opportunity) → found ≡ Some (later start o) → IfSome found (λ p. p.moment ≤ 3600000) → o.moment + start ≤ 3600000
-moment_within found start o e w = let P : Option Opportunity → Type 0 = λ f. IfSome f (λ p. p.moment ≤ 3600000) in subst P e w
+pub moment_within : (found : Option Opportunity) (start : ℕ) (o : Opportunity) → found ≡ Some (later start o)
+    → IfSome found (λ p. p.moment ≤ 3600000) → o.moment + start ≤ 3600000
+moment_within found start o e w = let P : Option Opportunity → Type 0 = λ f. IfSome f (λ p. p.moment ≤ 3600000)
+    in subst P e w

@@ -1,5 +1,6 @@
 -- Each opportunity and each arrival is an entry of the log: where there are more of them, there is more of the log.
-use Rattle.std.proofs.Common.{◌≡◌, ℕ, suc, ◌+◌, ◌-◌, ◌<◌, ◌≤◌, ◌++◌, ◌==◌, List, [], ◌∷◌, length, map, filter, take, nat_le, nat_lt, arith, refl, ap, ◌∙◌, inl, inr}
+use Rattle.std.proofs.Common.{◌≡◌, ℕ, suc, ◌+◌, ◌-◌, ◌<◌, ◌≤◌, ◌++◌, ◌==◌, List, [], ◌∷◌, length, map, filter, take}
+use Rattle.std.proofs.Common.{nat_le, nat_lt, arith, refl, ap, ◌∙◌, inl, inr}
 use Rattle.std.proofs.lemmas.Bool.{cases_lt, cond_both, le-leb, lt-leb, lt-ltb, le-ltb}
 use Rattle.std.proofs.lemmas.List.{length-append, length-take-le}
 use Rattle.packet_record.specs.declared.packet.Timed.{Timed}
@@ -8,7 +9,8 @@ use Rattle.packet_queue.specs.Queues.{bytes}
 use Rattle.shell_log.specs.declared.entry.Entry.{Entry}
 use Rattle.shell_log.specs.declared.entry.Entry.TheVariants as entries
 use Rattle.trace_reader.specs.declared.opportunity.Opportunity.{Opportunity}
-use Rattle.link_core.specs.Links.{Lines, departure_line, drop_line_by, opportunity_lines, arrival_lines, merged, entries_of, link_log, keep, keep_with, drop_with, leaving, is_number}
+use Rattle.link_core.specs.Links.{Lines, departure_line, drop_line_by, opportunity_lines, arrival_lines, merged}
+use Rattle.link_core.specs.Links.{entries_of, link_log, keep, keep_with, drop_with, leaving, is_number}
 
 abbrev is_mark : Entry → ℕ
 is_mark (entries.Arrival moment size) = 1
@@ -42,16 +44,19 @@ marks-departures m [] = refl
 marks-departures m (t ∷ ts) = let ih = marks-departures m ts in omega arith
 
 marks-drop : (m packets size : ℕ) → marks (drop_line_by m packets size) ≡ 0
-marks-drop m packets size = cond_both (packets == 0) [] (entries.Drop m packets size ∷ []) (λ es. marks es ≡ 0) (λ _. refl) (λ _. refl)
+marks-drop m packets size = cond_both (packets == 0) [] (entries.Drop m packets size ∷ []) (λ es. marks es ≡ 0)
+    (λ _. refl) (λ _. refl)
 
-marks-opportunities : (kept : List Timed) (opps : List Opportunity) (i : ℕ) (os : List Opportunity) → line_marks (opportunity_lines kept opps i os) ≡ length os
+marks-opportunities : (kept : List Timed) (opps : List Opportunity) (i : ℕ) (os : List Opportunity)
+    → line_marks (opportunity_lines kept opps i os) ≡ length os
 marks-opportunities kept opps i [] = refl
 marks-opportunities kept opps i (o ∷ os) =
     let ih = marks-opportunities kept opps (suc i) os in
     let none = marks-departures o.moment (leaving (is_number i) kept opps 0 kept) in
     omega arith
 
-marks-arrivals : (q : QueueSpec) (opps : List Opportunity) (kept ts : List Timed) → line_marks (arrival_lines q opps kept ts) ≡ length ts
+marks-arrivals : (q : QueueSpec) (opps : List Opportunity) (kept ts : List Timed)
+    → line_marks (arrival_lines q opps kept ts) ≡ length ts
 marks-arrivals q opps kept [] = refl
 marks-arrivals q opps kept (t ∷ ts) =
     let ih = marks-arrivals q opps (keep_with q opps kept t) ts in
@@ -59,7 +64,8 @@ marks-arrivals q opps kept (t ∷ ts) =
     let none = marks-drop t.moment (length out) (bytes out) in
     omega arith
 
-marks-split : (m : ℕ) (ls : List Lines) → line_marks (filter (λ (l : Lines). nat_le l.0 m) ls) + line_marks (filter (λ (l : Lines). nat_lt m l.0) ls) ≡ line_marks ls
+marks-split : (m : ℕ) (ls : List Lines) → line_marks (filter (λ (l : Lines). nat_le l.0 m) ls) + line_marks
+    (filter (λ (l : Lines). nat_lt m l.0) ls) ≡ line_marks ls
 marks-split m [] = refl
 marks-split m (l ∷ ls) =
     let ih = marks-split m ls in
@@ -87,7 +93,8 @@ marks-log q os ts =
 
 -- what follows the log of fewer is not empty
 pub more_log : (q : QueueSpec) (os : List Opportunity) (b : ℕ) (come coming : List Timed) (rest : List Entry)
-    → link_log q (take b os) come ++ rest ≡ link_log q os (come ++ coming) → b ≤ length os → 0 < length coming + (length os - b) → 0 < length rest
+    → link_log q (take b os) come ++ rest ≡ link_log q os (come ++ coming) → b ≤ length os
+    → 0 < length coming + (length os - b) → 0 < length rest
 more_log q os b come coming [] e le more =
     let past = link_log q (take b os) come in
     let some = marks-log q (take b os) come in

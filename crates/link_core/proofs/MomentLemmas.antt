@@ -19,12 +19,17 @@ each_filter P test (x ∷ xs) a =
     let ih = each_filter P test xs a.1 in
     cond_both (test x) (x ∷ filter test xs) (filter test xs) (Each P) (λ _. (a.0, ih)) (λ _. ih)
 
-each_merged : (P : Lines → Type 0) (opps arrivals : List Lines) → Each P opps → Each P arrivals → Each P (merged opps arrivals)
+each_merged : (P : Lines → Type 0) (opps arrivals : List Lines) → Each P opps → Each P arrivals
+    → Each P (merged opps arrivals)
 each_merged P opps [] a b = a
 each_merged P opps (l ∷ earlier) a b =
-    each_append P (filter (λ (o : Lines). nat_lt l.0 o.0) opps) (l ∷ merged (filter (λ (o : Lines). nat_le o.0 l.0) opps) earlier)
-    (each_filter P (λ (o : Lines). nat_lt l.0 o.0) opps a)
-    (b.0, each_merged P (filter (λ (o : Lines). nat_le o.0 l.0) opps) earlier (each_filter P (λ (o : Lines). nat_le o.0 l.0) opps a) b.1)
+    each_append P (filter (λ (o : Lines). nat_lt l.0 o.0) opps)
+    (l ∷ merged (filter (λ (o : Lines). nat_le o.0 l.0) opps) earlier)
+    (each_filter P (λ (o : Lines). nat_lt l.0 o.0) opps a) (
+      b.0,
+      each_merged P (filter (λ (o : Lines). nat_le o.0 l.0) opps) earlier
+          (each_filter P (λ (o : Lines). nat_le o.0 l.0) opps a) b.1,
+    )
 
 up_to_in_order : (m : ℕ) (ls : List Lines) → Each (λ l. AreUpTo m l.1) ls → AreUpTo m (in_order ls)
 up_to_in_order m [] a = tt
@@ -34,21 +39,28 @@ departures_up_to : (m moment : ℕ) (ts : List Timed) → moment ≤ m → AreUp
 departures_up_to m moment [] le = tt
 departures_up_to m moment (t ∷ ts) le = (le, departures_up_to m moment ts le)
 
-opportunities_up_to : (m : ℕ) (kept : List Timed) (opps : List Opportunity) → Each (λ o. o.moment ≤ m) opps → Each (λ l. AreUpTo m l.1) (opportunity_lines kept opps)
+opportunities_up_to : (m : ℕ) (kept : List Timed) (opps : List Opportunity) → Each (λ o. o.moment ≤ m) opps
+    → Each (λ l. AreUpTo m l.1) (opportunity_lines kept opps)
 opportunities_up_to m kept [] a = tt
-opportunities_up_to m kept (o ∷ earlier) a = ((a.0, departures_up_to m o.moment (ended kept o earlier) a.0), opportunities_up_to m kept earlier a.1)
+opportunities_up_to m kept (o ∷ earlier) a = (
+  (a.0, departures_up_to m o.moment (ended kept o earlier) a.0),
+  opportunities_up_to m kept earlier a.1,
+)
 
 drop_up_to : (m moment packets size : ℕ) → moment ≤ m → AreUpTo m (drop_line_by moment packets size)
-drop_up_to m moment packets size le = cond_both (packets == 0) [] (entries.Drop moment packets size ∷ []) (AreUpTo m) (λ _. tt) (λ _. (le, tt))
+drop_up_to m moment packets size le = cond_both (packets == 0) [] (entries.Drop moment packets size ∷ []) (AreUpTo m)
+    (λ _. tt) (λ _. (le, tt))
 
-arrivals_up_to : (m : ℕ) (q : QueueSpec) (opps : List Opportunity) (arrivals : List Timed) → Each (λ t. t.moment ≤ m) arrivals
+arrivals_up_to : (m : ℕ) (q : QueueSpec) (opps : List Opportunity) (arrivals : List Timed)
+    → Each (λ t. t.moment ≤ m) arrivals
     → Each (λ l. AreUpTo m l.1) (arrival_lines q opps arrivals)
 arrivals_up_to m q opps [] a = tt
 arrivals_up_to m q opps (t ∷ earlier) a =
     let d = dropped_at q opps (keep q opps earlier) t in
     ((a.0, drop_up_to m t.moment (length d) (bytes d) a.0), arrivals_up_to m q opps earlier a.1)
 
-pub log_up_to : (m : ℕ) (q : QueueSpec) (opps : List Opportunity) (arrivals : List Timed) → Each (λ o. o.moment ≤ m) opps → Each (λ t. t.moment ≤ m) arrivals
+pub log_up_to : (m : ℕ) (q : QueueSpec) (opps : List Opportunity) (arrivals : List Timed)
+    → Each (λ o. o.moment ≤ m) opps → Each (λ t. t.moment ≤ m) arrivals
     → AreUpTo m (log_of q opps arrivals)
 log_up_to m q opps arrivals a b =
     up_to_in_order m (merged (opportunity_lines (keep q opps arrivals) opps) (arrival_lines q opps arrivals))

@@ -1,5 +1,6 @@
 -- Each packet that arrives has departed, is dropped or is inside, and only one of these.
-use Rattle.std.proofs.Common.{◌≡◌, ℕ, ◌+◌, ◌-◌, ◌<◌, ◌≤◌, ◌++◌, Bool, true, false, cond, List, [], ◌∷◌, map, arith, refl, ap, sym, ◌∙◌, inl, inr}
+use Rattle.std.proofs.Common.{◌≡◌, ℕ, ◌+◌, ◌-◌, ◌<◌, ◌≤◌, ◌++◌, Bool, true, false, cond, List, [], ◌∷◌, map, arith}
+use Rattle.std.proofs.Common.{refl, ap, sym, ◌∙◌, inl, inr}
 use Rattle.std.proofs.lemmas.Bool.{cases_lt}
 use Rattle.packet_record.specs.declared.packet.Packet.{Packet}
 use Rattle.packet_record.specs.declared.packet.Timed.{Timed}
@@ -13,7 +14,8 @@ use Rattle.link_core.specs.Orders.{AreFalling}
 use Rattle.trace_reader.specs.Opps.{up_to}
 use Rattle.link_core.specs.Back.{sent, keep, dropped_at, losses, ended, departures}
 use Rattle.link_core.specs.Numbers.{number}
-use Rattle.link_core.proofs.StreamLemmas.{carried_over, carried_stops, rest_over, rest_stops, ending_in, ending_before, ending_after, ending_none, ending_first, ahead_waiting}
+use Rattle.link_core.proofs.StreamLemmas.{carried_over, carried_stops, rest_over, rest_stops, ending_in, ending_before}
+use Rattle.link_core.proofs.StreamLemmas.{ending_after, ending_none, ending_first, ahead_waiting}
 use Rattle.link_core.proofs.SentLemmas.{sent_more}
 
 pub number_append : (p : Packet → Bool) (xs ys : List Timed) → number p (xs ++ ys) ≡ number p xs + number p ys
@@ -24,11 +26,13 @@ pub number_moved : (p : Packet → Bool) (m : ℕ) (xs : List Timed) → number 
 number_moved p m [] = refl
 number_moved p m (x ∷ xs) = ap (λ n. cond (p x.packet) 1 0 + n) (number_moved p m xs)
 
-number_fitting : (p : Packet → Bool) (q : QueueSpec) (ts : List Timed) → number p (fitting q ts) + number p (excess q ts) ≡ number p ts
+number_fitting : (p : Packet → Bool) (q : QueueSpec) (ts : List Timed)
+    → number p (fitting q ts) + number p (excess q ts) ≡ number p ts
 number_fitting p q [] = refl
 number_fitting p q (t ∷ ts) =
     let ih = number_fitting p q ts in
-    elim (fits q (t ∷ ts)) as (λ b. number p (cond b (t ∷ ts) (fitting q ts)) + number p (cond b [] (t ∷ excess q ts)) ≡ number p (t ∷ ts)) [
+    elim (fits q (t ∷ ts)) as (λ b. number p (cond b (t ∷ ts) (fitting q ts)) + number p (cond b [] (t ∷ excess q ts))
+    ≡ number p (t ∷ ts)) [
       | true ↦ omega arith
       | false ↦ omega arith
     ]
@@ -38,7 +42,8 @@ number_enqueued_by : (p : Packet → Bool) (k : QueueKind) (q : QueueSpec) (ts :
 number_enqueued_by p Infinite q ts t = omega arith
 number_enqueued_by p DropTail q ts t =
     let both = number_append p ts (t ∷ []) in
-    elim (fits q (ts ++ t ∷ [])) as (λ b. number p (cond b (ts ++ t ∷ []) ts) + number p (cond b [] (t ∷ [])) ≡ number p (ts ++ t ∷ [])) [
+    elim (fits q (ts ++ t ∷ [])) as (λ b. number p (cond b (ts ++ t ∷ []) ts) + number p (cond b [] (t ∷ [])) ≡ number
+    p (ts ++ t ∷ [])) [
       | true ↦ omega arith
       | false ↦ omega arith
     ]
@@ -65,7 +70,8 @@ carried_rest : (n : ℕ) (ts : List Timed) → carried n ts ++ rest n ts ≡ ts
 carried_rest n [] = refl
 carried_rest n (t ∷ ts) = elim (cases_lt n t.packet.size) [
   | inl lt ↦ rw (carried_stops n t ts lt, rest_stops n t ts lt)
-  | inr ge ↦ rw (carried_over n t ts ge, rest_over n t ts ge) (ap (λ (us : List Timed). t ∷ us) (carried_rest (n - t.packet.size) ts))
+  | inr ge ↦ rw (carried_over n t ts ge, rest_over n t ts ge)
+      (ap (λ (us : List Timed). t ∷ us) (carried_rest (n - t.packet.size) ts))
 ]
 
 carried_ending : (low high : ℕ) (ts : List Timed) → low ≤ high → carried low ts ++ ending low high ts ≡ carried high ts
@@ -83,7 +89,8 @@ carried_ending low high (t ∷ ts) le =
           ∙ elim (cases_lt high t.packet.size) [
             | inl gt ↦
                 let zero_high : high - t.packet.size ≡ 0 = omega arith in
-                ending_after low high t ts lt gt ∙ ending_none (low - t.packet.size) (high - t.packet.size) ts zero_high ∙ sym (carried_stops high t ts gt)
+                ending_after low high t ts lt gt ∙ ending_none (low - t.packet.size) (high - t.packet.size) ts
+                zero_high ∙ sym (carried_stops high t ts gt)
             | inr ends ↦
                 ending_in low high t ts lt ends
                 ∙ ap (λ (us : List Timed). t ∷ us) (ending_first (low - t.packet.size) (high - t.packet.size) ts none)
@@ -93,22 +100,26 @@ carried_ending low high (t ∷ ts) le =
 
 carried_none : (n : ℕ) (ts : List Timed) → n ≡ 0 → carried n ts ≡ []
 carried_none n [] e = refl
-carried_none n (t ∷ ts) e = let some = t.packet.some in let lt : n < t.packet.size = omega arith in carried_stops n t ts lt
+carried_none n (t ∷ ts) e = let some = t.packet.some in let lt : n < t.packet.size = omega arith
+    in carried_stops n t ts lt
 
-number_departures : (p : Packet → Bool) (kept : List Timed) (opps : List Opportunity) → AreFalling opps → number p (departures kept opps) ≡ number p (carried (sent kept opps) kept)
+number_departures : (p : Packet → Bool) (kept : List Timed) (opps : List Opportunity) → AreFalling opps
+    → number p (departures kept opps) ≡ number p (carried (sent kept opps) kept)
 number_departures p kept [] f = sym (ap (number p) (carried_none 0 kept refl))
 number_departures p kept (o ∷ earlier) f =
     let ih = number_departures p kept earlier f.1 in
     let more = number_append p (departures kept earlier) (map (moved_to o.moment) (ended kept o earlier)) in
     let moved = number_moved p o.moment (ended kept o earlier) in
-    let joined : number p (carried (sent kept earlier) kept ++ ended kept o earlier) ≡ number p (carried (sent kept (o ∷ earlier)) kept)
+    let joined : number p (carried (sent kept earlier) kept ++ ended kept o earlier) ≡ number p
+    (carried (sent kept (o ∷ earlier)) kept)
     = ap (number p) (carried_ending (sent kept earlier) (sent kept (o ∷ earlier)) kept (sent_more kept o earlier f.0))
     in
     let apart = number_append p (carried (sent kept earlier) kept) (ended kept o earlier) in
     omega arith
 
 -- departed, dropped or inside
-pub number_once : (p : Packet → Bool) (q : QueueSpec) (opps : List Opportunity) (arrivals : List Timed) → AreFalling opps
+pub number_once : (p : Packet → Bool) (q : QueueSpec) (opps : List Opportunity) (arrivals : List Timed)
+    → AreFalling opps
     → number p arrivals
     ≡ number p (departures (keep q opps arrivals) opps) + number p (losses q opps arrivals)
     + number p (rest (sent (keep q opps arrivals) opps) (keep q opps arrivals))
@@ -116,6 +127,7 @@ number_once p q opps arrivals f =
     let kept = keep q opps arrivals in
     let a = number_kept p q opps arrivals in
     let b = number_departures p kept opps f in
-    let c : number p (carried (sent kept opps) kept ++ rest (sent kept opps) kept) ≡ number p kept = ap (number p) (carried_rest (sent kept opps) kept) in
+    let c : number p (carried (sent kept opps) kept ++ rest (sent kept opps) kept) ≡ number p kept =
+    ap (number p) (carried_rest (sent kept opps) kept) in
     let d = number_append p (carried (sent kept opps) kept) (rest (sent kept opps) kept) in
     omega arith

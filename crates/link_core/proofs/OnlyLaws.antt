@@ -1,5 +1,6 @@
 -- One step of a link only adds to what departed, what was lost and the log.
-use Rattle.std.proofs.Common.{◌≡◌, ℕ, ◌+◌, ◌<◌, ◌≤◌, ◌++◌, Bool, List, [], ◌∷◌, Result, Ok, Err, IfOk, OnOk, OnErr, Option, take, drop, reverse, arith, sym, subst}
+use Rattle.std.proofs.Common.{◌≡◌, ℕ, ◌+◌, ◌<◌, ◌≤◌, ◌++◌, Bool, List, [], ◌∷◌, Result, Ok, Err, IfOk, OnOk, OnErr}
+use Rattle.std.proofs.Common.{Option, take, drop, reverse, arith, sym, subst}
 use Rattle.std.proofs.lemmas.List.{append-nil, reverse-reverse}
 use Rattle.mm_base.specs.declared.errors.OutOfMemory.{OutOfMemory}
 use Rattle.packet_record.specs.declared.packet.Timed.{Timed}
@@ -26,9 +27,11 @@ pub record IsReady (os : List Opportunity) (b : ℕ) (l : List Timed) : Type 0 w
   pub falls : Falling (reverse l)
   pub later : Each (λ o. Each (λ t. t.moment < o.moment) (reverse l)) (drop b os)
 
-pub ready : (q : QueueSpec) (os : List Opportunity) (b : ℕ) (arrivals : List Timed) (packet : Option Timed) (used : ℕ) (queue left lost : List Timed) (logged : Bool) (log : List Entry)
+pub ready : (q : QueueSpec) (os : List Opportunity) (b : ℕ) (arrivals : List Timed) (packet : Option Timed) (used : ℕ)
+    (queue left lost : List Timed) (logged : Bool) (log : List Entry)
     → Sound q os b arrivals packet used queue left lost logged log → IsReady os b arrivals
-ready q os b arrivals packet used queue left lost logged log s = record { order = s.order; falls = s.tied.arrivals_fall; later = s.later }
+ready q os b arrivals packet used queue left lost logged log s =
+    record { order = s.order; falls = s.tied.arrivals_fall; later = s.later }
 
 pub up_to_each : (m : ℕ) (ts : List Timed) → Each (λ u. u.moment ≤ m) ts → AreUpTo m ts
 up_to_each m [] a = tt
@@ -38,12 +41,15 @@ rise_turned : (earlier : List Timed) → Falling earlier → Rise (reverse earli
 rise_turned [] f = tt
 rise_turned (t ∷ earlier) f =
     subst Rise (sym (reverse_cons t earlier))
-    (rise-append t.moment (reverse earlier) (t ∷ []) (rise_turned earlier f.1) (up_to_each t.moment (reverse earlier) (each_reverse (λ u. u.moment ≤ t.moment) earlier f.0)) (omega arith, tt) (tt, tt))
+    (rise-append t.moment (reverse earlier) (t ∷ []) (rise_turned earlier f.1)
+    (up_to_each t.moment (reverse earlier) (each_reverse (λ u. u.moment ≤ t.moment) earlier f.0))
+    (omega arith, tt) (tt, tt))
 
 rise_now : (l : List Timed) → Falling (reverse l) → Rise l
 rise_now l f = subst Rise (reverse-reverse l) (rise_turned (reverse l) f)
 
-prefixes : (q : QueueSpec) (s : Span) (b b' : ℕ) (l l' : List Timed) (low : ℕ) → LinkGoesOn low q (take b (span_opps s)) l (take b' (span_opps s)) l'
+prefixes : (q : QueueSpec) (s : Span) (b b' : ℕ) (l l' : List Timed) (low : ℕ)
+    → LinkGoesOn low q (take b (span_opps s)) l (take b' (span_opps s)) l'
     → OnlyGoesOn (made q s b l) (made q s b' l')
 prefixes q s b b' l l' low g = record {
   out = (g.out.more, sym g.out.is);
@@ -59,23 +65,27 @@ same c = record {
 }
 
 -- the steps themselves
-arrived : (q : QueueSpec) (s : Span) (b : ℕ) (l : List Timed) (t : Timed) → IsReady (span_opps s) b l → AreUpTo t.moment l → b ≤ count_to (span_opps s) t.moment
+arrived : (q : QueueSpec) (s : Span) (b : ℕ) (l : List Timed) (t : Timed) → IsReady (span_opps s) b l
+    → AreUpTo t.moment l → b ≤ count_to (span_opps s) t.moment
     → OnlyGoesOn (made q s b l) (made q s (count_to (span_opps s) t.moment) (l ++ t ∷ []))
 arrived q s b l t r up le =
     let os = span_opps s in
-    let rise : Rise (l ++ t ∷ []) = rise-append t.moment l (t ∷ []) (rise_now l r.falls) up (omega arith, tt) (tt, tt) in
+    let rise : Rise (l ++ t ∷ []) = rise-append t.moment l (t ∷ []) (rise_now l r.falls) up (omega arith, tt) (tt, tt)
+    in
     prefixes q s b (count_to os t.moment) l (l ++ t ∷ []) (floor_of os s.horizon b)
     (goes_on q os s.horizon b (count_to os t.moment) l (t ∷ []) r.order le rise r.later
     (each_reverse (λ u. u.moment ≤ t.moment) l (each_up_to t.moment l up), tt)
     (each_reverse (λ p. p.moment ≤ t.moment) (take b os) (early_burnt os b t.moment r.order le), tt))
 
-burnt_on : (q : QueueSpec) (s : Span) (b n : ℕ) (l : List Timed) → IsReady (span_opps s) b l → OnlyGoesOn (made q s b l) (made q s (b + n) l)
+burnt_on : (q : QueueSpec) (s : Span) (b n : ℕ) (l : List Timed) → IsReady (span_opps s) b l
+    → OnlyGoesOn (made q s b l) (made q s (b + n) l)
 burnt_on q s b n l r =
     let os = span_opps s in
     let none : l ++ [] ≡ l = append-nil l in
     prefixes q s b (b + n) l l (floor_of os s.horizon b)
     (subst (λ (ts : List Timed). LinkGoesOn (floor_of os s.horizon b) q (take b os) l (take (b + n) os) ts) none
-    (goes_on q os s.horizon b (b + n) l [] r.order (omega arith) (subst Rise (sym none) (rise_now l r.falls)) r.later tt tt))
+    (goes_on q os s.horizon b (b + n) l [] r.order (omega arith) (subst Rise (sym none) (rise_now l r.falls)) r.later
+    tt tt))
 
 -- the link after a step, by its parts
 alike : (c : Link) (q q' : QueueSpec) (s s' : Span) (b b' : ℕ) (l l' : List Timed) → q' ≡ q → s' ≡ s → b' ≡ b → l' ≡ l
@@ -86,16 +96,22 @@ alike c q q' s s' b b' l l' e f g h w =
     let four = subst (λ (x : ℕ). OnlyGoesOn c (made q' s' x l)) (sym g) two in
     subst (λ (x : List Timed). OnlyGoesOn c (made q' s' b' x)) (sym h) four
 
-pub only_arrive : (q q' : QueueSpec) (s s' : Span) (b b' : ℕ) (l l' : List Timed) (t : Timed) (r : Result (Unit {0}) OutOfMemory) → IsReady (span_opps s) b l
+pub only_arrive : (q q' : QueueSpec) (s s' : Span) (b b' : ℕ) (l l' : List Timed) (t : Timed)
+    (r : Result (Unit {0}) OutOfMemory) → IsReady (span_opps s) b l
     → q' ≡ q → s' ≡ s → AreUpTo t.moment l → b ≤ count_to (span_opps s) t.moment
     → OnOk r (b' ≡ count_to (span_opps s) t.moment) → OnOk r (l' ≡ l ++ t ∷ []) → OnErr r ((b' ≡ b) × (l' ≡ l))
     → OnlyGoesOn (made q s b l) (made q' s' b' l')
 only_arrive q q' s s' b b' l l' t (Ok u) ready e f up le burnt came err =
-    alike (made q s b l) q q' s s' (count_to (span_opps s) t.moment) b' (l ++ t ∷ []) l' e f burnt came (arrived q s b l t ready up le)
-only_arrive q q' s s' b b' l l' t (Err u) ready e f up le burnt came err = alike (made q s b l) q q' s s' b b' l l' e f err.0 err.1 (same (made q s b l))
+    alike (made q s b l) q q' s s' (count_to (span_opps s) t.moment) b' (l ++ t ∷ []) l' e f burnt came
+    (arrived q s b l t ready up le)
+only_arrive q q' s s' b b' l l' t (Err u) ready e f up le burnt came err = alike (made q s b l) q q' s s' b b' l l' e
+    f err.0 err.1 (same (made q s b l))
 
-pub only_burn : (q q' : QueueSpec) (s s' : Span) (b b' : ℕ) (l l' : List Timed) (r : Result ℕ OutOfMemory) → IsReady (span_opps s) b l
+pub only_burn : (q q' : QueueSpec) (s s' : Span) (b b' : ℕ) (l l' : List Timed) (r : Result ℕ OutOfMemory)
+    → IsReady (span_opps s) b l
     → q' ≡ q → s' ≡ s → l' ≡ l → IfOk r (λ n. b' ≡ b + n) → OnErr r (b' ≡ b)
     → OnlyGoesOn (made q s b l) (made q' s' b' l')
-only_burn q q' s s' b b' l l' (Ok n) ready e f came burnt err = alike (made q s b l) q q' s s' (b + n) b' l l' e f burnt came (burnt_on q s b n l ready)
-only_burn q q' s s' b b' l l' (Err u) ready e f came burnt err = alike (made q s b l) q q' s s' b b' l l' e f err came (same (made q s b l))
+only_burn q q' s s' b b' l l' (Ok n) ready e f came burnt err = alike (made q s b l) q q' s s' (b + n) b' l l' e f
+    burnt came (burnt_on q s b n l ready)
+only_burn q q' s s' b b' l l' (Err u) ready e f came burnt err = alike (made q s b l) q q' s s' b b' l l' e f err came
+    (same (made q s b l))

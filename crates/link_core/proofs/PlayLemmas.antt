@@ -1,5 +1,6 @@
 -- A link that goes over all its arrivals: what lets it go on, and what the log still gets.
-use Rattle.std.proofs.Common.{◌≡◌, ℕ, ◌-◌, ◌<◌, ◌≤◌, ◌++◌, Bool, true, List, [], ◌∷◌, Option, length, take, drop, reverse, arith, refl, ap, sym, subst, ◌∙◌}
+use Rattle.std.proofs.Common.{◌≡◌, ℕ, ◌-◌, ◌<◌, ◌≤◌, ◌++◌, Bool, true, List, [], ◌∷◌, Option, length, take, drop}
+use Rattle.std.proofs.Common.{reverse, arith, refl, ap, sym, subst, ◌∙◌}
 use Rattle.std.proofs.lemmas.List.{append_assoc, append_cancel_left, length-append, take_all, take_at, drop_at}
 use Rattle.packet_record.specs.declared.packet.Timed.{Timed}
 use Rattle.packet_record.specs.Moments.{AreFrom, AreUpTo, Rise}
@@ -14,7 +15,8 @@ use Rattle.link_core.specs.declared.parts.Parts.{Parts}
 use Rattle.link_core.specs.Written.{written}
 use Rattle.link_core.specs.View.{Span, span_opps}
 use Rattle.link_core.specs.Sound.{Sound, Gone, IsSoundAfter}
-use Rattle.link_core.specs.Play.{IsInTime, IsPlayable, CanPlay, all_arrivals, work, rest_from, rest_of, without_last, gone_of}
+use Rattle.link_core.specs.Play.{IsInTime, IsPlayable, CanPlay, all_arrivals, work, rest_from, rest_of, without_last}
+use Rattle.link_core.specs.Play.{gone_of}
 use Rattle.link_core.proofs.SentLemmas.{each_map}
 use Rattle.link_core.proofs.OppsLemmas.{opps_within}
 use Rattle.link_core.proofs.FloorLaws.{link_all_at_horizon}
@@ -39,16 +41,19 @@ module _ (os : List Opportunity) (h b : ℕ) (come coming : List Timed) (p : IsP
     same_arrivals = append_assoc come (t ∷ []) (drop 1 coming) ∙ ap (λ ts. come ++ ts) (sym next)
 
     -- the next is let in
-    entered_arrivals : (come' coming' : List Timed) → come' ≡ come ++ t ∷ [] → coming' ≡ drop 1 coming → come' ++ coming' ≡ come ++ coming
+    entered_arrivals : (come' coming' : List Timed) → come' ≡ come ++ t ∷ [] → coming' ≡ drop 1 coming → come'
+        ++ coming' ≡ come ++ coming
     entered_arrivals come' coming' e f = ap (λ ts. ts ++ coming') e ∙ ap (λ ts. come ++ t ∷ [] ++ ts) f ∙ same_arrivals
 
-    pub playable_entered : (come' coming' : List Timed) → come' ≡ come ++ t ∷ [] → coming' ≡ drop 1 coming → IsPlayable os h (count_to os t.moment) come' coming'
+    pub playable_entered : (come' coming' : List Timed) → come' ≡ come ++ t ∷ [] → coming' ≡ drop 1 coming
+        → IsPlayable os h (count_to os t.moment) come' coming'
     playable_entered come' coming' e f =
         let all = entered_arrivals come' coming' e f in
         record {
           rises = subst Rise (sym all) p.rises;
           within = subst (AreUpTo h) (sym all) p.within;
-          in_time = subst (IsInTime os (count_to os t.moment)) (sym f) (later (drop 1 coming) (rise_back come t (drop 1 coming) next_rises));
+          in_time = subst (IsInTime os (count_to os t.moment)) (sym f)
+              (later (drop 1 coming) (rise_back come t (drop 1 coming) next_rises));
         }
       where
         later : (ts : List Timed) → AreFrom t.moment ts → IsInTime os (count_to os t.moment) ts
@@ -56,35 +61,45 @@ module _ (os : List Opportunity) (h b : ℕ) (come coming : List Timed) (p : IsP
         later (u ∷ ts) a = count_more os t.moment u.moment a.0
 
 -- what comes is not before what was let in
-come_order : (come coming : List Timed) → Rise (come ++ coming) → Each (λ t. Each (λ u. u.moment ≤ t.moment) (reverse come)) coming
+come_order : (come coming : List Timed) → Rise (come ++ coming)
+    → Each (λ t. Each (λ u. u.moment ≤ t.moment) (reverse come)) coming
 come_order come [] r = tt
-come_order come (t ∷ ts) r = each_le come (t ∷ ts) t.moment (rise_split come t ts r) (omega arith, rise_back come t ts r)
+come_order come (t ∷ ts) r = each_le come (t ∷ ts) t.moment (rise_split come t ts r)
+    (omega arith, rise_back come t ts r)
 
-come_burnt : (os : List Opportunity) (b : ℕ) (come coming : List Timed) → AreRising os → Rise (come ++ coming) → IsInTime os b coming
+come_burnt : (os : List Opportunity) (b : ℕ) (come coming : List Timed) → AreRising os → Rise (come ++ coming)
+    → IsInTime os b coming
     → Each (λ t. Each (λ p. p.moment ≤ t.moment) (reverse (take b os))) coming
 come_burnt os b come [] r s i = tt
-come_burnt os b come (t ∷ ts) r s i = opps_le (take b os) (t ∷ ts) t.moment (early_burnt os b t.moment r i) (omega arith, rise_back come t ts s)
+come_burnt os b come (t ∷ ts) r s i = opps_le (take b os) (t ∷ ts) t.moment (early_burnt os b t.moment r i)
+    (omega arith, rise_back come t ts s)
 
 -- what was let go, what is in hand and what is still to come are the whole log
-whole_is : (q : QueueSpec) (os : List Opportunity) (h b : ℕ) (come coming : List Timed) (packet : Option Timed) (used : ℕ) (queue left lost : List Timed) (front es : List Entry)
+whole_is : (q : QueueSpec) (os : List Opportunity) (h b : ℕ) (come coming : List Timed) (packet : Option Timed)
+    (used : ℕ) (queue left lost : List Timed) (front es : List Entry)
     → Sound q os b come packet used queue left lost true (front ++ es) → IsPlayable os h b come coming
     → front ++ (es ++ rest_from q os b come coming) ≡ link_log q os (come ++ coming)
 whole_is q os h b come coming packet used queue left lost front es s p =
     let n = length os in
     let past = link_log q (take b os) come in
     let rest = rest_from q os b come coming in
-    let g = (goes_on q os 0 b n come coming s.order s.few p.rises s.later (come_order come coming p.rises) (come_burnt os b come coming s.order p.rises p.in_time)).log in
+    let g = (goes_on q os 0 b n come coming s.order s.few p.rises s.later (come_order come coming p.rises)
+    (come_burnt os b come coming s.order p.rises p.in_time)).log in
     let was : front ++ es ≡ past = seen_log q os b come packet used queue left lost true (front ++ es) s in
     let all : take n os ≡ os = take_all n os (omega arith) in
-    let is : link_log q os (come ++ coming) ≡ past ++ g.more = ap (λ (xs : List Opportunity). link_log q xs (come ++ coming)) (sym all) ∙ g.is in
-    let rest_is : rest ≡ g.more = ap (λ (l : List Entry). drop (length past) l) is ∙ drop_at past g.more (length past) refl in
-    sym (append_assoc front es rest) ∙ ap (λ (l : List Entry). l ++ rest) was ∙ ap (λ (l : List Entry). past ++ l) rest_is ∙ sym is
+    let is : link_log q os (come ++ coming) ≡ past
+    ++ g.more = ap (λ (xs : List Opportunity). link_log q xs (come ++ coming)) (sym all) ∙ g.is in
+    let rest_is : rest ≡ g.more = ap (λ (l : List Entry). drop (length past) l) is
+    ∙ drop_at past g.more (length past) refl in
+    sym (append_assoc front es rest) ∙ ap (λ (l : List Entry). l ++ rest) was
+    ∙ ap (λ (l : List Entry). past ++ l) rest_is ∙ sym is
 
 all_is_of : (gone : Gone) (c : Parts) → IsSoundAfter gone c → c.log.kept ≡ true → CanPlay c
     → gone.log ++ (c.log.entries ++ rest_of c) ≡ link_log c.line.queue.spec (span_opps c.opportunities) (all_arrivals c)
 all_is_of gone c s kept p =
     let Now : Bool → Type 0 = λ k.
-    Sound c.line.queue.spec (span_opps c.opportunities) c.burnt c.arrived.come c.line.packet c.line.used c.line.queue.packets (gone.left ++ c.left.items) c.line.queue.lost k
+    Sound c.line.queue.spec (span_opps c.opportunities) c.burnt c.arrived.come c.line.packet c.line.used
+    c.line.queue.packets (gone.left ++ c.left.items) c.line.queue.lost k
     (gone.log ++ c.log.entries)
     in
     whole_is _ _ _ _ _ _ _ _ _ _ _ gone.log c.log.entries (subst Now kept s) p
@@ -93,12 +108,15 @@ front_is : {X : Type 0} (xs last all : List X) → xs ++ last ≡ all → withou
 front_is xs last all e =
     let n = length-append xs last in
     let size : length (xs ++ last) - length last ≡ length xs = omega arith in
-    ap (λ l. take (length l - length last) l) (sym e) ∙ ap (λ k. take k (xs ++ last)) size ∙ take_at xs last (length xs) refl
+    ap (λ l. take (length l - length last) l) (sym e) ∙ ap (λ k. take k (xs ++ last)) size
+    ∙ take_at xs last (length xs) refl
 
 module _ (gone : Gone) (c : Parts) (s : IsSoundAfter gone c) (kept : c.log.kept ≡ true) where
   -- the log goes on from what is in hand
-  pub same_rest : (c' : Parts) → IsSoundAfter gone c' → c'.log.kept ≡ true → CanPlay c → CanPlay c' → c'.opportunities ≡ c.opportunities
-      → c'.line.queue.spec ≡ c.line.queue.spec → all_arrivals c' ≡ all_arrivals c → c'.log.entries ++ rest_of c' ≡ c.log.entries ++ rest_of c
+  pub same_rest : (c' : Parts) → IsSoundAfter gone c' → c'.log.kept ≡ true → CanPlay c → CanPlay c'
+      → c'.opportunities ≡ c.opportunities
+      → c'.line.queue.spec ≡ c.line.queue.spec → all_arrivals c' ≡ all_arrivals c → c'.log.entries
+      ++ rest_of c' ≡ c.log.entries ++ rest_of c
   same_rest c' s' kept' p p' opps_e spec_e all_e =
       append_cancel_left gone.log (c'.log.entries ++ rest_of c') (c.log.entries ++ rest_of c)
       (all_is_of gone c' s' kept' p'
@@ -114,14 +132,16 @@ module _ (gone : Gone) (c : Parts) (s : IsSoundAfter gone c) (kept : c.log.kept 
       let past = link_log c.line.queue.spec (take c.burnt os) c.arrived.come in
       let was : gone.log ++ c.log.entries ≡ past = seen_log _ _ _ _ _ _ _ _ _ _ _ s ∙ ap (λ k. written k past) kept in
       more_log c.line.queue.spec os c.burnt c.arrived.come c.arrived.coming (rest_of c)
-      (ap (λ (l : List Entry). l ++ rest_of c) (sym was) ∙ append_assoc gone.log c.log.entries (rest_of c) ∙ all_is_of gone c s kept p)
+      (ap (λ (l : List Entry). l ++ rest_of c) (sym was) ∙ append_assoc gone.log c.log.entries (rest_of c)
+      ∙ all_is_of gone c s kept p)
       s.few more
 
   -- what was let go can be told from the parts
   pub sound_gone : IsSoundAfter (gone_of c) c
   sound_gone =
       let os = take c.burnt (span_opps c.opportunities) in
-      let left_e : gone.left ++ c.left.items ≡ link_out c.line.queue.spec os c.arrived.come = seen_out _ _ _ _ _ _ _ _ _ _ _ s in
+      let left_e : gone.left ++ c.left.items ≡ link_out c.line.queue.spec os c.arrived.come =
+      seen_out _ _ _ _ _ _ _ _ _ _ _ s in
       let log_e : gone.log ++ c.log.entries ≡ link_log c.line.queue.spec os c.arrived.come =
       seen_log _ _ _ _ _ _ _ _ _ _ _ s ∙ ap (λ k. written k (link_log c.line.queue.spec os c.arrived.come)) kept
       in
@@ -136,4 +156,5 @@ module _ (gone : Gone) (c : Parts) (s : IsSoundAfter gone c) (kept : c.log.kept 
 pub all_up_to : (v : Span) (most : ℕ) → v.horizon ≤ most → count_to (span_opps v) most ≡ length (span_opps v)
 all_up_to v most le =
     link_all_at_horizon (span_opps v) most
-    (each_map (λ o. o.moment ≤ v.horizon) (λ o. o.moment ≤ most) (span_opps v) (λ o h. omega arith) (opps_within v.trace.opportunities v.once v.horizon))
+    (each_map (λ o. o.moment ≤ v.horizon) (λ o. o.moment ≤ most) (span_opps v) (λ o h. omega arith)
+    (opps_within v.trace.opportunities v.once v.horizon))

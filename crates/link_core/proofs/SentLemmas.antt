@@ -57,7 +57,8 @@ below_mono m n [] le = omega arith
 below_mono m n (x ∷ xs) le =
     let ih = below_mono m n xs le in
     elim (cases_lt x.moment m) [
-      | inl lt ↦ let lt' : x.moment < n = omega arith in let a = below_in m x xs lt in let b = below_in n x xs lt' in omega arith
+      | inl lt ↦ let lt' : x.moment < n = omega arith in let a = below_in m x xs lt in let b = below_in n x xs lt'
+          in omega arith
       | inr ge ↦
           let a = below_out m x xs ge in
           elim (cases_lt x.moment n) [
@@ -99,11 +100,13 @@ pub sent_le : (kept : List Timed) (opps : List Opportunity) → sent kept opps �
 sent_le kept [] = omega arith
 sent_le kept (o ∷ earlier) = omega (arith, below_le o.moment kept)
 
-pub sent_below : (m : ℕ) (kept : List Timed) (opps : List Opportunity) → Each (λ p. p.moment ≤ m) opps → sent kept opps ≤ below m kept
+pub sent_below : (m : ℕ) (kept : List Timed) (opps : List Opportunity) → Each (λ p. p.moment ≤ m) opps
+    → sent kept opps ≤ below m kept
 sent_below m kept [] a = omega arith
 sent_below m kept (o ∷ earlier) a = omega (arith, below_mono o.moment m kept a.0)
 
-pub sent_more : (kept : List Timed) (o : Opportunity) (earlier : List Opportunity) → Each (λ p. p.moment ≤ o.moment) earlier → sent kept earlier ≤ sent kept (o ∷ earlier)
+pub sent_more : (kept : List Timed) (o : Opportunity) (earlier : List Opportunity)
+    → Each (λ p. p.moment ≤ o.moment) earlier → sent kept earlier ≤ sent kept (o ∷ earlier)
 sent_more kept o earlier a = omega (arith, sent_below o.moment kept earlier a)
 
 -- the others, us and vs, stand behind all that has begun
@@ -125,7 +128,8 @@ same_sent ts us vs (o ∷ earlier) r f a le =
           omega arith
     ]
 
-pub same_ended : (ts us vs : List Timed) (o : Opportunity) (earlier : List Opportunity) → Rising (ts ++ us) → AreFalling (o ∷ earlier)
+pub same_ended : (ts us vs : List Timed) (o : Opportunity) (earlier : List Opportunity) → Rising (ts ++ us)
+    → AreFalling (o ∷ earlier)
     → Each (λ o. below o.moment us ≡ 0 → below o.moment vs ≡ 0) (o ∷ earlier)
     → sent (ts ++ us) (o ∷ earlier) ≤ bytes ts → ended (ts ++ vs) o earlier ≡ ended (ts ++ us) o earlier
 same_ended ts us vs o earlier r f a le =
@@ -144,8 +148,10 @@ same_departures ts us vs [] r f a le = refl
 same_departures ts us vs (o ∷ earlier) r f a le =
     let more = sent_more (ts ++ us) o earlier f.0 in
     let low : sent (ts ++ us) earlier ≤ bytes ts = omega arith in
-    ap (λ (xs : List Timed). xs ++ map (moved_to o.moment) (ended (ts ++ vs) o earlier)) (same_departures ts us vs earlier r f.1 a.1 low)
-    ∙ ap (λ (xs : List Timed). departures (ts ++ us) earlier ++ map (moved_to o.moment) xs) (same_ended ts us vs o earlier r f a le)
+    ap (λ (xs : List Timed). xs ++ map (moved_to o.moment) (ended (ts ++ vs) o earlier))
+    (same_departures ts us vs earlier r f.1 a.1 low)
+    ∙ ap (λ (xs : List Timed). departures (ts ++ us) earlier ++ map (moved_to o.moment) xs)
+    (same_ended ts us vs o earlier r f a le)
 
 pub same_lines : (ts us vs : List Timed) (opps : List Opportunity) → Rising (ts ++ us) → AreFalling opps
     → Each (λ o. below o.moment us ≡ 0 → below o.moment vs ≡ 0) opps
@@ -154,6 +160,7 @@ same_lines ts us vs [] r f a le = refl
 same_lines ts us vs (o ∷ earlier) r f a le =
     let more = sent_more (ts ++ us) o earlier f.0 in
     let low : sent (ts ++ us) earlier ≤ bytes ts = omega arith in
-    let line : List Timed → Lines = λ xs. (o.moment, entries.Opportunity o.moment o.bytes ∷ map (departure_line o.moment) xs) in
+    let line : List Timed → Lines =
+    λ xs. (o.moment, entries.Opportunity o.moment o.bytes ∷ map (departure_line o.moment) xs) in
     ap (λ (ls : List Lines). line (ended (ts ++ vs) o earlier) ∷ ls) (same_lines ts us vs earlier r f.1 a.1 low)
     ∙ ap (λ (xs : List Timed). line xs ∷ opportunity_lines (ts ++ us) earlier) (same_ended ts us vs o earlier r f a le)

@@ -18,9 +18,11 @@ module _ (c : Parts) (sound : IsSound c) (played : IsPlayed c) (q : QueueSpec) (
   burnt_is = let all = played.all_burnt in take_all c.burnt (span_opps c.opportunities) (omega arith) ∙ opps
 
   pub come_is : c.arrived.come ≡ ts
-  come_is = sym (append-nil c.arrived.come) ∙ ap (λ (us : List Timed). c.arrived.come ++ us) (sym played.all_in) ∙ arrivals
+  come_is = sym (append-nil c.arrived.come) ∙ ap (λ (us : List Timed). c.arrived.come ++ us) (sym played.all_in)
+      ∙ arrivals
 
-  pub along : {X : Type 0} (f : QueueSpec → List Opportunity → List Timed → X) → f c.line.queue.spec (take c.burnt (span_opps c.opportunities)) c.arrived.come ≡ f q os ts
+  pub along : {X : Type 0} (f : QueueSpec → List Opportunity → List Timed → X)
+      → f c.line.queue.spec (take c.burnt (span_opps c.opportunities)) c.arrived.come ≡ f q os ts
   along f =
       ap (λ r. f r (take c.burnt (span_opps c.opportunities)) c.arrived.come) spec
       ∙ ap (λ (xs : List Opportunity). f q xs c.arrived.come) burnt_is

@@ -8,7 +8,8 @@ pub written_append : (kept : Bool) (xs ys : List Entry) → written kept (xs ++ 
 written_append true xs ys = refl
 written_append false xs ys = refl
 
-pub written_cons : (kept : Bool) (e : Entry) (es : List Entry) → written kept (e ∷ []) ++ written kept es ≡ written kept (e ∷ es)
+pub written_cons : (kept : Bool) (e : Entry) (es : List Entry) → written kept (e ∷ [])
+    ++ written kept es ≡ written kept (e ∷ es)
 written_cons true e es = refl
 written_cons false e es = refl
 

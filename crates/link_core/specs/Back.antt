@@ -32,7 +32,8 @@ dropped_at q opps kept t = dropped q (waiting (sent kept (up_to t.moment opps)) 
 
 abbrev pub losses : QueueSpec → List Opportunity → List Timed → List Timed
 losses q opps [] = []
-losses q opps (t ∷ earlier) = losses q opps earlier ++ map (moved_to t.moment) (dropped_at q opps (keep q opps earlier) t)
+losses q opps (t ∷ earlier) = losses q opps earlier
+    ++ map (moved_to t.moment) (dropped_at q opps (keep q opps earlier) t)
 
 -- the packets that the first of these opportunities ends
 abbrev pub ended : List Timed → Opportunity → List Opportunity → List Timed
@@ -45,12 +46,16 @@ departures kept (o ∷ earlier) = departures kept earlier ++ map (moved_to o.mom
 abbrev pub opportunity_lines : List Timed → List Opportunity → List Lines
 opportunity_lines kept [] = []
 opportunity_lines kept (o ∷ earlier) =
-    (o.moment, entries.Opportunity o.moment o.bytes ∷ map (departure_line o.moment) (ended kept o earlier)) ∷ opportunity_lines kept earlier
+    (o.moment, entries.Opportunity o.moment o.bytes ∷ map (departure_line o.moment) (ended kept o earlier)) ∷
+    opportunity_lines kept earlier
 
 abbrev pub arrival_lines : QueueSpec → List Opportunity → List Timed → List Lines
 arrival_lines q opps [] = []
-arrival_lines q opps (t ∷ earlier) =
-    (t.moment, entries.Arrival t.moment t.packet.size ∷ drop_line t.moment (dropped_at q opps (keep q opps earlier) t)) ∷ arrival_lines q opps earlier
+arrival_lines q opps (t ∷ earlier) = (
+  t.moment,
+  entries.Arrival t.moment t.packet.size ∷ drop_line t.moment
+      (dropped_at q opps (keep q opps earlier) t),
+) ∷ arrival_lines q opps earlier
 
 -- the two by moment, the latest first; at one moment the lines of opportunities were first
 abbrev pub merged : List Lines → List Lines → List Lines
@@ -62,4 +67,5 @@ in_order [] = []
 in_order (l ∷ earlier) = in_order earlier ++ l.1
 
 abbrev pub log_of : QueueSpec → List Opportunity → List Timed → List Entry
-log_of q opps arrivals = in_order (merged (opportunity_lines (keep q opps arrivals) opps) (arrival_lines q opps arrivals))
+log_of q opps arrivals = in_order
+    (merged (opportunity_lines (keep q opps arrivals) opps) (arrival_lines q opps arrivals))

@@ -1,6 +1,8 @@
--- What one direction of a link makes of its opportunities and arrivals, over whole lists in order (mm-link). There is no
--- queue here, no packet in transit and no event: sums over lists say what departs, what is lost and what the log has.
-use Rattle.std.specs.Prelude.{ℕ, suc, ◌+◌, ◌-◌, ◌++◌, ◌==◌, Bool, true, false, List, [], ◌∷◌, Option, Some, None, option_to_list, nat_le, nat_lt, slice_get, fold, filter, map, length, if◌then◌else◌}
+-- What one direction of a link makes of its opportunities and arrivals, over whole lists in order (mm-link). There is
+-- no queue here, no packet in transit and no event: sums over lists say what departs, what is lost and what the log
+-- has.
+use Rattle.std.specs.Prelude.{ℕ, suc, ◌+◌, ◌-◌, ◌++◌, ◌==◌, Bool, true, false, List, [], ◌∷◌, Option, Some, None}
+use Rattle.std.specs.Prelude.{option_to_list, nat_le, nat_lt, slice_get, fold, filter, map, length, if◌then◌else◌}
 use Rattle.std.specs.Option.{option_map, option_and_then}
 use Prim.Native.Nat.{min}
 use Rattle.packet_record.specs.declared.packet.Timed.{Timed}
@@ -43,7 +45,8 @@ drop_with q opps kept t = dropped q (waiting (sent_before opps kept t) kept) t
 -- what the arrivals drop, one by one, where these packets were kept before; each at the moment of the arrival
 abbrev pub lost_from : QueueSpec → List Opportunity → List Timed → List Timed → List Timed
 lost_from q opps kept [] = []
-lost_from q opps kept (t ∷ ts) = map (moved_to t.moment) (drop_with q opps kept t) ++ lost_from q opps (keep_with q opps kept t) ts
+lost_from q opps kept (t ∷ ts) = map (moved_to t.moment) (drop_with q opps kept t)
+    ++ lost_from q opps (keep_with q opps kept t) ts
 
 abbrev pub link_lost : QueueSpec → List Opportunity → List Timed → List Timed
 link_lost q opps arrivals = lost_from q opps [] arrivals
@@ -64,13 +67,15 @@ first_sent kept opps n = first_reaching n (sums_sent kept 0 opps)
 
 -- the packet, where an opportunity has this number, at its moment
 abbrev pub departure_at : List Opportunity → Option ℕ → Timed → List Timed
-departure_at opps number t = option_to_list (option_map (λ (o : Opportunity). moved_to o.moment t) (option_and_then (slice_get opps) number))
+departure_at opps number t = option_to_list
+    (option_map (λ (o : Opportunity). moved_to o.moment t) (option_and_then (slice_get opps) number))
 
 -- each kept packet at the first opportunity with which it and all before it are sent; the others don't depart
 abbrev pub departing : List Timed → List Opportunity → ℕ → List Timed → List Timed
 departing kept opps before [] = []
 departing kept opps before (t ∷ ts) =
-    departure_at opps (first_sent kept opps (before + t.packet.size)) t ++ departing kept opps (before + t.packet.size) ts
+    departure_at opps (first_sent kept opps (before + t.packet.size)) t
+    ++ departing kept opps (before + t.packet.size) ts
 
 abbrev pub link_out : QueueSpec → List Opportunity → List Timed → List Timed
 link_out q opps arrivals = departing (keep q opps arrivals) opps 0 (keep q opps arrivals)
@@ -79,7 +84,8 @@ link_out q opps arrivals = departing (keep q opps arrivals) opps 0 (keep q opps 
 abbrev pub leaving : (Option ℕ → Bool) → List Timed → List Opportunity → ℕ → List Timed → List Timed
 leaving test kept opps before [] = []
 leaving test kept opps before (t ∷ ts) =
-    (if test (first_sent kept opps (before + t.packet.size)) then t ∷ [] else []) ++ leaving test kept opps (before + t.packet.size) ts
+    (if test (first_sent kept opps (before + t.packet.size)) then t ∷ [] else [])
+    ++ leaving test kept opps (before + t.packet.size) ts
 
 abbrev pub is_number : ℕ → Option ℕ → Bool
 is_number i None = false
@@ -103,8 +109,11 @@ departure_line moment t = entries.Departure moment t.packet.size (moment - t.mom
 -- each opportunity, and then the departures whose first opportunity it is
 abbrev pub opportunity_lines : List Timed → List Opportunity → ℕ → List Opportunity → List Lines
 opportunity_lines kept opps i [] = []
-opportunity_lines kept opps i (o ∷ os) =
-    (o.moment, entries.Opportunity o.moment o.bytes ∷ map (departure_line o.moment) (leaving (is_number i) kept opps 0 kept))
+opportunity_lines kept opps i (o ∷ os) = (
+  o.moment,
+  entries.Opportunity o.moment o.bytes ∷ map (departure_line o.moment)
+      (leaving (is_number i) kept opps 0 kept),
+)
     ∷ opportunity_lines kept opps (suc i) os
 
 abbrev pub drop_line_by : ℕ → ℕ → ℕ → List Entry
@@ -124,11 +133,13 @@ arrival_lines q opps kept (t ∷ ts) =
 -- the two by moment, opportunities first at equal moments
 abbrev pub merged : List Lines → List Lines → List Lines
 merged opps [] = opps
-merged opps (a ∷ arrivals) = filter (λ (o : Lines). nat_le o.0 a.0) opps ++ a ∷ merged (filter (λ (o : Lines). nat_lt a.0 o.0) opps) arrivals
+merged opps (a ∷ arrivals) = filter (λ (o : Lines). nat_le o.0 a.0) opps
+    ++ a ∷ merged (filter (λ (o : Lines). nat_lt a.0 o.0) opps) arrivals
 
 abbrev pub entries_of : List Lines → List Entry
 entries_of [] = []
 entries_of (l ∷ ls) = l.1 ++ entries_of ls
 
 abbrev pub link_log : QueueSpec → List Opportunity → List Timed → List Entry
-link_log q opps arrivals = entries_of (merged (opportunity_lines (keep q opps arrivals) opps 0 opps) (arrival_lines q opps [] arrivals))
+link_log q opps arrivals = entries_of
+    (merged (opportunity_lines (keep q opps arrivals) opps 0 opps) (arrival_lines q opps [] arrivals))

@@ -51,8 +51,10 @@ without_last last all = take (length all - length last) all
 -- the departures and entries that aren't in hand any more
 abbrev pub gone_of : Parts → Gone
 gone_of c = record {
-  left = without_last c.left.items (link_out c.line.queue.spec (take c.burnt (span_opps c.opportunities)) c.arrived.come);
-  log = without_last c.log.entries (link_log c.line.queue.spec (take c.burnt (span_opps c.opportunities)) c.arrived.come);
+  left = without_last c.left.items (link_out c.line.queue.spec (take c.burnt (span_opps c.opportunities))
+      c.arrived.come);
+  log = without_last c.log.entries (link_log c.line.queue.spec (take c.burnt (span_opps c.opportunities))
+      c.arrived.come);
 }
 
 -- those that were let go, where those in hand are let go too

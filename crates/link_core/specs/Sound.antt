@@ -9,7 +9,8 @@ use Rattle.trace_reader.specs.Orders.{Each, AreRising}
 use Rattle.link_core.specs.View.{span_opps}
 use Rattle.link_core.specs.State.{pending, IsPart, Tied}
 
-pub record Sound (q : QueueSpec) (opps : List Opportunity) (burnt : ℕ) (arrivals : List Timed) (packet : Option Timed) (used : ℕ)
+pub record Sound (q : QueueSpec) (opps : List Opportunity) (burnt : ℕ) (arrivals : List Timed) (packet : Option Timed)
+    (used : ℕ)
     (queue left lost : List Timed) (logged : Bool) (log : List Entry) : Type 0 where
   pub tied : Tied q (reverse (take burnt opps)) (reverse arrivals) (pending packet queue) used left lost logged log
   pub part : IsPart packet used
@@ -28,7 +29,8 @@ nothing = record { left = []; log = [] }
 -- the parts, where these were let go
 abbrev pub IsSoundAfter : Gone → Parts → Type 0
 IsSoundAfter gone c =
-    Sound c.line.queue.spec (span_opps c.opportunities) c.burnt c.arrived.come c.line.packet c.line.used c.line.queue.packets (gone.left ++ c.left.items) c.line.queue.lost c.log.kept
+    Sound c.line.queue.spec (span_opps c.opportunities) c.burnt c.arrived.come c.line.packet c.line.used
+    c.line.queue.packets (gone.left ++ c.left.items) c.line.queue.lost c.log.kept
     (gone.log ++ c.log.entries)
 
 abbrev pub IsSound : Parts → Type 0

@@ -1,5 +1,6 @@
 // One direction of a link, as its callers see it.
-ghost use Rattle.std.specs.Prelude.{◌≡◌, ◌+◌, ◌-◌, ◌<◌, ◌≤◌, ◌++◌, ◌∷◌, [], Some, IsOk, length, map, slice_get, IfOk, OnOk, OnErr};
+ghost use Rattle.std.specs.Prelude.{◌≡◌, ◌+◌, ◌-◌, ◌<◌, ◌≤◌, ◌++◌, ◌∷◌, [], Some, IsOk, length, map, slice_get, IfOk};
+ghost use Rattle.std.specs.Prelude.{OnOk, OnErr};
 ghost use Rattle.std.specs.Option.{option_map};
 ghost use Prim.Native.Nat.{min};
 ghost use Rattle.packet_record.specs.Moments.{AreUpTo, Rise};
@@ -61,7 +62,14 @@ impl LinkCore {
         requires horizon { horizon ≤ 3600000 }
         requires few { length (opps trace.opportunities once horizon) ≤ 16000000 }
         ensures ok { IsOk result }
-        ensures value { IfOk result (λ c. c ≡ record { trace = trace; once = once; queue = queue; horizon = horizon; burnt = 0; arrivals = [] }) }
+        ensures value { IfOk result (λ c. c ≡ record {
+          trace = trace;
+          once = once;
+          queue = queue;
+          horizon = horizon;
+          burnt = 0;
+          arrivals = [];
+        }) }
     {
         let opportunities = Opportunities::new(trace, once, horizon);
         Ok(LinkCore {
@@ -75,7 +83,10 @@ impl LinkCore {
         requires within { t.moment ≤ self.old.horizon }
         requires order { AreUpTo t.moment self.old.arrivals }
         requires burnt { self.old.burnt ≤ count_to (opps_of self.old) t.moment }
-        ensures ok { OnOk result (self.new ≡ record self.old { burnt = count_to (opps_of self.old) t.moment; arrivals = self.old.arrivals ++ t ∷ [] }) }
+        ensures ok { OnOk result (self.new ≡ record self.old {
+          burnt = count_to (opps_of self.old) t.moment;
+          arrivals = self.old.arrivals ++ t ∷ [];
+        }) }
         ensures err { OnErr result (self.new ≡ self.old) }
         ensures goes_on { OnlyGoesOn self.old self.new }
     {

@@ -49,7 +49,8 @@ impl LinkLog {
     ) -> LinkLog
         requires rises { Rise arrivals.items }
         requires within { AreUpTo opportunities.horizon arrivals.items }
-        ensures { result ≡ link_log queue (opps opportunities.trace.opportunities opportunities.once opportunities.horizon) arrivals.items }
+        ensures { result ≡ link_log queue
+            (opps opportunities.trace.opportunities opportunities.once opportunities.horizon) arrivals.items }
     {
         LinkLog {
             alloc,

@@ -27,7 +27,8 @@ impl Model for Opportunities {
 
     ghost view = { λ s. record { trace = s.trace; once = s.once; horizon = s.horizon } };
 
-    ghost invariant = { λ s. (s.number ≡ length (opps s.trace.opportunities s.once s.horizon)) × (s.number ≤ 16000000) × (s.horizon ≤ 3600000)
+    ghost invariant = { λ s. (s.number ≡ length (opps s.trace.opportunities s.once s.horizon)) × (s.number ≤ 16000000)
+        × (s.horizon ≤ 3600000)
         × IsLap s.trace.opportunities s.lap.first s.lap.start };
 }
 

@@ -1,5 +1,6 @@
 // The parts of a link, and its two steps.
-ghost use Rattle.std.specs.Prelude.{◌≡◌, ◌+◌, ◌-◌, ◌<◌, ◌≤◌, ◌++◌, ◌∷◌, [], length, take, drop, IfOk, OnOk, OnErr, vec_len, vec_capacity};
+ghost use Rattle.std.specs.Prelude.{◌≡◌, ◌+◌, ◌-◌, ◌<◌, ◌≤◌, ◌++◌, ◌∷◌, [], length, take, drop, IfOk, OnOk, OnErr};
+ghost use Rattle.std.specs.Prelude.{vec_len, vec_capacity};
 ghost use Prim.Native.Nat.{min};
 ghost use Rattle.packet_queue.specs.View.{Queue};
 ghost use Rattle.link_core.specs.State.{IsPart, inside_line};
@@ -76,9 +77,11 @@ impl Parts {
         ensures burnt { self.new.burnt ≡ self.old.burnt + 1 }
         ensures arrived { self.new.arrived ≡ self.old.arrived }
         ensures queue { self.new.line.queue ≡ record self.old.line.queue { packets = self.new.line.queue.packets } }
-        ensures room { length (inside_line self.new.line) + vec_len self.new.left ≡ length (inside_line self.old.line) + vec_len self.old.left }
+        ensures room { length (inside_line self.new.line) + vec_len self.new.left ≡ length (inside_line self.old.line)
+            + vec_len self.old.left }
         ensures keeps { vec_capacity self.old.left ≤ vec_capacity self.new.left }
-        ensures spare { self.old.log.spare + length (inside_line self.new.line) ≤ self.new.log.spare + 1 + length (inside_line self.old.line) }
+        ensures spare { self.old.log.spare + length (inside_line self.new.line) ≤ self.new.log.spare + 1 + length
+            (inside_line self.old.line) }
     {
         let o = self.opportunities.take(self.burnt);
         self.burnt += 1;
@@ -99,7 +102,8 @@ impl Parts {
         ensures burnt { self.new.burnt ≡ end }
         ensures arrived { self.new.arrived ≡ self.old.arrived }
         ensures queue { self.new.line.queue ≡ record self.old.line.queue { packets = self.new.line.queue.packets } }
-        ensures spare { self.old.log.spare + self.old.burnt + length (inside_line self.new.line) ≤ self.new.log.spare + end + length (inside_line self.old.line) }
+        ensures spare { self.old.log.spare + self.old.burnt + length (inside_line self.new.line) ≤
+            self.new.log.spare + end + length (inside_line self.old.line) }
     {
         if !self.log.is_kept() && self.line.len() == 0 {
             self.burnt = end;
@@ -147,7 +151,8 @@ impl Parts {
         ensures arrived { self.new.arrived ≡ self.old.arrived }
         ensures spec { self.new.line.queue.spec ≡ self.old.line.queue.spec }
         ensures queue { OnOk result (1 ≤ self.new.line.queue.spare) }
-        ensures room { OnOk result (length (inside_line self.new.line) + vec_len self.new.left ≤ vec_capacity self.new.left) }
+        ensures room { OnOk result (length (inside_line self.new.line) + vec_len self.new.left ≤ vec_capacity
+            self.new.left) }
         ensures spare { OnOk result (more + length (inside_line self.new.line) + 2 ≤ self.new.log.spare) }
     {
         let held = self.line.len();
@@ -171,7 +176,8 @@ impl Parts {
         ensures spec { self.new.line.queue.spec ≡ self.old.line.queue.spec }
         ensures burnt { OnOk result (self.new.burnt ≡ length (up_to t.moment (span_opps self.old.opportunities))) }
         ensures arrived { OnOk result (self.new.arrived.come ≡ self.old.arrived.come ++ t ∷ []) }
-        ensures err { OnErr result ((self.new.burnt ≡ self.old.burnt) × (self.new.arrived.come ≡ self.old.arrived.come)) }
+        ensures err { OnErr result ((self.new.burnt ≡ self.old.burnt)
+            × (self.new.arrived.come ≡ self.old.arrived.come)) }
     {
         self.arrived.reserve(1)?;
         let end = self.opportunities.count_from(self.burnt, t.moment);
@@ -192,7 +198,8 @@ impl Parts {
         ensures logged { self.new.log.kept ≡ self.old.log.kept }
         ensures spec { self.new.line.queue.spec ≡ self.old.line.queue.spec }
         ensures arrived { self.new.arrived ≡ self.old.arrived }
-        ensures count { IfOk result (λ n. n ≡ min most (length (up_to bound (span_opps self.old.opportunities)) - self.old.burnt)) }
+        ensures count { IfOk result (λ n. n ≡ min most
+            (length (up_to bound (span_opps self.old.opportunities)) - self.old.burnt)) }
         ensures burnt { IfOk result (λ n. self.new.burnt ≡ self.old.burnt + n) }
         ensures err { OnErr result (self.new.burnt ≡ self.old.burnt) }
         ensures due { OnErr result (self.old.burnt < length (up_to bound (span_opps self.old.opportunities))) }

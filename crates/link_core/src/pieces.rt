@@ -41,9 +41,9 @@ impl LogPieces {
         LogPieces { parts }
     }
 
-    /// Goes on to the next piece, which isn't empty. False: there is no more, and no piece in hand. After `OutOfMemory`,
-    /// which is want of memory and comes only where there is more, the piece in hand is what was made so far, and the
-    /// next one goes on from there.
+    /// Goes on to the next piece, which isn't empty. False: there is no more, and no piece in hand. After
+    /// `OutOfMemory`, which is want of memory and comes only where there is more, the piece in hand is what was made
+    /// so far, and the next one goes on from there.
     pub fn next(&mut self) -> Result<bool, OutOfMemory>
         ensures same { self.old.rest ≡ self.new.piece ++ self.new.rest }
         ensures some { IfOk result (λ more. IsTrue more → 0 < length self.new.piece) }

@@ -26,8 +26,10 @@ pub fn serve(line: &mut Line, o: Opportunity, left: &mut Vec<Timed>, log: &mut J
     ensures inside { inside_line line.new ≡ rest (line.old.used + o.bytes) (inside_line line.old) }
     ensures used { line.new.used ≡ begun (line.old.used + o.bytes) (inside_line line.old) }
     ensures queue { line.new.queue ≡ record line.old.queue { packets = line.new.queue.packets } }
-    ensures left { left.new.items ≡ left.old.items ++ map (moved_to o.moment) (carried (line.old.used + o.bytes) (inside_line line.old)) }
-    ensures log { log.new.entries ≡ log.old.entries ++ written log.old.kept (served_lines o (carried (line.old.used + o.bytes) (inside_line line.old))) }
+    ensures left { left.new.items ≡ left.old.items
+        ++ map (moved_to o.moment) (carried (line.old.used + o.bytes) (inside_line line.old)) }
+    ensures log { log.new.entries ≡ log.old.entries
+        ++ written log.old.kept (served_lines o (carried (line.old.used + o.bytes) (inside_line line.old))) }
     ensures kept { log.new.kept ≡ log.old.kept }
     ensures room { length (inside_line line.new) + vec_len left.new ≡ length (inside_line line.old) + vec_len left.old }
     ensures keeps { vec_capacity left.old ≤ vec_capacity left.new }
@@ -59,7 +61,9 @@ pub fn note(log: &mut Journal, t: Timed, dropped: Dropped)
     requires some { 0 < dropped.packets → 0 < dropped.bytes }
     requires packets { dropped.packets ≤ dropped.bytes }
     requires bytes { dropped.bytes ≤ 3008 }
-    ensures log { log.new.entries ≡ log.old.entries ++ written log.old.kept (Entry.Arrival t.moment t.packet.size ∷ drop_line_by t.moment dropped.packets dropped.bytes) }
+    ensures log { log.new.entries ≡ log.old.entries
+        ++ written log.old.kept (Entry.Arrival t.moment t.packet.size ∷ drop_line_by t.moment dropped.packets
+        dropped.bytes) }
     ensures kept { log.new.kept ≡ log.old.kept }
 {
     log.add(Entry::Arrival {

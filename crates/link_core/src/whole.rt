@@ -50,10 +50,14 @@ impl Parts {
         requires none { self.arrived.coming ≡ [] }
         requires rises { Rise self.arrived.come }
         requires within { AreUpTo self.opportunities.horizon self.arrived.come }
-        ensures departed { IfOk result (λ p. p.departed.items ≡ link_out self.line.queue.spec (take self.burnt (span_opps self.opportunities)) self.arrived.come) }
-        ensures lost { IfOk result (λ p. p.lost.items ≡ link_lost self.line.queue.spec (take self.burnt (span_opps self.opportunities)) self.arrived.come) }
-        ensures held { IfOk result (λ p. p.held.items ≡ map (λ t. t.packet.id) (link_inside self.line.queue.spec (take self.burnt (span_opps self.opportunities)) self.arrived.come)) }
-        ensures log { IfOk result (λ p. p.log ≡ Some (link_log self.line.queue.spec (span_opps self.opportunities) self.arrived.come)) }
+        ensures departed { IfOk result (λ p. p.departed.items ≡ link_out self.line.queue.spec
+            (take self.burnt (span_opps self.opportunities)) self.arrived.come) }
+        ensures lost { IfOk result (λ p. p.lost.items ≡ link_lost self.line.queue.spec
+            (take self.burnt (span_opps self.opportunities)) self.arrived.come) }
+        ensures held { IfOk result (λ p. p.held.items ≡ map (λ t. t.packet.id)
+            (link_inside self.line.queue.spec (take self.burnt (span_opps self.opportunities)) self.arrived.come)) }
+        ensures log { IfOk result (λ p. p.log ≡ Some
+            (link_log self.line.queue.spec (span_opps self.opportunities) self.arrived.come)) }
     {
         let held = self.line.ids(alloc)?;
         let queue = self.line.queue.spec();
@@ -80,10 +84,14 @@ pub fn run_link(
     requires few { length (opps trace.opportunities once horizon) ≤ 16000000 }
     requires rises { Rise arrivals.items }
     requires within { AreUpTo horizon arrivals.items }
-    ensures departed { IfOk result (λ p. p.departed.items ≡ link_out queue (opps trace.opportunities once horizon) arrivals.items) }
-    ensures lost { IfOk result (λ p. p.lost.items ≡ link_lost queue (opps trace.opportunities once horizon) arrivals.items) }
-    ensures held { IfOk result (λ p. p.held.items ≡ map (λ t. t.packet.id) (link_inside queue (opps trace.opportunities once horizon) arrivals.items)) }
-    ensures log { IfOk result (λ p. p.log ≡ Some (link_log queue (opps trace.opportunities once horizon) arrivals.items)) }
+    ensures departed { IfOk result (λ p. p.departed.items ≡ link_out queue (opps trace.opportunities once horizon)
+        arrivals.items) }
+    ensures lost { IfOk result (λ p. p.lost.items ≡ link_lost queue (opps trace.opportunities once horizon)
+        arrivals.items) }
+    ensures held { IfOk result (λ p. p.held.items ≡ map (λ t. t.packet.id)
+        (link_inside queue (opps trace.opportunities once horizon) arrivals.items)) }
+    ensures log { IfOk result (λ p. p.log ≡ Some
+        (link_log queue (opps trace.opportunities once horizon) arrivals.items)) }
 {
     let opportunities = Opportunities::new(trace, once, horizon);
     let parts = played(alloc, opportunities, queue, false, arrivals)?;

@@ -1,4 +1,5 @@
-// A link over the whole list of its arrivals, and its log in pieces, beside the link that is fed one by one and beside a plain slow program.
+// A link over the whole list of its arrivals, and its log in pieces, beside the link that is fed one by one and
+// beside a plain slow program.
 ghost use Rattle.std.specs.Prelude.{◌≡◌, ◌≤◌, IfOk, length};
 ghost use Rattle.packet_record.specs.Moments.{AreUpTo, Rise};
 ghost use Rattle.trace_reader.specs.Opps.{opps};

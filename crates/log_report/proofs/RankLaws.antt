@@ -1,5 +1,6 @@
 -- The number at a rank is the one for which enough numbers are below and up to it.
-use Rattle.std.proofs.Common.{◌≡◌, ◌⊎◌, inl, inr, ℕ, zero, suc, ◌+◌, ◌-◌, ◌<◌, ◌≤◌, ◌==◌, Bool, true, false, cond, List, [], ◌∷◌, length, get_or, nat_le, nat_lt, refl, ap, sym, subst, ◌∙◌, arith}
+use Rattle.std.proofs.Common.{◌≡◌, ◌⊎◌, inl, inr, ℕ, zero, suc, ◌+◌, ◌-◌, ◌<◌, ◌≤◌, ◌==◌, Bool, true, false, cond, List}
+use Rattle.std.proofs.Common.{[], ◌∷◌, length, get_or, nat_le, nat_lt, refl, ap, sym, subst, ◌∙◌, arith}
 use Rattle.std.specs.List.{count_by, filter}
 use Rattle.std.specs.List.Sorted.{IsPermutation, IsSorted}
 use Rattle.std.specs.Ordering.{nat_cmp}
@@ -23,11 +24,13 @@ not_below true x d e le = let lt = ltb-true x d e in absurd (omega arith)
 not_below false x d e le = refl
 
 below_yes : (d x : ℕ) (xs : List ℕ) → x < d → below d (x ∷ xs) ≡ 1 + below d xs
-below_yes d x xs lt = sum_by-cons (λ (y : ℕ). cond (nat_lt y d) 1 0) x xs ∙ ap (λ (b : Bool). cond b 1 0 + below d xs) (lt-ltb x d lt)
+below_yes d x xs lt = sum_by-cons (λ (y : ℕ). cond (nat_lt y d) 1 0) x xs
+    ∙ ap (λ (b : Bool). cond b 1 0 + below d xs) (lt-ltb x d lt)
 
 below_no : (d x : ℕ) (xs : List ℕ) → d ≤ x → below d (x ∷ xs) ≡ below d xs
 below_no d x xs le =
-    sum_by-cons (λ (y : ℕ). cond (nat_lt y d) 1 0) x xs ∙ ap (λ (b : Bool). cond b 1 0 + below d xs) (not_below (nat_lt x d) x d refl le)
+    sum_by-cons (λ (y : ℕ). cond (nat_lt y d) 1 0) x xs
+    ∙ ap (λ (b : Bool). cond b 1 0 + below d xs) (not_below (nat_lt x d) x d refl le)
     ∙ (let e : 0 + below d xs ≡ below d xs = omega arith in e)
 
 -- numbers none of which is below m, and numbers in order
@@ -62,7 +65,8 @@ at_place (y ∷ ys) d zero up low high = first (cases_lt y d)
             let e = below_no (d + 1) y ys more in
             let none = none_below (d + 1) y ys up.0 more in
             absurd (omega arith)
-at_place (y ∷ ys) d (suc i) up low high = at_place ys d i up.1 (by_first (cases_lt y d)) (by_second (cases_lt y (d + 1)))
+at_place (y ∷ ys) d (suc i) up low high = at_place ys d i up.1 (by_first (cases_lt y d))
+    (by_second (cases_lt y (d + 1)))
   where
     by_first : (y < d) ⊎ (d ≤ y) → below d ys ≤ i
     by_first (inl lt) = let e = below_yes d y ys lt in omega arith
@@ -84,7 +88,8 @@ place_below (y ∷ ys) (suc j) up lt =
     let g = get_or ys j 0 in
     by (cases_lt y g) more
   where
-    by : (y < get_or ys j 0) ⊎ (get_or ys j 0 ≤ y) → below (get_or ys j 0) ys ≤ j → below (get_or ys j 0) (y ∷ ys) ≤ suc j
+    by : (y < get_or ys j 0) ⊎ (get_or ys j 0 ≤ y) → below (get_or ys j 0) ys ≤ j
+        → below (get_or ys j 0) (y ∷ ys) ≤ suc j
     by (inl lt) more = let e = below_yes (get_or ys j 0) y ys lt in omega arith
     by (inr le) more = let e = below_no (get_or ys j 0) y ys le in omega arith
 
@@ -106,7 +111,10 @@ place_within (y ∷ ys) (suc j) up lt =
 all_from-inserted : (m x : ℕ) (ys : List ℕ) → m ≤ x → AllFrom m ys → AllFrom m (inserted x ys)
 all_from-inserted m x [] le all = (le, tt)
 all_from-inserted m x (y ∷ ys) le all =
-    elim (nat_le x y) as (λ b. AllFrom m (cond b (x ∷ y ∷ ys) (y ∷ inserted x ys))) [ true ↦ (le, all) | false ↦ (all.0, all_from-inserted m x ys le all.1) ]
+    elim (nat_le x y) as (λ b. AllFrom m (cond b (x ∷ y ∷ ys) (y ∷ inserted x ys))) [
+      | true ↦ (le, all)
+      | false ↦ (all.0, all_from-inserted m x ys le all.1)
+    ]
 
 not_le : (x y : ℕ) → nat_le x y ≡ false → y ≤ x
 not_le x y e = by (cases_lt x y)
@@ -137,13 +145,17 @@ below-inserted d x (y ∷ ys) =
     let c = sum_by-cons f x (y ∷ ys) in
     let e = sum_by-cons f y ys in
     let swapped : below d (y ∷ inserted x ys) ≡ below d (x ∷ y ∷ ys) = omega arith in
-    elim (nat_le x y) as (λ b. below d (cond b (x ∷ y ∷ ys) (y ∷ inserted x ys)) ≡ below d (x ∷ y ∷ ys)) [ true ↦ refl | false ↦ swapped ]
+    elim (nat_le x y) as (λ b. below d (cond b (x ∷ y ∷ ys) (y ∷ inserted x ys)) ≡ below d (x ∷ y ∷ ys)) [
+      | true ↦ refl
+      | false ↦ swapped
+    ]
 
 below-sorted : (d : ℕ) (xs : List ℕ) → below d (sorted xs) ≡ below d xs
 below-sorted d [] = refl
 below-sorted d (x ∷ xs) =
     let f : ℕ → ℕ = λ z. cond (nat_lt z d) 1 0 in
-    below-inserted d x (sorted xs) ∙ sum_by-cons f x (sorted xs) ∙ ap (λ (n : ℕ). f x + n) (below-sorted d xs) ∙ sym (sum_by-cons f x xs)
+    below-inserted d x (sorted xs) ∙ sum_by-cons f x (sorted xs) ∙ ap (λ (n : ℕ). f x + n) (below-sorted d xs)
+    ∙ sym (sum_by-cons f x xs)
 
 -- the number at a rank
 pub ranked : (xs : List ℕ) (d rank : ℕ) → below d xs < rank → rank ≤ below (d + 1) xs → at_rank xs rank ≡ d
@@ -171,14 +183,17 @@ pub below_long : (d : ℕ) (xs : List ℕ) → 65536 ≤ d → below d xs ≡ be
 below_long d [] le = refl
 below_long d (x ∷ xs) le = by (nat_le 65536 x) refl (below_long d xs le)
   where
-    low_one : nat_le 65536 x ≡ false → (x < 65536) ⊎ (65536 ≤ x) → below d xs ≡ below 65536 xs + below d (long_ones xs) → below d (x ∷ xs) ≡ below 65536 (x ∷ xs) + below d (long_ones xs)
+    low_one : nat_le 65536 x ≡ false → (x < 65536) ⊎ (65536 ≤ x)
+        → below d xs ≡ below 65536 xs + below d (long_ones xs)
+        → below d (x ∷ xs) ≡ below 65536 (x ∷ xs) + below d (long_ones xs)
     low_one e (inl lt) more =
         let a = below_yes 65536 x xs lt in
         let b = below_yes d x xs (omega arith) in
         omega arith
     low_one e (inr long) more = let yes = le-leb 65536 x long in absurd cc
 
-    by : (b : Bool) → nat_le 65536 x ≡ b → below d xs ≡ below 65536 xs + below d (long_ones xs) → below d (x ∷ xs) ≡ below 65536 (x ∷ xs) + below d (cond b (x ∷ long_ones xs) (long_ones xs))
+    by : (b : Bool) → nat_le 65536 x ≡ b → below d xs ≡ below 65536 xs + below d (long_ones xs)
+        → below d (x ∷ xs) ≡ below 65536 (x ∷ xs) + below d (cond b (x ∷ long_ones xs) (long_ones xs))
     by true e more =
         let long = leb-true 65536 x e in
         let a = below_no 65536 x xs long in
@@ -189,7 +204,8 @@ below_long d (x ∷ xs) le = by (nat_le 65536 x) refl (below_long d xs le)
     by false e more = low_one e (cases_lt x 65536) more
 
 below_more : (d e : ℕ) (xs : List ℕ) → d ≤ e → below d xs ≤ below e xs
-below_more d e xs le = sum_by-le-sum_by (λ (x : ℕ). cond (nat_lt x d) 1 0) (λ (x : ℕ). cond (nat_lt x e) 1 0) xs (λ x. one_more x)
+below_more d e xs le = sum_by-le-sum_by (λ (x : ℕ). cond (nat_lt x d) 1 0) (λ (x : ℕ). cond (nat_lt x e) 1 0) xs
+    (λ x. one_more x)
   where
     one_more : (x : ℕ) → cond (nat_lt x d) 1 0 ≤ cond (nat_lt x e) 1 0
     one_more x = grind (arith, nat_tests)
@@ -205,16 +221,19 @@ ascends_by_index (y ∷ z ∷ zs) h =
 
 ascends-std : (ls : List ℕ) → IsSorted nat_cmp ls → Ascends ls
 ascends-std ls is =
-    ascends_by_index ls (λ k lt. let e : suc k ≡ k + 1 = omega arith in rw e (ge_from_not_lt (get_or ls (k + 1) 0) (get_or ls k 0) (is k 0 (omega arith) (omega arith))))
+    ascends_by_index ls (λ k lt. let e : suc k ≡ k + 1 = omega arith
+    in rw e (ge_from_not_lt (get_or ls (k + 1) 0) (get_or ls k 0) (is k 0 (omega arith) (omega arith))))
 
 -- the number at a rank above all short ones
-pub ranked_long : (xs ls : List ℕ) (rank j : ℕ) → IsPermutation (long_ones xs) ls → IsSorted nat_cmp ls → j < length ls → rank ≡ below 65536 xs + j + 1 → at_rank xs rank ≡ get_or ls j 0
+pub ranked_long : (xs ls : List ℕ) (rank j : ℕ) → IsPermutation (long_ones xs) ls → IsSorted nat_cmp ls
+    → j < length ls → rank ≡ below 65536 xs + j + 1 → at_rank xs rank ≡ get_or ls j 0
 ranked_long xs ls rank j perm is lt place =
     let up = ascends-std ls is in
     let x = get_or ls j 0 in
     let low = place_below ls j up lt in
     let high = place_within ls j up lt in
-    let same : (d : ℕ) → below d ls ≡ below d (long_ones xs) = λ d. sum_by-IsPermutation (λ (z : ℕ). cond (nat_lt z d) 1 0) (long_ones xs) ls perm in
+    let same : (d : ℕ) → below d ls ≡ below d (long_ones xs) =
+    λ d. sum_by-IsPermutation (λ (z : ℕ). cond (nat_lt z d) 1 0) (long_ones xs) ls perm in
     let none = below_long 65536 xs (omega arith) in
     let at_limit = same 65536 in
     let long : 65536 ≤ x = by_limit (cases_lt x 65536) high at_limit none in
@@ -224,9 +243,11 @@ ranked_long xs ls rank j perm is lt place =
     let e = same (x + 1) in
     ranked xs x rank (omega arith) (omega arith)
   where
-    by_limit : (get_or ls j 0 < 65536) ⊎ (65536 ≤ get_or ls j 0) → j < below (get_or ls j 0 + 1) ls → below 65536 ls ≡ below 65536 (long_ones xs)
+    by_limit : (get_or ls j 0 < 65536) ⊎ (65536 ≤ get_or ls j 0) → j < below (get_or ls j 0 + 1) ls
+        → below 65536 ls ≡ below 65536 (long_ones xs)
         → below 65536 xs ≡ below 65536 xs + below 65536 (long_ones xs) → 65536 ≤ get_or ls j 0
-    by_limit (inl less) high at_limit none = let more = below_more (get_or ls j 0 + 1) 65536 ls (omega arith) in absurd (omega arith)
+    by_limit (inl less) high at_limit none = let more = below_more (get_or ls j 0 + 1) 65536 ls (omega arith)
+        in absurd (omega arith)
     by_limit (inr le) high at_limit none = le
 
 -- nothing is below 0

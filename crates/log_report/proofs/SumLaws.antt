@@ -1,5 +1,6 @@
 -- Sums over entries, one entry more.
-use Rattle.std.proofs.Common.{get_or, zero, suc, ◌≡◌, ℕ, ◌+◌, ◌<◌, ◌==◌, ◌++◌, Bool, true, false, cond, List, [], ◌∷◌, length, Option, Some, None, refl, ap, sym, subst, ◌∙◌, arith, length-append, append-nil}
+use Rattle.std.proofs.Common.{get_or, zero, suc, ◌≡◌, ℕ, ◌+◌, ◌<◌, ◌==◌, ◌++◌, Bool, true, false, cond, List, [], ◌∷◌}
+use Rattle.std.proofs.Common.{length, Option, Some, None, refl, ap, sym, subst, ◌∙◌, arith, length-append, append-nil}
 use Rattle.std.specs.Prelude.{fold}
 use Rattle.std.specs.List.{filter_map, sum}
 use Rattle.std.proofs.lemmas.Bool.{eqb-true}
@@ -12,54 +13,77 @@ use Rattle.log_report.specs.declared.figures.Delays.{Delays}
 use Rattle.log_report.specs.declared.figures.Report.{Report}
 use Rattle.log_report.specs.declared.sums.Sum.{Sum}
 use Rattle.log_report.specs.Ranks.{delays_of}
-use Rattle.log_report.specs.Reports.{arrived_bytes, offered_bytes, departed_bytes, delay_of, dropped_packets, dropped_bytes, count_in, sum_in, first_moment, thousandths, report_over, report_of}
+use Rattle.log_report.specs.Reports.{arrived_bytes, offered_bytes, departed_bytes, delay_of, dropped_packets}
+use Rattle.log_report.specs.Reports.{dropped_bytes, count_in, sum_in, first_moment, thousandths, report_over, report_of}
 use Rattle.log_report.specs.Summed.{ArePassed, IsSum, AreDrops}
 
-said_no : (said : Entry → Option ℕ) (es : List Entry) (e : Entry) → filter_map said (e ∷ []) ≡ [] → filter_map said (es ++ e ∷ []) ≡ filter_map said es
-said_no said es e none = filter_map-append said es (e ∷ []) ∙ ap (λ (l : List ℕ). filter_map said es ++ l) none ∙ append-nil (filter_map said es)
+said_no : (said : Entry → Option ℕ) (es : List Entry) (e : Entry) → filter_map said (e ∷ []) ≡ []
+    → filter_map said (es ++ e ∷ []) ≡ filter_map said es
+said_no said es e none = filter_map-append said es (e ∷ []) ∙ ap (λ (l : List ℕ). filter_map said es ++ l) none
+    ∙ append-nil (filter_map said es)
 
-said_yes : (said : Entry → Option ℕ) (es : List Entry) (e : Entry) (x : ℕ) → filter_map said (e ∷ []) ≡ x ∷ [] → filter_map said (es ++ e ∷ []) ≡ filter_map said es ++ x ∷ []
+said_yes : (said : Entry → Option ℕ) (es : List Entry) (e : Entry) (x : ℕ) → filter_map said (e ∷ []) ≡ x ∷ []
+    → filter_map said (es ++ e ∷ []) ≡ filter_map said es ++ x ∷ []
 said_yes said es e x one = filter_map-append said es (e ∷ []) ∙ ap (λ (l : List ℕ). filter_map said es ++ l) one
 
-sum_yes : (said : Entry → Option ℕ) (es : List Entry) (e : Entry) (x : ℕ) → filter_map said (e ∷ []) ≡ x ∷ [] → sum_in said (es ++ e ∷ []) ≡ sum_in said es + x
+sum_yes : (said : Entry → Option ℕ) (es : List Entry) (e : Entry) (x : ℕ) → filter_map said (e ∷ []) ≡ x ∷ []
+    → sum_in said (es ++ e ∷ []) ≡ sum_in said es + x
 sum_yes said es e x one =
     ap sum (said_yes said es e x one) ∙ sum_by-append (λ (z : ℕ). z) (filter_map said es) (x ∷ [])
     ∙ ap (λ (n : ℕ). sum_in said es + n) (let e : sum (x ∷ []) ≡ x = sum_by-cons (λ (z : ℕ). z) x [] ∙ omega arith in e)
 
-count_yes : (said : Entry → Option ℕ) (es : List Entry) (e : Entry) (x : ℕ) → filter_map said (e ∷ []) ≡ x ∷ [] → count_in said (es ++ e ∷ []) ≡ count_in said es + 1
+count_yes : (said : Entry → Option ℕ) (es : List Entry) (e : Entry) (x : ℕ) → filter_map said (e ∷ []) ≡ x ∷ []
+    → count_in said (es ++ e ∷ []) ≡ count_in said es + 1
 count_yes said es e x one = ap length (said_yes said es e x one) ∙ length-append (filter_map said es) (x ∷ [])
 
-pub in_sum : (said : Entry → Option ℕ) (es : List Entry) (e : Entry) (x count bytes : ℕ) → filter_map said (e ∷ []) ≡ x ∷ [] → (count ≡ count_in said es) × (bytes ≡ sum_in said es)
+pub in_sum : (said : Entry → Option ℕ) (es : List Entry) (e : Entry) (x count bytes : ℕ)
+    → filter_map said (e ∷ []) ≡ x ∷ [] → (count ≡ count_in said es) × (bytes ≡ sum_in said es)
     → (count + 1 ≡ count_in said (es ++ e ∷ [])) × (bytes + x ≡ sum_in said (es ++ e ∷ []))
 in_sum said es e x count bytes one is = (
   ap (λ (n : ℕ). n + 1) is.0 ∙ sym (count_yes said es e x one),
   ap (λ (n : ℕ). n + x) is.1 ∙ sym (sum_yes said es e x one),
 )
 
-pub not_in_sum : (said : Entry → Option ℕ) (es : List Entry) (e : Entry) (s : Sum) → filter_map said (e ∷ []) ≡ [] → IsSum said es s → IsSum said (es ++ e ∷ []) s
-not_in_sum said es e s none is = (is.0 ∙ sym (ap length (said_no said es e none)), is.1 ∙ sym (ap sum (said_no said es e none)))
+pub not_in_sum : (said : Entry → Option ℕ) (es : List Entry) (e : Entry) (s : Sum) → filter_map said (e ∷ []) ≡ []
+    → IsSum said es s → IsSum said (es ++ e ∷ []) s
+not_in_sum said es e s none is = (
+  is.0 ∙ sym (ap length (said_no said es e none)),
+  is.1
+      ∙ sym (ap sum (said_no said es e none)),
+)
 
-pub in_drops : (es : List Entry) (e : Entry) (packets bytes count all : ℕ) → filter_map dropped_packets (e ∷ []) ≡ packets ∷ [] → filter_map dropped_bytes (e ∷ []) ≡ bytes ∷ []
-    → (count ≡ sum_in dropped_packets es) × (all ≡ sum_in dropped_bytes es) → (count + packets ≡ sum_in dropped_packets (es ++ e ∷ [])) × (all + bytes ≡ sum_in dropped_bytes (es ++ e ∷ []))
+pub in_drops : (es : List Entry) (e : Entry) (packets bytes count all : ℕ)
+    → filter_map dropped_packets (e ∷ []) ≡ packets ∷ [] → filter_map dropped_bytes (e ∷ []) ≡ bytes ∷ []
+    → (count ≡ sum_in dropped_packets es) × (all ≡ sum_in dropped_bytes es)
+    → (count + packets ≡ sum_in dropped_packets (es ++ e ∷ []))
+    × (all + bytes ≡ sum_in dropped_bytes (es ++ e ∷ []))
 in_drops es e packets bytes count all one other is = (
   ap (λ (n : ℕ). n + packets) is.0 ∙ sym (sum_yes dropped_packets es e packets one),
   ap (λ (n : ℕ). n + bytes) is.1 ∙ sym (sum_yes dropped_bytes es e bytes other),
 )
 
-pub not_in_drops : (es : List Entry) (e : Entry) (s : Sum) → filter_map dropped_packets (e ∷ []) ≡ [] → filter_map dropped_bytes (e ∷ []) ≡ [] → AreDrops es s → AreDrops (es ++ e ∷ []) s
-not_in_drops es e s none other is = (is.0 ∙ sym (ap sum (said_no dropped_packets es e none)), is.1 ∙ sym (ap sum (said_no dropped_bytes es e other)))
+pub not_in_drops : (es : List Entry) (e : Entry) (s : Sum) → filter_map dropped_packets (e ∷ []) ≡ []
+    → filter_map dropped_bytes (e ∷ []) ≡ [] → AreDrops es s → AreDrops (es ++ e ∷ []) s
+not_in_drops es e s none other is = (
+  is.0 ∙ sym (ap sum (said_no dropped_packets es e none)),
+  is.1
+      ∙ sym (ap sum (said_no dropped_bytes es e other)),
+)
 
-pub no_delay : (es : List Entry) (e : Entry) → filter_map delay_of (e ∷ []) ≡ [] → filter_map delay_of es ≡ filter_map delay_of (es ++ e ∷ [])
+pub no_delay : (es : List Entry) (e : Entry) → filter_map delay_of (e ∷ []) ≡ []
+    → filter_map delay_of es ≡ filter_map delay_of (es ++ e ∷ [])
 no_delay es e none = sym (said_no delay_of es e none)
 
-pub one_delay : (es : List Entry) (e : Entry) (x : ℕ) → filter_map delay_of (e ∷ []) ≡ x ∷ [] → filter_map delay_of es ++ x ∷ [] ≡ filter_map delay_of (es ++ e ∷ [])
+pub one_delay : (es : List Entry) (e : Entry) (x : ℕ) → filter_map delay_of (e ∷ []) ≡ x ∷ [] → filter_map delay_of es
+    ++ x ∷ [] ≡ filter_map delay_of (es ++ e ∷ [])
 one_delay es e x one = sym (said_yes delay_of es e x one)
 
 last-push : (low : ℕ) (es : List Entry) (e : Entry) → fold (λ moment d. moment_of d) low (es ++ e ∷ []) ≡ moment_of e
 last-push low [] e = refl
 last-push low (d ∷ es) e = last-push (moment_of d) es e
 
-first-push : (es : List Entry) (e : Entry) (n first : ℕ) → n ≡ length es → first ≡ first_moment es → cond (n == 0) (moment_of e) first ≡ first_moment (es ++ e ∷ [])
+first-push : (es : List Entry) (e : Entry) (n first : ℕ) → n ≡ length es → first ≡ first_moment es
+    → cond (n == 0) (moment_of e) first ≡ first_moment (es ++ e ∷ [])
 first-push [] e n first count is = ap (λ (k : ℕ). cond (k == 0) (moment_of e) first) count
 first-push (d ∷ es) e n first count is = ap (λ (b : Bool). cond b (moment_of e) first) (some (n == 0) refl) ∙ is
   where
@@ -67,7 +91,8 @@ first-push (d ∷ es) e n first count is = ap (λ (b : Bool). cond b (moment_of 
     some true e = let none = eqb-true n 0 e in absurd (omega arith)
     some false e = refl
 
-pub passed_more : (es : List Entry) (e : Entry) (n first last first' last' moment : ℕ) → ArePassed es n first last → moment ≡ moment_of e → first' ≡ cond (n == 0) moment first → last' ≡ moment_of e
+pub passed_more : (es : List Entry) (e : Entry) (n first last first' last' moment : ℕ) → ArePassed es n first last
+    → moment ≡ moment_of e → first' ≡ cond (n == 0) moment first → last' ≡ moment_of e
     → ArePassed (es ++ e ∷ []) (n + 1) first' last'
 passed_more es e n first last first' last' moment are at is is' = (
   ap (λ (k : ℕ). k + 1) are.0 ∙ sym (length-append es (e ∷ [])),

@@ -1,5 +1,6 @@
 -- The ranks of delays.
-use Rattle.std.specs.Prelude.{ℕ, ◌+◌, ◌-◌, ◌*◌, ◌/◌, List, [], ◌∷◌, length, Option, Some, None, nat_le, slice_index, if◌then◌else◌}
+use Rattle.std.specs.Prelude.{ℕ, ◌+◌, ◌-◌, ◌*◌, ◌/◌, List, [], ◌∷◌, length, Option, Some, None, nat_le, slice_index}
+use Rattle.std.specs.Prelude.{if◌then◌else◌}
 use Rattle.log_report.specs.declared.figures.Delays.{Delays}
 
 -- numbers in order, the least first
@@ -24,4 +25,8 @@ abbrev pub delays_of : List ℕ → Option Delays
 delays_of [] = None
 delays_of (x ∷ xs) =
     let n = length (x ∷ xs) in
-    Some (record { median = at_rank (x ∷ xs) (divided_up n 2); p95 = at_rank (x ∷ xs) (divided_up (95 * n) 100); most = at_rank (x ∷ xs) n })
+    Some (record {
+      median = at_rank (x ∷ xs) (divided_up n 2);
+      p95 = at_rank (x ∷ xs) (divided_up (95 * n) 100);
+      most = at_rank (x ∷ xs) n;
+    })

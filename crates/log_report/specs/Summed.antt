@@ -5,7 +5,8 @@ use Rattle.shell_log.specs.declared.entry.Entry.{Entry}
 use Rattle.shell_log.specs.LogParts.{last_moment}
 use Rattle.log_report.specs.declared.sums.Sum.{Sum}
 use Rattle.log_report.specs.declared.sums.Sums.{Sums}
-use Rattle.log_report.specs.Reports.{arrived_bytes, offered_bytes, departed_bytes, delay_of, dropped_packets, dropped_bytes, count_in, sum_in, first_moment}
+use Rattle.log_report.specs.Reports.{arrived_bytes, offered_bytes, departed_bytes, delay_of, dropped_packets}
+use Rattle.log_report.specs.Reports.{dropped_bytes, count_in, sum_in, first_moment}
 use Rattle.log_report.specs.Counted.{AreCounts}
 
 -- how many there are, and the moments of the first and the last

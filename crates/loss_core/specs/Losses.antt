@@ -4,8 +4,8 @@ use Rattle.std.specs.Int.{w64, to_le_bytes}
 use Rattle.rand_chacha.specs.ChaCha.{word_at, key_of}
 use Rattle.packet_record.specs.declared.packet.Timed.{Timed}
 
--- The word at a place of the words of a seed and a stream: a word of the ChaCha20 block function, whose 10 double rounds
--- are its 20 rounds. They come again after 2 ^ 68 words, the words of 2 ^ 64 blocks.
+-- The word at a place of the words of a seed and a stream: a word of the ChaCha20 block function, whose 10 double
+-- rounds are its 20 rounds. They come again after 2 ^ 68 words, the words of 2 ^ 64 blocks.
 abbrev pub cha_word : ℕ → ℕ → ℕ → ℕ
 cha_word seed stream place = word_at 10 (key_of (to_le_bytes w64 seed ++ replicate 24 0)) stream (place % 2 ^ 68)
 

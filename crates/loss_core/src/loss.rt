@@ -23,7 +23,13 @@ impl<W> Model for LossCore<W> {
 
     ghost Value = { Loss W };
 
-    ghost view = { λ c. record { rate = c.share; words = c.source; arrivals = c.arrived.items; lost = c.gone.items; departed = c.left.items } };
+    ghost view = { λ c. record {
+      rate = c.share;
+      words = c.source;
+      arrivals = c.arrived.items;
+      lost = c.gone.items;
+      departed = c.left.items;
+    } };
 }
 
 impl<W: Words> LossCore<W> {

@@ -1,5 +1,6 @@
 // The rate of a loss, and how it is read.
-ghost use Rattle.std.specs.Prelude.{◌≡◌, ◌≤◌, ◌<◌, ◌^◌, ◌==◌, ◌∷◌, [], All, false, length, position, MatchResult, MatchOption, IfSome, IfNone};
+ghost use Rattle.std.specs.Prelude.{◌≡◌, ◌≤◌, ◌<◌, ◌^◌, ◌==◌, ◌∷◌, [], All, false, length, position, MatchResult};
+ghost use Rattle.std.specs.Prelude.{MatchOption, IfSome, IfNone};
 ghost use Rattle.mm_base.specs.Numbers.{decimal_of};
 ghost use Rattle.loss_core.specs.Losses.{drops};
 ghost use Rattle.loss_core.specs.Rates.{parts_of, whole_of, fraction_of, billionths_of, rate_of, error_number};
@@ -57,7 +58,8 @@ impl RateError {
 /// `BadRate` comes exactly where the text has another form, `AboveOne` exactly where it has this
 /// form and stands for more than 1.
 pub fn read_rate(text: &str) -> Result<Rate, RateError>
-    ensures { MatchResult result (λ rate. rate_of text.now ≡ Ok rate.billionths) (λ error. rate_of text.now ≡ Err error) }
+    ensures { MatchResult result (λ rate. rate_of text.now ≡ Ok rate.billionths)
+        (λ error. rate_of text.now ≡ Err error) }
 {
     let Some(billionths) = read_billionths(text.as_bytes()) else {
         return Err(RateError::BadRate);
@@ -128,7 +130,8 @@ fn point_at(text: &[u8]) -> Option<usize>
 
 // What stands before the first point, and what follows it.
 fn split_point(text: &[u8]) -> (&[u8], Option<&[u8]>)
-    ensures { MatchOption result.1 (parts_of text.now ≡ result.0.now ∷ []) (λ rest. parts_of text.now ≡ result.0.now ∷ parts_of rest.now) }
+    ensures { MatchOption result.1 (parts_of text.now ≡ result.0.now ∷ [])
+        (λ rest. parts_of text.now ≡ result.0.now ∷ parts_of rest.now) }
 {
     match point_at(text) {
         Some(end) => (&text[..end], Some(&text[end + 1..])),

@@ -1,12 +1,15 @@
 -- A made trace has at most one opportunity a millisecond.
-use Rattle.std.proofs.Common.{◌≡◌, ℕ, zero, suc, ◌+◌, ◌*◌, ◌/◌, ◌%◌, ◌<◌, ◌≤◌, Bool, true, false, cond, List, [], ◌∷◌, ◌++◌, Option, Some, None, option_to_list, length, map, nat_le, refl, ap, ◌∙◌, arith, length-append}
+use Rattle.std.proofs.Common.{◌≡◌, ℕ, zero, suc, ◌+◌, ◌*◌, ◌/◌, ◌%◌, ◌<◌, ◌≤◌, Bool, true, false, cond, List, [], ◌∷◌}
+use Rattle.std.proofs.Common.{◌++◌, Option, Some, None, option_to_list, length, map, nat_le, refl, ap, ◌∙◌, arith}
+use Rattle.std.proofs.Common.{length-append}
 use Rattle.std.proofs.Math.Nat.{mul-le-mul_left, div-mul-le_self}
 use Rattle.packet_record.specs.Draws.{next_draw}
 use Rattle.trace_reader.specs.declared.opportunity.Opportunity.{Opportunity}
 use Rattle.trace_reader.specs.Made.{moments_from}
 use Rattle.trace_reader.specs.Opps.{opps, up_to, entries, entry, enough, last_moment}
 
-kept_by : (b : Bool) (o : Opportunity) (kept all : List Opportunity) → length kept ≤ length all → length (cond b (o ∷ kept) kept) ≤ length (o ∷ all)
+kept_by : (b : Bool) (o : Opportunity) (kept all : List Opportunity) → length kept ≤ length all
+    → length (cond b (o ∷ kept) kept) ≤ length (o ∷ all)
 kept_by true o kept all le = omega arith
 kept_by false o kept all le = omega arith
 
@@ -37,7 +40,8 @@ as_many x m (suc n) (o ∷ os) e =
     let rest : moments os ≡ moments_from (next_draw x) (m + (1 + next_draw x % 3)) n = cc in
     ap suc (as_many (next_draw x) (m + (1 + next_draw x % 3)) n os rest)
 
-last_late : (x m n : ℕ) (o : Opportunity) (os : List Opportunity) → moments (o ∷ os) ≡ moments_from x m n → m + n ≤ last_moment (o ∷ os)
+last_late : (x m n : ℕ) (o : Opportunity) (os : List Opportunity) → moments (o ∷ os) ≡ moments_from x m n
+    → m + n ≤ last_moment (o ∷ os)
 last_late x m zero o os e = cc
 last_late x m (suc zero) o [] e = let at : o.moment ≡ m + (1 + next_draw x % 3) = cc in omega arith
 last_late x m (suc (suc n)) o [] e = cc
@@ -51,7 +55,8 @@ last_from x zero os e = omega arith
 last_from x (suc n) [] e = cc
 last_from x (suc n) (o ∷ os) e = let late = last_late x 0 (suc n) o os e in omega arith
 
-pub few_made : (x n h : ℕ) (os : List Opportunity) → moments os ≡ moments_from x 0 n → n ≡ 100 → h ≤ 3001000 → length (opps os false h) ≤ 4000000
+pub few_made : (x n h : ℕ) (os : List Opportunity) → moments os ≡ moments_from x 0 n → n ≡ 100 → h ≤ 3001000
+    → length (opps os false h) ≤ 4000000
 unfolding opps
 few_made x n h os e hundred most =
     let laps = h / last_moment os in

@@ -1,5 +1,6 @@
 -- What the stated words say.
-use Rattle.std.proofs.Common.{◌≡◌, ℕ, ◌+◌, ◌≤◌, false, List, [], ◌∷◌, Some, None, Result, Ok, Err, length, map, codes, refl, ap, sym, subst, ◌∙◌, arith}
+use Rattle.std.proofs.Common.{◌≡◌, ℕ, ◌+◌, ◌≤◌, false, List, [], ◌∷◌, Some, None, Result, Ok, Err, length, map, codes}
+use Rattle.std.proofs.Common.{refl, ap, sym, subst, ◌∙◌, arith}
 use Rattle.packet_queue.specs.declared.spec.QueueKind.TheVariants.{DropTail, DropHead}
 use Rattle.trace_reader.specs.declared.trace.Trace.{Trace}
 use Rattle.trace_reader.specs.Made.{made_moments}
@@ -40,9 +41,13 @@ same_plan plan read =
 pub two_traces : (plan : NestPlan) → nest_of made_words ≡ Ok plan → length plan.traces ≡ 2
 two_traces plan read = ap (λ (p : NestPlan). length p.traces) (same_plan plan read)
 
-pub few_opportunities : (number h : ℕ) (plan : NestPlan) (trace : Trace) → nest_of made_words ≡ Ok plan → moments trace.opportunities ≡ made_moments number → h ≤ 3001000
+pub few_opportunities : (number h : ℕ) (plan : NestPlan) (trace : Trace) → nest_of made_words ≡ Ok plan
+    → moments trace.opportunities ≡ made_moments number → h ≤ 3001000
     → opportunities_of h plan.shells (trace ∷ trace ∷ []) ≤ 16000000
 few_opportunities number h plan trace read made most =
-    let few : length (opps trace.opportunities false h) ≤ 4000000 = few_made (draw_start number) 100 h trace.opportunities made refl most in
-    let twice : length (opps trace.opportunities false h) + length (opps trace.opportunities false h) + 0 ≤ 16000000 = omega arith in
-    subst (λ (p : NestPlan). opportunities_of h p.shells (trace ∷ trace ∷ []) ≤ 16000000) (sym (same_plan plan read)) twice
+    let few : length (opps trace.opportunities false h) ≤ 4000000 = few_made (draw_start number) 100 h
+    trace.opportunities made refl most in
+    let twice : length (opps trace.opportunities false h) + length (opps trace.opportunities false h) + 0 ≤ 16000000 =
+    omega arith in
+    subst (λ (p : NestPlan). opportunities_of h p.shells (trace ∷ trace ∷ []) ≤ 16000000) (sym (same_plan plan read))
+    twice

@@ -1,5 +1,6 @@
 -- What is run for a number: its load over the stated nest, both directions of whose link have its trace.
-use Rattle.std.specs.Prelude.{◌≡◌, ℕ, ◌+◌, ◌-◌, List, [], ◌∷◌, Option, Some, None, Result, Ok, length, map, slice_get, codes}
+use Rattle.std.specs.Prelude.{◌≡◌, ℕ, ◌+◌, ◌-◌, List, [], ◌∷◌, Option, Some, None, Result, Ok, length, map, slice_get}
+use Rattle.std.specs.Prelude.{codes}
 use Rattle.packet_record.specs.declared.packet.Row.{Row}
 use Rattle.packet_record.specs.Orders.{AreNumbered}
 use Rattle.packet_record.specs.Schedules.{said}

@@ -4,7 +4,8 @@ use Rattle.packet_record.specs.declared.packet.Row.{Row}
 use Rattle.nest_spec.specs.declared.fate.FateRow.{FateRow}
 use Rattle.nest_spec.specs.Nests.{NestParts, result_of}
 use Rattle.made_run.specs.Made.{AreMadeRows, IsMadeNest, made_horizon}
-use Rattle.made_run.specs.Summaries.{departed_bytes, departures, greatest, how_many, is_departed, is_dropped, is_inside, is_unsent}
+use Rattle.made_run.specs.Summaries.{departed_bytes, departures, greatest, how_many, is_departed, is_dropped, is_inside}
+use Rattle.made_run.specs.Summaries.{is_unsent}
 
 abbrev pub number_line : List ℕ → ℕ → List ℕ
 number_line name n = name ++ (decimal n ++ 10 ∷ [])

@@ -12,8 +12,8 @@ use std::alloc::Global;
 
 /// The summary of a run over the load of so many packets, 1 to 1,000,000, that the generator makes of a number, through
 /// `mm-delay 20 mm-link T T --uplink-queue=droptail --uplink-queue-args=packets=50 --downlink-queue=drophead
-/// --downlink-queue-args=bytes=60000`, where T is the generator's trace of the number and the seed is the number. The run
-/// ends a second after the last packet's moment. `OutOfMemory` is want of memory.
+/// --downlink-queue-args=bytes=60000`, where T is the generator's trace of the number and the seed is the number. The
+/// run ends a second after the last packet's moment. `OutOfMemory` is want of memory.
 #[tactic(auto, using(crate::proofs::LoadLemmas::last_within))]
 pub fn make_summary(alloc: Global, number: u64, packets: u32) -> Result<Bytes, OutOfMemory>
     requires some { 1 ≤ packets }

@@ -1,6 +1,7 @@
 // What the fates of rows come to.
 ghost use Rattle.std.specs.Prelude.{◌≡◌, ◌≤◌, fold, length, option_to_list};
-ghost use Rattle.made_run.specs.Summaries.{bytes_of, departed_at, departed_bytes, departures, greatest, how_many, is_departed, is_dropped, is_inside, is_unsent, or_greater};
+ghost use Rattle.made_run.specs.Summaries.{bytes_of, departed_at, departed_bytes, departures, greatest, how_many};
+ghost use Rattle.made_run.specs.Summaries.{is_departed, is_dropped, is_inside, is_unsent, or_greater};
 
 use nest_spec::{Fate, FateRow};
 use packet_record::Row;

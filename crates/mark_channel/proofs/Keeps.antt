@@ -1,5 +1,6 @@
 -- Each step of the channel keeps its rule.
-use Rattle.std.proofs.Common.{◌≡◌, ◌≢◌, ℕ, zero, suc, true, false, true≢false, List, [], ◌∷◌, ◌++◌, length, set, sym, refl, ap, ◌∙◌, subst, ⊎_elim}
+use Rattle.std.proofs.Common.{◌≡◌, ◌≢◌, ℕ, zero, suc, true, false, true≢false, List, [], ◌∷◌, ◌++◌, length, set, sym}
+use Rattle.std.proofs.Common.{refl, ap, ◌∙◌, subst, ⊎_elim}
 use mathlib.Core.Option.{some, some-ne-none}
 use lib.ListN.{get_elem?}
 use Rattle.crossbeam_channel.specs.Fifo.{Pushes, Pops, Forks, Merges, Learns}
@@ -9,10 +10,12 @@ use Rattle.packet_record.specs.Streams.{after_all, MayFollow, IsUpTo, AllFollow}
 use Rattle.mark_channel.specs.Carrying.{nothing, carrying, carrying_all}
 use Rattle.mark_channel.specs.declared.rule.Carried.{Carried}
 use Rattle.mark_channel.specs.declared.rule.View.{View}
-use Rattle.mark_channel.specs.Rules.{known, opening, sending, getting, settling, spent, Fits, FitsWriter, FitsFresh, Kept, Sends, Gets, Settles}
+use Rattle.mark_channel.specs.Rules.{known, opening, sending, getting, settling, spent, Fits, FitsWriter, FitsFresh}
+use Rattle.mark_channel.specs.Rules.{Kept, Sends, Gets, Settles}
 use Rattle.mark_channel.proofs.Streaming.{carrying_all-snoc, carrying_all-flow, AllFollow-snoc}
 
-at_end : (l : List View) (a b : View) (j : ℕ) → get_elem? l j ≢ some b → get_elem? (l ++ a ∷ []) j ≡ some b → j ≡ length l
+at_end : (l : List View) (a b : View) (j : ℕ) → get_elem? l j ≢ some b → get_elem? (l ++ a ∷ []) j ≡ some b
+    → j ≡ length l
 at_end [] a b zero n e = refl
 at_end [] a b (suc j) n e = absurd (some-ne-none b (sym e))
 at_end (x ∷ xs) a b zero n e = absurd (n e)
@@ -21,8 +24,10 @@ at_end (x ∷ xs) a b (suc j) n e = ap suc (at_end xs a b j n e)
 abbrev All : (ℕ → View → Type 0) → List View → Type 0
 All F views = (port : ℕ) (v : View) → get_elem? views port ≡ some v → F port v
 
-all_set : (F : ℕ → View → Type 0) (views : List View) (port : ℕ) (w : View) → F port w → ((j : ℕ) (u : View) → j ≢ port → get_elem? views j ≡ some u → F j u) → All F (set views port w)
-all_set F views port w mine others j u e = ⊎_elim (λ (x : (j ≡ port) × (w ≡ u)). subst (λ (y : ℕ × View). F y.0 y.1) (λ i. (sym x.0 i, x.1 i)) mine)
+all_set : (F : ℕ → View → Type 0) (views : List View) (port : ℕ) (w : View) → F port w
+    → ((j : ℕ) (u : View) → j ≢ port → get_elem? views j ≡ some u → F j u) → All F (set views port w)
+all_set F views port w mine others j u e =
+    ⊎_elim (λ (x : (j ≡ port) × (w ≡ u)). subst (λ (y : ℕ × View). F y.0 y.1) (λ i. (sym x.0 i, x.1 i)) mine)
     (λ (x : (j ≢ port) × (get_elem? views j ≡ some u)). others j u x.0 x.1) (at_set views port j w u e)
 
 never : {A : Type 0} → false ≡ true → A
@@ -37,10 +42,16 @@ opens = record {
   got = nothing;
   whole = refl;
   honest = tt;
-  fits = all_set (Fits 0 0 0 nothing nothing []) (opening ∷ []) 0 opening ((λ _. (refl, refl, refl)), (λ _. (refl, refl, refl)), λ _. (refl, refl)) (λ j u other e. absurd (other (at_end [] _ u j (λ x. some-ne-none u (sym x)) e)));
+  fits = all_set (Fits 0 0 0 nothing nothing []) (opening ∷ []) 0 opening (
+    (λ _. (refl, refl, refl)),
+    (λ _. (refl, refl, refl)),
+    λ _. (refl, refl),
+  )
+      (λ j u other e. absurd (other (at_end [] _ u j (λ x. some-ne-none u (sym x)) e)));
 }
 
-pub sends : (n port : ℕ) (v : View) (x : Item) → v.sends ≡ true → v.fresh ≡ false → MayFollow v.sent.flow x → IsUpTo v.horizon x → Pushes Kept n port v x (Sends v x)
+pub sends : (n port : ℕ) (v : View) (x : Item) → v.sends ≡ true → v.fresh ≡ false → MayFollow v.sent.flow x
+    → IsUpTo v.horizon x → Pushes Kept n port v x (Sends v x)
 sends n port v x may old follows upto items views _ h at =
     let w : View = known v.fresh v.sends v.gets v.horizon (carrying v.sent x) v.got in
     let mine = h.fits port v at in
@@ -49,7 +60,8 @@ sends n port v x may old follows upto items views _ h at =
     let W : Carried → ℕ → Type 0 = λ f k. MayFollow f.flow x × IsUpTo k x in
     let fine : W h.sent h.horizon = subst (λ (y : Carried × ℕ). W y.0 y.1) (λ i. (is.1 i, is.2 i)) (follows, upto) in
     let fine' : MayFollow (after_all h.got.flow items) x =
-    subst (λ f. MayFollow f x) (carrying_all-flow h.got items) (subst (λ (f : Carried). MayFollow f.flow x) h.whole fine.0) in (
+    subst (λ f. MayFollow f x) (carrying_all-flow h.got items)
+    (subst (λ (f : Carried). MayFollow f.flow x) h.whole fine.0) in (
       w,
       record {
         horizon = h.horizon;
@@ -77,7 +89,8 @@ gets port v may old x items views h at =
     let is = mine.1 may in
     let g : Carried = carrying h.got x in
     let W : Carried → ℕ → Type 0 = λ f k. MayFollow f.flow x × IsUpTo k x in
-    let fine : W v.got v.horizon = subst (λ (y : Carried × ℕ). W y.0 y.1) (λ i. (sym is.1 i, sym is.2 i)) (h.honest.0, h.honest.1) in (
+    let fine : W v.got v.horizon = subst (λ (y : Carried × ℕ). W y.0 y.1) (λ i. (sym is.1 i, sym is.2 i))
+    (h.honest.0, h.honest.1) in (
       w,
       record {
         horizon = h.horizon;
@@ -98,7 +111,8 @@ gets port v may old x items views h at =
       (refl, fine.0, fine.1),
     )
 
-pub forks : (port : ℕ) (v : View) (horizon : ℕ) → v ≡ opening → Forks Kept port v (sending horizon nothing) (getting horizon nothing)
+pub forks : (port : ℕ) (v : View) (horizon : ℕ) → v ≡ opening
+    → Forks Kept port v (sending horizon nothing) (getting horizon nothing)
 forks port v horizon is items views h at =
     let l : View = sending horizon nothing in
     let r : View = getting horizon nothing in
@@ -107,7 +121,8 @@ forks port v horizon is items views h at =
     let reads = mine.1 (ap (λ (y : View). y.gets) is) in
     let none = (mine.2 (ap (λ (y : View). y.fresh) is)).1 in
     let vs : List View = set views port l in
-    let Old : ℕ → View → Type 0 = λ j u. FitsWriter horizon h.writer nothing j u × (u.gets ≢ true) × FitsFresh h.writer items j u in
+    let Old : ℕ → View → Type 0 = λ j u. FitsWriter horizon h.writer nothing j u × (u.gets ≢ true)
+    × FitsFresh h.writer items j u in
     let old : All Old vs = all_set Old views port l ((λ _. (writes.0, refl, refl)), (λ p. never p), λ p. never p)
     (λ j u other e. let theirs = h.fits j u e in (
       (λ p. absurd (other ((theirs.0 p).0 ∙ sym writes.0))),
@@ -125,22 +140,30 @@ forks port v horizon is items views h at =
       fits = λ j u e. ⊎_elim (λ x. let o = old j u x in (o.0, (λ p. absurd (o.1 p)), o.2))
           (λ (same : r ≡ u). (
             (λ p. never (ap (λ (y : View). y.sends) same ∙ p)),
-            (λ p. (at_end vs r u j (λ x. (old j u x).1 p) e, ap (λ (y : View). y.got) (sym same), ap (λ (y : View). y.horizon) (sym same))),
+            (λ p. (
+              at_end vs r u j (λ x. (old j u x).1 p) e,
+              ap (λ (y : View). y.got) (sym same),
+              ap (λ (y : View). y.horizon) (sym same),
+            )),
             λ p. never (ap (λ (y : View). y.fresh) same ∙ p),
           )) (at_snoc vs r u j e);
     }
 
-pub merges : (port : ℕ) (v : View) (other : ℕ) (u : View) → v.sends ≡ true → u.gets ≡ true → Merges Kept port v other u (settling v.horizon v.sent u.got) spent
+pub merges : (port : ℕ) (v : View) (other : ℕ) (u : View) → v.sends ≡ true → u.gets ≡ true
+    → Merges Kept port v other u (settling v.horizon v.sent u.got) spent
 merges port v other u a b items views h at two at' =
     let both : View = settling v.horizon v.sent u.got in
     let mine = (h.fits port v at).0 a in
     let vs : List View = set views port both in
-    let was : get_elem? views other ≡ some u = ⊎_elim (λ x. absurd (two x.0)) (λ x. x.1) (at_set views port other both u at') in
+    let was : get_elem? views other ≡ some u = ⊎_elim (λ x. absurd (two x.0)) (λ x. x.1)
+    (at_set views port other both u at') in
     let theirs = (h.fits other u was).1 b in
     let F : ℕ → View → Type 0 = Fits h.horizon h.writer port h.sent h.got items in
     let Now : ℕ → View → Type 0 = λ j y. j ≢ other → F j y in
-    let now : All Now vs = all_set Now views port both (λ _. ((λ _. mine), (λ _. (refl, theirs.1, mine.2)), λ p. never p))
-    (λ j y _ e apart. let its = h.fits j y e in (its.0, (λ p. absurd (apart ((its.1 p).0 ∙ sym theirs.0))), its.2)) in record {
+    let now : All Now vs = all_set Now views port both
+    (λ _. ((λ _. mine), (λ _. (refl, theirs.1, mine.2)), λ p. never p))
+    (λ j y _ e apart. let its = h.fits j y e in (its.0, (λ p. absurd (apart ((its.1 p).0 ∙ sym theirs.0))), its.2))
+    in record {
       horizon = h.horizon;
       writer = h.writer;
       reader = port;
@@ -156,4 +179,5 @@ totals port v a b items views h at =
     let mine = h.fits port v at in
     let s = mine.0 a in
     let g = mine.1 b in
-    subst (λ (y : Carried × (Carried × ℕ)). (y.0 ≡ carrying_all y.1.0 items) × AllFollow y.1.1 y.1.0.flow items) (λ i. (sym s.1 i, (sym g.1 i, sym s.2 i))) (h.whole, h.honest)
+    subst (λ (y : Carried × (Carried × ℕ)). (y.0 ≡ carrying_all y.1.0 items) × AllFollow y.1.1 y.1.0.flow items)
+    (λ i. (sym s.1 i, (sym g.1 i, sym s.2 i))) (h.whole, h.honest)

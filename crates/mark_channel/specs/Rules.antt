@@ -10,7 +10,14 @@ use Rattle.mark_channel.specs.declared.rule.Carried.{Carried}
 use Rattle.mark_channel.specs.declared.rule.View.{View}
 
 abbrev pub known : Bool → Bool → Bool → ℕ → Carried → Carried → View
-known fresh sends gets horizon sent got = record { fresh = fresh; sends = sends; gets = gets; horizon = horizon; sent = sent; got = got }
+known fresh sends gets horizon sent got = record {
+  fresh = fresh;
+  sends = sends;
+  gets = gets;
+  horizon = horizon;
+  sent = sent;
+  got = got;
+}
 
 -- the one pass of a channel that was just made
 abbrev pub opening : View
@@ -39,7 +46,8 @@ abbrev pub FitsFresh : ℕ → List Item → ℕ → View → Type 0
 FitsFresh writer items port v = v.fresh ≡ true → (port ≡ writer) × (items ≡ [])
 
 abbrev pub Fits : ℕ → ℕ → ℕ → Carried → Carried → List Item → ℕ → View → Type 0
-Fits horizon writer reader sent got items port v = FitsWriter horizon writer sent port v × FitsReader horizon reader got port v × FitsFresh writer items port v
+Fits horizon writer reader sent got items port v = FitsWriter horizon writer sent port v
+    × FitsReader horizon reader got port v × FitsFresh writer items port v
 
 pub record Kept (items : List Item) (views : List View) : Type 0 where
   pub horizon : ℕ
@@ -57,7 +65,8 @@ Sends v x w = w ≡ known v.fresh v.sends v.gets v.horizon (carrying v.sent x) v
 
 -- what a receive tells
 abbrev pub Gets : View → Item → View → Type 0
-Gets v x w = (w ≡ known v.fresh v.sends v.gets v.horizon v.sent (carrying v.got x)) × MayFollow v.got.flow x × IsUpTo v.horizon x
+Gets v x w = (w ≡ known v.fresh v.sends v.gets v.horizon v.sent (carrying v.got x)) × MayFollow v.got.flow x
+    × IsUpTo v.horizon x
 
 -- what is learned once one pass knows both streams
 abbrev pub Settles : View → List Item → Type 0

@@ -1,5 +1,6 @@
 -- A text of lines of which a front is written to a file, and a piece is still kept.
-use Rattle.std.proofs.Common.{◌≡◌, ℕ, ◌+◌, ◌<◌, ◌≤◌, ◌++◌, List, length, take, Option, Result, Ok, Err, OnErr, ap, sym, ◌∙◌, arith, length-append}
+use Rattle.std.proofs.Common.{◌≡◌, ℕ, ◌+◌, ◌<◌, ◌≤◌, ◌++◌, List, length, take, Option, Result, Ok, Err, OnErr, ap, sym}
+use Rattle.std.proofs.Common.{◌∙◌, arith, length-append}
 use Rattle.std.proofs.Math.Seq.{take-append-add}
 use Rattle.std.proofs.lemmas.List.{append_assoc, take-append-le}
 use Rattle.std.proofs.lemmas.List.Concat.{flat_map-append}
@@ -30,5 +31,6 @@ adds_front told after name whole front piece rest n is short adds =
     ap length is ∙ length-append (front ++ piece) rest ∙ ap (λ k. k + length rest) (length-append front piece) in
     let within : length front + n ≤ length (front ++ piece) = omega (arith, length-append front piece) in
     let same : take (length front + n) whole ≡ front ++ take n piece =
-    ap (take (length front + n)) is ∙ take-append-le (length front + n) (front ++ piece) rest within ∙ take-append-add front piece n in
+    ap (take (length front + n)) is ∙ take-append-le (length front + n) (front ++ piece) rest within
+    ∙ take-append-add front piece n in
     (length front + n, omega arith, adds ∙ ap (λ l. lengthened name l told) (sym same))

@@ -1,5 +1,6 @@
 -- The log of a report, and what stops it.
-use Rattle.std.proofs.Common.{◌≡◌, ◌≢◌, inr, ℕ, List, Option, Some, None, Result, Ok, Err, IfOk, IfErr, MatchResult, subst, refl, ap, sym, ◌∙◌, arith}
+use Rattle.std.proofs.Common.{◌≡◌, ◌≢◌, inr, ℕ, List, Option, Some, None, Result, Ok, Err, IfOk, IfErr, MatchResult}
+use Rattle.std.proofs.Common.{subst, refl, ap, sym, ◌∙◌, arith}
 use Rattle.mm_base.specs.Disk.{DiskView}
 use Rattle.mm_base.specs.Files.{Files}
 use Rattle.shell_log.specs.Reading.{line_named, log_fault, number_of}
@@ -22,10 +23,15 @@ use Rattle.mm_program.specs.ReportReading.{log_refusal, log_refused, report_read
 use Rattle.mm_program.specs.Tasks.{Gives, Report as ReportTask}
 use Rattle.mm_program.proofs.InputLemmas.{IsOfText, bad_input}
 
-pub log_said : (name : Text) (text : List ℕ) (error : LogError) (cause : Cause) → error ≢ errors.OutOfMemory → log_fault text ≡ Some error
+pub log_said : (name : Text) (text : List ℕ) (error : LogError) (cause : Cause) → error ≢ errors.OutOfMemory
+    → log_fault text ≡ Some error
     → cause ≡ Refused (BadInput name (number_of error) (line_named error)) → RefusesText (log_refusal name text) cause
 unfolding log_refusal
-log_said name text errors.BadHeader cause other h is = inr (BadInput name 1 (line_named errors.BadHeader), is, ap (log_refused name) h)
+log_said name text errors.BadHeader cause other h is = inr (
+  BadInput name 1 (line_named errors.BadHeader),
+  is,
+  ap (log_refused name) h,
+)
 log_said name text (errors.BadLine line) cause other h is = inr (BadInput name 2 line, is, ap (log_refused name) h)
 log_said name text (errors.Backwards line) cause other h is = inr (BadInput name 3 line, is, ap (log_refused name) h)
 log_said name text errors.OutOfMemory cause other h is = absurd (other refl)
@@ -34,20 +40,24 @@ pub log_accepted : (name : Text) (text : List ℕ) → log_fault text ≡ None �
 unfolding log_refusal
 log_accepted name text e = ap (log_refused name) e
 
-log_status : (name : Text) (fault : Option LogError) (refusal : Refusal) → log_refused name fault ≡ Some refusal → IsOfText refusal
+log_status : (name : Text) (fault : Option LogError) (refusal : Refusal) → log_refused name fault ≡ Some refusal
+    → IsOfText refusal
 log_status name None refusal e = absurd (cc e)
 log_status name (Some errors.BadHeader) refusal e = bad_input name 1 (line_named errors.BadHeader) refusal e
 log_status name (Some (errors.BadLine line)) refusal e = bad_input name 2 line refusal e
 log_status name (Some (errors.Backwards line)) refusal e = bad_input name 3 line refusal e
 log_status name (Some errors.OutOfMemory) refusal e = absurd (cc e)
 
-pub log_of_text : (name : Text) (text : List ℕ) (refusal : Refusal) → log_refusal name text ≡ Some refusal → IsOfText refusal
+pub log_of_text : (name : Text) (text : List ℕ) (refusal : Refusal) → log_refusal name text ≡ Some refusal
+    → IsOfText refusal
 unfolding log_refusal
 log_of_text name text refusal e = log_status name (log_fault text) refusal e
 
 -- the report is made
-pub report_found : (job : ReportJob) (told : Option Files) (text : List ℕ) (result : Result (Option Report) Cause) → IsInput told job.log text
-    → IfOk result (λ report. IsReport text report) → MatchResult result (λ _. log_refusal job.log text ≡ None) (λ cause. RefusesText (log_refusal job.log text) cause)
+pub report_found : (job : ReportJob) (told : Option Files) (text : List ℕ) (result : Result (Option Report) Cause)
+    → IsInput told job.log text
+    → IfOk result (λ report. IsReport text report) → MatchResult result (λ _. log_refusal job.log text ≡ None)
+    (λ cause. RefusesText (log_refusal job.log text) cause)
     → IfOk result (λ report. Finishes Gives (report_reading job) told (prints (report_text report)))
 report_found job told text (Ok report) input is accepted = record {
   task = ReportTask text;
@@ -57,9 +67,11 @@ report_found job told text (Ok report) input is accepted = record {
 report_found job told text (Err cause) input is accepted = tt
 
 -- or its text is refused
-pub report_stop : (job : ReportJob) (old new : DiskView) (text : List ℕ) (result : Result (Option Report) Cause) → IsInput old.files job.log text
+pub report_stop : (job : ReportJob) (old new : DiskView) (text : List ℕ) (result : Result (Option Report) Cause)
+    → IsInput old.files job.log text
     → MatchResult result (λ _. log_refusal job.log text ≡ None) (λ cause. RefusesText (log_refusal job.log text) cause)
     → IfErr result (λ cause. StopsReading (report_reading job) old new cause)
 report_stop job old new text (Ok report) input answer = tt
 report_stop job old new text (Err cause) input answer =
-    text_stops old new (log_refusal job.log) job.log (λ t. Done (ReportTask t)) text cause input (λ refusal e. (log_of_text job.log text refusal e).not_absent) answer
+    text_stops old new (log_refusal job.log) job.log (λ t. Done (ReportTask t)) text cause input
+    (λ refusal e. (log_of_text job.log text refusal e).not_absent) answer

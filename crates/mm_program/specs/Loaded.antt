@@ -27,8 +27,10 @@ pub record HasSchedule (told : Option Files) (name : Text) (text : List ℕ) (ro
 -- the files of these names have these texts, which are those of these traces
 pub data HaveTraces (told : Option Files) : List Text → List (List ℕ) → List TraceView → Type 0 where
   NoTraces : HaveTraces told [] [] []
-  MoreTraces : (name : Text) (names : List Text) (text : List ℕ) (texts : List (List ℕ)) (trace : TraceView) (traces : List TraceView)
-      → HasTrace told name text trace → HaveTraces told names texts traces → HaveTraces told (name ∷ names) (text ∷ texts) (trace ∷ traces)
+  MoreTraces : (name : Text) (names : List Text) (text : List ℕ) (texts : List (List ℕ)) (trace : TraceView)
+      (traces : List TraceView)
+      → HasTrace told name text trace → HaveTraces told names texts traces
+      → HaveTraces told (name ∷ names) (text ∷ texts) (trace ∷ traces)
 
 -- the traces of a run are read, and few enough opportunities are theirs
 pub record HasNest (told : Option Files) (job : RunJob) (plan : NestPlan) (nest : NestParts) : Type 0 where

@@ -1,5 +1,6 @@
 -- What `run` is asked for, and what it gives.
-use Rattle.std.specs.Prelude.{◌≡◌, ℕ, ◌+◌, Bool, List, [], ◌∷◌, ◌++◌, Option, Some, None, codes, map, position, take, drop, option_and_then}
+use Rattle.std.specs.Prelude.{◌≡◌, ℕ, ◌+◌, Bool, List, [], ◌∷◌, ◌++◌, Option, Some, None, codes, map, position, take}
+use Rattle.std.specs.Prelude.{drop, option_and_then}
 use Rattle.std.specs.Str.{bytes_eq}
 use Rattle.mm_base.specs.Numbers.{decimal_of}
 use Rattle.packet_record.specs.Schedules.{IsScheduleText}
@@ -39,7 +40,14 @@ unfoldable pub run_numbers : List Text → RunTexts → Option RunJob
 run_numbers shells texts = do
   until ← decimal_of texts.until
   seed ← seed_of texts.seed
-  Some (record { until = until; schedule = texts.schedule; out = texts.out; seed = seed; plain = texts.plain; shells = shells })
+  Some (record {
+    until = until;
+    schedule = texts.schedule;
+    out = texts.out;
+    seed = seed;
+    plain = texts.plain;
+    shells = shells;
+  })
 
 -- `--order` asks for nothing yet
 abbrev pub run_unordered : Option Text → Option RunJob → Option RunJob

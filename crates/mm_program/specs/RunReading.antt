@@ -26,7 +26,8 @@ abbrev pub with_nest : {A : Type 0} → Result NestPlan NestError → (NestPlan 
 with_nest (Err error) next = Refuses (nest_refusal error)
 with_nest (Ok plan) next = next plan
 
--- The inputs are the traces and the schedule. The outputs are the logs, in the order of the shells, up before down, and the fates.
+-- The inputs are the traces and the schedule. The outputs are the logs, in the order of the shells, up before down,
+-- and the fates.
 abbrev pub refused_outputs : RunJob → NestPlan → Option Refusal
 refused_outputs job plan = refused_names (plan.traces ++ job.schedule ∷ []) (plan.logs ++ job.out ∷ [])
 
@@ -36,7 +37,8 @@ refused_horizon until = if nat_lt 3600000 until then Some (Limit Horizon) else N
 
 -- the links of the shells have at most 16,000,000 opportunities up to the horizon, both directions together
 unfoldable pub refused_count : ℕ → List ShellWords → List TraceView → Option Refusal
-refused_count until shells traces = if nat_lt 16000000 (opportunities_of until shells traces) then Some (Limit Opportunities) else None
+refused_count until shells traces = if nat_lt 16000000 (opportunities_of until shells traces)
+    then Some (Limit Opportunities) else None
 
 -- the traces, in the order of the shells, up before down, and the schedule
 abbrev pub run_inputs : RunJob → NestPlan → Reading Task

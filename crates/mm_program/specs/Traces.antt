@@ -9,8 +9,14 @@ use Rattle.trace_reader.specs.TraceText.{form_of, said_of, stated}
 use Rattle.trace_reader.specs.Traces.{TraceView}
 
 -- the opportunity of a moment and bytes, where the bytes are 1 to 1,000,000
-abbrev pub opportunity_within : (moment bytes : ℕ) (some most : Bool) → nat_le 1 bytes ≡ some → nat_le bytes 1000000 ≡ most → List Opportunity
-opportunity_within moment bytes true true e f = record { moment = moment; bytes = bytes; some = leb-true 1 bytes e; most = leb-true bytes 1000000 f } ∷ []
+abbrev pub opportunity_within : (moment bytes : ℕ) (some most : Bool) → nat_le 1 bytes ≡ some
+    → nat_le bytes 1000000 ≡ most → List Opportunity
+opportunity_within moment bytes true true e f = record {
+  moment = moment;
+  bytes = bytes;
+  some = leb-true 1 bytes e;
+  most = leb-true bytes 1000000 f;
+} ∷ []
 opportunity_within moment bytes true false e f = []
 opportunity_within moment bytes false most e f = []
 
@@ -23,4 +29,8 @@ opportunities_said form lines = flat_map (λ line. opportunity_said (said_of for
 
 -- the trace of which this is the text, where it is one
 unfoldable pub trace_in : List ℕ → TraceView
-trace_in text = record { form = form_of (lines_of text); opportunities = opportunities_said (form_of (lines_of text)) (stated (lines_of text)) }
+trace_in text = record {
+  form = form_of (lines_of text);
+  opportunities = opportunities_said (form_of (lines_of text))
+      (stated (lines_of text));
+}

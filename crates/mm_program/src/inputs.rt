@@ -8,7 +8,8 @@ ghost use Rattle.trace_reader.specs.Reading.{trace_fault};
 ghost use Rattle.trace_reader.specs.TraceText.{IsTraceText};
 ghost use Rattle.command_ends.specs.Readings.{Reading};
 ghost use Rattle.command_ends.specs.Stops.{IsInput, RefusesText, StopsAtFile, StopsReading};
-ghost use Rattle.mm_program.specs.Inputs.{reading_schedule, reading_trace, reading_traces, schedule_refusal, trace_refusal};
+ghost use Rattle.mm_program.specs.Inputs.{reading_schedule, reading_trace, reading_traces, schedule_refusal};
+ghost use Rattle.mm_program.specs.Inputs.{trace_refusal};
 ghost use Rattle.mm_program.specs.Loaded.{HasSchedule, HasTrace, HaveTraces};
 ghost use Rattle.mm_program.specs.Tasks.{Task};
 
@@ -20,7 +21,8 @@ use trace_reader::{Trace, TraceError, read_trace};
 
 // Why the text of the trace of this name isn't accepted.
 fn trace_cause(name: Text, error: TraceError) -> Cause
-    ensures { (text : List ℕ) → (error ≢ TraceError.OutOfMemory → trace_fault text ≡ Some error) → RefusesText (trace_refusal name text) result }
+    ensures { (text : List ℕ) → (error ≢ TraceError.OutOfMemory → trace_fault text ≡ Some error)
+        → RefusesText (trace_refusal name text) result }
 {
     match error {
         TraceError::TooManyLines => Cause::limit(Limit::Lines(name)),
@@ -52,7 +54,8 @@ fn schedule_cause(name: Text, error: ScheduleError) -> Cause
 // The trace of a text.
 fn trace_of(alloc: Global, name: &str, text: &[u8]) -> Result<Trace, Cause>
     ensures trace { IfOk result (λ trace. IsTraceText text.now trace) }
-    ensures refused { MatchResult result (λ _. trace_refusal name.now text.now ≡ None) (λ cause. RefusesText (trace_refusal name.now text.now) cause) }
+    ensures refused { MatchResult result (λ _. trace_refusal name.now text.now ≡ None)
+        (λ cause. RefusesText (trace_refusal name.now text.now) cause) }
 {
     match read_trace(alloc, text) {
         Ok(trace) => Ok(trace),
@@ -77,7 +80,8 @@ pub(crate) fn load_traces<D: Disk>(
     disk: &mut D,
     names: &[Text],
 ) -> Result<Vec<Trace>, Cause>
-    ensures found { IfOk result (λ traces. ((texts : List (List ℕ)) × HaveTraces (D.view disk.old).files names.now texts traces.items)) }
+    ensures found { IfOk result (λ traces. ((texts : List (List ℕ))
+        × HaveTraces (D.view disk.old).files names.now texts traces.items)) }
     ensures count { IfOk result (λ traces. length traces.items ≡ length names.now) }
     ensures stopped { IfErr result (λ cause. (next : List (List ℕ) → Reading Task)
         → StopsReading (reading_traces names.now next) (D.view disk.old) (D.view disk.new) cause) }
@@ -97,7 +101,8 @@ fn read_schedule_file<D: Disk>(
     disk: &mut D,
     name: &str,
 ) -> Result<ScheduleText, Cause>
-    ensures read { IfOk result (λ text. ((bytes : List ℕ) × IsInput (D.view disk.old).files name.now bytes × HasRead bytes text)) }
+    ensures read { IfOk result (λ text. ((bytes : List ℕ) × IsInput (D.view disk.old).files name.now bytes
+        × HasRead bytes text)) }
     ensures stopped { IfErr result (λ cause. StopsAtFile name.now (D.view disk.old) (D.view disk.new) cause) }
     ensures only_reads { OnlyReads (D.view disk.old) (D.view disk.new) }
 {
@@ -110,7 +115,8 @@ fn read_schedule_file<D: Disk>(
 // The rows of a schedule's text that was read.
 fn schedule_of(alloc: Global, name: &str, text: ScheduleText) -> Result<Schedule, Cause>
     ensures rows { (bytes : List ℕ) → HasRead bytes text → IfOk result (λ rows. IsScheduleText bytes rows) }
-    ensures refused { (bytes : List ℕ) → HasRead bytes text → MatchResult result (λ _. schedule_refusal name.now bytes ≡ None)
+    ensures refused { (bytes : List ℕ) → HasRead bytes text
+        → MatchResult result (λ _. schedule_refusal name.now bytes ≡ None)
         (λ cause. RefusesText (schedule_refusal name.now bytes) cause) }
 {
     match text.finish() {

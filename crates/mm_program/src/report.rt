@@ -42,7 +42,8 @@ fn read_report<'a>(alloc: Global, words: &'a [String]) -> Result<Option<ReportJo
 
 // Why the text of the log of this name isn't accepted.
 fn log_cause(name: Text, error: LogError) -> Cause
-    ensures { (text : List ℕ) → (error ≢ LogError.OutOfMemory → log_fault text ≡ Some error) → RefusesText (log_refusal name text) result }
+    ensures { (text : List ℕ) → (error ≢ LogError.OutOfMemory → log_fault text ≡ Some error)
+        → RefusesText (log_refusal name text) result }
 {
     match error {
         LogError::OutOfMemory => Cause::OutOfMemory,
@@ -56,7 +57,8 @@ fn log_cause(name: Text, error: LogError) -> Cause
 
 // The text of the log of this name, read in pieces.
 fn read_log_file<D: Disk>(alloc: Global, disk: &mut D, name: &str) -> Result<ReportText, Cause>
-    ensures read { IfOk result (λ text. ((bytes : List ℕ) × IsInput (D.view disk.old).files name.now bytes × HasRead bytes text)) }
+    ensures read { IfOk result (λ text. ((bytes : List ℕ) × IsInput (D.view disk.old).files name.now bytes
+        × HasRead bytes text)) }
     ensures stopped { IfErr result (λ cause. StopsAtFile name.now (D.view disk.old) (D.view disk.new) cause) }
     ensures only_reads { OnlyReads (D.view disk.old) (D.view disk.new) }
 {
@@ -69,7 +71,8 @@ fn read_log_file<D: Disk>(alloc: Global, disk: &mut D, name: &str) -> Result<Rep
 // The report of a log's text that was read, or none, where the log has no entry.
 fn report_of(alloc: Global, name: &str, text: ReportText) -> Result<Option<Report>, Cause>
     ensures report { (bytes : List ℕ) → HasRead bytes text → IfOk result (λ report. IsReport bytes report) }
-    ensures refused { (bytes : List ℕ) → HasRead bytes text → MatchResult result (λ _. log_refusal name.now bytes ≡ None)
+    ensures refused { (bytes : List ℕ) → HasRead bytes text
+        → MatchResult result (λ _. log_refusal name.now bytes ≡ None)
         (λ cause. RefusesText (log_refusal name.now bytes) cause) }
 {
     match text.finish() {
@@ -84,8 +87,10 @@ fn load_report<D: Disk>(
     disk: &mut D,
     job: &ReportJob<'_>,
 ) -> Result<Option<Report>, Cause>
-    ensures found { IfOk result (λ report. Finishes Gives (report_reading (report_values job.now)) (D.view disk.old).files (prints (report_text report))) }
-    ensures stopped { IfErr result (λ cause. StopsReading (report_reading (report_values job.now)) (D.view disk.old) (D.view disk.new) cause) }
+    ensures found { IfOk result (λ report. Finishes Gives (report_reading (report_values job.now))
+        (D.view disk.old).files (prints (report_text report))) }
+    ensures stopped { IfErr result (λ cause. StopsReading (report_reading (report_values job.now)) (D.view disk.old)
+        (D.view disk.new) cause) }
     ensures only_reads { OnlyReads (D.view disk.old) (D.view disk.new) }
 {
     let text = read_log_file(alloc, disk, job.log)?;

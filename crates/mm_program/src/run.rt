@@ -1,5 +1,6 @@
 // The command `run`: its words, its inputs, its packets, and the files that it writes.
-ghost use Rattle.std.specs.Prelude.{◌≡◌, ◌≢◌, ◌⊎◌, ◌≤◌, ◌∷◌, ◌++◌, [], None, IfErr, IfOk, MatchResult, OnOk, length, map, string_bytes};
+ghost use Rattle.std.specs.Prelude.{◌≡◌, ◌≢◌, ◌⊎◌, ◌≤◌, ◌∷◌, ◌++◌, [], None, IfErr, IfOk, MatchResult, OnOk, length};
+ghost use Rattle.std.specs.Prelude.{map, string_bytes};
 ghost use Rattle.mm_base.specs.Disk.{DiskView, OnlyReads};
 ghost use Rattle.mm_base.specs.Sink.{SinkView};
 ghost use Rattle.command_ends.specs.Answers.{CountsDisk, cause_in};
@@ -11,7 +12,8 @@ ghost use Rattle.nest_spec.specs.Nests.{opportunities_of};
 ghost use Rattle.mm_program.specs.Commands.{run_words};
 ghost use Rattle.mm_program.specs.Loaded.{HasNest};
 ghost use Rattle.mm_program.specs.Run.{run_files};
-ghost use Rattle.mm_program.specs.RunReading.{nest_refusal, refused_count, refused_horizon, refused_outputs, run_inputs, run_reading};
+ghost use Rattle.mm_program.specs.RunReading.{nest_refusal, refused_count, refused_horizon, refused_outputs};
+ghost use Rattle.mm_program.specs.RunReading.{run_inputs, run_reading};
 ghost use Rattle.mm_program.specs.Tasks.{Gives};
 ghost use Rattle.mm_program.specs.View.{run_values};
 
@@ -28,7 +30,8 @@ use trace_reader::Trace;
 
 // Why the words of the shells are no nest.
 fn nest_cause(error: NestError) -> Cause
-    ensures { (result ≡ causes.OutOfMemory) ⊎ ((error ≢ NestError.OutOfMemory) × (result ≡ causes.Refused (nest_refusal error))) }
+    ensures { (result ≡ causes.OutOfMemory)
+        ⊎ ((error ≢ NestError.OutOfMemory) × (result ≡ causes.Refused (nest_refusal error))) }
 {
     match error {
         NestError::OutOfMemory => Cause::OutOfMemory,
@@ -71,7 +74,8 @@ fn check_names(alloc: Global, job: &RunJob<'_>, nest: &NestWords) -> Result<(), 
 
 // Refuses a horizon past an hour.
 fn check_horizon(until: u64) -> Result<(), Cause>
-    ensures refused { MatchResult result (λ _. refused_horizon until ≡ None) (λ cause. RefusesText (refused_horizon until) cause) }
+    ensures refused { MatchResult result (λ _. refused_horizon until ≡ None)
+        (λ cause. RefusesText (refused_horizon until) cause) }
     ensures small { OnOk result (until ≤ 3600000) }
 {
     if until > HOUR {
@@ -82,7 +86,8 @@ fn check_horizon(until: u64) -> Result<(), Cause>
 
 // The nest of a run's words, where these refuse nothing.
 fn read_words(alloc: Global, job: &RunJob<'_>) -> Result<NestWords, Cause>
-    ensures read { (disk : DiskView) → ReadsOn (run_reading (run_values job.now)) (run_inputs (run_values job.now)) disk disk result }
+    ensures read { (disk : DiskView) → ReadsOn (run_reading (run_values job.now)) (run_inputs (run_values job.now))
+        disk disk result }
     ensures small { OnOk result (job.now.until ≤ 3600000) }
 {
     let nest = match read_nest(alloc, job.shells) {
@@ -99,7 +104,8 @@ fn check_count(job: &RunJob<'_>, words: &NestWords, traces: &[Trace]) -> Result<
     requires horizon { job.now.until ≤ 3600000 }
     requires count { length traces.now ≡ length words.now.traces }
     ensures few { OnOk result (opportunities_of job.now.until words.now.shells traces.now ≤ 16000000) }
-    ensures refused { IfErr result (λ cause. RefusesText (refused_count job.now.until words.now.shells traces.now) cause) }
+    ensures refused { IfErr result (λ cause. RefusesText (refused_count job.now.until words.now.shells traces.now)
+        cause) }
 {
     if words.opportunities(traces, job.until) > MOST_OPPORTUNITIES {
         return Err(Cause::limit(Limit::Opportunities));
@@ -116,7 +122,8 @@ fn load_nest<D: Disk>(
 ) -> Result<Nest, Cause>
     requires { job.now.until ≤ 3600000 }
     ensures found { IfOk result (λ nest. HasNest (D.view disk.old).files (run_values job.now) words nest) }
-    ensures stopped { IfErr result (λ cause. StopsReading (run_inputs (run_values job.now) words) (D.view disk.old) (D.view disk.new) cause) }
+    ensures stopped { IfErr result (λ cause. StopsReading (run_inputs (run_values job.now) words) (D.view disk.old)
+        (D.view disk.new) cause) }
     ensures only_reads { OnlyReads (D.view disk.old) (D.view disk.new) }
 {
     let traces = load_traces(alloc, disk, words.traces())?;
@@ -124,8 +131,8 @@ fn load_nest<D: Disk>(
     Ok(build(alloc, words, traces, job.seed, job.until)?)
 }
 
-// The run of a job's inputs. Its nest and its schedule are let go before any file is written, but for the traces of links whose logs have
-// a name.
+// The run of a job's inputs. Its nest and its schedule are let go before any file is written, but for the traces of
+// links whose logs have a name.
 fn run_packets<D: Disk>(
     alloc: Global,
     job: &RunJob<'_>,
@@ -135,7 +142,8 @@ fn run_packets<D: Disk>(
     requires { job.now.until ≤ 3600000 }
     ensures found { IfOk result (λ run. Finishes Gives (run_inputs (run_values job.now) words) (D.view disk.old).files
         (writes (run_files job.now.out.now run))) }
-    ensures stopped { IfErr result (λ cause. StopsReading (run_inputs (run_values job.now) words) (D.view disk.old) (D.view disk.new) cause) }
+    ensures stopped { IfErr result (λ cause. StopsReading (run_inputs (run_values job.now) words) (D.view disk.old)
+        (D.view disk.new) cause) }
     ensures only_reads { OnlyReads (D.view disk.old) (D.view disk.new) }
 {
     let nest = load_nest(alloc, job, words, disk)?;

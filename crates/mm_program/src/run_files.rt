@@ -17,11 +17,12 @@ use nest_spec::{FateRow, Named};
 use shell_log::HEADER;
 use std::alloc::Global;
 
-// Makes the file hold a log's text: its first line, and then a line for each entry, written piece by piece as the log is made.
-// After a refusal the file is as before, or it holds a front of the text: none, or not all.
+// Makes the file hold a log's text: its first line, and then a line for each entry, written piece by piece as the log
+// is made. After a refusal the file is as before, or it holds a front of the text: none, or not all.
 fn save_log<D: Disk>(alloc: Global, disk: &mut D, name: &str, log: LinkLog) -> Result<(), DiskError>
     ensures ok { OnOk result ((D.view disk.new).files ≡ holding name.now (log_text log) (D.view disk.old).files) }
-    ensures err { OnErr result (HoldsSome (named_text name.now (log_text log)) (D.view disk.old).files (D.view disk.new).files) }
+    ensures err { OnErr result (HoldsSome (named_text name.now (log_text log)) (D.view disk.old).files
+        (D.view disk.new).files) }
     ensures only_writes { OnlyWrites (D.view disk.old) (D.view disk.new) }
     ensures cause { HasWriteCause (D.view disk.old) (D.view disk.new) result }
 {
@@ -37,7 +38,8 @@ fn save_log<D: Disk>(alloc: Global, disk: &mut D, name: &str, log: LinkLog) -> R
 // Writes the file of a log, and lets the log go.
 fn write_log<D: Disk>(alloc: Global, disk: &mut D, log: UnwrittenLog) -> Result<(), Cause>
     ensures ok { OnOk result ((D.view disk.new).files ≡ holding log.name (log_text log.log) (D.view disk.old).files) }
-    ensures partly { OnErr result (HoldsSome (named_text log.name (log_text log.log)) (D.view disk.old).files (D.view disk.new).files) }
+    ensures partly { OnErr result (HoldsSome (named_text log.name (log_text log.log)) (D.view disk.old).files
+        (D.view disk.new).files) }
     ensures stopped { IfErr result (λ cause. StopsAtOutput log.name (D.view disk.old) (D.view disk.new) cause) }
     ensures only_writes { OnlyWrites (D.view disk.old) (D.view disk.new) }
 {
@@ -48,8 +50,10 @@ fn write_log<D: Disk>(alloc: Global, disk: &mut D, log: UnwrittenLog) -> Result<
 
 // Writes the files of the logs in order, and lets each log go when its file is written.
 fn write_logs<D: Disk>(alloc: Global, disk: &mut D, logs: Vec<UnwrittenLog>) -> Result<(), Cause>
-    ensures ok { OnOk result ((D.view disk.new).files ≡ holding_all (map log_file (unwritten logs.items)) (D.view disk.old).files) }
-    ensures stopped { IfErr result (λ cause. StopsWriting (map log_file (unwritten logs.items)) (D.view disk.old) (D.view disk.new) cause) }
+    ensures ok { OnOk result ((D.view disk.new).files ≡ holding_all (map log_file (unwritten logs.items))
+        (D.view disk.old).files) }
+    ensures stopped { IfErr result (λ cause. StopsWriting (map log_file (unwritten logs.items)) (D.view disk.old)
+        (D.view disk.new) cause) }
     ensures only_writes { OnlyWrites (D.view disk.old) (D.view disk.new) }
 {
     for log in logs {
@@ -65,8 +69,10 @@ fn write_fates<D: Disk>(
     name: &str,
     fates: &[FateRow],
 ) -> Result<(), Cause>
-    ensures ok { OnOk result ((D.view disk.new).files ≡ holding name.now (fates_text fates.now) (D.view disk.old).files) }
-    ensures partly { OnErr result (HoldsSome (named_text name.now (fates_text fates.now)) (D.view disk.old).files (D.view disk.new).files) }
+    ensures ok { OnOk result ((D.view disk.new).files ≡ holding name.now (fates_text fates.now)
+        (D.view disk.old).files) }
+    ensures partly { OnErr result (HoldsSome (named_text name.now (fates_text fates.now)) (D.view disk.old).files
+        (D.view disk.new).files) }
     ensures stopped { IfErr result (λ cause. StopsAtOutput name.now (D.view disk.old) (D.view disk.new) cause) }
     ensures only_writes { OnlyWrites (D.view disk.old) (D.view disk.new) }
 {
@@ -82,7 +88,8 @@ pub(crate) fn write_files<D: Disk>(
     run: NestRun,
 ) -> Result<(), Cause>
     ensures ok { OnOk result ((D.view disk.new).files ≡ holding_all (run_files out.now run) (D.view disk.old).files) }
-    ensures stopped { IfErr result (λ cause. StopsWriting (run_files out.now run) (D.view disk.old) (D.view disk.new) cause) }
+    ensures stopped { IfErr result (λ cause. StopsWriting (run_files out.now run) (D.view disk.old) (D.view disk.new)
+        cause) }
     ensures only_writes { OnlyWrites (D.view disk.old) (D.view disk.new) }
 {
     let (fates, logs) = run.into_parts();

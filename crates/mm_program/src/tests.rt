@@ -368,8 +368,8 @@ fn each_call_of_the_disk_fails_in_turn(rt: HostRuntime) -> Result<(), Fail> {
     let fates = "1 up departed 2\n";
     let first = "# base timestamp: 0\n";
     let files = [("t", "1\n"), ("x", "1\n"), ("s", "1 up 1504\n")];
-    // The calls are: a size and a read for each of `t`, `x` and `s`, a creation for each of `u`, `d` and `f`, an append for the first
-    // line of `u` and of `d`, and one for the lines of each file.
+    // The calls are: a size and a read for each of `t`, `x` and `s`, a creation for each of `u`, `d` and `f`, an
+    // append for the first line of `u` and of `d`, and one for the lines of each file.
     for (call, status, line, u, d, f) in [
         (1, 6, "mm: read fault t\n", "none", "none", "none"),
         (2, 6, "mm: read fault t\n", "none", "none", "none"),

@@ -7,8 +7,12 @@ use Rattle.shell_core.specs.Shells.{IsBuilt, opportunities, whole_out}
 use Rattle.shell_core.proofs.Laws.{out_rises, out_within}
 
 -- what departs may arrive at the next shell
-pub departed_rise : (c : DirSpec) (h : ℕ) (l departed : List Timed) → IsBuilt c → departed ≡ whole_out c h l → Rise l → Rise departed
-departed_rise c h l departed built e rises = subst Rise (sym e) (out_rises c h (length (opportunities c h)) l built rises)
+pub departed_rise : (c : DirSpec) (h : ℕ) (l departed : List Timed) → IsBuilt c → departed ≡ whole_out c h l → Rise l
+    → Rise departed
+departed_rise c h l departed built e rises =
+    subst Rise (sym e) (out_rises c h (length (opportunities c h)) l built rises)
 
-pub departed_within : (c : DirSpec) (h : ℕ) (l departed : List Timed) → IsBuilt c → departed ≡ whole_out c h l → AreUpTo h l → AreUpTo h departed
-departed_within c h l departed built e within = subst (AreUpTo h) (sym e) (out_within c h (length (opportunities c h)) l built within)
+pub departed_within : (c : DirSpec) (h : ℕ) (l departed : List Timed) → IsBuilt c → departed ≡ whole_out c h l
+    → AreUpTo h l → AreUpTo h departed
+departed_within c h l departed built e within =
+    subst (AreUpTo h) (sym e) (out_within c h (length (opportunities c h)) l built within)

@@ -11,8 +11,9 @@ use std::marker::Model;
 /// A log that isn't written out, and the name of its file.
 pub type UnwrittenLog = Named<LinkLog>;
 
-/// The fate of each packet in the order of their rows, and the logs that have a name in the order of the shells, up before down. The
-/// logs aren't written out: each keeps the arrivals of its link. Contracts see the fates, and the names and entries of the logs.
+/// The fate of each packet in the order of their rows, and the logs that have a name in the order of the shells, up
+/// before down. The logs aren't written out: each keeps the arrivals of its link. Contracts see the fates, and the
+/// names and entries of the logs.
 #[derive(Drop)]
 pub struct NestRun {
     fates: Vec<FateRow>,

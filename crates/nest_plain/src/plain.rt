@@ -36,8 +36,8 @@ fn entering(
     Ok(packets)
 }
 
-// A direction's packets through its shells, their fates marked: the logs of its shells in passing order, where they have
-// names.
+// A direction's packets through its shells, their fates marked: the logs of its shells in passing order, where they
+// have names.
 fn run_direction(
     alloc: Global,
     nest: &Nest,
@@ -49,7 +49,8 @@ fn run_direction(
     ensures rows { marking.new.rows ≡ marking.old.rows }
     ensures fates { OnOk result ((f : RowValue → FateValue) → marking.old.fates ≡ fated f marking.old.rows
         → marking.new.fates
-        ≡ fated (marked_through nest.now.horizon (shells_in direction nest.now) (entering direction nest.now.horizon rows.now) f)
+        ≡ fated (marked_through nest.now.horizon (shells_in direction nest.now)
+        (entering direction nest.now.horizon rows.now) f)
         marking.old.rows) }
     ensures logs { IfOk result (λ logs. map (option_map unwritten_log) logs.items
         ≡ map named_log (walk_of direction nest.now rows.now)) }

@@ -74,9 +74,11 @@ pub(crate) fn run_shells(
     requires within { AreUpTo horizon arrived.items }
     ensures rows { marking.new.rows ≡ marking.old.rows }
     ensures fates { OnOk result ((f : RowValue → FateValue) → marking.old.fates ≡ fated f marking.old.rows
-        → marking.new.fates ≡ fated (marked_through horizon (into_iter_items shells) arrived.items f) marking.old.rows) }
+        → marking.new.fates ≡ fated (marked_through horizon (into_iter_items shells) arrived.items f)
+        marking.old.rows) }
     ensures logs { OnOk result (map (option_map unwritten_log) logs.new.items
-        ≡ map (option_map unwritten_log) logs.old.items ++ map named_log (walk horizon (into_iter_items shells) arrived.items)) }
+        ≡ map (option_map unwritten_log) logs.old.items
+        ++ map named_log (walk horizon (into_iter_items shells) arrived.items)) }
     ensures built { OnOk result (AreBuilt (specs_in (into_iter_items shells))) }
 {
     let Some(shell) = shells.next() else {

@@ -1,12 +1,14 @@
 -- A trace has at most so many opportunities up to an hour.
-use Rattle.std.proofs.Common.{ℕ, zero, suc, ◌+◌, ◌*◌, ◌/◌, ◌≤◌, Bool, true, false, cond, List, [], ◌∷◌, Option, Some, None, option_to_list, length, nat_le, arith, length-append}
+use Rattle.std.proofs.Common.{ℕ, zero, suc, ◌+◌, ◌*◌, ◌/◌, ◌≤◌, Bool, true, false, cond, List, [], ◌∷◌, Option, Some}
+use Rattle.std.proofs.Common.{None, option_to_list, length, nat_le, arith, length-append}
 use Rattle.std.proofs.Math.Nat.{mul-le-mul, div-le_self}
 use Rattle.trace_reader.specs.declared.opportunity.Opportunity.{Opportunity}
 use Rattle.trace_reader.specs.declared.trace.Trace.{Trace}
 use Rattle.trace_reader.specs.Opps.{opps, up_to, entries, entry, enough, last_moment}
 use Rattle.trace_reader.specs.Traces.{IsTrace}
 
-kept_by : (b : Bool) (o : Opportunity) (kept all : List Opportunity) → length kept ≤ length all → length (cond b (o ∷ kept) kept) ≤ length (o ∷ all)
+kept_by : (b : Bool) (o : Opportunity) (kept all : List Opportunity) → length kept ≤ length all
+    → length (cond b (o ∷ kept) kept) ≤ length (o ∷ all)
 kept_by true o kept all le = omega arith
 kept_by false o kept all le = omega arith
 
@@ -26,7 +28,8 @@ length-entries trace (suc k) =
     let one = one_at_most (entry trace k) in
     omega (arith, length-append (entries trace k) (option_to_list (entry trace k)))
 
-enough_within : (trace : List Opportunity) (once : Bool) (h : ℕ) → h ≤ 3600000 → length trace ≤ 1000000 → enough trace once h ≤ 3600001000000
+enough_within : (trace : List Opportunity) (once : Bool) (h : ℕ) → h ≤ 3600000 → length trace ≤ 1000000
+    → enough trace once h ≤ 3600001000000
 enough_within trace true h le few = omega arith
 enough_within trace false h le few =
     let laps : h / last_moment trace ≤ h = div-le_self h (last_moment trace) in
@@ -34,7 +37,8 @@ enough_within trace false h le few =
     let whole : (h / last_moment trace + 1) * length trace ≤ 3600001 * 1000000 = mul-le-mul laps_one few in
     omega arith
 
-pub count_within : (trace : Trace) (once : Bool) (h : ℕ) → IsTrace trace → h ≤ 3600000 → length (opps trace.opportunities once h) ≤ 3600001000000
+pub count_within : (trace : Trace) (once : Bool) (h : ℕ) → IsTrace trace → h ≤ 3600000
+    → length (opps trace.opportunities once h) ≤ 3600001000000
 unfolding opps
 count_within trace once h is le =
     let up = length-up_to h (entries trace.opportunities (enough trace.opportunities once h)) in

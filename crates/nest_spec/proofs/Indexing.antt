@@ -1,5 +1,7 @@
 -- The index of the rows.
-use Rattle.std.proofs.Common.{◌≡◌, ◌≢◌, ◌⊎◌, inl, inr, ℕ, ◌+◌, ◌-◌, ◌<◌, ◌≤◌, cond, List, length, get_or, Option, Some, None, ap, sym, ◌∙◌, arith, nat_eq, eq-eqb, ne_eqb, MatchOption, ⊎_elim, [], ◌∷◌, zero, suc}
+use Rattle.std.proofs.Common.{◌≡◌, ◌≢◌, ◌⊎◌, inl, inr, ℕ, ◌+◌, ◌-◌, ◌<◌, ◌≤◌, cond, List, length, get_or, Option, Some}
+use Rattle.std.proofs.Common.{None, ap, sym, ◌∙◌, arith, nat_eq, eq-eqb, ne_eqb, MatchOption, ⊎_elim, [], ◌∷◌, zero}
+use Rattle.std.proofs.Common.{suc}
 use Rattle.std.proofs.lemmas.Bool.{cases_eq}
 use Rattle.std.specs.declared.hash.FoldHasher.{FoldHasher}
 use Rattle.std.specs.declared.hash.BuildHasherDefault.{BuildHasherDefault}
@@ -14,12 +16,15 @@ Places = HashMap ℕ ℕ (BuildHasherDefault FoldHasher)
 id_at : List Row → ℕ → Row → ℕ
 id_at rows i d = (get_or rows i d).timed.packet.id
 
-pub placed : (rows : List Row) (m : Places) (id : ℕ) (o : Option ℕ) → IsIndex rows m → o ≡ get nat_eq m id → MatchOption o (IsNowhere rows id) (λ i. IsOnlyAt rows id i)
-placed rows m id None is e = λ j d lt same. let there = is.leads j d lt in let no : None ≡ Some j = e ∙ ap (get nat_eq m) (sym same) ∙ there in cc no
+pub placed : (rows : List Row) (m : Places) (id : ℕ) (o : Option ℕ) → IsIndex rows m → o ≡ get nat_eq m id
+    → MatchOption o (IsNowhere rows id) (λ i. IsOnlyAt rows id i)
+placed rows m id None is e = λ j d lt same. let there = is.leads j d lt in let no : None ≡ Some j = e
+    ∙ ap (get nat_eq m) (sym same) ∙ there in cc no
 placed rows m id (Some i) is e = record {
   within = is.within id i (sym e);
   here = λ d. is.only id i d (sym e);
-  others = λ j d lt ne same. let there = is.leads j d lt in let one : Some i ≡ Some j = e ∙ ap (get nat_eq m) (sym same) ∙ there in ne (cc one);
+  others = λ j d lt ne same. let there = is.leads j d lt in let one : Some i ≡ Some j = e
+      ∙ ap (get nat_eq m) (sym same) ∙ there in ne (cc one);
 }
 
 -- the index of the rows before this place
@@ -35,24 +40,31 @@ index_none rows m none = record {
   only = λ id i d e. let no : None ≡ Some i = sym (none id) ∙ e in cc no;
 }
 
-pub index_more : (rows : List Row) (n : ℕ) (row : Row) (m m' : Places) → AreApart rows → n < length rows → row ≡ get_or rows n row → IsIndexTo rows n m
-    → ((q : ℕ) → get nat_eq m' q ≡ cond (nat_eq row.timed.packet.id q) (Some n) (get nat_eq m q)) → IsIndexTo rows (n + 1) m'
+pub index_more : (rows : List Row) (n : ℕ) (row : Row) (m m' : Places) → AreApart rows → n < length rows
+    → row ≡ get_or rows n row → IsIndexTo rows n m
+    → ((q : ℕ) → get nat_eq m' q ≡ cond (nat_eq row.timed.packet.id q) (Some n) (get nat_eq m q))
+    → IsIndexTo rows (n + 1) m'
 index_more rows n row m m' apart lt read is up =
     let id = row.timed.packet.id in
-    let new : (q : ℕ) → q ≡ id → get nat_eq m' q ≡ Some n = λ q e. up q ∙ ap (λ b. cond b (Some n) (get nat_eq m q)) (eq-eqb id q (sym e)) in
-    let old : (q : ℕ) → q ≢ id → get nat_eq m' q ≡ get nat_eq m q = λ q ne. up q ∙ ap (λ b. cond b (Some n) (get nat_eq m q)) (ne_eqb id q (λ e. ne (sym e))) in
-    let here : (d : Row) → (get_or rows n d).timed.packet.id ≡ id = λ d. ap (λ (r : Row). r.timed.packet.id) (one rows n d row lt read) in
+    let new : (q : ℕ) → q ≡ id → get nat_eq m' q ≡ Some n = λ q e. up q
+    ∙ ap (λ b. cond b (Some n) (get nat_eq m q)) (eq-eqb id q (sym e)) in
+    let old : (q : ℕ) → q ≢ id → get nat_eq m' q ≡ get nat_eq m q = λ q ne. up q
+    ∙ ap (λ b. cond b (Some n) (get nat_eq m q)) (ne_eqb id q (λ e. ne (sym e))) in
+    let here : (d : Row) → (get_or rows n d).timed.packet.id ≡ id = λ d. ap (λ (r : Row). r.timed.packet.id)
+    (one rows n d row lt read) in
     record {
       leads = λ i d h. ⊎_elim
           (λ (e : i ≡ n). new _ (ap (λ k. (get_or rows k d).timed.packet.id) e ∙ here d) ∙ ap Some (sym e))
-          (λ (ne : i ≢ n). old _ (λ same. ne (apart i n d (omega arith) lt (same ∙ sym (here d)))) ∙ is.leads i d (omega arith))
+          (λ (ne : i ≢ n). old _ (λ same. ne (apart i n d (omega arith) lt (same ∙ sym (here d))))
+          ∙ is.leads i d (omega arith))
           (cases_eq i n);
       within = λ q i e. ⊎_elim
           (λ (same : q ≡ id). let k : Some n ≡ Some i = sym (new q same) ∙ e in let z : n ≡ i = cc k in omega arith)
           (λ (ne : q ≢ id). let k = is.within q i (sym (old q ne) ∙ e) in omega arith)
           (cases_eq q id);
       only = λ q i d e. ⊎_elim
-          (λ (same : q ≡ id). let k : Some n ≡ Some i = sym (new q same) ∙ e in let z : i ≡ n = cc k in ap (λ j. (get_or rows j d).timed.packet.id) z ∙ here d ∙ sym same)
+          (λ (same : q ≡ id). let k : Some n ≡ Some i = sym (new q same) ∙ e in let z : i ≡ n = cc k
+          in ap (λ j. (get_or rows j d).timed.packet.id) z ∙ here d ∙ sym same)
           (λ (ne : q ≢ id). is.only q i d (sym (old q ne) ∙ e))
           (cases_eq q id);
     }
@@ -62,7 +74,8 @@ index_more rows n row m m' apart lt read is up =
     one (r ∷ rows) zero b row lt read = sym read
     one (r ∷ rows) (suc i) b row lt read = one rows i b row (omega arith) read
 
-pub index_all : (rows : List Row) (n : ℕ) (m : Places) → length rows ≤ n → IsIndexTo rows n m → n ≤ length rows → IsIndex rows m
+pub index_all : (rows : List Row) (n : ℕ) (m : Places) → length rows ≤ n → IsIndexTo rows n m → n ≤ length rows
+    → IsIndex rows m
 index_all rows n m le is ge = record {
   leads = λ i d lt. is.leads i d (omega arith);
   within = λ id i e. let h = is.within id i e in omega arith;

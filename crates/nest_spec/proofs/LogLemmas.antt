@@ -13,7 +13,9 @@ from_at m [] i d lt from = absurd (omega arith)
 from_at m (x ∷ es) zero d lt from = from.0
 from_at m (x ∷ es) (suc i) d lt from = from_at m es i d (omega arith) from.1
 
-pub order_at : (es : List Entry) (i : ℕ) (d : Entry) → i < length es → IsLog es → AreUpTo (moment_of (get_or es i d)) (take i es)
+pub order_at : (es : List Entry) (i : ℕ) (d : Entry) → i < length es → IsLog es
+    → AreUpTo (moment_of (get_or es i d)) (take i es)
 order_at [] i d lt is = absurd (omega arith)
 order_at (x ∷ es) zero d lt is = tt
-order_at (x ∷ es) (suc i) d lt is = (from_at (moment_of x) es i d (omega arith) is.1, order_at es i d (omega arith) is.2)
+order_at (x ∷ es) (suc i) d lt is =
+    (from_at (moment_of x) es i d (omega arith) is.1, order_at es i d (omega arith) is.2)

@@ -1,5 +1,6 @@
 -- What shells have of each direction, in the nest's order.
-use Rattle.std.proofs.Common.{◌≡◌, List, [], ◌∷◌, ◌++◌, Option, Some, None, option_map, option_to_list, map, reverse, refl, ap, sym, ◌∙◌}
+use Rattle.std.proofs.Common.{◌≡◌, List, [], ◌∷◌, ◌++◌, Option, Some, None, option_map, option_to_list, map, reverse}
+use Rattle.std.proofs.Common.{refl, ap, sym, ◌∙◌}
 use Rattle.std.proofs.lemmas.List.{append_assoc, map-append, reverse-append}
 use Rattle.std.specs.List.{zip, flat_map}
 use Rattle.nest_spec.specs.Walk.{in_nest_order}
@@ -12,7 +13,8 @@ map_some : {A B : Type 0} (f : A → B) (o : Option A) → map f (option_to_list
 map_some f None = refl
 map_some f (Some x) = refl
 
-map-ordered : {A B : Type 0} (f : A → B) (ups downs : List (Option A)) → map f (ordered ups downs) ≡ ordered (map (option_map f) ups) (map (option_map f) downs)
+map-ordered : {A B : Type 0} (f : A → B) (ups downs : List (Option A))
+    → map f (ordered ups downs) ≡ ordered (map (option_map f) ups) (map (option_map f) downs)
 map-ordered f [] downs = refl
 map-ordered f (up ∷ ups) [] = refl
 map-ordered {A} {B} f (up ∷ ups) (down ∷ downs) =
@@ -28,12 +30,16 @@ map-reverse f (x ∷ xs) =
     ap (map f) (reverse-append (x ∷ []) xs) ∙ map-append f (reverse xs) (x ∷ [])
     ∙ ap (λ l. l ++ f x ∷ []) (map-reverse f xs) ∙ sym (reverse-append (f x ∷ []) (map f xs))
 
-pub map-in_nest_order : {A B : Type 0} (f : A → B) (ups downs : List (Option A)) → map f (in_nest_order ups downs) ≡ in_nest_order (map (option_map f) ups) (map (option_map f) downs)
-map-in_nest_order f ups downs = map-ordered f (reverse ups) downs ∙ ap (λ l. ordered l (map (option_map f) downs)) (map-reverse (option_map f) ups)
+pub map-in_nest_order : {A B : Type 0} (f : A → B) (ups downs : List (Option A))
+    → map f (in_nest_order ups downs) ≡ in_nest_order (map (option_map f) ups) (map (option_map f) downs)
+map-in_nest_order f ups downs = map-ordered f (reverse ups) downs
+    ∙ ap (λ l. ordered l (map (option_map f) downs)) (map-reverse (option_map f) ups)
 
 -- One shell more: the last up and the first down go behind what is in order already.
-pub next_in_order : {A : Type 0} (list : List A) (ups left downs : List (Option A)) (up down : Option A) → ups ≡ left ++ up ∷ []
-    → ((list ++ option_to_list up) ++ option_to_list down) ++ in_nest_order left downs ≡ list ++ in_nest_order ups (down ∷ downs)
+pub next_in_order : {A : Type 0} (list : List A) (ups left downs : List (Option A)) (up down : Option A) → ups ≡ left
+    ++ up ∷ []
+    → ((list ++ option_to_list up) ++ option_to_list down) ++ in_nest_order left downs ≡ list
+    ++ in_nest_order ups (down ∷ downs)
 next_in_order list ups left downs up down e =
     append_assoc (list ++ option_to_list up) (option_to_list down) (in_nest_order left downs)
     ∙ append_assoc list (option_to_list up) (option_to_list down ++ in_nest_order left downs)

@@ -5,10 +5,12 @@ use Rattle.packet_record.specs.Orders.{AreInOrder, IsSchedule}
 use Rattle.nest_spec.specs.Passed.{AreApart}
 use Rattle.nest_spec.specs.Index.{AreFromOne}
 
-id_at : (place low : ℕ) (rows : List Row) (i : ℕ) (d : Row) → AreInOrder place low rows → i < length rows → (get_or rows i d).timed.packet.id ≡ place + i
+id_at : (place low : ℕ) (rows : List Row) (i : ℕ) (d : Row) → AreInOrder place low rows → i < length rows
+    → (get_or rows i d).timed.packet.id ≡ place + i
 id_at place low [] i d order lt = absurd (omega arith)
 id_at place low (row ∷ rows) zero d order lt = omega (arith, order.0)
-id_at place low (row ∷ rows) (suc i) d order lt = let rest = id_at (place + 1) row.timed.moment rows i d order.2 (omega arith) in omega arith
+id_at place low (row ∷ rows) (suc i) d order lt = let rest = id_at (place + 1) row.timed.moment rows i d order.2
+    (omega arith) in omega arith
 
 pub numbered : (rows : List Row) → IsSchedule rows → AreFromOne rows
 numbered rows is i d lt = let at = id_at 1 0 rows i d is.order lt in omega arith

@@ -1,4 +1,5 @@
--- The text of fates: `N DIR departed MS`, `N DIR dropped SHELL MS`, `N DIR inside SHELL` or `N DIR unsent` for each packet, and a line feed.
+-- The text of fates: `N DIR departed MS`, `N DIR dropped SHELL MS`, `N DIR inside SHELL` or `N DIR unsent` for each
+-- packet, and a line feed.
 use Rattle.std.specs.Prelude.{ℕ, ◌++◌, List, codes, decimal}
 use Rattle.std.specs.List.{flat_map}
 use Rattle.packet_record.specs.Printing.{direction_text}

@@ -14,7 +14,8 @@ find_id id packets = find (λ (t : Timed). t.packet.id == id) packets
 
 -- dropped at a shell that dropped it, else inside
 abbrev pub ended_at : ℕ → Step → Fate
-ended_at id s = option_map_or (λ (t : Timed). fates.Dropped s.number t.moment) (find_id id s.lost) (fates.Inside s.number)
+ended_at id s = option_map_or (λ (t : Timed). fates.Dropped s.number t.moment) (find_id id s.lost)
+    (fates.Inside s.number)
 
 -- past the last shell it has departed
 abbrev pub departed_at : ℕ → List Timed → Fate

@@ -3,7 +3,9 @@ use Rattle.std.specs.Prelude.{ℕ, Option, Some, None}
 use Rattle.packet_queue.specs.Faults.{number_of_fault}
 use Rattle.loss_core.specs.Rates.{error_number}
 use Rattle.nest_spec.specs.declared.error.NestError.{NestError}
-use Rattle.nest_spec.specs.declared.error.NestError.TheVariants.{NoShell, UnknownShell, MissingWord, BadNumber, BadOption, RepeatedOption, TooManyShells, Queue, Rate, BadDirection, OutOfMemory}
+use Rattle.nest_spec.specs.declared.error.NestError.TheVariants.{NoShell, UnknownShell, MissingWord, BadNumber}
+use Rattle.nest_spec.specs.declared.error.NestError.TheVariants.{BadOption, RepeatedOption, TooManyShells, Queue, Rate}
+use Rattle.nest_spec.specs.declared.error.NestError.TheVariants.{BadDirection, OutOfMemory}
 
 abbrev pub number_of : NestError → ℕ
 number_of NoShell = 1

@@ -1,5 +1,6 @@
 -- A nest, what its shells do in each direction, and what a run of it gives.
-use Rattle.std.specs.Prelude.{ℕ, ◌+◌, ◌*◌, ◌≤◌, Bool, List, [], ◌∷◌, Option, None, length, drop, map, reverse, nat_lt, if◌then◌else◌}
+use Rattle.std.specs.Prelude.{ℕ, ◌+◌, ◌*◌, ◌≤◌, Bool, List, [], ◌∷◌, Option, None, length, drop, map, reverse, nat_lt}
+use Rattle.std.specs.Prelude.{if◌then◌else◌}
 use Rattle.std.specs.List.{slice_get}
 use Rattle.packet_record.specs.declared.packet.Direction.{Direction}
 use Rattle.packet_record.specs.declared.packet.Direction.TheVariants.{Up, Down}
@@ -37,8 +38,8 @@ abbrev pub side_with : LinkSide → Trace → List Text → Side
 side_with side trace names =
     record { trace = trace; queue = side.queue; log = if side.logged then slice_get names 0 else None }
 
--- The shells of these words. Each link takes the next two traces, and each of its sides that is logged the next name, up
--- before down.
+-- The shells of these words. Each link takes the next two traces, and each of its sides that is logged the next name,
+-- up before down.
 abbrev pub shells_of : List ShellWords → List Trace → List Text → List Shell
 shells_of [] traces names = []
 shells_of (words.Delay ms ∷ more) traces names = Delay ms ∷ shells_of more traces names
@@ -50,7 +51,11 @@ shells_of (words.Link once up down ∷ more) (t ∷ u ∷ traces) names =
     ∷ shells_of more traces (drop (log_in down) (drop (log_in up) names))
 
 abbrev pub built : NestPlan → List Trace → ℕ → ℕ → NestParts
-built plan traces seed horizon = record { shells = shells_of plan.shells traces plan.logs; seed = seed; horizon = horizon }
+built plan traces seed horizon = record {
+  shells = shells_of plan.shells traces plan.logs;
+  seed = seed;
+  horizon = horizon;
+}
 
 -- how many opportunities a link has up to a horizon, in both directions together
 abbrev pub side_opportunities : ℕ → Bool → Side → ℕ
@@ -90,12 +95,17 @@ log_name d (Loss named rate) = None
 log_name d (Link once up down) = (side_in d up down).log
 
 abbrev pub in_direction : Direction → ℕ → ℕ → Shell → ShellDirection
-in_direction d seed number shell = record { number = number; spec = spec_in d seed number shell; log = log_name d shell }
+in_direction d seed number shell = record {
+  number = number;
+  spec = spec_in d seed number shell;
+  log = log_name d shell;
+}
 
 -- shells in a direction, the first with this number
 abbrev pub all_in_direction : Direction → ℕ → ℕ → List Shell → List ShellDirection
 all_in_direction d seed number [] = []
-all_in_direction d seed number (shell ∷ shells) = in_direction d seed number shell ∷ all_in_direction d seed (number + 1) shells
+all_in_direction d seed number (shell ∷ shells) = in_direction d seed number shell ∷ all_in_direction d seed
+    (number + 1) shells
 
 -- an uplink packet passes the innermost shell first, a downlink packet the outermost
 abbrev pub in_passing_order : {A : Type 0} → Direction → List A → List A

@@ -1,5 +1,6 @@
 -- Each row has exactly one fate.
-use Rattle.std.specs.Prelude.{◌≡◌, ◌==◌, ◌<◌, ◌+◌, ℕ, Contains, Any, List, [], ◌∷◌, length, get_or, nat_lt, if◌then◌else◌}
+use Rattle.std.specs.Prelude.{◌≡◌, ◌==◌, ◌<◌, ◌+◌, ℕ, Contains, Any, List, [], ◌∷◌, length, get_or, nat_lt}
+use Rattle.std.specs.Prelude.{if◌then◌else◌}
 use Rattle.packet_record.specs.declared.packet.Packet.{Packet}
 use Rattle.packet_record.specs.declared.packet.Timed.{Timed}
 use Rattle.packet_record.specs.declared.packet.Row.{Row}
@@ -32,8 +33,8 @@ IsEnd packet entering steps (Dropped shell moment) =
 IsEnd packet entering steps (Inside shell) = Any (λ (s : Step). (s.number ≡ shell) × IsInside packet s) steps
 IsEnd packet entering steps Unsent = ⊥
 
--- Fate, as a relation: a row whose moment is above the horizon is unsent; every other fate is an end of the row's packet
--- in its direction.
+-- Fate, as a relation: a row whose moment is above the horizon is unsent; every other fate is an end of the row's
+-- packet in its direction.
 abbrev pub IsFate : NestParts → List Row → Row → Fate → Type 0
 IsFate nest rows row Unsent = nest.horizon < row.timed.moment
 IsFate nest rows row fate =
@@ -43,8 +44,8 @@ IsFate nest rows row fate =
 abbrev pub number_in : ℕ → List Timed → ℕ
 number_in id packets = number (λ (p : Packet). p.id == id) packets
 
--- how often it stands in the lists at which packets end: what each shell lost, what stays inside each, and the last list
--- of the chain
+-- how often it stands in the lists at which packets end: what each shell lost, what stays inside each, and the last
+-- list of the chain
 abbrev pub ends_in : ℕ → List Timed → List Step → ℕ
 ends_in id entering [] = number_in id entering
 ends_in id entering (s ∷ steps) = number_in id s.lost + number_in id s.inside + ends_in id s.departed steps

@@ -6,5 +6,6 @@ use Rattle.nest_spec.specs.declared.shell_reading.ShellRead.{ShellRead as ShellI
 
 abbrev pub shell_given : ShellInside → ShellRead
 shell_given r =
-    shell_read r.shell (option_to_list (text_of r.up_trace) ++ option_to_list (text_of r.down_trace)) (option_to_list (text_of r.up_log) ++ option_to_list (text_of r.down_log))
+    shell_read r.shell (option_to_list (text_of r.up_trace) ++ option_to_list (text_of r.down_trace))
+    (option_to_list (text_of r.up_log) ++ option_to_list (text_of r.down_log))
     r.place (map string_bytes r.rest.now)

@@ -13,8 +13,8 @@ use Rattle.nest_spec.specs.Words.{Text}
 abbrev pub whole_inside : DirSpec → ℕ → List Timed → List Timed
 whole_inside c h arrivals = inside c h (length (opportunities c h)) arrivals
 
--- One shell on the way: its number, what it does, what arrived, what departed (Out), what was dropped (Lost), what stays
--- inside (Inside), its log (ShellLog), and the log's name, if it has one.
+-- One shell on the way: its number, what it does, what arrived, what departed (Out), what was dropped (Lost), what
+-- stays inside (Inside), its log (ShellLog), and the log's name, if it has one.
 pub record Step : Type 0 where
   pub number : ℕ
   pub spec : DirSpec

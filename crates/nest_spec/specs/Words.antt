@@ -1,5 +1,6 @@
 -- The words for a nest of shells.
-use Rattle.std.specs.Prelude.{ℕ, zero, suc, ◌+◌, Bool, true, false, ◌==◌, ◌&&◌, List, [], ◌∷◌, ◌++◌, Option, Some, None, Result, Ok, Err, length, min, nat_le, nat_lt, codes, option_to_list, if◌then◌else◌}
+use Rattle.std.specs.Prelude.{ℕ, zero, suc, ◌+◌, Bool, true, false, ◌==◌, ◌&&◌, List, [], ◌∷◌, ◌++◌, Option, Some, None}
+use Rattle.std.specs.Prelude.{Result, Ok, Err, length, min, nat_le, nat_lt, codes, option_to_list, if◌then◌else◌}
 use Rattle.std.specs.Option.{is_some, unwrap_or}
 use Rattle.std.specs.List.{position_or_len, before_first, after_first}
 use Rattle.std.specs.Str.{bytes_eq}
@@ -15,7 +16,8 @@ use Rattle.nest_spec.specs.RateValues.{rate_value}
 use Rattle.nest_spec.specs.declared.error.NestError.{NestError}
 use Rattle.nest_spec.specs.declared.error.NestError.TheVariants as errors
 use Rattle.nest_spec.specs.declared.shell_words.ShellKind.{ShellKind}
-use Rattle.nest_spec.specs.declared.shell_words.ShellKind.TheVariants.{Delay as AnyDelay, Loss as AnyLoss, Link as AnyLink}
+use Rattle.nest_spec.specs.declared.shell_words.ShellKind.TheVariants.{Delay as AnyDelay, Loss as AnyLoss}
+use Rattle.nest_spec.specs.declared.shell_words.ShellKind.TheVariants.{Link as AnyLink}
 use Rattle.nest_spec.specs.declared.shell_words.LinkSide.{LinkSide}
 use Rattle.nest_spec.specs.declared.shell_words.ShellWords.{ShellWords}
 use Rattle.nest_spec.specs.declared.shell_words.ShellWords.TheVariants.{Delay, Loss, Link}
@@ -33,7 +35,8 @@ abbrev pub and_then : {A B : Type 0} → Result A NestError → (A → Result B 
 and_then (Ok a) f = f a
 and_then (Err e) f = Err e
 
--- what was read of one shell: what it is, its traces and its logs by name, and the words that are left, the first with its place
+-- what was read of one shell: what it is, its traces and its logs by name, and the words that are left, the first
+-- with its place
 pub record ShellRead : Type 0 where
   pub shell : ShellWords
   pub traces : List Text
@@ -42,7 +45,13 @@ pub record ShellRead : Type 0 where
   pub rest : List Text
 
 abbrev pub shell_read : ShellWords → List Text → List Text → ℕ → List Text → ShellRead
-shell_read shell traces logs place rest = record { shell = shell; traces = traces; logs = logs; place = place; rest = rest }
+shell_read shell traces logs place rest = record {
+  shell = shell;
+  traces = traces;
+  logs = logs;
+  place = place;
+  rest = rest;
+}
 
 -- mm-delay D
 abbrev pub delay_ms : ℕ → Option ℕ → Result ℕ NestError
@@ -51,11 +60,13 @@ delay_ms shell (Some ms) = if nat_le ms 3600000 then Ok ms else Err (errors.BadN
 
 abbrev pub delay_words : ℕ → ℕ → List Text → Result ShellRead NestError
 delay_words shell place [] = Err (errors.MissingWord shell)
-delay_words shell place (word ∷ words) = and_then (delay_ms shell (decimal_of word)) (λ ms. Ok (shell_read (Delay ms) [] [] (next place) words))
+delay_words shell place (word ∷ words) = and_then (delay_ms shell (decimal_of word))
+    (λ ms. Ok (shell_read (Delay ms) [] [] (next place) words))
 
 -- mm-loss DIRECTION RATE
 abbrev pub loss_direction : ℕ → Text → Result Direction NestError
-loss_direction shell word = if bytes_eq word (codes "uplink") then Ok Up else (if bytes_eq word (codes "downlink") then Ok Down else Err (errors.BadDirection shell))
+loss_direction shell word = if bytes_eq word (codes "uplink") then Ok Up
+    else (if bytes_eq word (codes "downlink") then Ok Down else Err (errors.BadDirection shell))
 
 abbrev pub loss_rate : ℕ → Result Rate RateError → Result Rate NestError
 loss_rate shell (Ok rate) = Ok rate
@@ -63,11 +74,13 @@ loss_rate shell (Err fault) = Err (errors.Rate shell fault)
 
 abbrev pub rate_words : ℕ → ℕ → Direction → List Text → Result ShellRead NestError
 rate_words shell place d [] = Err (errors.MissingWord shell)
-rate_words shell place d (word ∷ words) = and_then (loss_rate shell (rate_value word)) (λ rate. Ok (shell_read (Loss d rate) [] [] (next place) words))
+rate_words shell place d (word ∷ words) = and_then (loss_rate shell (rate_value word))
+    (λ rate. Ok (shell_read (Loss d rate) [] [] (next place) words))
 
 abbrev pub loss_words : ℕ → ℕ → List Text → Result ShellRead NestError
 loss_words shell place [] = Err (errors.MissingWord shell)
-loss_words shell place (word ∷ words) = and_then (loss_direction shell word) (λ d. rate_words shell (next place) d words)
+loss_words shell place (word ∷ words) = and_then (loss_direction shell word)
+    (λ d. rate_words shell (next place) d words)
 
 -- what the words of a link have given so far in one direction
 pub record SideGiven : Type 0 where
@@ -112,7 +125,8 @@ abbrev pub has_traces : LinkGiven → Bool
 has_traces g = is_some g.up.trace && is_some g.down.trace
 
 abbrev pub give_trace : Text → LinkGiven → LinkGiven
-give_trace name g = if is_some g.up.trace then with_side Down (record g.down { trace = Some name }) g else with_side Up (record g.up { trace = Some name }) g
+give_trace name g = if is_some g.up.trace then with_side Down (record g.down { trace = Some name }) g
+    else with_side Up (record g.up { trace = Some name }) g
 
 abbrev pub begins_with_hyphen : Text → Bool
 begins_with_hyphen [] = false
@@ -127,7 +141,8 @@ abbrev pub name_in : Text → Text
 name_in word = before_first (λ byte. byte == 61) word
 
 abbrev pub value_in : Text → Option Text
-value_in word = if nat_lt (position_or_len (λ byte. byte == 61) word) (length word) then Some (after_first (λ byte. byte == 61) word) else None
+value_in word = if nat_lt (position_or_len (λ byte. byte == 61) word) (length word)
+    then Some (after_first (λ byte. byte == 61) word) else None
 
 -- the options of mm-link that take a value
 abbrev pub option_named : Text → Option LinkOption
@@ -140,9 +155,11 @@ option_named name =
     else if bytes_eq name (codes "--downlink-queue-args") then Some (Args Down)
     else None
 
--- a log's name isn't empty; after `=` one that begins with a hyphen is a bad option, and a next word that does so is no value
+-- a log's name isn't empty; after `=` one that begins with a hyphen is a bad option, and a next word that does so is
+-- no value
 abbrev pub own_value : ℕ → ℕ → LinkOption → Text → Result Text NestError
-own_value shell place (Log d) value = if is_empty value then Err (errors.MissingWord shell) else (if begins_with_hyphen value then Err (errors.BadOption place) else Ok value)
+own_value shell place (Log d) value = if is_empty value then Err (errors.MissingWord shell)
+    else (if begins_with_hyphen value then Err (errors.BadOption place) else Ok value)
 own_value shell place (Queue d) value = Ok value
 own_value shell place (Args d) value = Ok value
 
@@ -152,7 +169,8 @@ is_name_missing (Queue d) word = false
 is_name_missing (Args d) word = false
 
 abbrev pub next_value : ℕ → LinkOption → Text → Result Text NestError
-next_value shell option word = if begins_with_hyphen word then Err (errors.MissingWord shell) else (if is_name_missing option word then Err (errors.MissingWord shell) else Ok word)
+next_value shell option word = if begins_with_hyphen word then Err (errors.MissingWord shell)
+    else (if is_name_missing option word then Err (errors.MissingWord shell) else Ok word)
 
 -- what a link has been given after an option's word, and the option that waits for the next word as its value
 pub record OptionRead : Type 0 where
@@ -164,15 +182,18 @@ option_read g waiting = record { given = g; waiting = waiting }
 
 abbrev pub valued : ℕ → ℕ → LinkOption → Option Text → LinkGiven → Result OptionRead NestError
 valued shell place option None g = Ok (option_read g (Some option))
-valued shell place option (Some value) g = and_then (own_value shell place option value) (λ v. Ok (option_read (give option v g) None))
+valued shell place option (Some value) g = and_then (own_value shell place option value)
+    (λ v. Ok (option_read (give option v g) None))
 
 abbrev pub known_option : ℕ → ℕ → Option LinkOption → Option Text → LinkGiven → Result OptionRead NestError
 known_option shell place None value g = Err (errors.BadOption place)
-known_option shell place (Some option) value g = if is_some (given option g) then Err (errors.RepeatedOption place) else valued shell place option value g
+known_option shell place (Some option) value g = if is_some (given option g) then Err (errors.RepeatedOption place)
+    else valued shell place option value g
 
 abbrev pub option_word : ℕ → ℕ → Text → LinkGiven → Result OptionRead NestError
 option_word shell place word g =
-    if bytes_eq word (codes "--once") then (if g.once then Err (errors.RepeatedOption place) else Ok (option_read (record g { once = true }) None))
+    if bytes_eq word (codes "--once")
+    then (if g.once then Err (errors.RepeatedOption place) else Ok (option_read (record g { once = true }) None))
     else known_option shell place (option_named (name_in word)) (value_in word) g
 
 -- what a link was given, and the words after its own
@@ -184,15 +205,17 @@ pub record LinkRead : Type 0 where
 abbrev pub link_read : LinkGiven → ℕ → List Text → LinkRead
 link_read g place rest = record { given = g; place = place; rest = rest }
 
--- A link's words end before a word `--`, before the third word that is neither an option nor an option's value, or where all words
--- end. An option that waits takes the next word.
+-- A link's words end before a word `--`, before the third word that is neither an option nor an option's value, or
+-- where all words end. An option that waits takes the next word.
 unfoldable pub link_from : ℕ → ℕ → Option LinkOption → LinkGiven → List Text → Result LinkRead NestError
 link_from shell place (Some option) g [] = Err (errors.MissingWord shell)
-link_from shell place (Some option) g (word ∷ words) = and_then (next_value shell option word) (λ value. link_from shell (next place) None (give option value g) words)
+link_from shell place (Some option) g (word ∷ words) = and_then (next_value shell option word)
+    (λ value. link_from shell (next place) None (give option value g) words)
 link_from shell place None g [] = Ok (link_read g place [])
 link_from shell place None g (word ∷ words) =
     if bytes_eq word (codes "--") then Ok (link_read g place (word ∷ words))
-    else if begins_with_hyphen word then and_then (option_word shell place word g) (λ o. link_from shell (next place) o.waiting o.given words)
+    else if begins_with_hyphen word
+    then and_then (option_word shell place word g) (λ o. link_from shell (next place) o.waiting o.given words)
     else if has_traces g then Ok (link_read g place (word ∷ words))
     else if is_empty word then Err (errors.MissingWord shell)
     else link_from shell (next place) None (give_trace word g) words
@@ -240,7 +263,8 @@ shell_words AnyDelay shell place words = delay_words shell place words
 shell_words AnyLoss shell place words = loss_words shell place words
 shell_words AnyLink shell place words = link_words shell place words
 
--- a nest as its words state it: its shells, the outermost first, and the names of traces and logs in that order, up before down
+-- a nest as its words state it: its shells, the outermost first, and the names of traces and logs in that order, up
+-- before down
 pub record NestPlan : Type 0 where
   pub shells : List ShellWords
   pub traces : List Text
@@ -250,7 +274,11 @@ abbrev pub no_shells : NestPlan
 no_shells = record { shells = []; traces = []; logs = [] }
 
 abbrev pub with_shell : NestPlan → ShellRead → NestPlan
-with_shell plan read = record { shells = plan.shells ++ read.shell ∷ []; traces = plan.traces ++ read.traces; logs = plan.logs ++ read.logs }
+with_shell plan read = record {
+  shells = plan.shells ++ read.shell ∷ [];
+  traces = plan.traces ++ read.traces;
+  logs = plan.logs ++ read.logs;
+}
 
 abbrev pub next_shell : NestPlan → ℕ
 next_shell plan = length plan.shells + 1
@@ -263,19 +291,23 @@ begun place (Some kind) f = f kind
 -- one word `--` after a shell is passed over, where any word is left
 abbrev pub passed_over : ℕ → List Text → Option (ℕ × List Text)
 passed_over place [] = None
-passed_over place (word ∷ words) = if bytes_eq word (codes "--") then Some (next place, words) else Some (place, word ∷ words)
+passed_over place (word ∷ words) = if bytes_eq word (codes "--") then Some (next place, words)
+    else Some (place, word ∷ words)
 
-abbrev pub followed : NestPlan → Option (ℕ × List Text) → (ℕ → List Text → Result NestPlan NestError) → Result NestPlan NestError
+abbrev pub followed : NestPlan → Option (ℕ × List Text) → (ℕ → List Text → Result NestPlan NestError)
+    → Result NestPlan NestError
 followed plan None more = Ok plan
 followed plan (Some rest) more = more rest.0 rest.1
 
--- The nest after these shells, where a shell must begin and so many more may; `missing` is the refusal where no word is left.
+-- The nest after these shells, where a shell must begin and so many more may; `missing` is the refusal where no word
+-- is left.
 unfoldable pub shells_from : ℕ → NestPlan → ℕ → NestError → List Text → Result NestPlan NestError
 shells_from left plan place missing [] = Err missing
 shells_from zero plan place missing (word ∷ words) = begun place (kind_of word) (λ kind. Err errors.TooManyShells)
 shells_from (suc left) plan place missing (word ∷ words) =
     begun place (kind_of word) (λ kind. and_then (shell_words kind (next_shell plan) (next place) words) (λ read.
-    followed (with_shell plan read) (passed_over read.place read.rest) (λ place' rest. shells_from left (with_shell plan read) place' (errors.MissingWord (next_shell plan)) rest)))
+    followed (with_shell plan read) (passed_over read.place read.rest)
+    (λ place' rest. shells_from left (with_shell plan read) place' (errors.MissingWord (next_shell plan)) rest)))
 
 -- the nest of the words, or their first refusal, read from the left; places are counted from 1
 abbrev pub nest_of : List Text → Result NestPlan NestError

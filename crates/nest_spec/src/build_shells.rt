@@ -55,7 +55,8 @@ fn push_shells(
 fn shell_of(words: ShellWords, traces: &mut IntoIter<Trace>, names: &mut IntoIter<Text>) -> Shell
     requires traces { traces_in words ≤ length (into_iter_items traces.old) }
     requires names { logs_in words ≤ length (into_iter_items names.old) }
-    ensures shell { (more : List WordsValue) → shells_of (words ∷ more) (into_iter_items traces.old) (into_iter_items names.old)
+    ensures shell { (more : List WordsValue)
+        → shells_of (words ∷ more) (into_iter_items traces.old) (into_iter_items names.old)
         ≡ result ∷ shells_of more (into_iter_items traces.new) (into_iter_items names.new) }
     ensures traces { length (into_iter_items traces.old) ≡ traces_in words + length (into_iter_items traces.new) }
     ensures names { length (into_iter_items names.old) ≡ logs_in words + length (into_iter_items names.new) }

@@ -6,8 +6,8 @@ use loss_core::RateError;
 use packet_queue::QueueError;
 use std::alloc::{AllocError, AllocFailed};
 
-/// Why words are no nest. Words are counted from 1, and so are shells, the outermost first. No refusal names a word past the
-/// 4294967295th.
+/// Why words are no nest. Words are counted from 1, and so are shells, the outermost first. No refusal names a word
+/// past the 4294967295th.
 #[derive(Clone, Copy, Debug, PartialEq, Eq)]
 pub enum NestError {
     /// 1: there are no words.

@@ -23,8 +23,8 @@ use shell_log::Log;
 use shell_state::ShellState;
 use std::alloc::Global;
 
-// Marks the fates of what arrived at these shells, and of what passed them all, and adds the log of each, where it has a
-// name.
+// Marks the fates of what arrived at these shells, and of what passed them all, and adds the log of each, where it
+// has a name.
 fn gather_shells(
     marking: &mut Marking<'_>,
     logs: &mut Vec<Option<NamedLog>>,
@@ -38,7 +38,8 @@ fn gather_shells(
     ensures fates { OnOk result ((f : RowValue → FateValue) → marking.old.fates ≡ fated f marking.old.rows
         → marking.new.fates ≡ fated (marked_through horizon shells.now arrived.now f) marking.old.rows) }
     ensures logs { OnOk result (map (option_map (named_by entries_in)) logs.new.items
-        ≡ map (option_map (named_by entries_in)) logs.old.items ++ map named_log (walk horizon shells.now arrived.now)) }
+        ≡ map (option_map (named_by entries_in)) logs.old.items
+        ++ map named_log (walk horizon shells.now arrived.now)) }
     ensures built { OnOk result (AreBuilt (specs_in shells.now)) }
 {
     let Some((shell, shells)) = shells.split_first() else {
@@ -93,7 +94,8 @@ fn gather_direction(
     ensures rows { marking.new.rows ≡ marking.old.rows }
     ensures fates { OnOk result ((f : RowValue → FateValue) → marking.old.fates ≡ fated f marking.old.rows
         → marking.new.fates
-        ≡ fated (marked_through nest.now.horizon (shells_in direction nest.now) (entering direction nest.now.horizon rows.now) f)
+        ≡ fated (marked_through nest.now.horizon (shells_in direction nest.now)
+        (entering direction nest.now.horizon rows.now) f)
         marking.old.rows) }
     ensures logs { IfOk result (λ logs. map (option_map (named_by entries_in)) logs.items
         ≡ map named_log (walk_of direction nest.now rows.now)) }
@@ -114,8 +116,8 @@ fn gather_direction(
 }
 
 /// The result of a run: the fate of each row, and the logs of the nest that have a name. The states are those of the
-/// nest's shells in passing order, each of which was fed what the one before it passed on, the first the direction's rows
-/// up to the horizon, and was taken to its end.
+/// nest's shells in passing order, each of which was fed what the one before it passed on, the first the direction's
+/// rows up to the horizon, and was taken to its end.
 pub fn gather(
     alloc: Global,
     nest: &Nest,

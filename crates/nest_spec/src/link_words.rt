@@ -1,6 +1,10 @@
 // The words of mm-link.
-ghost use Rattle.std.specs.Prelude.{◌≡◌, false, true, is_some, Some, None, Ok, Err, map, string_bytes, option_map, MatchResult};
-ghost use Rattle.nest_spec.specs.Words.{nothing_given, side, with_side, given, give, has_traces, give_trace, begins_with_hyphen, is_empty, name_in, value_in, option_named, own_value, is_name_missing, next_value, valued, known_option, option_word, option_read, link_from};
+ghost use Rattle.std.specs.Prelude.{◌≡◌, false, true, is_some, Some, None, Ok, Err, map, string_bytes, option_map};
+ghost use Rattle.std.specs.Prelude.{MatchResult};
+ghost use Rattle.nest_spec.specs.Words.{nothing_given, side, with_side, given, give, has_traces, give_trace};
+ghost use Rattle.nest_spec.specs.Words.{begins_with_hyphen, is_empty, name_in, value_in, option_named, own_value};
+ghost use Rattle.nest_spec.specs.Words.{is_name_missing, next_value, valued, known_option, option_word, option_read};
+ghost use Rattle.nest_spec.specs.Words.{link_from};
 
 use crate::NestError;
 use crate::shell_words::next;
@@ -157,7 +161,8 @@ fn option_named(name: &str) -> Option<LinkOption>
 
 // Whether a value after `=` is one.
 fn check_own_value(shell: u32, place: u32, option: LinkOption, value: &str) -> Result<(), NestError>
-    ensures { MatchResult result (λ _. own_value shell place option value.now ≡ Ok value.now) (λ e. own_value shell place option value.now ≡ Err e) }
+    ensures { MatchResult result (λ _. own_value shell place option value.now ≡ Ok value.now)
+        (λ e. own_value shell place option value.now ≡ Err e) }
 {
     let LinkOption::Log(_) = option else {
         return Ok(());
@@ -182,7 +187,8 @@ fn is_name_missing(option: LinkOption, word: &str) -> bool
 
 // Whether the next word is the value of an option.
 fn check_next_value(shell: u32, option: LinkOption, word: &str) -> Result<(), NestError>
-    ensures { MatchResult result (λ _. next_value shell option word.now ≡ Ok word.now) (λ e. next_value shell option word.now ≡ Err e) }
+    ensures { MatchResult result (λ _. next_value shell option word.now ≡ Ok word.now)
+        (λ e. next_value shell option word.now ≡ Err e) }
 {
     if begins_with_hyphen(word) || is_name_missing(option, word) {
         return Err(NestError::MissingWord { shell });
@@ -205,7 +211,8 @@ fn read_option<'a>(
     word: &'a str,
     given: LinkWords<'a>,
 ) -> Result<OptionWords<'a>, NestError>
-    ensures { MatchResult result (λ o. option_word shell place word.now (link_given given.entry) ≡ Ok (option_given o)) (λ e. option_word shell place word.now (link_given given.entry) ≡ Err e) }
+    ensures { MatchResult result (λ o. option_word shell place word.now (link_given given.entry) ≡ Ok
+        (option_given o)) (λ e. option_word shell place word.now (link_given given.entry) ≡ Err e) }
 {
     if word == "--once" {
         return read_once(place, given);
@@ -216,7 +223,8 @@ fn read_option<'a>(
 
 fn read_once<'a>(place: u32, given: LinkWords<'a>) -> Result<OptionWords<'a>, NestError>
     ensures { MatchResult result
-        (λ o. (given.entry.once ≡ false) × (option_given o ≡ option_read (record (link_given given.entry) { once = true }) None))
+        (λ o. (given.entry.once ≡ false)
+        × (option_given o ≡ option_read (record (link_given given.entry) { once = true }) None))
         (λ e. (given.entry.once ≡ true) × (e ≡ NestError.RepeatedOption place)) }
 {
     if given.once {
@@ -237,7 +245,9 @@ fn read_valued<'a>(
     value: Option<&'a str>,
     given: LinkWords<'a>,
 ) -> Result<OptionWords<'a>, NestError>
-    ensures { MatchResult result (λ o. known_option shell place option (text_of value.entry) (link_given given.entry) ≡ Ok (option_given o)) (λ e. known_option shell place option (text_of value.entry) (link_given given.entry) ≡ Err e) }
+    ensures { MatchResult result (λ o. known_option shell place option (text_of value.entry)
+        (link_given given.entry) ≡ Ok (option_given o))
+        (λ e. known_option shell place option (text_of value.entry) (link_given given.entry) ≡ Err e) }
 {
     let Some(option) = option else {
         return Err(NestError::BadOption { word: place });
@@ -275,7 +285,9 @@ pub(crate) fn read_link_words<'a>(
     given: LinkWords<'a>,
     words: &'a [String],
 ) -> Result<LinkRest<'a>, NestError>
-    ensures { MatchResult result (λ r. link_from shell place waiting (link_given given.entry) (map string_bytes words.now) ≡ Ok (rest_given r)) (λ e. link_from shell place waiting (link_given given.entry) (map string_bytes words.now) ≡ Err e) }
+    ensures { MatchResult result (λ r. link_from shell place waiting (link_given given.entry)
+        (map string_bytes words.now) ≡ Ok (rest_given r))
+        (λ e. link_from shell place waiting (link_given given.entry) (map string_bytes words.now) ≡ Err e) }
 {
     let here = LinkRest {
         given,

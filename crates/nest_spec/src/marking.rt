@@ -48,7 +48,8 @@ impl<'a> Marking<'a> {
         })
     }
 
-    /// The fates before any packet of a schedule is sent, as in `new`. That its rows are numbered from 1 isn't looked at.
+    /// The fates before any packet of a schedule is sent, as in `new`. That its rows are numbered from 1 isn't looked
+    /// at.
     pub fn of_schedule(alloc: Global, schedule: &'a Schedule) -> Result<Marking<'a>, OutOfMemory>
         ensures { IfOk result (λ m. m ≡ marks schedule.now (fated (λ _. Fate.Unsent) schedule.now)) }
     {

@@ -1,5 +1,6 @@
 // The words for a nest.
-ghost use Rattle.std.specs.Prelude.{◌≡◌, ◌≢◌, ◌≤◌, ◌+◌, ◌*◌, ◌++◌, Ok, Err, length, map, string_bytes, option_map, option_to_list, MatchResult, OnOk};
+ghost use Rattle.std.specs.Prelude.{◌≡◌, ◌≢◌, ◌≤◌, ◌+◌, ◌*◌, ◌++◌, Ok, Err, length, map, string_bytes, option_map};
+ghost use Rattle.std.specs.Prelude.{option_to_list, MatchResult, OnOk};
 ghost use Rattle.nest_spec.specs.Words.{with_shell, passed_over, shells_from, nest_of};
 ghost use Rattle.nest_spec.specs.Plans.{IsPlan, trace_count};
 ghost use Rattle.nest_spec.specs.LinkViews.{text_of};
@@ -16,8 +17,8 @@ use std::alloc::Global;
 use std::marker::Model;
 use trace_reader::Trace;
 
-/// A nest as its words state it: 1 to 8 shells, the outermost first, and the names of its traces and logs in that order, up before
-/// down.
+/// A nest as its words state it: 1 to 8 shells, the outermost first, and the names of its traces and logs in that
+/// order, up before down.
 #[derive(Drop)]
 pub struct NestWords {
     shells: Vec<ShellWords>,
@@ -64,8 +65,8 @@ impl NestWords {
 }
 
 impl NestWords {
-    /// How many opportunities the links have up to a horizon, both directions of all links together; `once` holds for both directions
-    /// of its link. There is a trace for each name.
+    /// How many opportunities the links have up to a horizon, both directions of all links together; `once` holds for
+    /// both directions of its link. There is a trace for each name.
     pub fn opportunities(&self, traces: &[Trace], horizon: u64) -> u64
         requires traces { length traces.now ≡ length self.now.traces }
         requires horizon { horizon ≤ 3600000 }
@@ -138,7 +139,8 @@ fn push_names(
     up: Option<&str>,
     down: Option<&str>,
 ) -> Result<(), OutOfMemory>
-    ensures { OnOk result (list.new.items ≡ list.old.items ++ (option_to_list (text_of up.entry) ++ option_to_list (text_of down.entry))) }
+    ensures { OnOk result (list.new.items ≡ list.old.items
+        ++ (option_to_list (text_of up.entry) ++ option_to_list (text_of down.entry))) }
 {
     push_name(alloc, list, up)?;
     push_name(alloc, list, down)
@@ -177,8 +179,10 @@ fn read_shells(
 ) -> Result<(), NestError>
     requires { left + length draft.old.shells.items ≡ 8 }
     ensures { MatchResult result
-        (λ _. shells_from left (draft_plan draft.old) place missing (map string_bytes words.now) ≡ Ok (draft_plan draft.new))
-        (λ e. e ≢ NestError.OutOfMemory → shells_from left (draft_plan draft.old) place missing (map string_bytes words.now) ≡ Err e) }
+        (λ _. shells_from left (draft_plan draft.old) place missing (map string_bytes words.now) ≡ Ok
+        (draft_plan draft.new))
+        (λ e. e ≢ NestError.OutOfMemory
+        → shells_from left (draft_plan draft.old) place missing (map string_bytes words.now) ≡ Err e) }
 {
     let Some((word, rest)) = words.split_first() else {
         return Err(missing);
@@ -199,9 +203,9 @@ fn read_shells(
     read_shells(alloc, draft, left - 1, place, missing, rest)
 }
 
-/// Reads the words for a nest: shells of `mm-delay D`, `mm-loss uplink|downlink RATE` and `mm-link UPTRACE DOWNTRACE` with its options
-/// in any place, one word `--` after a whole shell passed over. Ok exactly where the words are a nest, and each refusal is the first
-/// from the left.
+/// Reads the words for a nest: shells of `mm-delay D`, `mm-loss uplink|downlink RATE` and `mm-link UPTRACE DOWNTRACE`
+/// with its options in any place, one word `--` after a whole shell passed over. Ok exactly where the words are a
+/// nest, and each refusal is the first from the left.
 pub fn read_nest(alloc: Global, words: &[String]) -> Result<NestWords, NestError>
     ensures { MatchResult result
         (λ nest. nest_of (map string_bytes words.now) ≡ Ok nest)

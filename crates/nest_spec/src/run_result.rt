@@ -17,8 +17,8 @@ pub struct Named<T> {
 /// A log that is written out, and the name of its file.
 pub type NamedLog = Named<Log>;
 
-/// The fate of each packet in the order of their rows, and the logs that have a name in the order of the shells, up before down.
-/// Contracts see it as these two lists.
+/// The fate of each packet in the order of their rows, and the logs that have a name in the order of the shells, up
+/// before down. Contracts see it as these two lists.
 #[derive(Drop)]
 pub struct RunResult {
     fates: Vec<FateRow>,

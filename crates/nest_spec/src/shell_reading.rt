@@ -1,7 +1,10 @@
 // The words of one shell.
-ghost use Rattle.std.specs.Prelude.{◌≡◌, Some, None, Ok, Err, map, string_bytes, unwrap_or, codes, [], option_map, MatchResult};
+ghost use Rattle.std.specs.Prelude.{◌≡◌, Some, None, Ok, Err, map, string_bytes, unwrap_or, codes, [], option_map};
+ghost use Rattle.std.specs.Prelude.{MatchResult};
 ghost use Rattle.mm_base.specs.Numbers.{decimal_of};
-ghost use Rattle.nest_spec.specs.Words.{shell_read, delay_ms, delay_words, loss_direction, loss_rate, rate_words, loss_words, queue_given, side_words, queues_read, link_end, link_words, shell_words};
+ghost use Rattle.nest_spec.specs.Words.{shell_read, delay_ms, delay_words, loss_direction, loss_rate, rate_words};
+ghost use Rattle.nest_spec.specs.Words.{loss_words, queue_given, side_words, queues_read, link_end, link_words};
+ghost use Rattle.nest_spec.specs.Words.{shell_words};
 ghost use Rattle.nest_spec.specs.RateValues.{rate_value};
 ghost use Rattle.nest_spec.specs.LinkViews.{side_given, rest_given};
 ghost use Rattle.nest_spec.specs.ShellViews.{shell_given};
@@ -51,7 +54,8 @@ fn read_ms(shell: u32, word: &str) -> Result<u64, NestError>
 }
 
 fn read_delay<'a>(shell: u32, place: u32, words: &'a [String]) -> Result<ShellRead<'a>, NestError>
-    ensures { MatchResult result (λ r. delay_words shell place (map string_bytes words.now) ≡ Ok (shell_given r)) (λ e. delay_words shell place (map string_bytes words.now) ≡ Err e) }
+    ensures { MatchResult result (λ r. delay_words shell place (map string_bytes words.now) ≡ Ok (shell_given r))
+        (λ e. delay_words shell place (map string_bytes words.now) ≡ Err e) }
 {
     let Some((word, rest)) = words.split_first() else {
         return Err(NestError::MissingWord { shell });
@@ -85,7 +89,8 @@ fn read_rate_word<'a>(
     direction: Direction,
     words: &'a [String],
 ) -> Result<ShellRead<'a>, NestError>
-    ensures { MatchResult result (λ r. rate_words shell place direction (map string_bytes words.now) ≡ Ok (shell_given r)) (λ e. rate_words shell place direction (map string_bytes words.now) ≡ Err e) }
+    ensures { MatchResult result (λ r. rate_words shell place direction (map string_bytes words.now) ≡ Ok
+        (shell_given r)) (λ e. rate_words shell place direction (map string_bytes words.now) ≡ Err e) }
 {
     let Some((word, rest)) = words.split_first() else {
         return Err(NestError::MissingWord { shell });
@@ -95,7 +100,8 @@ fn read_rate_word<'a>(
 }
 
 fn read_loss<'a>(shell: u32, place: u32, words: &'a [String]) -> Result<ShellRead<'a>, NestError>
-    ensures { MatchResult result (λ r. loss_words shell place (map string_bytes words.now) ≡ Ok (shell_given r)) (λ e. loss_words shell place (map string_bytes words.now) ≡ Err e) }
+    ensures { MatchResult result (λ r. loss_words shell place (map string_bytes words.now) ≡ Ok (shell_given r))
+        (λ e. loss_words shell place (map string_bytes words.now) ≡ Err e) }
 {
     let Some((word, rest)) = words.split_first() else {
         return Err(NestError::MissingWord { shell });
@@ -142,7 +148,8 @@ fn link_side(queue: QueueSpec, side: SideWords) -> LinkSide
 
 // The end of a link's words: its traces, then its queues.
 fn read_link_end<'a>(shell: u32, read: LinkRest<'a>) -> Result<ShellRead<'a>, NestError>
-    ensures { MatchResult result (λ r. link_end shell (rest_given read.entry) ≡ Ok (shell_given r)) (λ e. link_end shell (rest_given read.entry) ≡ Err e) }
+    ensures { MatchResult result (λ r. link_end shell (rest_given read.entry) ≡ Ok (shell_given r))
+        (λ e. link_end shell (rest_given read.entry) ≡ Err e) }
 {
     let (Some(up_trace), Some(down_trace)) = (read.given.up.trace, read.given.down.trace) else {
         return Err(NestError::MissingWord { shell });
@@ -165,7 +172,8 @@ fn read_link_end<'a>(shell: u32, read: LinkRest<'a>) -> Result<ShellRead<'a>, Ne
 }
 
 fn read_link<'a>(shell: u32, place: u32, words: &'a [String]) -> Result<ShellRead<'a>, NestError>
-    ensures { MatchResult result (λ r. link_words shell place (map string_bytes words.now) ≡ Ok (shell_given r)) (λ e. link_words shell place (map string_bytes words.now) ≡ Err e) }
+    ensures { MatchResult result (λ r. link_words shell place (map string_bytes words.now) ≡ Ok (shell_given r))
+        (λ e. link_words shell place (map string_bytes words.now) ≡ Err e) }
 {
     let read = read_link_words(shell, place, None, LinkWords::new(), words)?;
     read_link_end(shell, read)
@@ -178,7 +186,8 @@ pub(crate) fn read_shell<'a>(
     place: u32,
     words: &'a [String],
 ) -> Result<ShellRead<'a>, NestError>
-    ensures { MatchResult result (λ r. shell_words kind shell place (map string_bytes words.now) ≡ Ok (shell_given r)) (λ e. shell_words kind shell place (map string_bytes words.now) ≡ Err e) }
+    ensures { MatchResult result (λ r. shell_words kind shell place (map string_bytes words.now) ≡ Ok (shell_given r))
+        (λ e. shell_words kind shell place (map string_bytes words.now) ≡ Err e) }
 {
     match kind {
         ShellKind::Delay => read_delay(shell, place, words),

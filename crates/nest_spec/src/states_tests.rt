@@ -98,7 +98,8 @@ fn copied(alloc: Global, packets: &[Timed]) -> Result<Vec<Timed>, OutOfMemory>
     Ok(copy)
 }
 
-// The states of these shells in passing order, each after all that the one before it passed on, the first after these packets.
+// The states of these shells in passing order, each after all that the one before it passed on, the first after these
+// packets.
 fn run_shells(
     alloc: Global,
     specs: Vec<DirSpec>,
@@ -145,7 +146,8 @@ fn run_direction(
     rows: &[Row],
 ) -> Result<Vec<ShellState>, OutOfMemory>
     requires { Rises 0 rows.now }
-    ensures { IfOk result (λ states. HavePassed nest.now.horizon (directions_of direction nest.now) (entering direction nest.now.horizon rows.now) states.items) }
+    ensures { IfOk result (λ states. HavePassed nest.now.horizon (directions_of direction nest.now)
+        (entering direction nest.now.horizon rows.now) states.items) }
 {
     let horizon = nest.horizon();
     let packets = entering(alloc, direction, horizon, rows)?;

@@ -1,11 +1,13 @@
 -- A use has a value exactly where its option takes one.
-use Rattle.std.proofs.Common.{◌≡◌, ◌∙◌, ◌||◌, Bool, true, false, refl, sym, ap, subst, List, [], ◌∷◌, drop, Option, Some, None, codes}
+use Rattle.std.proofs.Common.{◌≡◌, ◌∙◌, ◌||◌, Bool, true, false, refl, sym, ap, subst, List, [], ◌∷◌, drop, Option}
+use Rattle.std.proofs.Common.{Some, None, codes}
 use Rattle.std.proofs.Math.Bool.{true≢false}
 use Rattle.std.specs.Option.{option_map, MatchOption}
 use Rattle.std.specs.Prelude.{if◌then◌else◌, option_and_then, slice_get, is_some}
 use Rattle.std.specs.Str.{bytes_eq}
 use Rattle.clap.specs.Walk.{Text}
-use Rattle.option_words.specs.Options.{Opt, Use, all_new, is_option_word, is_used, is_value, name_and_value, on_word, option_of, options, read, unvalued, valued, with_use, use_of, value_of}
+use Rattle.option_words.specs.Options.{Opt, Use, all_new, is_option_word, is_used, is_value, name_and_value, on_word}
+use Rattle.option_words.specs.Options.{option_of, options, read, unvalued, valued, with_use, use_of, value_of}
 use Rattle.option_words.proofs.Rules.{opt_of, found_again, found_passes, same_text}
 use Rattle.option_words.specs.ClapTable.{row_values}
 use Rattle.option_words.proofs.Getters.{flag_text}
@@ -31,8 +33,10 @@ abbrev Waits : List Opt → Option Text → Type 0
 Waits t None = Unit {0}
 Waits t (Some n) = opt_of t n ≡ Some (opt_at n true)
 
-known_name : (t : List Opt) (x : Option (List Use)) (y : Option (List Use)) (n : Text) (b : Bool) (v : Option Text) → opt_of t n ≡ Some (opt_at n b)
-    → KnownIn t x → (opt_of t n ≡ Some (opt_at n true) → KnownIn t y) → KnownIn t (if b then valued n v x y else unvalued n v x)
+known_name : (t : List Opt) (x : Option (List Use)) (y : Option (List Use)) (n : Text) (b : Bool) (v : Option Text)
+    → opt_of t n ≡ Some (opt_at n b)
+    → KnownIn t x → (opt_of t n ≡ Some (opt_at n true) → KnownIn t y)
+    → KnownIn t (if b then valued n v x y else unvalued n v x)
 known_name t x y n true None k h g = g k
 known_name t x y n true (Some v) k h g = go (is_value v)
   where
@@ -42,16 +46,22 @@ known_name t x y n true (Some v) k h g = go (is_value v)
 known_name t x y n false None k h g = with_known t (n, None) x k h
 known_name t x y n false (Some v) k h g = tt
 
-known_word : (t : List Opt) (x : Option (List Use)) (y : Text → Option (List Use)) (p : Text × Option Text) (o : Option Opt) → opt_of t p.0 ≡ o
-    → KnownIn t x → ((n : Text) → opt_of t n ≡ Some (opt_at n true) → KnownIn t (y n)) → KnownIn t (on_word (option_map (λ o. (o, p.1)) o) x y)
+known_word : (t : List Opt) (x : Option (List Use)) (y : Text → Option (List Use)) (p : Text × Option Text)
+    (o : Option Opt) → opt_of t p.0 ≡ o
+    → KnownIn t x → ((n : Text) → opt_of t n ≡ Some (opt_at n true) → KnownIn t (y n))
+    → KnownIn t (on_word (option_map (λ o. (o, p.1)) o) x y)
 known_word t x y p None e h g = tt
-known_word t x y p (Some o) e h g = known_name t x (y o.name) o.name o.takes_value p.1 (found_again t p.0 o e) h (g o.name)
+known_word t x y p (Some o) e h g = known_name t x (y o.name) o.name o.takes_value p.1 (found_again t p.0 o e) h
+    (g o.name)
 
 known_option : (t : List Opt) (x : Option (List Use)) (y : Text → Option (List Use)) (w : Text)
-    → KnownIn t x → ((n : Text) → opt_of t n ≡ Some (opt_at n true) → KnownIn t (y n)) → KnownIn t (on_word (option_of t w) x y)
+    → KnownIn t x → ((n : Text) → opt_of t n ≡ Some (opt_at n true) → KnownIn t (y n))
+    → KnownIn t (on_word (option_of t w) x y)
 known_option t x y w h g = go (is_option_word w)
   where
-    go : (b : Bool) → KnownIn t (on_word (if b then option_map (λ o. (o, (name_and_value (drop 2 w)).1)) (opt_of t (name_and_value (drop 2 w)).0) else None) x y)
+    go : (b : Bool) → KnownIn t (on_word
+        (if b then option_map (λ o. (o, (name_and_value (drop 2 w)).1)) (opt_of t (name_and_value (drop 2 w)).0)
+        else None) x y)
     go true = known_word t x y (name_and_value (drop 2 w)) (opt_of t (name_and_value (drop 2 w)).0) refl h g
     go false = tt
 
@@ -73,7 +83,8 @@ options_known t ws us e = go (read t None ws) (read_known t ws None tt) e
     kept true vs h f = let same : vs ≡ us = cc in subst (AllKnown t) same h
     kept false vs h f = cc
 
-    go : (r : Option (List Use)) → KnownIn t r → option_and_then (λ vs. if all_new [] vs then Some vs else None) r ≡ Some us → AllKnown t us
+    go : (r : Option (List Use)) → KnownIn t r → option_and_then (λ vs. if all_new [] vs then Some vs else None) r ≡
+        Some us → AllKnown t us
     go None h f = cc
     go (Some vs) h f = kept (all_new [] vs) vs h f
 
@@ -86,7 +97,8 @@ use_known t (x ∷ xs) n u k e = go (bytes_eq x.0 n) (use_known t xs n u k.1) e
     go false rest f = rest f
 
 -- what the use of an option holds
-use_holds : (t : List Opt) (us : List Use) (n : Text) (b : Bool) (u : Use) → AllKnown t us → opt_of t n ≡ Some (opt_at n b) → use_of n us ≡ Some u → is_some u.1 ≡ b
+use_holds : (t : List Opt) (us : List Use) (n : Text) (b : Bool) (u : Use) → AllKnown t us
+    → opt_of t n ≡ Some (opt_at n b) → use_of n us ≡ Some u → is_some u.1 ≡ b
 use_holds t us n b u k here e =
     let known = use_known t us n u k e in
     let name : u.0 ≡ n = same_text u.0 n (found_passes (λ x. bytes_eq x.0 n) us u e) in
@@ -105,7 +117,8 @@ valued_is t us n k here = go (use_of n us) refl
     value None e = absurd (true≢false (sym e))
     value (Some x) e = refl
 
-    go : (o : Option Use) → use_of n us ≡ o → option_and_then (λ u. slice_get (row_values u.1) 0) o ≡ option_and_then (λ u. u.1) o
+    go : (o : Option Use) → use_of n us ≡ o → option_and_then (λ u. slice_get (row_values u.1) 0) o ≡ option_and_then
+        (λ u. u.1) o
     go None e = refl
     go (Some u) e = value u.1 (use_holds t us n true u k here e)
 
@@ -128,6 +141,7 @@ flag_is t us n k here = go (use_of n us) refl ∙ ap (λ b. Some (truth b)) (som
     some_used [] = refl
     some_used (x ∷ xs) = at (bytes_eq x.0 n) (some_used xs)
       where
-        at : (b : Bool) → is_some (use_of n xs) ≡ is_used n xs → is_some (if b then Some x else use_of n xs) ≡ (b || is_used n xs)
+        at : (b : Bool) → is_some (use_of n xs) ≡ is_used n xs
+            → is_some (if b then Some x else use_of n xs) ≡ (b || is_used n xs)
         at true h = refl
         at false h = h

@@ -1,5 +1,6 @@
 -- clap's walk over the words of such a command, as steps of a small machine.
-use Rattle.std.proofs.Common.{◌≡◌, ◌∙◌, ◌&&◌, ◌||◌, ℕ, Bool, cond, true, false, refl, sym, ap, subst, List, [], ◌∷◌, ◌++◌, drop, Option, Some, None, append-nil}
+use Rattle.std.proofs.Common.{◌≡◌, ◌∙◌, ◌&&◌, ◌||◌, ℕ, Bool, cond, true, false, refl, sym, ap, subst, List, [], ◌∷◌}
+use Rattle.std.proofs.Common.{◌++◌, drop, Option, Some, None, append-nil}
 use Rattle.std.specs.List.{list_all, list_any, fold}
 use Rattle.std.proofs.Math.Bool.{true≢false}
 use Rattle.clap.proofs.WalkLemmas.{both}
@@ -11,14 +12,22 @@ use Rattle.clap.specs.Kinds.{Kinds, or_else, check_kinds}
 use Rattle.clap.specs.Takes.{is_given}
 use Rattle.clap.proofs.FaultLemmas.{leaf_fault}
 use Rattle.clap.specs.Lexer.{long_of, short_of, long_of_rest, short_of_rest, strip_byte}
-use Rattle.clap.specs.Walk.{Held, Rule, Row, Step, Text, Waiting, Walk, idle, option, next, trailing, value, arg_by_id, at_row, has_row, more_values, used, used_by_id, settled, reacted, subcommand_or_other, long_or_other, short_or_plain, option_word, after_step, after_flag, long_met, positional, plain_word, word_met, walked, subcommand_met, with_default, finished, nothing_held, rows_after}
+use Rattle.clap.specs.Walk.{Held, Rule, Row, Step, Text, Waiting, Walk, idle, option, next, trailing, value, arg_by_id}
+use Rattle.clap.specs.Walk.{at_row, has_row, more_values, used, used_by_id, settled, reacted, subcommand_or_other}
+use Rattle.clap.specs.Walk.{long_or_other, short_or_plain, option_word, after_step, after_flag, long_met, positional}
+use Rattle.clap.specs.Walk.{plain_word, word_met, walked, subcommand_met, with_default, finished, nothing_held}
+use Rattle.clap.specs.Walk.{rows_after}
 use Rattle.clap.specs.Simple.{App, Shape, marked_built, with_leaf_noted, built, argument_words, matches_of, names_of}
-use Rattle.clap.specs.Faults.{use_fault, settle_fault, turn_fault, word_fault, flag_word_fault, bundle_fault, other_fault, react_fault, step_fault, positional_fault, stray_fault, long_fault, walk_fault, default_fault, given_default_fault, defaults_fault, check_fault, level_fault, built_fault, fault_of}
+use Rattle.clap.specs.Faults.{use_fault, settle_fault, turn_fault, word_fault, flag_word_fault, bundle_fault}
+use Rattle.clap.specs.Faults.{other_fault, react_fault, step_fault, positional_fault, stray_fault, long_fault}
+use Rattle.clap.specs.Faults.{walk_fault, default_fault, given_default_fault, defaults_fault, check_fault, level_fault}
+use Rattle.clap.specs.Faults.{built_fault, fault_of}
 use Rattle.clap.specs.declared.error.kind.ErrorKind.TheVariants as kind
 use Rattle.clap.specs.declared.parser.matches.ValueSource.TheVariants.{CommandLine}
 use Rattle.option_words.specs.Options.{Opt, Use, is_option_word, is_used, name_and_value}
 use Rattle.option_words.specs.ClapTable.{bare_app, rule, rules_of, row, rows}
-use Rattle.option_words.proofs.Rules.{opt_of, by_id, by_long, no_place, text_is_itself, found_again, has_row-rows, absent, rows-append}
+use Rattle.option_words.proofs.Rules.{opt_of, by_id, by_long, no_place, text_is_itself, found_again, has_row-rows}
+use Rattle.option_words.proofs.Rules.{absent, rows-append}
 
 -- what is pending between two words: nothing, an option with its value, or one that waits for it
 pub data Mode : Type 0 where
@@ -104,10 +113,13 @@ pub fails_second : (a b : Kinds) → Fails b → Fails (or_else a b)
 fails_second [] b h = h
 fails_second (k ∷ ks) b h = λ e. cc
 
-conflict : (r b : Bool) → r ≡ b → or_else (if r && not false then kind.ArgumentConflict ∷ [] else []) [] ≡ cond b (kind.ArgumentConflict ∷ []) []
-conflict r b e = subst (λ x. or_else (if r && not false then kind.ArgumentConflict ∷ [] else []) [] ≡ cond x (kind.ArgumentConflict ∷ []) []) e (go r)
+conflict : (r b : Bool) → r ≡ b → or_else (if r && not false then kind.ArgumentConflict ∷ [] else []) [] ≡ cond b
+    (kind.ArgumentConflict ∷ []) []
+conflict r b e = subst (λ x. or_else (if r && not false then kind.ArgumentConflict ∷ [] else []) [] ≡ cond x
+    (kind.ArgumentConflict ∷ []) []) e (go r)
   where
-    go : (x : Bool) → or_else (if x && not false then kind.ArgumentConflict ∷ [] else []) [] ≡ cond x (kind.ArgumentConflict ∷ []) []
+    go : (x : Bool) → or_else (if x && not false then kind.ArgumentConflict ∷ [] else []) [] ≡ cond x
+        (kind.ArgumentConflict ∷ []) []
     go true = refl
     go false = refl
 
@@ -128,10 +140,13 @@ use_fault_is us n (Some v) b e = conflict (has_row n (rows us)) b (has_row-rows 
 used_is : (us : List Use) (n : Text) (v : Option Text) → is_used n us ≡ false
     → used (rule (named n v)) (values_in v) (rows us) ≡ rows (us ++ (n, v) ∷ [])
 used_is us n None e =
-    ap (at_row n (more_values CommandLine (codes "true" ∷ [])) (row (n, None) ∷ [])) (absent us n (λ _. []) [] e ∙ append-nil (rows us))
-    ∙ absent us n (more_values CommandLine (codes "true" ∷ [])) (row (n, None) ∷ []) e ∙ sym (rows-append us ((n, None) ∷ []))
+    ap (at_row n (more_values CommandLine (codes "true" ∷ [])) (row (n, None) ∷ [])) (absent us n (λ _. []) [] e
+    ∙ append-nil (rows us))
+    ∙ absent us n (more_values CommandLine (codes "true" ∷ [])) (row (n, None) ∷ []) e
+    ∙ sym (rows-append us ((n, None) ∷ []))
 used_is us n (Some v) e =
-    ap (at_row n (more_values CommandLine (v ∷ [])) (row (n, Some v) ∷ [])) (absent us n (λ _. []) [] e ∙ append-nil (rows us))
+    ap (at_row n (more_values CommandLine (v ∷ [])) (row (n, Some v) ∷ [])) (absent us n (λ _. []) [] e
+    ∙ append-nil (rows us))
     ∙ absent us n (more_values CommandLine (v ∷ [])) (row (n, Some v) ∷ []) e ∙ sym (rows-append us ((n, Some v) ∷ []))
 
 -- ---- what is pending is used
@@ -149,14 +164,18 @@ settle_is t us clean k = (refl, refl)
 settle_is t us (holds n v) k = go (is_used n us) refl (by_id t n ∙ ap (option_map rule) k)
   where
     go : (b : Bool) → is_used n us ≡ b → arg_by_id (rules_of t) n ≡ Some (rule (taker n))
-        → MatchOption (if b then None else Some (us ++ (n, Some v) ∷ [])) (Fails (settle_fault (rules_of t) false (held us (holds n v))))
-        (λ d. (settle_fault (rules_of t) false (held us (holds n v)) ≡ []) × (settled (rules_of t) (held us (holds n v)) ≡ held d clean))
+        → MatchOption (if b then None else Some (us ++ (n, Some v) ∷ []))
+        (Fails (settle_fault (rules_of t) false (held us (holds n v))))
+        (λ d. (settle_fault (rules_of t) false (held us (holds n v)) ≡ [])
+        × (settled (rules_of t) (held us (holds n v)) ≡ held d clean))
     go true e found =
         let is : settle_fault (rules_of t) false (held us (holds n v)) ≡ kind.ArgumentConflict ∷ [] =
-        ap (λ o. option_map_or (λ a. use_fault false a (v ∷ []) (rows us)) o []) found ∙ use_fault_is us n (Some v) true e in
+        ap (λ o. option_map_or (λ a. use_fault false a (v ∷ []) (rows us)) o []) found
+        ∙ use_fault_is us n (Some v) true e in
         λ z. cc
     go false e found = (
-      ap (λ o. option_map_or (λ a. use_fault false a (v ∷ []) (rows us)) o []) found ∙ use_fault_is us n (Some v) false e,
+      ap (λ o. option_map_or (λ a. use_fault false a (v ∷ []) (rows us)) o []) found
+          ∙ use_fault_is us n (Some v) false e,
       ap at_rows (ap (λ o. used_by_id o (v ∷ []) (rows us)) found ∙ used_is us n (Some v) e),
     )
 settle_is t us (wants n) k =
@@ -187,9 +206,11 @@ react_is t us m n v s = go (settle us m) s
         rows_are = ap (λ (h : Held). h.rows) f.1
 
         fault_is : (b : Bool) → is_used n d ≡ b
-            → react_fault (rules_of t) false (rule (named n v)) (values_in v) (held us m) ≡ cond b (kind.ArgumentConflict ∷ []) []
+            → react_fault (rules_of t) false (rule (named n v)) (values_in v) (held us m) ≡ cond b
+            (kind.ArgumentConflict ∷ []) []
         fault_is b e =
-            past _ _ f.0 ∙ ap (λ rs. use_fault false (rule (named n v)) (values_in v) rs) rows_are ∙ use_fault_is d n v b e
+            past _ _ f.0 ∙ ap (λ rs. use_fault false (rule (named n v)) (values_in v) rs) rows_are
+            ∙ use_fault_is d n v b e
 
         used_or_not : (b : Bool) → is_used n d ≡ b → ReactIs t us m n v (if b then None else Some (d ++ (n, v) ∷ []))
         used_or_not true e = let is = fault_is true e in λ z. cc
@@ -232,25 +253,31 @@ module _ (x : ℕ) (xs : Text) (e : (x == 45) ≡ false) where
 
   turn_plain : (t : List Opt) (us : List Use) (m : Mode)
       → turn_fault (shape t) [] (walk_at us m) (x ∷ xs)
-      ≡ step_fault (shape t) 1 (plain_word (rules_of t) (waiting_at m) (x ∷ xs) (held us m)).0 (plain_word (rules_of t) (waiting_at m) (x ∷ xs) (held us m)).1
+      ≡ step_fault (shape t) 1 (plain_word (rules_of t) (waiting_at m) (x ∷ xs) (held us m)).0
+      (plain_word (rules_of t) (waiting_at m) (x ∷ xs) (held us m)).1
   turn_plain t us m =
       past _ _ (fault_plain t (waiting_at m) (held us m))
       ∙ ap (λ (r : Held × Step). step_fault (shape t) 1 r.0 r.1) (met_plain (rules_of t) (waiting_at m) (held us m))
 
   walked_plain : (t : List Opt) (us : List Use) (m : Mode)
       → walked (rules_of t) [] (walk_at us m) (x ∷ xs)
-      ≡ after_step (rules_of t) (x ∷ xs) (walk_at us m) (plain_word (rules_of t) (waiting_at m) (x ∷ xs) (held us m)).0 (plain_word (rules_of t) (waiting_at m) (x ∷ xs) (held us m)).1
+      ≡ after_step (rules_of t) (x ∷ xs) (walk_at us m)
+      (plain_word (rules_of t) (waiting_at m) (x ∷ xs) (held us m)).0
+      (plain_word (rules_of t) (waiting_at m) (x ∷ xs) (held us m)).1
   unfolding walked
   walked_plain t us m =
-      ap (λ (r : Held × Step). after_step (rules_of t) (x ∷ xs) (walk_at us m) r.0 r.1) (met_plain (rules_of t) (waiting_at m) (held us m))
+      ap (λ (r : Held × Step). after_step (rules_of t) (x ∷ xs) (walk_at us m) r.0 r.1)
+      (met_plain (rules_of t) (waiting_at m) (held us m))
 
 abbrev pub StepIs : List Opt → List Use → Mode → Text → Option State → Type 0
 StepIs t us m w r =
     MatchOption r (Fails (turn_fault (shape t) [] (walk_at us m) w))
-    (λ s. (turn_fault (shape t) [] (walk_at us m) w ≡ []) × (walked (rules_of t) [] (walk_at us m) w ≡ walk_at s.0 s.1) × Known t s.1)
+    (λ s. (turn_fault (shape t) [] (walk_at us m) w ≡ [])
+    × (walked (rules_of t) [] (walk_at us m) w ≡ walk_at s.0 s.1) × Known t s.1)
 
 stray : (t : List Opt) (h : Held) → step_fault (shape t) 1 h value ≡ kind.UnknownArgument ∷ []
-stray t h = ap (λ o. option_map_or (λ a. positional_fault (rules_of t) false a h) o (stray_fault (shape t))) (no_place t 1)
+stray t h = ap (λ o. option_map_or (λ a. positional_fault (rules_of t) false a h) o (stray_fault (shape t)))
+    (no_place t 1)
 
 plain_is : (t : List Opt) (us : List Use) (m : Mode) → Known t m → (x : ℕ) (xs : Text) → (x == 45) ≡ false
     → StepIs t us m (x ∷ xs) (plain_step us m (x ∷ xs))
@@ -262,8 +289,17 @@ plain_is t us (wants n) k x xs e =
     let found : arg_by_id (rules_of t) n ≡ Some (rule (taker n)) = by_id t n ∙ ap (option_map rule) k in (
       turn_plain x xs e t us (wants n),
       walked_plain x xs e t us (wants n)
-          ∙ ap (λ o. after_step (rules_of t) (x ∷ xs) (walk_at us (wants n)) (option_word o n (x ∷ xs) (held us (wants n))).0 (next (option_word o n (x ∷ xs) (held us (wants n))).1)) found
-          ∙ ap (λ b. record { held = held us (holds n (x ∷ xs)); waiting = if nat_lt (if b then 1 else 0) 1 then option n else idle; position = 1; is_trailing = false; stopped = None }) (text_is_itself n),
+          ∙ ap (λ o. after_step (rules_of t) (x ∷ xs) (walk_at us (wants n))
+          (option_word o n (x ∷ xs) (held us (wants n))).0
+          (next (option_word o n (x ∷ xs) (held us (wants n))).1)) found
+          ∙ ap (λ b. record {
+            held = held us (holds n (x ∷ xs));
+            waiting = if nat_lt (if b then 1 else 0) 1
+                then option n else idle;
+            position = 1;
+            is_trailing = false;
+            stopped = None;
+          }) (text_is_itself n),
       k,
     )
 
@@ -280,13 +316,15 @@ module _ (z : ℕ) (r : Text) where
   met_by c waiting o v h = after_flag c waiting word (long_met c o v h).0 (long_met c o v h).1
 
   met_long : (t : List Opt) (waiting : Waiting) (h : Held)
-      → word_met (rules_of t) [] false waiting 1 word h ≡ met_by (rules_of t) waiting (option_map rule (opt_of t parts.0)) parts.1 h
+      → word_met (rules_of t) [] false waiting 1 word h ≡ met_by (rules_of t) waiting
+      (option_map rule (opt_of t parts.0)) parts.1 h
   met_long t waiting h =
       ap (λ o. subcommand_or_other (rules_of t) o waiting 1 word h) (no_subcommand waiting word)
       ∙ ap (λ o. met_by (rules_of t) waiting o parts.1 h) (by_long t parts.0)
 
   fault_long : (t : List Opt) (waiting : Waiting) (h : Held)
-      → word_fault (shape t) [] false waiting word h ≡ long_fault (rules_of t) false (option_map rule (opt_of t parts.0)) parts.1 h
+      → word_fault (shape t) [] false waiting word h ≡ long_fault (rules_of t) false
+      (option_map rule (opt_of t parts.0)) parts.1 h
   fault_long t waiting h =
       ap (λ o. other_fault (shape t) o word h) (no_subcommand waiting word)
       ∙ ap (λ o. long_fault (rules_of t) false o parts.1 h) (by_long t parts.0)
@@ -294,23 +332,30 @@ module _ (z : ℕ) (r : Text) where
   abbrev turn_by : List Opt → List Use → Mode → Option Rule → Option Text → Kinds
   turn_by t us m o v =
       or_else (long_fault (rules_of t) false o v (held us m))
-      (step_fault (shape t) 1 (met_by (rules_of t) (waiting_at m) o v (held us m)).0 (met_by (rules_of t) (waiting_at m) o v (held us m)).1)
+      (step_fault (shape t) 1 (met_by (rules_of t) (waiting_at m) o v (held us m)).0
+      (met_by (rules_of t) (waiting_at m) o v (held us m)).1)
 
   turn_long : (t : List Opt) (us : List Use) (m : Mode)
       → turn_fault (shape t) [] (walk_at us m) word ≡ turn_by t us m (option_map rule (opt_of t parts.0)) parts.1
   turn_long t us m =
-      ap (λ (k : Kinds). or_else k (step_fault (shape t) 1 (word_met (rules_of t) [] false (waiting_at m) 1 word (held us m)).0 (word_met (rules_of t) [] false (waiting_at m) 1 word (held us m)).1)) (fault_long t (waiting_at m) (held us m))
-      ∙ ap (λ (q : Held × Step). or_else (long_fault (rules_of t) false (option_map rule (opt_of t parts.0)) parts.1 (held us m)) (step_fault (shape t) 1 q.0 q.1)) (met_long t (waiting_at m) (held us m))
+      ap (λ (k : Kinds). or_else k (step_fault (shape t) 1
+      (word_met (rules_of t) [] false (waiting_at m) 1 word (held us m)).0
+      (word_met (rules_of t) [] false (waiting_at m) 1 word (held us m)).1))
+      (fault_long t (waiting_at m) (held us m))
+      ∙ ap (λ (q : Held × Step). or_else (long_fault (rules_of t) false (option_map rule (opt_of t parts.0)) parts.1
+      (held us m)) (step_fault (shape t) 1 q.0 q.1)) (met_long t (waiting_at m) (held us m))
 
   abbrev walked_by : List Opt → List Use → Mode → Option Rule → Option Text → Walk
   walked_by t us m o v =
-      after_step (rules_of t) word (walk_at us m) (met_by (rules_of t) (waiting_at m) o v (held us m)).0 (met_by (rules_of t) (waiting_at m) o v (held us m)).1
+      after_step (rules_of t) word (walk_at us m) (met_by (rules_of t) (waiting_at m) o v (held us m)).0
+      (met_by (rules_of t) (waiting_at m) o v (held us m)).1
 
   walked_long : (t : List Opt) (us : List Use) (m : Mode)
       → walked (rules_of t) [] (walk_at us m) word ≡ walked_by t us m (option_map rule (opt_of t parts.0)) parts.1
   unfolding walked
   walked_long t us m =
-      ap (λ (q : Held × Step). after_step (rules_of t) word (walk_at us m) q.0 q.1) (met_long t (waiting_at m) (held us m))
+      ap (λ (q : Held × Step). after_step (rules_of t) word (walk_at us m) q.0 q.1)
+      (met_long t (waiting_at m) (held us m))
 
 abbrev Turns : List Opt → Kinds → Walk → Option State → Type 0
 Turns t turn after r = MatchOption r (Fails turn) (λ s. (turn ≡ []) × (after ≡ walk_at s.0 s.1) × Known t s.1)
@@ -322,7 +367,8 @@ opt_at n b = record { name = n; takes_value = b }
 abbrev at_held : Waiting → Held → Walk
 at_held waiting h = record { held = h; waiting = waiting; position = 1; is_trailing = false; stopped = None }
 
-reacts : (t : List Opt) (us : List Use) (m : Mode) (n : Text) (v : Option Text) (added : Option (List Use)) → ReactIs t us m n v added
+reacts : (t : List Opt) (us : List Use) (m : Mode) (n : Text) (v : Option Text) (added : Option (List Use))
+    → ReactIs t us m n v added
     → Turns t (or_else (react_fault (rules_of t) false (rule (named n v)) (values_in v) (held us m)) [])
     (at_held idle (reacted (rules_of t) (rule (named n v)) (values_in v) (held us m))) (to_clean added)
 reacts t us m n v None f = fails_first _ _ f
@@ -332,13 +378,16 @@ waits_is : (t : List Opt) (us : List Use) (m : Mode) (n : Text) (o : Option (Lis
     → MatchOption o (Fails (settle_fault (rules_of t) false (held us m)))
     (λ d. (settle_fault (rules_of t) false (held us m) ≡ []) × (settled (rules_of t) (held us m) ≡ held d clean))
     → Turns t (or_else (settle_fault (rules_of t) false (held us m)) [])
-    (at_held (option n) (record (settled (rules_of t) (held us m)) { pending = Some (n, []) })) (option_map (λ us. (us, wants n)) o)
+    (at_held (option n) (record (settled (rules_of t) (held us m)) { pending = Some (n, []) }))
+    (option_map (λ us. (us, wants n)) o)
 waits_is t us m n None k f = fails_first _ _ f
-waits_is t us m n (Some d) k f = (past _ _ f.0, ap (λ (h : Held). at_held (option n) (record h { pending = Some (n, []) })) f.1, k)
+waits_is t us m n (Some d) k f =
+    (past _ _ f.0, ap (λ (h : Held). at_held (option n) (record h { pending = Some (n, []) })) f.1, k)
 
 long_found : (t : List Opt) (us : List Use) (m : Mode) (z : ℕ) (r : Text) (n : Text) (b : Bool) (v : Option Text)
     → opt_of t n ≡ Some (opt_at n b) → SettleIs t us m
-    → Turns t (turn_by z r t us m (Some (rule (opt_at n b))) v) (walked_by z r t us m (Some (rule (opt_at n b))) v) (after_name (settle us m) n b v)
+    → Turns t (turn_by z r t us m (Some (rule (opt_at n b))) v) (walked_by z r t us m (Some (rule (opt_at n b))) v)
+    (after_name (settle us m) n b v)
 long_found t us m z r n true None k s = waits_is t us m n (settle us m) k s
 long_found t us m z r n true (Some v) k s = reacts t us m n (Some v) _ (react_is t us m n (Some v) s)
 long_found t us m z r n false None k s = reacts t us m n None _ (react_is t us m n None s)
@@ -355,10 +404,12 @@ long_is t us m k z r =
     (go (opt_of t (name_and_value (z ∷ r)).0) refl)
   where
     go : (o : Option Opt) → opt_of t (name_and_value (z ∷ r)).0 ≡ o
-        → Turns t (turn_by z r t us m (option_map rule o) (name_and_value (z ∷ r)).1) (walked_by z r t us m (option_map rule o) (name_and_value (z ∷ r)).1)
+        → Turns t (turn_by z r t us m (option_map rule o) (name_and_value (z ∷ r)).1)
+        (walked_by z r t us m (option_map rule o) (name_and_value (z ∷ r)).1)
         (option_and_then (λ x. after_name (settle us m) x.name x.takes_value (name_and_value (z ∷ r)).1) o)
     go None e = λ q. cc
-    go (Some o) e = long_found t us m z r o.name o.takes_value (name_and_value (z ∷ r)).1 (found_again t (name_and_value (z ∷ r)).0 o e) (settle_is t us m k)
+    go (Some o) e = long_found t us m z r o.name o.takes_value (name_and_value (z ∷ r)).1
+        (found_again t (name_and_value (z ∷ r)).0 o e) (settle_is t us m k)
 
 -- ---- any word
 
@@ -375,10 +426,12 @@ no_option x (y ∷ z ∷ r) e = ap (λ b. b && (y == 45)) e
 plain_case : (t : List Opt) (us : List Use) (m : Mode) → Known t m → (x : ℕ) (xs : Text) → (x == 45) ≡ false
     → StepIs t us m (x ∷ xs) (step t (us, m) (x ∷ xs))
 plain_case t us m k x xs e =
-    subst (λ b. StepIs t us m (x ∷ xs) (if b then option_step t (us, m) (name_and_value (drop 2 (x ∷ xs))) else plain_step us m (x ∷ xs)))
+    subst (λ b. StepIs t us m (x ∷ xs) (if b then option_step t (us, m) (name_and_value (drop 2 (x ∷ xs)))
+    else plain_step us m (x ∷ xs)))
     (sym (no_option x xs e)) (plain_is t us m k x xs e)
 
-hyphen_case : (t : List Opt) (us : List Use) (m : Mode) → Known t m → (x : ℕ) (xs : Text) → (x == 45) ≡ true → is_option_word (x ∷ xs) ≡ true
+hyphen_case : (t : List Opt) (us : List Use) (m : Mode) → Known t m → (x : ℕ) (xs : Text) → (x == 45) ≡ true
+    → is_option_word (x ∷ xs) ≡ true
     → StepIs t us m (x ∷ xs) (step t (us, m) (x ∷ xs))
 hyphen_case t us m k x [] e w = absurd (true≢false (sym w))
 hyphen_case t us m k x (y ∷ []) e w = absurd (true≢false (sym w))
@@ -389,11 +442,13 @@ hyphen_case t us m k x (y ∷ z ∷ r) e w =
     subst (λ (a : ℕ). StepIs t us m (a ∷ y ∷ z ∷ r) (step t (us, m) (a ∷ y ∷ z ∷ r))) first
     (subst (λ (b : ℕ). StepIs t us m (45 ∷ b ∷ z ∷ r) (step t (us, m) (45 ∷ b ∷ z ∷ r))) second (long_is t us m k z r))
 
-pub step_is : (t : List Opt) (us : List Use) (m : Mode) → Known t m → (w : Text) → is_plain_or_option w ≡ true → StepIs t us m w (step t (us, m) w)
+pub step_is : (t : List Opt) (us : List Use) (m : Mode) → Known t m → (w : Text) → is_plain_or_option w ≡ true
+    → StepIs t us m w (step t (us, m) w)
 step_is t us m k [] fit = absurd (true≢false (sym fit))
 step_is t us m k (x ∷ xs) fit = go (x == 45) refl fit
   where
-    go : (b : Bool) → (x == 45) ≡ b → (not b || is_option_word (x ∷ xs)) ≡ true → StepIs t us m (x ∷ xs) (step t (us, m) (x ∷ xs))
+    go : (b : Bool) → (x == 45) ≡ b → (not b || is_option_word (x ∷ xs)) ≡ true
+        → StepIs t us m (x ∷ xs) (step t (us, m) (x ∷ xs))
     go true e f = hyphen_case t us m k x xs e f
     go false e f = plain_case t us m k x xs e
 
@@ -407,7 +462,8 @@ faults_from t w ws = or_else (walk_fault (shape t) [] w ws) (settle_fault (rules
 
 abbrev pub RunIs : List Opt → Walk → List Text → Option (List Use) → Type 0
 RunIs t w ws r =
-    MatchOption r (Fails (faults_from t w ws)) (λ us. (faults_from t w ws ≡ []) × (settled (rules_of t) (walk_end t w ws) ≡ held us clean))
+    MatchOption r (Fails (faults_from t w ws)) (λ us. (faults_from t w ws ≡ [])
+    × (settled (rules_of t) (walk_end t w ws) ≡ held us clean))
 
 faults_cons : (t : List Opt) (x : Walk) (w : Text) (ws : List Text)
     → faults_from t x (w ∷ ws)
@@ -417,7 +473,8 @@ unfolding walk_fault
 faults_cons t x w ws = refl
 
 at_run : (a b : Kinds) (g h : Held) (us : Option (List Use))
-    → a ≡ b → g ≡ h → MatchOption us (Fails b) (λ d. (b ≡ []) × (h ≡ held d clean)) → MatchOption us (Fails a) (λ d. (a ≡ []) × (g ≡ held d clean))
+    → a ≡ b → g ≡ h → MatchOption us (Fails b) (λ d. (b ≡ []) × (h ≡ held d clean))
+    → MatchOption us (Fails a) (λ d. (a ≡ []) × (g ≡ held d clean))
 at_run a b g h None e f x = λ q. x (sym e ∙ q)
 at_run a b g h (Some d) e f x = (e ∙ x.0, f ∙ x.1)
 
@@ -429,12 +486,14 @@ run_step t w ws us m None f more =
 run_step t w ws us m (Some s) f more =
     at_run _ _ _ _ (run t s ws)
     (faults_cons t (walk_at us m) w ws
-    ∙ ap (λ (k : Kinds). or_else (or_else k (walk_fault (shape t) [] (walked (rules_of t) [] (walk_at us m) w) ws)) (settle_fault (rules_of t) false (walk_end t (walked (rules_of t) [] (walk_at us m) w) ws))) f.0
+    ∙ ap (λ (k : Kinds). or_else (or_else k (walk_fault (shape t) [] (walked (rules_of t) [] (walk_at us m) w) ws))
+    (settle_fault (rules_of t) false (walk_end t (walked (rules_of t) [] (walk_at us m) w) ws))) f.0
     ∙ ap (λ (y : Walk). faults_from t y ws) f.1)
     (ap (λ (y : Walk). settled (rules_of t) (walk_end t y ws)) f.1)
     (more s.0 s.1 f.2)
 
-pub run_is : (t : List Opt) (ws : List Text) → list_all is_plain_or_option ws ≡ true → (us : List Use) (m : Mode) → Known t m
+pub run_is : (t : List Opt) (ws : List Text) → list_all is_plain_or_option ws ≡ true → (us : List Use) (m : Mode)
+    → Known t m
     → RunIs t (walk_at us m) ws (run t (us, m) ws)
 unfolding run walk_fault
 run_is t [] fit us m k = settle_is t us m k
@@ -479,7 +538,8 @@ or_none (k ∷ ks) b e = refl
 abbrev pub alone : List Opt → App
 alone t = record { top = shape t; subs = [] }
 
-level_is : (t : List Opt) (ws : List Text) → level_fault (shape t) [] nothing_held ws false [] ≡ faults_from t (walk_at [] clean) ws
+level_is : (t : List Opt) (ws : List Text) → level_fault (shape t) [] nothing_held ws false [] ≡ faults_from t
+    (walk_at [] clean) ws
 level_is t ws =
     let end : Held = walk_end t (walk_at [] clean) ws in
     regroup (walk_fault (shape t) [] (walk_at [] clean) ws) (settle_fault (rules_of t) false end) _
@@ -487,7 +547,8 @@ level_is t ws =
     (past _ _ (no_defaults t (settled (rules_of t) end).rows) ∙ no_check t (finished (rules_of t) end))
 
 -- what clap makes of fit words, for a command that is built to this table
-pub clap_is : (t : List Opt) (a : App) (ws : List Text) → built a ≡ alone t → a.top.no_binary_name ≡ true → list_all is_plain_or_option ws ≡ true
+pub clap_is : (t : List Opt) (a : App) (ws : List Text) → built a ≡ alone t → a.top.no_binary_name ≡ true
+    → list_all is_plain_or_option ws ≡ true
     → MatchOption (run t ([], clean) ws) (Fails (fault_of a ws))
     (λ us. (fault_of a ws ≡ []) × (matches_of a ws ≡ fold with_default (rows us) (rules_of t)))
 clap_is t a ws b bare fit = go (run t ([], clean) ws) (run_is t ws fit [] clean tt)
@@ -497,7 +558,8 @@ clap_is t a ws b bare fit = go (run t ([], clean) ws) (run_is t ws fit [] clean 
 
     faults_are : fault_of a ws ≡ faults_from t (walk_at [] clean) ws
     faults_are =
-        ap (λ (x : App). built_fault x nothing_held (argument_words a ws)) b ∙ ap (λ v. built_fault (alone t) nothing_held v) words_are
+        ap (λ (x : App). built_fault x nothing_held (argument_words a ws)) b
+        ∙ ap (λ v. built_fault (alone t) nothing_held v) words_are
         ∙ leaf_fault (alone t) nothing_held ws refl ∙ level_is t ws
 
     rows_are : matches_of a ws ≡ finished (rules_of t) (walk_end t (walk_at [] clean) ws)
@@ -506,6 +568,7 @@ clap_is t a ws b bare fit = go (run t ([], clean) ws) (run_is t ws fit [] clean 
         ∙ ap (λ v. rows_after (rules_of t) [] v) words_are
 
     go : (r : Option (List Use)) → RunIs t (walk_at [] clean) ws r
-        → MatchOption r (Fails (fault_of a ws)) (λ us. (fault_of a ws ≡ []) × (matches_of a ws ≡ fold with_default (rows us) (rules_of t)))
+        → MatchOption r (Fails (fault_of a ws)) (λ us. (fault_of a ws ≡ [])
+        × (matches_of a ws ≡ fold with_default (rows us) (rules_of t)))
     go None f = λ q. f (sym faults_are ∙ q)
     go (Some us) f = (faults_are ∙ f.0, rows_are ∙ ap (λ (h : Held). fold with_default h.rows (rules_of t)) f.1)

@@ -1,20 +1,24 @@
 -- The machine's runs are what the words spell.
-use Rattle.std.proofs.Common.{◌≡◌, ◌∙◌, ◌&&◌, ◌||◌, Bool, true, false, refl, sym, ap, List, [], ◌∷◌, ◌++◌, drop, Option, Some, None, append-nil, append_assoc}
+use Rattle.std.proofs.Common.{◌≡◌, ◌∙◌, ◌&&◌, ◌||◌, Bool, true, false, refl, sym, ap, List, [], ◌∷◌, ◌++◌, drop, Option}
+use Rattle.std.proofs.Common.{Some, None, append-nil, append_assoc}
 use Rattle.std.proofs.Math.Bool.{true≢false}
 use Rattle.std.specs.List.{list_all}
 use Rattle.std.specs.Option.{option_map}
 use Rattle.std.specs.Prelude.{if◌then◌else◌, option_and_then, not, ◌==◌}
 use Rattle.clap.specs.Walk.{Text}
 use Rattle.clap.proofs.WalkLemmas.{both}
-use Rattle.option_words.specs.Options.{Opt, Use, all_new, is_fit, is_good, is_option_word, is_used, is_value, name_and_value, on_word, option_of, options, read, unvalued, valued, with_use}
+use Rattle.option_words.specs.Options.{Opt, Use, all_new, is_fit, is_good, is_option_word, is_used, is_value}
+use Rattle.option_words.specs.Options.{name_and_value, on_word, option_of, options, read, unvalued, valued, with_use}
 use Rattle.option_words.proofs.Rules.{opt_of}
-use Rattle.option_words.proofs.Machine.{Mode, clean, holds, wants, State, add, settle, to_clean, after_name, option_step, plain_step, run, is_plain_or_option}
+use Rattle.option_words.proofs.Machine.{Mode, clean, holds, wants, State, add, settle, to_clean, after_name}
+use Rattle.option_words.proofs.Machine.{option_step, plain_step, run, is_plain_or_option}
 
 -- the uses so far and those that follow, where no option stands twice
 abbrev pub after : List Use → Option (List Use) → Option (List Use)
 after us = option_and_then (λ vs. if all_new us vs then Some (us ++ vs) else None)
 
-after-shift : (us : List Use) (u : Use) (r : Option (List Use)) → is_used u.0 us ≡ false → after us (with_use u r) ≡ after (us ++ u ∷ []) r
+after-shift : (us : List Use) (u : Use) (r : Option (List Use)) → is_used u.0 us ≡ false
+    → after us (with_use u r) ≡ after (us ++ u ∷ []) r
 after-shift us u None e = refl
 after-shift us u (Some vs) e =
     ap (λ b. if not b && all_new (us ++ u ∷ []) vs then Some (us ++ u ∷ vs) else None) e
@@ -51,7 +55,8 @@ More t ws = (us : List Use) (m : Mode) → Good m → run t (us, m) ws ≡ after
 end_is : (t : List Opt) (us : List Use) (m : Mode) → settle us m ≡ after us (spelled t m [])
 unfolding read
 end_is t us clean = ap Some (sym (append-nil us))
-end_is t us (holds n v) = add_then us (n, Some v) (λ o. o) (Some []) refl (ap Some (sym (append-nil (us ++ (n, Some v) ∷ []))))
+end_is t us (holds n v) = add_then us (n, Some v) (λ o. o) (Some []) refl
+    (ap Some (sym (append-nil (us ++ (n, Some v) ∷ []))))
 end_is t us (wants n) = refl
 
 abbrev go_on : List Opt → List Text → Option State → Option (List Use)
@@ -74,7 +79,8 @@ one_more t ws more d u =
     to_clean_run t ws (add d u)
     ∙ add_then d u (option_and_then (λ us. run t (us, clean) ws)) (read t None ws) refl (more (d ++ u ∷ []) clean tt)
 
-name_is : (t : List Opt) (ws : List Text) → More t ws → (d : List Use) (n : Text) (b : Bool) (v : Option Text) → is_good v ≡ true
+name_is : (t : List Opt) (ws : List Text) → More t ws → (d : List Use) (n : Text) (b : Bool) (v : Option Text)
+    → is_good v ≡ true
     → go_on t ws (after_name (Some d) n b v)
     ≡ after d (if b then valued n v (read t None ws) (read t (Some n) ws) else unvalued n v (read t None ws))
 name_is t ws more d n true (Some v) g =
@@ -84,12 +90,14 @@ name_is t ws more d n true None g = more d (wants n) tt
 name_is t ws more d n false (Some v) g = refl
 name_is t ws more d n false None g = one_more t ws more d (n, None)
 
-by_name_is : (t : List Opt) (ws : List Text) → More t ws → (d : List Use) (v : Option Text) → is_good v ≡ true → (o : Option Opt)
+by_name_is : (t : List Opt) (ws : List Text) → More t ws → (d : List Use) (v : Option Text) → is_good v ≡ true
+    → (o : Option Opt)
     → go_on t ws (by_name (Some d) v o) ≡ after d (named_words t ws v o)
 by_name_is t ws more d v g None = refl
 by_name_is t ws more d v g (Some o) = name_is t ws more d o.name o.takes_value v g
 
-name_none : (t : List Opt) (ws : List Text) (n : Text) (b : Bool) (v : Option Text) → go_on t ws (after_name None n b v) ≡ None
+name_none : (t : List Opt) (ws : List Text) (n : Text) (b : Bool) (v : Option Text)
+    → go_on t ws (after_name None n b v) ≡ None
 name_none t ws n true (Some v) = refl
 name_none t ws n true None = refl
 name_none t ws n false (Some v) = refl
@@ -102,14 +110,16 @@ by_name_none t ws v (Some o) = name_none t ws o.name o.takes_value v
 -- what is spelled where the word is an option word or not
 abbrev at_clean : List Opt → List Text → Text → Bool → Option (List Use)
 at_clean t ws w b =
-    on_word (if b then option_map (λ x. (x, (name_and_value (drop 2 w)).1)) (opt_of t (name_and_value (drop 2 w)).0) else None) (read t None ws) (λ n. read t (Some n) ws)
+    on_word (if b then option_map (λ x. (x, (name_and_value (drop 2 w)).1)) (opt_of t (name_and_value (drop 2 w)).0)
+    else None) (read t None ws) (λ n. read t (Some n) ws)
 
 abbrev at_word : List Opt → List Text → Mode → Text → Bool → Option (List Use)
 at_word t ws clean w b = at_clean t ws w b
 at_word t ws (holds n v) w b = with_use (n, Some v) (at_clean t ws w b)
 at_word t ws (wants n) w b = if is_value w then with_use (n, Some w) (read t None ws) else None
 
-at_word_is : (t : List Opt) (ws : List Text) (m : Mode) (w : Text) → spelled t m (w ∷ ws) ≡ at_word t ws m w (is_option_word w)
+at_word_is : (t : List Opt) (ws : List Text) (m : Mode) (w : Text)
+    → spelled t m (w ∷ ws) ≡ at_word t ws m w (is_option_word w)
 unfolding read
 at_word_is t ws clean w = refl
 at_word_is t ws (holds n v) w = refl
@@ -120,9 +130,12 @@ abbrev Fits : Text → Bool → Type 0
 Fits w true = (is_value w ≡ false) × (is_good (name_and_value (drop 2 w)).1 ≡ true)
 Fits w false = is_value w ≡ true
 
-word_is : (t : List Opt) (ws : List Text) → More t ws → (us : List Use) (m : Mode) → Good m → (w : Text) (b : Bool) → Fits w b
-    → go_on t ws (if b then option_step t (us, m) (name_and_value (drop 2 w)) else plain_step us m w) ≡ after us (at_word t ws m w b)
-word_is t ws more us clean g w true k = by_name_is t ws more us (name_and_value (drop 2 w)).1 k.1 (opt_of t (name_and_value (drop 2 w)).0)
+word_is : (t : List Opt) (ws : List Text) → More t ws → (us : List Use) (m : Mode) → Good m → (w : Text) (b : Bool)
+    → Fits w b
+    → go_on t ws (if b then option_step t (us, m) (name_and_value (drop 2 w)) else plain_step us m w) ≡ after us
+    (at_word t ws m w b)
+word_is t ws more us clean g w true k = by_name_is t ws more us (name_and_value (drop 2 w)).1 k.1
+    (opt_of t (name_and_value (drop 2 w)).0)
 word_is t ws more us (holds n v) g w true k =
     let p = name_and_value (drop 2 w) in
     add_then us (n, Some v) (λ o. go_on t ws (by_name o p.1 (opt_of t p.0))) (named_words t ws p.1 (opt_of t p.0))
@@ -130,7 +143,8 @@ word_is t ws more us (holds n v) g w true k =
     (by_name_is t ws more (us ++ (n, Some v) ∷ []) p.1 k.1 (opt_of t p.0))
 word_is t ws more us (wants n) g w true k =
     let p = name_and_value (drop 2 w) in
-    by_name_none t ws p.1 (opt_of t p.0) ∙ ap (λ c. after us (if c then with_use (n, Some w) (read t None ws) else None)) (sym k.0)
+    by_name_none t ws p.1 (opt_of t p.0)
+    ∙ ap (λ c. after us (if c then with_use (n, Some w) (read t None ws) else None)) (sym k.0)
 word_is t ws more us clean g w false k = refl
 word_is t ws more us (holds n v) g w false k = refl
 word_is t ws more us (wants n) g w false k =
@@ -150,7 +164,8 @@ fits w f = go (is_option_word w) refl
     at false true g h = (λ e. absurd (true≢false e), λ e k. h)
     at false false g h = (λ e. h, λ e k. absurd (true≢false (sym e)))
 
-    parts : (is_option_word w ≡ false → is_value w ≡ true) × (is_option_word w ≡ true → is_value w ≡ false → is_good (name_and_value (drop 2 w)).1 ≡ true)
+    parts : (is_option_word w ≡ false → is_value w ≡ true)
+        × (is_option_word w ≡ true → is_value w ≡ false → is_good (name_and_value (drop 2 w)).1 ≡ true)
     parts = at (is_value w) (is_option_word w) (is_good (name_and_value (drop 2 w)).1) f
 
     go : (b : Bool) → is_option_word w ≡ b → Fits w b
@@ -179,7 +194,8 @@ refused n w r e = ap (λ x. if is_value w then with_use (n, Some w) x else None)
     go true = refl
     go false = refl
 
-no_name : (t : List Opt) (ws : List Text) → ((m : Option Text) → read t m ws ≡ None) → (b : Bool) (n : Text) (v : Option Text)
+no_name : (t : List Opt) (ws : List Text) → ((m : Option Text) → read t m ws ≡ None)
+    → (b : Bool) (n : Text) (v : Option Text)
     → (if b then valued n v (read t None ws) (read t (Some n) ws) else unvalued n v (read t None ws)) ≡ None
 no_name t ws none true n None = none (Some n)
 no_name t ws none true n (Some v) = refused n v (read t None ws) (none None)
@@ -226,7 +242,8 @@ first_unfit t ws m w f = at_word_is t ws m w ∙ go m
     go (holds n v) = ap (with_use (n, Some v)) (clean_none (is_option_word w) (unfit_word w f).1)
     go (wants n) = ap (λ c. if c then with_use (n, Some w) (read t None ws) else None) (unfit_word w f).0
 
-later_unfit : (t : List Opt) (ws : List Text) (w : Text) → ((m : Option Text) → read t m ws ≡ None) → (m : Option Text) → read t m (w ∷ ws) ≡ None
+later_unfit : (t : List Opt) (ws : List Text) (w : Text) → ((m : Option Text) → read t m ws ≡ None)
+    → (m : Option Text) → read t m (w ∷ ws) ≡ None
 unfolding read
 later_unfit t ws w none None = no_word t ws none (option_of t w)
 later_unfit t ws w none (Some n) = refused n w (read t None ws) (none None)
@@ -236,7 +253,8 @@ read_unfit t [] e m = absurd (true≢false e)
 read_unfit t (w ∷ ws) e m = go (is_fit w) refl e (read_unfit t ws) m
   where
     go : (b : Bool) → is_fit w ≡ b → (b && list_all is_fit ws) ≡ false
-        → (list_all is_fit ws ≡ false → (o : Option Text) → read t o ws ≡ None) → (o : Option Text) → read t o (w ∷ ws) ≡ None
+        → (list_all is_fit ws ≡ false → (o : Option Text) → read t o ws ≡ None) → (o : Option Text)
+        → read t o (w ∷ ws) ≡ None
     go true f h rest o = later_unfit t ws w (rest h) o
     go false f h rest None = first_unfit t ws clean w f
     go false f h rest (Some n) = first_unfit t ws (wants n) w f

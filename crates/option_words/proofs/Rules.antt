@@ -1,5 +1,6 @@
 -- clap's arguments of a table of options, and what clap finds among them.
-use Rattle.std.proofs.Common.{◌≡◌, ◌∙◌, ◌&&◌, ◌||◌, ℕ, Bool, cond, true, false, refl, sym, ap, List, [], ◌∷◌, ◌++◌, Option, Some, None, true≢false}
+use Rattle.std.proofs.Common.{◌≡◌, ◌∙◌, ◌&&◌, ◌||◌, ℕ, Bool, cond, true, false, refl, sym, ap, List, [], ◌∷◌, ◌++◌}
+use Rattle.std.proofs.Common.{Option, Some, None, true≢false}
 use Rattle.std.proofs.Math.Bool.{or-false}
 use Rattle.std.specs.List.{find}
 use Rattle.std.specs.Option.{option_map}
@@ -60,7 +61,9 @@ absent [] name change missing e = refl
 absent (u ∷ us) name change missing e = go (bytes_eq u.0 name) (absent us name change missing) e
   where
     go : (b : Bool) → (is_used name us ≡ false → at_row name change missing (rows us) ≡ rows us ++ missing)
-        → (b || is_used name us) ≡ false → cond b (change (row u) ++ rows us) (row u ∷ at_row name change missing (rows us)) ≡ row u ∷ (rows us ++ missing)
+        → (b || is_used name us) ≡ false
+        → cond b (change (row u) ++ rows us) (row u ∷ at_row name change missing (rows us)) ≡ row u ∷ (rows us
+        ++ missing)
     go true rest h = absurd (true≢false h)
     go false rest h = ap (λ rs. row u ∷ rs) (rest h)
 

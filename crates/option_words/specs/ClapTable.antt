@@ -32,7 +32,8 @@ rule o = record {
   short_aliases = [];
   index = None;
   action = Some (if o.takes_value then Set else SetTrue);
-  range = Some (if o.takes_value then record { start_inclusive = 1; end_inclusive = 1 } else record { start_inclusive = 0; end_inclusive = 0 });
+  range = Some (if o.takes_value then record { start_inclusive = 1; end_inclusive = 1 }
+      else record { start_inclusive = 0; end_inclusive = 0 });
   value_names = 0;
   defaults = if o.takes_value then [] else codes "false" ∷ [];
   missing = if o.takes_value then [] else codes "true" ∷ [];
@@ -53,7 +54,13 @@ row_values (Some v) = v ∷ []
 
 -- the row of a use
 abbrev pub row : Use → Row
-row u = record { id = u.0; values = row_values u.1; count = None; source = Some CommandLine; reading = reading.AsWritten }
+row u = record {
+  id = u.0;
+  values = row_values u.1;
+  count = None;
+  source = Some CommandLine;
+  reading = reading.AsWritten;
+}
 
 abbrev pub rows : List Use → List Row
 rows us = map row us

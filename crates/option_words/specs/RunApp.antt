@@ -1,4 +1,5 @@
--- The option words of `run`: what must be there, what may be, and the texts that they give. The other commands' are in `Commands`.
+-- The option words of `run`: what must be there, what may be, and the texts that they give. The other commands' are
+-- in `Commands`.
 use Rattle.std.specs.Prelude.{Bool, List, [], ◌∷◌, Option, Some, None, codes, is_some, option_and_then}
 use Rattle.option_words.specs.Options.{Opt, Text}
 use Rattle.option_words.specs.Givens.{flag, givens, valued, ◌>>=◌}

@@ -2,7 +2,8 @@
 use Rattle.std.specs.Prelude.{option_map}
 use Rattle.option_words.specs.Options.{Opt}
 use Rattle.option_words.specs.RunApp.{RunTexts}
-use Rattle.option_words.specs.Commands.{ReportTexts, MakeTexts, RecordTexts, MatchTexts, MigrateTexts, ReplayTexts, MergeTexts}
+use Rattle.option_words.specs.Commands.{ReportTexts, MakeTexts, RecordTexts, MatchTexts, MigrateTexts, ReplayTexts}
+use Rattle.option_words.specs.Commands.{MergeTexts}
 use Rattle.option_words.specs.declared.table.OptionSpec.{OptionSpec}
 use Rattle.option_words.specs.declared.run.RunWords.{RunWords}
 use Rattle.option_words.specs.declared.report.ReportWords.{ReportWords}

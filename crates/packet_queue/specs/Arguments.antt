@@ -1,5 +1,6 @@
 -- The words for a queue: its kind, and its arguments.
-use Rattle.std.specs.Prelude.{ℕ, Bool, ◌==◌, ◌&&◌, ◌||◌, List, [], ◌∷◌, Option, Some, None, Result, Ok, Err, length, take, drop, reverse, map, codes, nat_le, if◌then◌else◌}
+use Rattle.std.specs.Prelude.{ℕ, Bool, ◌==◌, ◌&&◌, ◌||◌, List, [], ◌∷◌, Option, Some, None, Result, Ok, Err, length}
+use Rattle.std.specs.Prelude.{take, drop, reverse, map, codes, nat_le, if◌then◌else◌}
 use Rattle.std.specs.Option.{is_some}
 use Rattle.std.specs.List.{list_all, slice_split, filter_map}
 use Rattle.std.specs.Str.{bytes_eq}
@@ -42,7 +43,8 @@ is_item item = is_some (number_of packets_name item) || is_some (number_of bytes
 
 -- each item is `packets=N` or `bytes=N`, and each name stands at most once
 abbrev pub are_items : List (List ℕ) → Bool
-are_items items = list_all is_item items && nat_le (length (numbers_of packets_name items)) 1 && nat_le (length (numbers_of bytes_name items)) 1
+are_items items = list_all is_item items && nat_le (length (numbers_of packets_name items)) 1 && nat_le
+    (length (numbers_of bytes_name items)) 1
 
 -- a limit of 0 is none
 abbrev pub limit_of : List ℕ → Option ℕ
@@ -51,11 +53,13 @@ limit_of (n ∷ ns) = if n == 0 then None else Some n
 
 abbrev pub with_limits : QueueKind → Option ℕ → Option ℕ → Result QueueSpec QueueError
 with_limits kind packets bytes =
-    if is_some packets || is_some bytes then Ok (record { kind = kind; packets = packets; bytes = bytes }) else Err NoLimit
+    if is_some packets || is_some bytes then Ok (record { kind = kind; packets = packets; bytes = bytes })
+    else Err NoLimit
 
 abbrev pub limited : QueueKind → List (List ℕ) → Result QueueSpec QueueError
 limited kind items =
-    if are_items items then with_limits kind (limit_of (numbers_of packets_name items)) (limit_of (numbers_of bytes_name items))
+    if are_items items then with_limits kind (limit_of (numbers_of packets_name items))
+    (limit_of (numbers_of bytes_name items))
     else Err BadArgs
 
 abbrev pub unlimited : List ℕ → Result QueueSpec QueueError

@@ -1,5 +1,6 @@
 // A queue of packets that may drop some.
-ghost use Rattle.std.specs.Prelude.{◌≡◌, ◌+◌, ◌-◌, ◌*◌, ◌^◌, ◌<◌, ◌≤◌, ◌≢◌, ◌&&◌, ◌++◌, ◌∷◌, [], length, map, IfOk, OnOk, OnErr, ◌↔◌, IsSome, option_to_list, vec_len, vec_capacity};
+ghost use Rattle.std.specs.Prelude.{◌≡◌, ◌+◌, ◌-◌, ◌*◌, ◌^◌, ◌<◌, ◌≤◌, ◌≢◌, ◌&&◌, ◌++◌, ◌∷◌, [], length, map, IfOk};
+ghost use Rattle.std.specs.Prelude.{OnOk, OnErr, ◌↔◌, IsSome, option_to_list, vec_len, vec_capacity};
 ghost use Rattle.std.specs.VecDeque.{deque_len, deque_capacity};
 ghost use Rattle.packet_queue.specs.Queues.{bytes, is_within, fits, fitting, excess, enqueued, dropped, moved_to};
 ghost use Rattle.packet_queue.specs.View.{Queue};
@@ -43,7 +44,8 @@ impl Model for PacketQueue {
 
     ghost view = { λ q. record { spec = q.spec; packets = q.waiting.items; lost = q.gone.items; spare = q.spare } };
 
-    ghost invariant = { λ q. AreKept q.spec q.waiting.items × (q.size ≡ bytes q.waiting.items) × (q.spare + length q.waiting.items ≤ 2 ^ 40)
+    ghost invariant = { λ q. AreKept q.spec q.waiting.items × (q.size ≡ bytes q.waiting.items)
+        × (q.spare + length q.waiting.items ≤ 2 ^ 40)
         × (q.spare + length q.waiting.items ≤ deque_capacity q.waiting) × (q.spare + length q.waiting.items + vec_len q.gone ≤ vec_capacity q.gone) };
 }
 
@@ -200,7 +202,10 @@ impl PacketQueue {
 
     fn refuse(&mut self, t: Timed) -> Dropped
         requires { 1 ≤ self.old.spare }
-        ensures queue { self.new ≡ record self.old { lost = self.old.lost ++ moved_to t.moment t ∷ []; spare = self.old.spare - 1 } }
+        ensures queue { self.new ≡ record self.old {
+          lost = self.old.lost ++ moved_to t.moment t ∷ [];
+          spare = self.old.spare - 1;
+        } }
         ensures packets { result.packets ≡ 1 }
         ensures bytes { result.bytes ≡ t.packet.size }
     {

@@ -1,7 +1,8 @@
 // The words for a queue.
 ghost use Rattle.std.specs.Prelude.{◌≡◌, ◌∷◌, ◌<◌, Some, None, length, position, option_to_list, IfSome, ◌==◌, reverse};
 ghost use Rattle.std.specs.List.{slice_split};
-ghost use Rattle.packet_queue.specs.Arguments.{after_spaces, trimmed, items_of, number_of, limit_of, with_limits, limited, unlimited, queue_of};
+ghost use Rattle.packet_queue.specs.Arguments.{after_spaces, trimmed, items_of, number_of, limit_of, with_limits};
+ghost use Rattle.packet_queue.specs.Arguments.{limited, unlimited, queue_of};
 ghost use Rattle.packet_queue.specs.Reading.{limits, with_item, read_on, items_after};
 
 use crate::spec::{QueueError, QueueKind, QueueSpec};

@@ -1,5 +1,6 @@
 -- A text and its first line feed.
-use Rattle.std.proofs.Common.{◌≡◌, ◌≢◌, ℕ, Bool, ◌==◌, not, ◌&&◌, zero, suc, ◌+◌, ◌-◌, ◌<◌, List, [], ◌∷◌, ◌++◌, length, get_or, take, drop, true, false, refl, ap, sym, ◌∙◌, arith, rules}
+use Rattle.std.proofs.Common.{◌≡◌, ◌≢◌, ℕ, Bool, ◌==◌, not, ◌&&◌, zero, suc, ◌+◌, ◌-◌, ◌<◌, List, [], ◌∷◌, ◌++◌, length}
+use Rattle.std.proofs.Common.{get_or, take, drop, true, false, refl, ap, sym, ◌∙◌, arith, rules}
 use Rattle.std.proofs.lemmas.List.{take_rest}
 use Rattle.mm_base.specs.Lines.{is_one_line}
 
@@ -7,18 +8,21 @@ other : (b : Bool) (c : Bool) → b ≢ true → c ≡ true → (not b && c) ≡
 other true c ne e = absurd (ne refl)
 other false c ne e = e
 
-pub one_line_front : (xs : List ℕ) (i : ℕ) → ((k : ℕ) → k < i → (get_or xs k 0 == 10) ≢ true) → is_one_line (take i xs) ≡ true
+pub one_line_front : (xs : List ℕ) (i : ℕ) → ((k : ℕ) → k < i → (get_or xs k 0 == 10) ≢ true)
+    → is_one_line (take i xs) ≡ true
 one_line_front xs zero before = refl
 one_line_front [] (suc i) before = refl
 one_line_front (x ∷ xs) (suc i) before =
-    other (x == 10) (is_one_line (take i xs)) (before 0 (omega arith)) (one_line_front xs i (λ k lt. before (suc k) (omega arith)))
+    other (x == 10) (is_one_line (take i xs)) (before 0 (omega arith))
+    (one_line_front xs i (λ k lt. before (suc k) (omega arith)))
 
 pub one_line_none : (xs : List ℕ) → ((k : ℕ) → k < length xs → (get_or xs k 0 == 10) ≢ true) → is_one_line xs ≡ true
 one_line_none [] none = refl
 one_line_none (x ∷ xs) none =
     other (x == 10) (is_one_line xs) (none 0 (omega arith)) (one_line_none xs (λ k lt. none (suc k) (omega arith)))
 
-pub cut_at : (xs : List ℕ) (i : ℕ) → i < length xs → (get_or xs i 0 == 10) ≡ true → xs ≡ take i xs ++ 10 ∷ drop (i + 1) xs
+pub cut_at : (xs : List ℕ) (i : ℕ) → i < length xs → (get_or xs i 0 == 10) ≡ true → xs ≡ take i xs
+    ++ 10 ∷ drop (i + 1) xs
 cut_at [] i within here = absurd (omega arith)
 cut_at (x ∷ xs) zero within here =
     let feed : x ≡ 10 = search rules in

@@ -1,5 +1,7 @@
 -- A line by its parts: a decimal, a direction between two spaces, and a decimal.
-use Rattle.std.proofs.Common.{◌≡◌, ℕ, Bool, true, false, not, ◌&&◌, cond, List, [], ◌∷◌, ◌++◌, length, take, drop, get_or, ◌-◌, ◌≤◌, Option, Some, None, codes, refl, ap, sym, ◌∙◌, append_assoc, ◌==◌, ne_eqb, arith}
+use Rattle.std.proofs.Common.{◌≡◌, ℕ, Bool, true, false, not, ◌&&◌, cond, List, [], ◌∷◌, ◌++◌, length, take, drop}
+use Rattle.std.proofs.Common.{get_or, ◌-◌, ◌≤◌, Option, Some, None, codes, refl, ap, sym, ◌∙◌, append_assoc, ◌==◌}
+use Rattle.std.proofs.Common.{ne_eqb, arith}
 use Rattle.std.specs.Option.{option_and_then}
 use Rattle.std.specs.Str.{bytes_eq}
 use Rattle.std.specs.Bool.{then_some}
@@ -38,7 +40,8 @@ word_is Down = refl
 decimal_has_no_space : (word : List ℕ) (n : ℕ) → decimal_of word ≡ Some n → Lacks 32 word
 decimal_has_no_space word n e = digits_lack 32 word (omega arith) (decimal_of-Some word n e).digits
 
-three_words : (d : Direction) (first third : List ℕ) → Lacks 32 first → Lacks 32 third → words_of (first ++ direction_text d ++ third) ≡ first ∷ word_of d ∷ third ∷ []
+three_words : (d : Direction) (first third : List ℕ) → Lacks 32 first → Lacks 32 third
+    → words_of (first ++ direction_text d ++ third) ≡ first ∷ word_of d ∷ third ∷ []
 three_words d first third f t =
     ap words_of (between d first third)
     ∙ words_of-append first (word_of d ++ 32 ∷ third) f
@@ -46,11 +49,14 @@ three_words d first third f t =
     ∙ ap (λ l. first ∷ word_of d ∷ l) (words_of-one third t)
 
 -- what such a line says
-pub said_of_parts : (d : Direction) (first third : List ℕ) (m s : ℕ) → decimal_of first ≡ Some m → decimal_of third ≡ Some s → said_of (first ++ direction_text d ++ third) ≡ Some (m, d, s)
+pub said_of_parts : (d : Direction) (first third : List ℕ) (m s : ℕ) → decimal_of first ≡ Some m
+    → decimal_of third ≡ Some s → said_of (first ++ direction_text d ++ third) ≡ Some (m, d, s)
 said_of_parts d first third m s em es =
-    ap said_by_words (three_words d first third (decimal_has_no_space first m em) (decimal_has_no_space third s es)) ∙ rw (em, word_is d, es) refl
+    ap said_by_words (three_words d first third (decimal_has_no_space first m em) (decimal_has_no_space third s es))
+    ∙ rw (em, word_is d, es) refl
 
-by_test : (b : Bool) (x y : Direction) (o : Option Direction) → cond b (Some x) o ≡ Some y → (b ≡ true → x ≡ y) × (b ≡ false → o ≡ Some y)
+by_test : (b : Bool) (x y : Direction) (o : Option Direction) → cond b (Some x) o ≡ Some y → (b ≡ true → x ≡ y)
+    × (b ≡ false → o ≡ Some y)
 by_test true x y o e = (λ p. cc, λ p. absurd cc)
 by_test false x y o e = (λ p. absurd cc, λ p. e)
 
@@ -73,14 +79,21 @@ pub record HasParts (line : List ℕ) (m : ℕ) (d : Direction) (s : ℕ) : Type
   pub size : decimal_of third ≡ Some s
   pub cut : line ≡ first ++ direction_text d ++ third
 
-three_parts : (m z : Option ℕ) (d : Option Direction) (s : ℕ × Direction × ℕ) → option_and_then (λ a. option_and_then (λ b. option_and_then (λ c. Some (a, b, c)) z) d) m ≡ Some s
+three_parts : (m z : Option ℕ) (d : Option Direction) (s : ℕ × Direction × ℕ)
+    → option_and_then (λ a. option_and_then (λ b. option_and_then (λ c. Some (a, b, c)) z) d) m ≡ Some s
     → (m ≡ Some s.0) × (d ≡ Some s.1) × (z ≡ Some s.2)
 three_parts None z d s e = absurd cc
 three_parts (Some m) z None s e = absurd cc
 three_parts (Some m) None (Some d) s e = absurd cc
-three_parts (Some m) (Some z) (Some d) s e = let same : (m, d, z) ≡ s = cc in (ap (λ (x : ℕ × Direction × ℕ). Some x.0) same, ap (λ (x : ℕ × Direction × ℕ). Some x.1) same, ap (λ (x : ℕ × Direction × ℕ). Some x.2) same)
+three_parts (Some m) (Some z) (Some d) s e = let same : (m, d, z) ≡ s = cc
+    in (
+      ap (λ (x : ℕ × Direction × ℕ). Some x.0) same,
+      ap (λ (x : ℕ × Direction × ℕ). Some x.1) same,
+      ap (λ (x : ℕ × Direction × ℕ). Some x.2) same,
+    )
 
-by_words : (words : List (List ℕ)) (line : List ℕ) (s : ℕ × Direction × ℕ) → join_with_byte 32 words ≡ line → said_by_words words ≡ Some s → HasParts line s.0 s.1 s.2
+by_words : (words : List (List ℕ)) (line : List ℕ) (s : ℕ × Direction × ℕ) → join_with_byte 32 words ≡ line
+    → said_by_words words ≡ Some s → HasParts line s.0 s.1 s.2
 by_words [] line s joined e = absurd cc
 by_words (a ∷ []) line s joined e = absurd cc
 by_words (a ∷ b ∷ []) line s joined e = absurd cc
@@ -108,16 +121,22 @@ direction_begins Up rest = refl
 direction_begins Down rest = refl
 
 -- a line says what was read of it where nothing follows, and else nothing
-pub whole_line : (line rest : List ℕ) (s : ℕ × Direction × ℕ) (empty : Bool) → (word : List ℕ) × (line ≡ word ++ rest) × (said_of word ≡ Some s)
-    → ((z : ℕ × Direction × ℕ) → said_of line ≡ Some z → rest ≡ []) → empty ≡ (length rest == 0) → then_some empty s ≡ said_of line
-whole_line line [] s empty (word, cut, e) only is = ap (λ b. then_some b s) is ∙ sym (ap said_of (cut ∙ append-nil word) ∙ e)
+pub whole_line : (line rest : List ℕ) (s : ℕ × Direction × ℕ) (empty : Bool) → (word : List ℕ) × (line ≡ word ++ rest)
+    × (said_of word ≡ Some s)
+    → ((z : ℕ × Direction × ℕ) → said_of line ≡ Some z → rest ≡ []) → empty ≡ (length rest == 0)
+    → then_some empty s ≡ said_of line
+whole_line line [] s empty (word, cut, e) only is = ap (λ b. then_some b s) is
+    ∙ sym (ap said_of (cut ∙ append-nil word) ∙ e)
 whole_line line (byte ∷ bytes) s empty read only is =
-    ap (λ b. then_some b s) (is ∙ ne_eqb (length (byte ∷ bytes)) 0 (λ (e : length (byte ∷ bytes) ≡ 0). absurd (omega arith)))
+    ap (λ b. then_some b s) (is ∙ ne_eqb (length (byte ∷ bytes)) 0
+    (λ (e : length (byte ∷ bytes) ≡ 0). absurd (omega arith)))
     ∙ none_is (said_of line) (λ z e. absurd (omega (arith, ap length (only z e))))
 
 -- a text cut behind a decimal, a direction and a decimal begins with a line that says them
-pub said_in_front : (text first third rest rest' rest'' : List ℕ) (d : Direction) (m s : ℕ) → text ≡ first ++ rest → decimal_of first ≡ Some m → rest ≡ direction_text d ++ rest'
-    → rest' ≡ third ++ rest'' → decimal_of third ≡ Some s → (line : List ℕ) × (text ≡ line ++ rest'') × (said_of line ≡ Some (m, d, s))
+pub said_in_front : (text first third rest rest' rest'' : List ℕ) (d : Direction) (m s : ℕ) → text ≡ first ++ rest
+    → decimal_of first ≡ Some m → rest ≡ direction_text d ++ rest'
+    → rest' ≡ third ++ rest'' → decimal_of third ≡ Some s → (line : List ℕ) × (text ≡ line ++ rest'')
+    × (said_of line ≡ Some (m, d, s))
 said_in_front text first third rest rest' rest'' d m s cut em cut' cut'' es = (
   first ++ direction_text d ++ third,
   cut
@@ -128,14 +147,16 @@ said_in_front text first third rest rest' rest'' d m s cut em cut' cut'' es = (
 )
 
 -- the cut behind the first decimal of a text that begins with such a line
-pub cut_first : (text line rest : List ℕ) (m s : ℕ) (d : Direction) (p : HasParts line m d s) → text ≡ line ++ rest → text ≡ p.first ++ (direction_text d ++ (p.third ++ rest))
+pub cut_first : (text line rest : List ℕ) (m s : ℕ) (d : Direction) (p : HasParts line m d s) → text ≡ line ++ rest
+    → text ≡ p.first ++ (direction_text d ++ (p.third ++ rest))
 cut_first text line rest m s d p cut =
     cut
     ∙ ap (λ l. l ++ rest) p.cut
     ∙ append_assoc (p.first ++ direction_text d) p.third rest
     ∙ append_assoc p.first (direction_text d) (p.third ++ rest)
 
-pub same_said : (m s : ℕ) (d : Direction) (says : ℕ × Direction × ℕ) → m ≡ says.0 → d ≡ says.1 → s ≡ says.2 → (m, d, s) ≡ says
+pub same_said : (m s : ℕ) (d : Direction) (says : ℕ × Direction × ℕ) → m ≡ says.0 → d ≡ says.1 → s ≡ says.2
+    → (m, d, s) ≡ says
 same_said m s d (m', d', s') em ed es = rw (em, ed, es) refl
 
 one_line_lacks : (xs : List ℕ) → Lacks 10 xs → is_one_line xs ≡ true
@@ -159,7 +180,9 @@ said_one_line line s e =
     (decimal_one_line p.third s.2 p.size)
 
 -- where a line feed follows what is said, it ends the line
-pub line_in_front : (text rest : List ℕ) (s : ℕ × Direction × ℕ) → (word : List ℕ) × (text ≡ word ++ rest) × (said_of word ≡ Some s) → 1 ≤ length rest → get_or rest 0 0 ≡ 10
-    → (line : List ℕ) × (text ≡ line ++ 10 ∷ take (length rest - 1) (drop 1 rest)) × (is_one_line line ≡ true) × (said_of line ≡ Some s)
+pub line_in_front : (text rest : List ℕ) (s : ℕ × Direction × ℕ) → (word : List ℕ) × (text ≡ word ++ rest)
+    × (said_of word ≡ Some s) → 1 ≤ length rest → get_or rest 0 0 ≡ 10
+    → (line : List ℕ) × (text ≡ line ++ 10 ∷ take (length rest - 1) (drop 1 rest)) × (is_one_line line ≡ true)
+    × (said_of line ≡ Some s)
 line_in_front text rest s (word, cut, e) some feed =
     (word, cut ∙ ap (λ r. word ++ r) (feed_first rest (omega (arith, some)) feed), said_one_line word s e, e)

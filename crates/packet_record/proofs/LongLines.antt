@@ -1,5 +1,7 @@
 -- A line that is too long says nothing, however it goes on.
-use Rattle.std.proofs.Common.{◌≡◌, ℕ, ◌+◌, ◌-◌, ◌≤◌, ◌<◌, ◌&&◌, Bool, not, eqb, zero, suc, List, [], ◌∷◌, ◌++◌, length, take, drop, true, false, cond, Some, None, nat_lt, refl, ap, sym, subst, ◌∙◌, append_assoc, arith, rules, tests, length-append}
+use Rattle.std.proofs.Common.{◌≡◌, ℕ, ◌+◌, ◌-◌, ◌≤◌, ◌<◌, ◌&&◌, Bool, not, eqb, zero, suc, List, [], ◌∷◌, ◌++◌, length}
+use Rattle.std.proofs.Common.{take, drop, true, false, cond, Some, None, nat_lt, refl, ap, sym, subst, ◌∙◌}
+use Rattle.std.proofs.Common.{append_assoc, arith, rules, tests, length-append}
 use Rattle.std.specs.List.{onto_first}
 use Rattle.std.proofs.lemmas.List.{length-take, take_all, take-append-drop}
 use Rattle.mm_base.specs.Lines.{lines_of, is_one_line}
@@ -25,7 +27,15 @@ short_parts line m s d p =
     let first = (decimal_of-Some p.first m p.moment).few in
     let third = (decimal_of-Some p.third s p.size).few in
     let word = short_word d in
-    omega (arith, ap length p.cut, length-append (p.first ++ direction_text d) p.third, length-append p.first (direction_text d), first, third, word)
+    omega (
+      arith,
+      ap length p.cut,
+      length-append (p.first ++ direction_text d) p.third,
+      length-append p.first (direction_text d),
+      first,
+      third,
+      word,
+    )
 
 long_line : (line : List ℕ) → 26 < length line → said_of line ≡ None
 long_line line long = sym (says_nothing line (λ m s d p. let short = short_parts line m s d p in omega (arith, short)))
@@ -44,7 +54,8 @@ record Begins (front rest : List ℕ) : Type 0 where
   more : List (List ℕ)
   lines_are : lines_of (front ++ rest) ≡ (front ++ end) ∷ more
 
-first_of : (lines : List (List ℕ)) (byte : ℕ) → (end : List ℕ) × (more : List (List ℕ)) × (onto_first byte lines ≡ (byte ∷ end) ∷ more)
+first_of : (lines : List (List ℕ)) (byte : ℕ) → (end : List ℕ) × (more : List (List ℕ))
+    × (onto_first byte lines ≡ (byte ∷ end) ∷ more)
 first_of [] byte = ([], [], refl)
 first_of (line ∷ lines) byte = (line, lines, refl)
 
@@ -65,31 +76,38 @@ begins (byte ∷ next ∷ bytes) rest one some =
       end = first.end;
       more = first.more;
       lines_are =
-          ap (λ b. cond b ([] ∷ lines_of (next ∷ bytes ++ rest)) (onto_first byte (lines_of (next ∷ bytes ++ rest)))) parts.0
+          ap (λ b. cond b ([] ∷ lines_of (next ∷ bytes ++ rest)) (onto_first byte (lines_of (next ∷ bytes ++ rest))))
+          parts.0
           ∙ ap (onto_first byte) first.lines_are;
     }
 
 bad_line : (place low : ℕ) (line : List ℕ) (lines : List (List ℕ)) → said_of line ≡ None
-    → first_fault place low (line ∷ lines) ≡ cond (nat_lt 1000000 place) (Some errors.TooMany) (Some (errors.BadLine place))
+    → first_fault place low (line ∷ lines) ≡ cond (nat_lt 1000000 place) (Some errors.TooMany)
+    (Some (errors.BadLine place))
 bad_line place low line lines none =
-    ap (λ s. cond (nat_lt 1000000 place) (Some errors.TooMany) (or_later (fault_of place low s) (first_fault (place + 1) (moment_of s) lines))) none
+    ap (λ s. cond (nat_lt 1000000 place) (Some errors.TooMany)
+    (or_later (fault_of place low s) (first_fault (place + 1) (moment_of s) lines))) none
 
-no_rows : (place low : ℕ) (line : List ℕ) (lines : List (List ℕ)) (rows : List Row) → said_of line ≡ None → AreRows place low (line ∷ lines) rows → ⊥
+no_rows : (place low : ℕ) (line : List ℕ) (lines : List (List ℕ)) (rows : List Row) → said_of line ≡ None
+    → AreRows place low (line ∷ lines) rows → ⊥
 no_rows place low line lines [] none are = are
 no_rows place low line lines (row ∷ rows) none are = let e : None ≡ Some (said row) = sym none ∙ are.0 in absurd cc
 
 -- lines that say nothing stand for each other
-awaits_bad : (all : List (List ℕ)) (line line' : List ℕ) (lines lines' : List (List ℕ)) (g : Gathered) → said_of line ≡ None → said_of line' ≡ None
+awaits_bad : (all : List (List ℕ)) (line line' : List ℕ) (lines lines' : List (List ℕ)) (g : Gathered)
+    → said_of line ≡ None → said_of line' ≡ None
     → Awaits all (line ∷ lines) g → Awaits all (line' ∷ lines') g
 awaits_bad all line line' lines lines' g none none' before = record {
   rows_are = λ _ rows are. absurd (no_rows (length g.rows + 1) g.low line' lines' rows none' are);
   fault_is = λ ne.
       before.fault_is ne
-      ∙ ap (or_later g.refused) (bad_line (length g.rows + 1) g.low line lines none ∙ sym (bad_line (length g.rows + 1) g.low line' lines' none'));
+      ∙ ap (or_later g.refused) (bad_line (length g.rows + 1) g.low line lines none
+      ∙ sym (bad_line (length g.rows + 1) g.low line' lines' none'));
 }
 
 -- what follows a front that is too long doesn't matter
-awaits_long : (all : List (List ℕ)) (front rest rest' : List ℕ) (g : Gathered) → is_one_line front ≡ true → 26 < length front
+awaits_long : (all : List (List ℕ)) (front rest rest' : List ℕ) (g : Gathered) → is_one_line front ≡ true
+    → 26 < length front
     → Awaits all (lines_of (front ++ rest)) g → Awaits all (lines_of (front ++ rest')) g
 awaits_long all front rest rest' g one long before =
     let first = begins front rest one (omega arith) in
@@ -97,40 +115,50 @@ awaits_long all front rest rest' g one long before =
     let none = long_line (front ++ first.end) (omega (arith, length-append front first.end)) in
     let none' = long_line (front ++ first'.end) (omega (arith, length-append front first'.end)) in
     subst (λ ls. Awaits all ls g) (sym first'.lines_are)
-    (awaits_bad all (front ++ first.end) (front ++ first'.end) first.more first'.more g none none' (subst (λ ls. Awaits all ls g) first.lines_are before))
+    (awaits_bad all (front ++ first.end) (front ++ first'.end) first.more first'.more g none none'
+    (subst (λ ls. Awaits all ls g) first.lines_are before))
 
 pub one_line_take : (n : ℕ) (line : List ℕ) → is_one_line line ≡ true → is_one_line (take n line) ≡ true
 one_line_take zero line one = refl
 one_line_take (suc n) [] one = refl
 one_line_take (suc n) (byte ∷ bytes) one =
-    still_one (eqb byte 10) (is_one_line bytes) (is_one_line (take n bytes)) one (one_line_take n bytes (no_feed (eqb byte 10) (is_one_line bytes) one).1)
+    still_one (eqb byte 10) (is_one_line bytes) (is_one_line (take n bytes)) one
+    (one_line_take n bytes (no_feed (eqb byte 10) (is_one_line bytes) one).1)
 
 whole_part : (all : List (List ℕ)) (kept part rest : List ℕ) (n : ℕ) (g : Gathered) → length part ≤ n
     → Awaits all (lines_of (kept ++ (part ++ rest))) g → Awaits all (lines_of ((kept ++ take n part) ++ rest)) g
 whole_part all kept part rest n g le before =
-    subst (λ t. Awaits all (lines_of t) g) (sym (append_assoc kept part rest) ∙ ap (λ p. (kept ++ p) ++ rest) (sym (take_all n part le))) before
+    subst (λ t. Awaits all (lines_of t) g) (sym (append_assoc kept part rest)
+    ∙ ap (λ p. (kept ++ p) ++ rest) (sym (take_all n part le))) before
 
-front_part : (all : List (List ℕ)) (kept part rest : List ℕ) (n : ℕ) (g : Gathered) → is_one_line (kept ++ take n part) ≡ true → 26 < length (kept ++ take n part)
+front_part : (all : List (List ℕ)) (kept part rest : List ℕ) (n : ℕ) (g : Gathered)
+    → is_one_line (kept ++ take n part) ≡ true → 26 < length (kept ++ take n part)
     → Awaits all (lines_of (kept ++ (part ++ rest))) g → Awaits all (lines_of ((kept ++ take n part) ++ rest)) g
 front_part all kept part rest n g one long before =
     let cut : kept ++ (part ++ rest) ≡ (kept ++ take n part) ++ (drop n part ++ rest) =
     ap (λ p. kept ++ (p ++ rest)) (sym (take-append-drop n part))
     ∙ ap (λ t. kept ++ t) (append_assoc (take n part) (drop n part) rest)
     ∙ sym (append_assoc kept (take n part) (drop n part ++ rest)) in
-    awaits_long all (kept ++ take n part) (drop n part ++ rest) rest g one long (subst (λ t. Awaits all (lines_of t) g) cut before)
+    awaits_long all (kept ++ take n part) (drop n part ++ rest) rest g one long
+    (subst (λ t. Awaits all (lines_of t) g) cut before)
 
 long_front : (kept part : List ℕ) → 27 - length kept < length part → 26 < length (kept ++ take (27 - length kept) part)
 long_front kept part less =
     omega (arith, length-append kept (take (27 - length kept) part), length-take (27 - length kept) part)
 
 -- the first 27 bytes of a line are enough of it
-pub enough_kept : (all : List (List ℕ)) (kept part rest : List ℕ) (g : Gathered) → is_one_line kept ≡ true → is_one_line part ≡ true
-    → Awaits all (lines_of (kept ++ (part ++ rest))) g → Awaits all (lines_of ((kept ++ take (27 - length kept) part) ++ rest)) g
+pub enough_kept : (all : List (List ℕ)) (kept part rest : List ℕ) (g : Gathered) → is_one_line kept ≡ true
+    → is_one_line part ≡ true
+    → Awaits all (lines_of (kept ++ (part ++ rest))) g
+    → Awaits all (lines_of ((kept ++ take (27 - length kept) part) ++ rest)) g
 enough_kept all kept part rest g one one' before =
-    elim (nat_lt (27 - length kept) (length part)) as (λ b. nat_lt (27 - length kept) (length part) ≡ b → Awaits all (lines_of ((kept ++ take (27 - length kept) part) ++ rest)) g) [
+    elim (nat_lt (27 - length kept) (length part)) as (λ b. nat_lt (27 - length kept) (length part) ≡ b
+    → Awaits all (lines_of ((kept ++ take (27 - length kept) part) ++ rest)) g) [
       | true ↦ λ less.
           let lt : 27 - length kept < length part = search (rules, tests) in
-          front_part all kept part rest (27 - length kept) g (is_one_line-append kept (take (27 - length kept) part) one (one_line_take (27 - length kept) part one')) (long_front kept part lt) before
+          front_part all kept part rest (27 - length kept) g
+          (is_one_line-append kept (take (27 - length kept) part) one
+          (one_line_take (27 - length kept) part one')) (long_front kept part lt) before
       | false ↦ λ more.
           let le : length part ≤ 27 - length kept = search (rules, tests) in
           whole_part all kept part rest (27 - length kept) g le before

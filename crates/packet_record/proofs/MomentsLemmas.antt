@@ -29,7 +29,10 @@ from_bound m t ts le h = from-append m ts (t ∷ []) h (le, tt)
 
 pub rise-append : (m : ℕ) (xs ys : List Timed) → Rise xs → AreUpTo m xs → AreFrom m ys → Rise ys → Rise (xs ++ ys)
 rise-append m [] ys r u f s = s
-rise-append m (x ∷ xs) ys r u f s = (from-append x.moment xs ys r.0 (from_lower x.moment m ys u.0 f), rise-append m xs ys r.1 u.1 f s)
+rise-append m (x ∷ xs) ys r u f s = (
+  from-append x.moment xs ys r.0 (from_lower x.moment m ys u.0 f),
+  rise-append m xs ys r.1 u.1 f s,
+)
 
 -- what follows a packet is not before it
 pub rise_back : (xs : List Timed) (t : Timed) (ts : List Timed) → Rise (xs ++ t ∷ ts) → AreFrom t.moment ts
@@ -52,8 +55,10 @@ from_at m (t ∷ ts) zero d lt f = f.0
 from_at m (t ∷ ts) (suc k) d lt f = from_at m ts k d (omega arith) f.1
 
 -- the same of a packet that was read at its place
-pub up_to_read : (m : ℕ) (ts : List Timed) (i : ℕ) (t : Timed) → i < length ts → t ≡ get_or ts i t → AreUpTo m ts → t.moment ≤ m
+pub up_to_read : (m : ℕ) (ts : List Timed) (i : ℕ) (t : Timed) → i < length ts → t ≡ get_or ts i t → AreUpTo m ts
+    → t.moment ≤ m
 up_to_read m ts i t lt read u = subst (λ (v : Timed). v.moment ≤ m) (sym read) (up_at m ts i t lt u)
 
-pub from_read : (m : ℕ) (ts : List Timed) (i : ℕ) (t : Timed) → i < length ts → t ≡ get_or ts i t → AreFrom m ts → m ≤ t.moment
+pub from_read : (m : ℕ) (ts : List Timed) (i : ℕ) (t : Timed) → i < length ts → t ≡ get_or ts i t → AreFrom m ts
+    → m ≤ t.moment
 from_read m ts i t lt read f = subst (λ (v : Timed). m ≤ v.moment) (sym read) (from_at m ts i t lt f)

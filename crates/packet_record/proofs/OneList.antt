@@ -10,11 +10,13 @@ use Rattle.packet_record.specs.declared.packet.Row.{Row}
 abbrev packet : (id size : ℕ) → 1 ≤ size → size ≤ 1504 → Packet
 packet id size some most = record { id = id; size = size; some = some; most = most }
 
-same_sized : (id size size' : ℕ) → size ≡ size' → (some : 1 ≤ size) (most : size ≤ 1504) (some' : 1 ≤ size') (most' : size' ≤ 1504)
+same_sized : (id size size' : ℕ) → size ≡ size' → (some : 1 ≤ size) (most : size ≤ 1504) (some' : 1 ≤ size')
+    (most' : size' ≤ 1504)
     → packet id size some most ≡ packet id size' some' most'
 same_sized id size size' e some most =
     subst (λ s. (some' : 1 ≤ s) (most' : s ≤ 1504) → packet id size some most ≡ packet id s some' most') e
-    (λ some' most'. ap (λ p. packet id size p most) (le_prop some some') ∙ ap (λ p. packet id size some' p) (le_prop most most'))
+    (λ some' most'. ap (λ p. packet id size p most) (le_prop some some')
+    ∙ ap (λ p. packet id size some' p) (le_prop most most'))
 
 pub same_packet : (p q : Packet) → p.id ≡ q.id → p.size ≡ q.size → p ≡ q
 same_packet p q i s =
@@ -29,7 +31,8 @@ same_row a b i e =
     ap (λ s. row_of s.1 s.0 a.timed.packet) e
     ∙ ap (λ p. row_of b.direction b.timed.moment p) (same_packet a.timed.packet b.timed.packet i (ap (λ s. s.2) e))
 
-one_list_from : (place low : ℕ) (lines : List (List ℕ)) (rows others : List Row) → AreRows place low lines rows → AreRows place low lines others → rows ≡ others
+one_list_from : (place low : ℕ) (lines : List (List ℕ)) (rows others : List Row) → AreRows place low lines rows
+    → AreRows place low lines others → rows ≡ others
 one_list_from place low [] [] [] p q = refl
 one_list_from place low [] [] (b ∷ others) p q = absurd q
 one_list_from place low [] (a ∷ rows) others p q = absurd p
@@ -38,8 +41,10 @@ one_list_from place low (line ∷ lines) (a ∷ rows) [] p q = absurd q
 one_list_from place low (line ∷ lines) (a ∷ rows) (b ∷ others) p q =
     let says : said a ≡ said b = cc (p.0, q.0) in
     let same = same_row a b (p.1 ∙ sym q.1) says in
-    let rest : AreRows (place + 1) a.timed.moment lines others = subst (λ (r : Row). AreRows (place + 1) r.timed.moment lines others) (sym same) q.4 in
+    let rest : AreRows (place + 1) a.timed.moment lines others =
+    subst (λ (r : Row). AreRows (place + 1) r.timed.moment lines others) (sym same) q.4 in
     ap (λ r. r ∷ rows) same ∙ ap (λ l. b ∷ l) (one_list_from (place + 1) a.timed.moment lines rows others p.4 rest)
 
-pub one_list : (text : List ℕ) (rows others : List Row) → IsScheduleText text rows → IsScheduleText text others → rows ≡ others
+pub one_list : (text : List ℕ) (rows others : List Row) → IsScheduleText text rows → IsScheduleText text others
+    → rows ≡ others
 one_list text rows others p q = one_list_from 1 0 (lines_of text) rows others p q

@@ -1,5 +1,6 @@
 -- The printed text of a schedule is its text.
-use Rattle.std.proofs.Common.{◌≡◌, ℕ, ◌+◌, ◌≤◌, ◌<◌, ◌^◌, cond, List, [], ◌∷◌, ◌++◌, length, Some, decimal, refl, ap, sym, subst, ◌∙◌, append_assoc, arith}
+use Rattle.std.proofs.Common.{◌≡◌, ℕ, ◌+◌, ◌≤◌, ◌<◌, ◌^◌, cond, List, [], ◌∷◌, ◌++◌, length, Some, decimal, refl, ap}
+use Rattle.std.proofs.Common.{sym, subst, ◌∙◌, append_assoc, arith}
 use Rattle.std.specs.List.{onto_first}
 use Rattle.std.proofs.lemmas.Fmt.{digits_decimal}
 use Rattle.mm_base.specs.Lines.{lines_of}
@@ -21,7 +22,8 @@ decimal_lacks byte n low fits = digits_lack byte (decimal n) low (digits_decimal
 pub lines_of-append : (xs ys : List ℕ) → Lacks 10 xs → lines_of (xs ++ 10 ∷ ys) ≡ xs ∷ lines_of ys
 lines_of-append [] ys h = refl
 lines_of-append (x ∷ xs) ys h =
-    ap (λ b. cond b ([] ∷ lines_of (xs ++ 10 ∷ ys)) (onto_first x (lines_of (xs ++ 10 ∷ ys)))) h.0 ∙ ap (onto_first x) (lines_of-append xs ys h.1)
+    ap (λ b. cond b ([] ∷ lines_of (xs ++ 10 ∷ ys)) (onto_first x (lines_of (xs ++ 10 ∷ ys)))) h.0
+    ∙ ap (onto_first x) (lines_of-append xs ys h.1)
 
 -- a line without its line feed
 abbrev line_text : Row → List ℕ
@@ -34,20 +36,25 @@ direction_lacks Down = (refl, (refl, (refl, (refl, (refl, (refl, tt))))))
 pub said_of-line : (row : Row) → row.timed.moment ≤ 9999999999 → said_of (line_text row) ≡ Some (said row)
 said_of-line row within =
     let most = row.timed.packet.most in
-    said_of_parts row.direction (decimal row.timed.moment) (decimal row.timed.packet.size) row.timed.moment row.timed.packet.size
+    said_of_parts row.direction (decimal row.timed.moment) (decimal row.timed.packet.size) row.timed.moment
+    row.timed.packet.size
     (decimal_of-decimal row.timed.moment (omega arith)) (decimal_of-decimal row.timed.packet.size (omega arith))
 
 line_lacks : (row : Row) → row.timed.moment ≤ 9999999999 → Lacks 10 (line_text row)
 line_lacks row within =
     let most = row.timed.packet.most in
     lacks-append 10 (decimal row.timed.moment ++ direction_text row.direction) (decimal row.timed.packet.size)
-    (lacks-append 10 (decimal row.timed.moment) (direction_text row.direction) (decimal_lacks 10 row.timed.moment (omega arith) (omega arith)) (direction_lacks row.direction))
+    (lacks-append 10 (decimal row.timed.moment) (direction_text row.direction)
+    (decimal_lacks 10 row.timed.moment (omega arith) (omega arith)) (direction_lacks row.direction))
     (decimal_lacks 10 row.timed.packet.size (omega arith) (omega arith))
 
-lines_of-row : (row : Row) (rest : List ℕ) → row.timed.moment ≤ 9999999999 → lines_of (row_text row ++ rest) ≡ line_text row ∷ lines_of rest
-lines_of-row row rest within = ap lines_of (append_assoc (line_text row) (10 ∷ []) rest) ∙ lines_of-append (line_text row) rest (line_lacks row within)
+lines_of-row : (row : Row) (rest : List ℕ) → row.timed.moment ≤ 9999999999
+    → lines_of (row_text row ++ rest) ≡ line_text row ∷ lines_of rest
+lines_of-row row rest within = ap lines_of (append_assoc (line_text row) (10 ∷ []) rest)
+    ∙ lines_of-append (line_text row) rest (line_lacks row within)
 
-printed_from : (place low : ℕ) (rows : List Row) → AreInOrder place low rows → AreWithin 9999999999 rows → place + length rows ≤ 1000001
+printed_from : (place low : ℕ) (rows : List Row) → AreInOrder place low rows → AreWithin 9999999999 rows
+    → place + length rows ≤ 1000001
     → AreRows place low (lines_of (schedule_text rows)) rows
 printed_from place low [] order within few = tt
 printed_from place low (row ∷ rows) order within few =

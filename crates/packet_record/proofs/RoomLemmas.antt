@@ -1,5 +1,6 @@
 -- How many rows a text of so many bytes can have.
-use Rattle.std.proofs.Common.{◌≡◌, ℕ, ◌+◌, ◌*◌, ◌/◌, ◌≤◌, eqb, true, false, cond, List, [], ◌∷◌, ◌++◌, length, min, Some, ap, arith, length-append}
+use Rattle.std.proofs.Common.{◌≡◌, ℕ, ◌+◌, ◌*◌, ◌/◌, ◌≤◌, eqb, true, false, cond, List, [], ◌∷◌, ◌++◌, length, min}
+use Rattle.std.proofs.Common.{Some, ap, arith, length-append}
 use Rattle.std.specs.List.{onto_first}
 use Rattle.mm_base.specs.Lines.{lines_of}
 use Rattle.mm_base.proofs.NumbersLemmas.{decimal_of-Some}
@@ -23,7 +24,15 @@ least_line line s e =
     let first = (decimal_of-Some p.first s.0 p.moment).some in
     let third = (decimal_of-Some p.third s.2 p.size).some in
     let word = long_word s.1 in
-    omega (arith, ap length p.cut, length-append (p.first ++ direction_text s.1) p.third, length-append p.first (direction_text s.1), first, third, word)
+    omega (
+      arith,
+      ap length p.cut,
+      length-append (p.first ++ direction_text s.1) p.third,
+      length-append p.first (direction_text s.1),
+      first,
+      third,
+      word,
+    )
 
 -- the bytes of lines, each with a line feed
 unfoldable pub room_of : List (List ℕ) → ℕ
@@ -40,12 +49,14 @@ unfolding room_of
 lines_fit [] = omega arith
 lines_fit (byte ∷ bytes) =
     let rest = lines_fit bytes in
-    elim (eqb byte 10) as (λ b. room_of (cond b ([] ∷ lines_of bytes) (onto_first byte (lines_of bytes))) ≤ length (byte ∷ bytes) + 1) [
+    elim (eqb byte 10) as (λ b. room_of (cond b ([] ∷ lines_of bytes) (onto_first byte (lines_of bytes))) ≤ length
+    (byte ∷ bytes) + 1) [
       | true ↦ omega (arith, rest)
       | false ↦ let more = more_room byte (lines_of bytes) (length bytes) rest in omega (arith, more)
     ]
 
-rows_room : (place low : ℕ) (lines : List (List ℕ)) (rows : List Row) → AreRows place low lines rows → 7 * length rows ≤ room_of lines
+rows_room : (place low : ℕ) (lines : List (List ℕ)) (rows : List Row) → AreRows place low lines rows
+    → 7 * length rows ≤ room_of lines
 unfolding room_of
 rows_room place low [] [] are = omega arith
 rows_room place low [] (row ∷ rows) are = absurd are
@@ -55,7 +66,8 @@ rows_room place low (line ∷ lines) (row ∷ rows) are =
     let long = least_line line (said row) are.0 in
     omega (arith, rest, long)
 
-pub rows_fit : (text : List ℕ) (rows : List Row) (bytes : ℕ) → length text ≤ bytes → IsScheduleText text rows → length rows ≤ min (bytes / 7 + 1) 1000000
+pub rows_fit : (text : List ℕ) (rows : List Row) (bytes : ℕ) → length text ≤ bytes → IsScheduleText text rows
+    → length rows ≤ min (bytes / 7 + 1) 1000000
 rows_fit text rows bytes le are =
     let room = rows_room 1 0 (lines_of text) rows are in
     let fits = lines_fit text in

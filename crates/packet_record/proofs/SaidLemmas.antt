@@ -1,5 +1,6 @@
 -- The numbers of a line are below 10 ^ 10.
-use Rattle.std.proofs.Common.{◌≡◌, ℕ, ◌+◌, ◌-◌, ◌*◌, ◌^◌, ◌<◌, ◌≤◌, ◌&&◌, Bool, true, false, cond, List, [], ◌∷◌, length, fold, Option, Some, None, nat_le, refl, subst, arith, rules, tests}
+use Rattle.std.proofs.Common.{◌≡◌, ℕ, ◌+◌, ◌-◌, ◌*◌, ◌^◌, ◌<◌, ◌≤◌, ◌&&◌, Bool, true, false, cond, List, [], ◌∷◌}
+use Rattle.std.proofs.Common.{length, fold, Option, Some, None, nat_le, refl, subst, arith, rules, tests}
 use Rattle.std.specs.List.{list_all}
 use Rattle.std.specs.Option.{option_and_then}
 use Rattle.std.proofs.lemmas.Str.Parse.{IsNumeralModel, numerals_by_fold, digits_value_short}
@@ -24,12 +25,15 @@ at_most_ten n e = search (rules, tests)
 
 pub decimal_below : (text : List ℕ) (n : ℕ) → decimal_of text ≡ Some n → n ≤ 9999999999
 decimal_below text n e =
-    let parts = three_tests (nat_le 1 (length text)) (nat_le (length text) 10) (list_all is_digit text) (value_of_digits text) n e in
-    let below : value_of_digits text < 10 ^ 10 = digits_value_short own text 10 parts.1 (at_most_ten (length text) parts.0) in
+    let parts = three_tests (nat_le 1 (length text)) (nat_le (length text) 10) (list_all is_digit text)
+    (value_of_digits text) n e in
+    let below : value_of_digits text < 10 ^ 10 = digits_value_short own text 10 parts.1
+    (at_most_ten (length text) parts.0) in
     let same : value_of_digits text ≡ n = parts.2 in
     omega arith
 
-three_words : (most : ℕ) (m z : Option ℕ) (d : Option Direction) (s : ℕ × Direction × ℕ) → ((n : ℕ) → m ≡ Some n → n ≤ most)
+three_words : (most : ℕ) (m z : Option ℕ) (d : Option Direction) (s : ℕ × Direction × ℕ)
+    → ((n : ℕ) → m ≡ Some n → n ≤ most)
     → option_and_then (λ a. option_and_then (λ b. option_and_then (λ c. Some (a, b, c)) z) d) m ≡ Some s → s.0 ≤ most
 three_words most None z d s below e = absurd cc
 three_words most (Some m) z None s below e = absurd cc
@@ -43,7 +47,8 @@ by_words : (words : List (List ℕ)) (s : ℕ × Direction × ℕ) → said_by_w
 by_words [] s e = absurd cc
 by_words (a ∷ []) s e = absurd cc
 by_words (a ∷ b ∷ []) s e = absurd cc
-by_words (a ∷ b ∷ c ∷ []) s e = three_words 9999999999 (decimal_of a) (decimal_of c) (direction_of b) s (decimal_below a) e
+by_words (a ∷ b ∷ c ∷ []) s e = three_words 9999999999 (decimal_of a) (decimal_of c) (direction_of b) s
+    (decimal_below a) e
 by_words (a ∷ b ∷ c ∷ d ∷ words) s e = absurd cc
 
 pub said_within : (line : List ℕ) (s : ℕ × Direction × ℕ) → said_of line ≡ Some s → s.0 ≤ 9999999999

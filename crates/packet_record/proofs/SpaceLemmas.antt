@@ -1,5 +1,6 @@
 -- Texts without a space, or without a line feed.
-use Rattle.std.proofs.Common.{◌≡◌, ℕ, ◌≤◌, ◌<◌, ◌&&◌, Bool, true, false, cond, eqb, nat_le, List, [], ◌∷◌, ◌++◌, refl, ap, ◌∙◌, rules, tests}
+use Rattle.std.proofs.Common.{◌≡◌, ℕ, ◌≤◌, ◌<◌, ◌&&◌, Bool, true, false, cond, eqb, nat_le, List, [], ◌∷◌, ◌++◌, refl}
+use Rattle.std.proofs.Common.{ap, ◌∙◌, rules, tests}
 use Rattle.std.specs.List.{list_all, onto_first}
 use Rattle.mm_base.specs.Numbers.{is_digit}
 use Rattle.packet_record.specs.Said.{words_of}
@@ -33,8 +34,10 @@ digits_lack byte (x ∷ xs) low e =
 pub words_of-append : (xs ys : List ℕ) → Lacks 32 xs → words_of (xs ++ 32 ∷ ys) ≡ xs ∷ words_of ys
 words_of-append [] ys h = refl
 words_of-append (x ∷ xs) ys h =
-    ap (λ b. cond b ([] ∷ words_of (xs ++ 32 ∷ ys)) (onto_first x (words_of (xs ++ 32 ∷ ys)))) h.0 ∙ ap (onto_first x) (words_of-append xs ys h.1)
+    ap (λ b. cond b ([] ∷ words_of (xs ++ 32 ∷ ys)) (onto_first x (words_of (xs ++ 32 ∷ ys)))) h.0
+    ∙ ap (onto_first x) (words_of-append xs ys h.1)
 
 pub words_of-one : (xs : List ℕ) → Lacks 32 xs → words_of xs ≡ xs ∷ []
 words_of-one [] h = refl
-words_of-one (x ∷ xs) h = ap (λ b. cond b ([] ∷ words_of xs) (onto_first x (words_of xs))) h.0 ∙ ap (onto_first x) (words_of-one xs h.1)
+words_of-one (x ∷ xs) h = ap (λ b. cond b ([] ∷ words_of xs) (onto_first x (words_of xs))) h.0
+    ∙ ap (onto_first x) (words_of-one xs h.1)

@@ -1,5 +1,6 @@
 // The rows of a schedule, gathered line by line.
-ghost use Rattle.std.specs.Prelude.{◌≡◌, ◌≢◌, ◌≤◌, ◌∷◌, ℕ, List, [], None, Some, IfSome, is_some, IfOk, IfErr, OnOk, MatchResult};
+ghost use Rattle.std.specs.Prelude.{◌≡◌, ◌≢◌, ◌≤◌, ◌∷◌, ℕ, List, [], None, Some, IfSome, is_some, IfOk, IfErr, OnOk};
+ghost use Rattle.std.specs.Prelude.{MatchResult};
 ghost use Rattle.packet_record.specs.Said.{said_of};
 ghost use Rattle.packet_record.specs.Schedules.{AreRows, first_fault};
 

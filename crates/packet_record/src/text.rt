@@ -1,5 +1,6 @@
 // A schedule read from its text piece by piece.
-ghost use Rattle.std.specs.Prelude.{◌≡◌, ◌≢◌, ◌≤◌, ◌<◌, ◌∷◌, ◌++◌, ◌+◌, ◌-◌, ◌/◌, ℕ, List, [], length, take, None, Some, true, IfSome, IfNone, IfOk, IfErr, MatchResult};
+ghost use Rattle.std.specs.Prelude.{◌≡◌, ◌≢◌, ◌≤◌, ◌<◌, ◌∷◌, ◌++◌, ◌+◌, ◌-◌, ◌/◌, ℕ, List, [], length, take, None};
+ghost use Rattle.std.specs.Prelude.{Some, true, IfSome, IfNone, IfOk, IfErr, MatchResult};
 ghost use Rattle.mm_base.specs.Lines.{is_one_line, lines_of};
 ghost use Rattle.packet_record.specs.Schedules.{IsScheduleText, first_fault};
 ghost use Rattle.packet_record.specs.declared.packet.Row.{Row as RowValue};

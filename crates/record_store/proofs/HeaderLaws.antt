@@ -1,5 +1,6 @@
 -- A header line says the port and the lengths whose line it is, and no others.
-use Rattle.std.proofs.Common.{◌≡◌, ℕ, ◌<◌, ◌≤◌, ◌^◌, ◌++◌, Bool, true, false, cond, List, [], ◌∷◌, length, Option, Some, None, Ok, Err, nat_le, codes, refl, ap, sym, subst, ◌∙◌, arith}
+use Rattle.std.proofs.Common.{◌≡◌, ℕ, ◌<◌, ◌≤◌, ◌^◌, ◌++◌, Bool, true, false, cond, List, [], ◌∷◌, length, Option, Some}
+use Rattle.std.proofs.Common.{None, Ok, Err, nat_le, codes, refl, ap, sym, subst, ◌∙◌, arith}
 use Rattle.std.specs.Prelude.{Result, decimal}
 use Rattle.std.specs.Option.{ok_or, option_and_then}
 use Rattle.std.specs.Str.{bytes_eq}
@@ -8,9 +9,11 @@ use Rattle.std.proofs.lemmas.Slice.Eq.{bytes_eq-Decides}
 use Rattle.mm_base.specs.Numbers.{canonical_of}
 use Rattle.mm_base.specs.Lines.{is_one_line}
 use Rattle.mm_base.proofs.TextLemmas.{is_one_line-append}
-use Rattle.mm_base.proofs.NumbersLemmas.{canonical_of-decimal, canonical_of-Some, decimal-canonical_of, no_space-decimal, is_one_line-decimal}
+use Rattle.mm_base.proofs.NumbersLemmas.{canonical_of-decimal, canonical_of-Some, decimal-canonical_of}
+use Rattle.mm_base.proofs.NumbersLemmas.{no_space-decimal, is_one_line-decimal}
 use Rattle.mm_base.specs.Words.{first_word, other_words}
-use Rattle.record_store.specs.Headers.{header_line, HasPort, if_at_most, number_up_to, most_length, IsShort, lengths_of, port_and_lengths_of, is_scheme, with_scheme, header_by_form, header_of}
+use Rattle.record_store.specs.Headers.{header_line, HasPort, if_at_most, number_up_to, most_length, IsShort, lengths_of}
+use Rattle.record_store.specs.Headers.{port_and_lengths_of, is_scheme, with_scheme, header_by_form, header_of}
 use Rattle.record_store.specs.declared.header.Form.{Form}
 use Rattle.record_store.specs.declared.header.Form.TheVariants.{One, Two}
 use Rattle.record_store.specs.declared.header.Header.{Header}
@@ -22,9 +25,11 @@ use Rattle.mm_base.proofs.WordsLemmas.{spaced_again, first_word-spaced, other_wo
 
 pub number_of-decimal : (most n : ℕ) → n ≤ most → most < 10 ^ 10 → number_up_to most (decimal n) ≡ Some n
 number_of-decimal most n le small =
-    ap (option_and_then (if_at_most most)) (canonical_of-decimal n (omega (arith, le, small))) ∙ ap (λ b. cond b (Some n) None) (le-leb n most le)
+    ap (option_and_then (if_at_most most)) (canonical_of-decimal n (omega (arith, le, small)))
+    ∙ ap (λ b. cond b (Some n) None) (le-leb n most le)
 
-and_then : {X Y : Type 0} (o : Option X) (f : X → Option Y) (y : Y) → option_and_then f o ≡ Some y → (x : X) × (o ≡ Some x) × (f x ≡ Some y)
+and_then : {X Y : Type 0} (o : Option X) (f : X → Option Y) (y : Y) → option_and_then f o ≡ Some y → (x : X)
+    × (o ≡ Some x) × (f x ≡ Some y)
 and_then None f y e = cc
 and_then (Some x) f y e = (x, refl, e)
 
@@ -54,13 +59,19 @@ is_number most word n e =
 abbrev pub numbers : ℕ → ℕ → List ℕ
 numbers m n = decimal m ++ 32 ∷ decimal n
 
-pub lengths_of-line : (port m n : ℕ) → m ≤ most_length → n ≤ most_length → lengths_of port (numbers m n) ≡ Some (record { port = port; request = m; response = n })
+pub lengths_of-line : (port m n : ℕ) → m ≤ most_length → n ≤ most_length
+    → lengths_of port (numbers m n) ≡ Some (record { port = port; request = m; response = n })
 lengths_of-line port m n p q =
     let none = no_space-decimal m (omega (arith, p)) in
-    let first : number_up_to most_length (first_word (numbers m n)) ≡ Some m = ap (number_up_to most_length) (first_word-spaced (decimal m) (decimal n) none) ∙ number_of-decimal most_length m p (omega arith) in
-    let second : number_up_to most_length (other_words (numbers m n)) ≡ Some n = ap (number_up_to most_length) (other_words-spaced (decimal m) (decimal n) none) ∙ number_of-decimal most_length n q (omega arith) in
+    let first : number_up_to most_length (first_word (numbers m n)) ≡ Some m =
+    ap (number_up_to most_length) (first_word-spaced (decimal m) (decimal n) none)
+    ∙ number_of-decimal most_length m p (omega arith) in
+    let second : number_up_to most_length (other_words (numbers m n)) ≡ Some n =
+    ap (number_up_to most_length) (other_words-spaced (decimal m) (decimal n) none)
+    ∙ number_of-decimal most_length n q (omega arith) in
     let f : ℕ → ℕ → Option Header = λ x y. Some (record { port = port; request = x; response = y }) in
-    ap (λ (o : Option ℕ). option_and_then (λ (x : ℕ). option_and_then (f x) (number_up_to most_length (other_words (numbers m n)))) o) first
+    ap (λ (o : Option ℕ). option_and_then
+    (λ (x : ℕ). option_and_then (f x) (number_up_to most_length (other_words (numbers m n)))) o) first
     ∙ ap (λ (o : Option ℕ). option_and_then (f m) o) second
 
 pub record IsLengths (port : ℕ) (rest : List ℕ) (h : Header) : Type 0 where
@@ -76,12 +87,15 @@ more_than_one (x ∷ xs) some = omega arith
 pub is_lengths : (port : ℕ) (rest : List ℕ) (h : Header) → lengths_of port rest ≡ Some h → IsLengths port rest h
 is_lengths port rest h e =
     let m = and_then (number_up_to most_length (first_word rest))
-    (λ m. option_and_then (λ n. Some (record { port = port; request = m; response = n })) (number_up_to most_length (other_words rest))) h e in
-    let n = and_then (number_up_to most_length (other_words rest)) (λ n. Some (record { port = port; request = m.0; response = n })) h m.2 in
+    (λ m. option_and_then (λ n. Some (record { port = port; request = m; response = n }))
+    (number_up_to most_length (other_words rest))) h e in
+    let n = and_then (number_up_to most_length (other_words rest))
+    (λ n. Some (record { port = port; request = m.0; response = n })) h m.2 in
     let first = is_number most_length (first_word rest) m.0 m.1 in
     let second = is_number most_length (other_words rest) n.0 n.1 in
     let line : rest ≡ numbers m.0 n.0 =
-    spaced_again rest second.some ∙ ap (λ (l : List ℕ). l ++ 32 ∷ other_words rest) (sym first.written) ∙ ap (λ (l : List ℕ). decimal m.0 ++ 32 ∷ l) (sym second.written) in
+    spaced_again rest second.some ∙ ap (λ (l : List ℕ). l ++ 32 ∷ other_words rest) (sym first.written)
+    ∙ ap (λ (l : List ℕ). decimal m.0 ++ 32 ∷ l) (sym second.written) in
     let found : IsLengths port rest (record { port = port; request = m.0; response = n.0 }) = record {
       port_is = refl;
       text = line;
@@ -99,7 +113,9 @@ pub port_and_lengths_of-line : (port m n : ℕ) → port ≤ 65535 → m ≤ mos
 port_and_lengths_of-line port m n o p q =
     let none = no_space-decimal port (omega (arith, o)) in
     let rest = numbers_with_port port m n in
-    let first : number_up_to 65535 (first_word rest) ≡ Some port = ap (number_up_to 65535) (first_word-spaced (decimal port) (numbers m n) none) ∙ number_of-decimal 65535 port o (omega arith) in
+    let first : number_up_to 65535 (first_word rest) ≡ Some port =
+    ap (number_up_to 65535) (first_word-spaced (decimal port) (numbers m n) none)
+    ∙ number_of-decimal 65535 port o (omega arith) in
     ap (λ (o : Option ℕ). option_and_then (λ (x : ℕ). lengths_of x (other_words rest)) o) first
     ∙ ap (lengths_of port) (other_words-spaced (decimal port) (numbers m n) none)
     ∙ lengths_of-line port m n p q
@@ -125,20 +141,26 @@ is_port_and_lengths rest h e =
 
 -- ---- whole lines
 
-by_record : (form : Form) (place : ℕ) (rest : List ℕ) → header_of form place (codes "record" ++ 32 ∷ rest) ≡ header_by_form form place rest
+by_record : (form : Form) (place : ℕ) (rest : List ℕ)
+    → header_of form place (codes "record" ++ 32 ∷ rest) ≡ header_by_form form place rest
 by_record form place rest =
     let line : List ℕ = codes "record" ++ 32 ∷ rest in
-    ap (λ (w : List ℕ). cond (bytes_eq w (codes "record")) (header_by_form form place (other_words line)) (Err (errors.BadHeader place))) (first_word-spaced (codes "record") rest refl)
+    ap (λ (w : List ℕ). cond (bytes_eq w (codes "record")) (header_by_form form place (other_words line))
+    (Err (errors.BadHeader place))) (first_word-spaced (codes "record") rest refl)
     ∙ ap (header_by_form form place) (other_words-spaced (codes "record") rest refl)
 
-by_http : (place : ℕ) (rest : List ℕ) → header_by_form Two place (codes "http" ++ 32 ∷ rest) ≡ with_scheme place (codes "http") (port_and_lengths_of rest)
+by_http : (place : ℕ) (rest : List ℕ) → header_by_form Two place (codes "http" ++ 32 ∷ rest) ≡ with_scheme place
+    (codes "http") (port_and_lengths_of rest)
 by_http place rest =
     let line : List ℕ = codes "http" ++ 32 ∷ rest in
-    ap (λ (w : List ℕ). with_scheme place w (port_and_lengths_of (other_words line))) (first_word-spaced (codes "http") rest refl)
-    ∙ ap (λ (w : List ℕ). with_scheme place (codes "http") (port_and_lengths_of w)) (other_words-spaced (codes "http") rest refl)
+    ap (λ (w : List ℕ). with_scheme place w (port_and_lengths_of (other_words line)))
+    (first_word-spaced (codes "http") rest refl)
+    ∙ ap (λ (w : List ℕ). with_scheme place (codes "http") (port_and_lengths_of w))
+    (other_words-spaced (codes "http") rest refl)
 
 -- a header line is read
-pub header_of-line : (form : Form) (place port m n : ℕ) → port ≤ 65535 → HasPort form port → m ≤ most_length → n ≤ most_length
+pub header_of-line : (form : Form) (place port m n : ℕ) → port ≤ 65535 → HasPort form port → m ≤ most_length
+    → n ≤ most_length
     → header_of form place (header_line form port m n) ≡ Ok (record { port = port; request = m; response = n })
 header_of-line One place port m n small own p q =
     by_record One place (numbers m n)
@@ -155,7 +177,8 @@ pub record IsHeader (form : Form) (line : List ℕ) (h : Header) : Type 0 where
   pub port : h.port ≤ 65535
   pub own : HasPort form h.port
 
-passed : (b : Bool) (x : Result Header StoreError) (e : StoreError) (h : Header) → cond b x (Err e) ≡ Ok h → (b ≡ true) × (x ≡ Ok h)
+passed : (b : Bool) (x : Result Header StoreError) (e : StoreError) (h : Header) → cond b x (Err e) ≡ Ok h
+    → (b ≡ true) × (x ≡ Ok h)
 passed true x e h is = (refl, is)
 passed false x e h is = cc
 
@@ -163,7 +186,8 @@ some_of : (o : Option Header) (e : StoreError) (h : Header) → ok_or o e ≡ Ok
 some_of None e h is = cc
 some_of (Some g) e h is = cc
 
-checked : (b c : Bool) (g h : Header) (e f : StoreError) → cond b (Ok g) (cond c (Err e) (Err f)) ≡ Ok h → (b ≡ true) × (g ≡ h)
+checked : (b c : Bool) (g h : Header) (e f : StoreError) → cond b (Ok g) (cond c (Err e) (Err f)) ≡ Ok h → (b ≡ true)
+    × (g ≡ h)
 checked true c g h e f is = (refl, cc)
 checked false true g h e f is = cc
 checked false false g h e f is = cc
@@ -171,22 +195,28 @@ checked false false g h e f is = cc
 same_word : (word known : List ℕ) → bytes_eq word known ≡ true → word ≡ known
 same_word word known e = (bytes_eq-Decides word known).0 e
 
-scheme_is : (place : ℕ) (scheme : List ℕ) (o : Option Header) (h : Header) → with_scheme place scheme o ≡ Ok h → (o ≡ Some h) × (scheme ≡ codes "http")
+scheme_is : (place : ℕ) (scheme : List ℕ) (o : Option Header) (h : Header) → with_scheme place scheme o ≡ Ok h
+    → (o ≡ Some h) × (scheme ≡ codes "http")
 scheme_is place scheme None h is = cc
 scheme_is place scheme (Some g) h is =
-    let t = checked (bytes_eq scheme (codes "http")) (is_scheme scheme) g h (errors.BadScheme place) (errors.BadHeader place) is in
+    let t = checked (bytes_eq scheme (codes "http")) (is_scheme scheme) g h (errors.BadScheme place)
+    (errors.BadHeader place) is in
     (ap Some t.1, same_word scheme (codes "http") t.0)
 
-two_words : (line rest word : List ℕ) → other_words line ≡ rest → 0 < length rest → first_word line ≡ word → line ≡ word ++ 32 ∷ rest
+two_words : (line rest word : List ℕ) → other_words line ≡ rest → 0 < length rest → first_word line ≡ word
+    → line ≡ word ++ 32 ∷ rest
 two_words line rest word others some first =
     spaced_again line (subst (λ (l : List ℕ). 0 < length l) (sym others) some)
     ∙ ap (λ (l : List ℕ). l ++ 32 ∷ other_words line) first ∙ ap (λ (l : List ℕ). word ++ 32 ∷ l) others
 
-by_form : (form : Form) (place : ℕ) (line : List ℕ) (h : Header) → first_word line ≡ codes "record" → header_by_form form place (other_words line) ≡ Ok h → IsHeader form line h
+by_form : (form : Form) (place : ℕ) (line : List ℕ) (h : Header) → first_word line ≡ codes "record"
+    → header_by_form form place (other_words line) ≡ Ok h → IsHeader form line h
 by_form One place line h first is =
-    let found = is_lengths 0 (other_words line) h (some_of (lengths_of 0 (other_words line)) (errors.BadHeader place) h is) in
+    let found = is_lengths 0 (other_words line) h (some_of (lengths_of 0 (other_words line)) (errors.BadHeader place)
+    h is) in
     record {
-      text = two_words line (other_words line) (codes "record") refl found.some first ∙ ap (λ (l : List ℕ). codes "record" ++ 32 ∷ l) found.text;
+      text = two_words line (other_words line) (codes "record") refl found.some first
+          ∙ ap (λ (l : List ℕ). codes "record" ++ 32 ∷ l) found.text;
       port = omega (arith, found.port_is);
       own = found.port_is;
     }
@@ -195,22 +225,29 @@ by_form Two place line h first is =
     let t = scheme_is place (first_word rest) (port_and_lengths_of (other_words rest)) h is in
     let found = is_port_and_lengths (other_words rest) h t.0 in
     let after : rest ≡ codes "http" ++ 32 ∷ numbers_with_port h.port h.request h.response =
-    two_words rest (other_words rest) (codes "http") refl found.some t.1 ∙ ap (λ (l : List ℕ). codes "http" ++ 32 ∷ l) found.text in
+    two_words rest (other_words rest) (codes "http") refl found.some t.1
+    ∙ ap (λ (l : List ℕ). codes "http" ++ 32 ∷ l) found.text in
     record {
-      text = two_words line rest (codes "record") refl (more_than_one rest found.some) first ∙ ap (λ (l : List ℕ). codes "record" ++ 32 ∷ l) after;
+      text = two_words line rest (codes "record") refl (more_than_one rest found.some) first
+          ∙ ap (λ (l : List ℕ). codes "record" ++ 32 ∷ l) after;
       port = found.port;
       own = tt;
     }
 
-pub is_header : (form : Form) (place : ℕ) (line : List ℕ) (h : Header) → header_of form place line ≡ Ok h → IsHeader form line h
+pub is_header : (form : Form) (place : ℕ) (line : List ℕ) (h : Header) → header_of form place line ≡ Ok h
+    → IsHeader form line h
 is_header form place line h e =
-    let t = passed (bytes_eq (first_word line) (codes "record")) (header_by_form form place (other_words line)) (errors.BadHeader place) h e in
+    let t = passed (bytes_eq (first_word line) (codes "record")) (header_by_form form place (other_words line))
+    (errors.BadHeader place) h e in
     by_form form place line h (same_word (first_word line) (codes "record") t.0) t.1
 
 -- a header line is one line
-pub is_one_line-header : (form : Form) (port m n : ℕ) → port ≤ 65535 → m ≤ most_length → n ≤ most_length → is_one_line (header_line form port m n) ≡ true
+pub is_one_line-header : (form : Form) (port m n : ℕ) → port ≤ 65535 → m ≤ most_length → n ≤ most_length
+    → is_one_line (header_line form port m n) ≡ true
 is_one_line-header One port m n o p q =
-    is_one_line-append (decimal m) (32 ∷ decimal n) (is_one_line-decimal m (omega (arith, p))) (is_one_line-decimal n (omega (arith, q)))
+    is_one_line-append (decimal m) (32 ∷ decimal n) (is_one_line-decimal m (omega (arith, p)))
+    (is_one_line-decimal n (omega (arith, q)))
 is_one_line-header Two port m n o p q =
     is_one_line-append (decimal port) (32 ∷ numbers m n) (is_one_line-decimal port (omega (arith, o)))
-    (is_one_line-append (decimal m) (32 ∷ decimal n) (is_one_line-decimal m (omega (arith, p))) (is_one_line-decimal n (omega (arith, q))))
+    (is_one_line-append (decimal m) (32 ∷ decimal n) (is_one_line-decimal m (omega (arith, p)))
+    (is_one_line-decimal n (omega (arith, q))))

@@ -1,5 +1,6 @@
 -- Pieces that are written one after another.
-use Rattle.std.proofs.Common.{true, false, Bool, arith, length-append, ◌≡◌, ◌∙◌, ◌++◌, ℕ, ◌+◌, ◌<◌, List, [], ◌∷◌, length, take, get_or, Ok, Err, sym, ap, append_assoc}
+use Rattle.std.proofs.Common.{true, false, Bool, arith, length-append, ◌≡◌, ◌∙◌, ◌++◌, ℕ, ◌+◌, ◌<◌, List, [], ◌∷◌}
+use Rattle.std.proofs.Common.{length, take, get_or, Ok, Err, sym, ap, append_assoc}
 use Rattle.std.specs.Prelude.{Result, OnOk}
 use Rattle.std.proofs.lemmas.List.{take_more, flat_map_more}
 use Rattle.record_store.specs.StoreText.{magic, record_text, records_text, store_text}
@@ -13,12 +14,15 @@ on_ok (Ok x) P Q f p = f p
 on_ok (Err e) P Q f p = p
 
 -- a name, a number, a space, and the rest
-pub header_pieces : (out name port rest : List ℕ) → ((out ++ name) ++ port ++ 32 ∷ []) ++ rest ≡ out ++ (name ++ (port ++ 32 ∷ rest))
+pub header_pieces : (out name port rest : List ℕ) → ((out ++ name) ++ port ++ 32 ∷ []) ++ rest ≡ out
+    ++ (name ++ (port ++ 32 ∷ rest))
 header_pieces out name port rest =
-    append_assoc ((out ++ name) ++ port) (32 ∷ []) rest ∙ append_assoc (out ++ name) port (32 ∷ rest) ∙ append_assoc out name (port ++ 32 ∷ rest)
+    append_assoc ((out ++ name) ++ port) (32 ∷ []) rest ∙ append_assoc (out ++ name) port (32 ∷ rest)
+    ∙ append_assoc out name (port ++ 32 ∷ rest)
 
 -- a line, a request, a response and a line feed
-pub record_pieces : (out line q s : List ℕ) → ((((out ++ line) ++ 10 ∷ []) ++ q) ++ s) ++ 10 ∷ [] ≡ out ++ (line ++ 10 ∷ (q ++ (s ++ 10 ∷ [])))
+pub record_pieces : (out line q s : List ℕ) → ((((out ++ line) ++ 10 ∷ []) ++ q) ++ s) ++ 10 ∷ [] ≡ out
+    ++ (line ++ 10 ∷ (q ++ (s ++ 10 ∷ [])))
 record_pieces out line q s =
     append_assoc (((out ++ line) ++ 10 ∷ []) ++ q) s (10 ∷ [])
     ∙ append_assoc ((out ++ line) ++ 10 ∷ []) q (s ++ 10 ∷ [])
@@ -26,10 +30,12 @@ record_pieces out line q s =
     ∙ append_assoc out line (10 ∷ (q ++ (s ++ 10 ∷ [])))
 
 -- a record more
-pub record_more : (rs : List Record) (i : ℕ) (r : Record) (out next : List ℕ) → i < length rs → r ≡ get_or rs i r → out ≡ store_text Two (take i rs)
+pub record_more : (rs : List Record) (i : ℕ) (r : Record) (out next : List ℕ) → i < length rs → r ≡ get_or rs i r
+    → out ≡ store_text Two (take i rs)
     → next ≡ out ++ record_text Two r → next ≡ store_text Two (take (i + 1) rs)
 record_more rs i r out next within read so_far added =
-    added ∙ ap (λ (l : List ℕ). l ++ record_text Two r) so_far ∙ flat_map_more (record_text Two) (magic Two) (take i rs) r
+    added ∙ ap (λ (l : List ℕ). l ++ record_text Two r) so_far
+    ∙ flat_map_more (record_text Two) (magic Two) (take i rs) r
     ∙ ap (store_text Two) (ap (λ (x : Record). take i rs ++ x ∷ []) read ∙ sym (take_more rs i r within))
 
 -- ---- texts that aren't empty

@@ -1,5 +1,6 @@
 -- The parts of the record that stands at a place.
-use Rattle.std.specs.Prelude.{ℕ, ◌+◌, ◌-◌, ◌≤◌, ◌<◌, ◌==◌, List, length, take, drop, Option, Some, None, Result, Ok, Err, nat_lt, position, slice_index, if◌then◌else◌}
+use Rattle.std.specs.Prelude.{ℕ, ◌+◌, ◌-◌, ◌≤◌, ◌<◌, ◌==◌, List, length, take, drop, Option, Some, None, Result, Ok}
+use Rattle.std.specs.Prelude.{Err, nat_lt, position, slice_index, if◌then◌else◌}
 use Rattle.record_store.specs.Headers.{header_of}
 use Rattle.record_store.specs.declared.header.Form.{Form}
 use Rattle.record_store.specs.declared.header.Header.{Header}
@@ -27,7 +28,12 @@ cut_by_end place bytes cut =
 
 abbrev pub cut_at_header : ℕ → List ℕ → ℕ → Header → Result Cut StoreError
 cut_at_header place bytes start header =
-    cut_by_end place bytes (record { port = header.port; request = start; response = start + header.request; end = start + header.request + header.response })
+    cut_by_end place bytes (record {
+      port = header.port;
+      request = start;
+      response = start + header.request;
+      end = start + header.request + header.response;
+    })
 
 abbrev pub cut_by_header : ℕ → List ℕ → ℕ → Result Header StoreError → Result Cut StoreError
 cut_by_header place bytes start (Ok header) = cut_at_header place bytes start header

@@ -22,5 +22,6 @@ OneResponse to_head bytes None = (m : Response) → IsResponseOf to_head m → m
 
 -- the record that they are, with that port, or none
 abbrev pub OneExchange : ℕ → List ℕ → List ℕ → Option Record → Type 0
-OneExchange port request response (Some r) = IsRecord r × (r.port ≡ port) × (r.request.bytes ≡ request) × (r.response.bytes ≡ response)
+OneExchange port request response (Some r) = IsRecord r × (r.port ≡ port) × (r.request.bytes ≡ request)
+    × (r.response.bytes ≡ response)
 OneExchange port request response None = IsExchange request response → ⊥

@@ -1,5 +1,6 @@
 -- Header lines of records.
-use Rattle.std.specs.Prelude.{◌≡◌, ℕ, Bool, ◌&&◌, ◌≤◌, List, [], ◌∷◌, length, Option, Some, None, option_and_then, Result, Ok, Err, codes, decimal, nat_le, if◌then◌else◌}
+use Rattle.std.specs.Prelude.{◌≡◌, ℕ, Bool, ◌&&◌, ◌≤◌, List, [], ◌∷◌, length, Option, Some, None, option_and_then}
+use Rattle.std.specs.Prelude.{Result, Ok, Err, codes, decimal, nat_le, if◌then◌else◌}
 use Rattle.std.specs.List.{list_all}
 use Rattle.std.specs.Option.{ok_or}
 use Rattle.std.specs.Str.{bytes_eq}
@@ -15,7 +16,8 @@ use Rattle.record_store.specs.declared.store_error.StoreError.TheVariants as err
 -- `record REQLEN RESLEN`, and `record http PORT REQLEN RESLEN`
 abbrev pub header_line : Form → ℕ → ℕ → ℕ → List ℕ
 header_line One port request response = spaced (codes "record" ∷ decimal request ∷ decimal response ∷ [])
-header_line Two port request response = spaced (codes "record" ∷ codes "http" ∷ decimal port ∷ decimal request ∷ decimal response ∷ [])
+header_line Two port request response =
+    spaced (codes "record" ∷ codes "http" ∷ decimal port ∷ decimal request ∷ decimal response ∷ [])
 
 -- form 1 states no port, and its records have port 0
 abbrev pub HasPort : Form → ℕ → Type 0
@@ -80,4 +82,5 @@ header_by_form Two place rest = with_scheme place (first_word rest) (port_and_le
 -- what the line at a place says, if it is a header; or why it is none
 abbrev pub header_of : Form → ℕ → List ℕ → Result Header StoreError
 header_of form place line =
-    if bytes_eq (first_word line) (codes "record") then header_by_form form place (other_words line) else Err (errors.BadHeader place)
+    if bytes_eq (first_word line) (codes "record") then header_by_form form place (other_words line)
+    else Err (errors.BadHeader place)

@@ -19,7 +19,8 @@ pub record IsThen (to_head : Bool) (bytes : List ℕ) (m : Response) (after : Li
 -- the bytes are those interim responses, of a status below 200, and then the rest
 abbrev pub AreInterim : Bool → List ℕ → List Response → List ℕ → Type 0
 AreInterim to_head bytes [] rest = bytes ≡ rest
-AreInterim to_head bytes (m ∷ ms) rest = (after : List ℕ) × IsThen to_head bytes m after × (m.head.status < 200) × AreInterim to_head after ms rest
+AreInterim to_head bytes (m ∷ ms) rest = (after : List ℕ) × IsThen to_head bytes m after × (m.head.status < 200)
+    × AreInterim to_head after ms rest
 
 abbrev pub AfterInterim : Bool → List ℕ → List ℕ → Type 0
 AfterInterim to_head bytes rest = (ms : List Response) × AreInterim to_head bytes ms rest
@@ -37,7 +38,8 @@ AreAnswers port bytes [] [] rest = bytes ≡ rest
 AreAnswers port bytes [] (r ∷ rs) rest = ⊥
 AreAnswers port bytes (m ∷ ms) [] rest = ⊥
 AreAnswers port bytes (m ∷ ms) (r ∷ rs) rest =
-    (after : List ℕ) × (r.request ≡ m) × (r.port ≡ port) × IsAnswer m.head.head_only bytes r.response after × AreAnswers port after ms rs rest
+    (after : List ℕ) × (r.request ≡ m) × (r.port ≡ port) × IsAnswer m.head.head_only bytes r.response after
+    × AreAnswers port after ms rs rest
 
 -- the requests before number n have their answers, and bytes are left for it
 pub record Reaches (client server : List ℕ) (port n : ℕ) (m : Request) (left : List ℕ) : Type 0 where
@@ -51,7 +53,8 @@ pub record Reaches (client server : List ℕ) (port n : ℕ) (m : Request) (left
 -- why the bytes are no requests
 abbrev pub RefusesRequests : List ℕ → PairError → Type 0
 RefusesRequests client (errors.BadRequest n) =
-    (ms : List Request) × (rest : List ℕ) × AreRequests client ms rest × BeginsWithNone rest × (0 < length rest) × (n ≡ length ms + 1)
+    (ms : List Request) × (rest : List ℕ) × AreRequests client ms rest × BeginsWithNone rest × (0 < length rest)
+    × (n ≡ length ms + 1)
 RefusesRequests client (errors.BadResponse n) = ⊥
 RefusesRequests client (errors.Unanswered n) = ⊥
 RefusesRequests client errors.ExtraResponse = ⊥
@@ -67,7 +70,8 @@ Pairs client server port (Err (errors.BadResponse n)) =
 Pairs client server port (Err (errors.Unanswered n)) =
     (m : Request) × (left : List ℕ) × Reaches client server port n m left × AfterInterim m.head.head_only left []
 Pairs client server port (Err errors.ExtraResponse) =
-    (ms : List Request) × (rs : List Record) × (rest : List ℕ) × AreRequests client ms [] × AreAnswers port server ms rs rest × (0 < length rest)
+    (ms : List Request) × (rs : List Record) × (rest : List ℕ) × AreRequests client ms []
+    × AreAnswers port server ms rs rest × (0 < length rest)
 Pairs client server port (Err errors.OutOfMemory) = Unit {0}
 
 -- what the bytes have for one request
@@ -75,4 +79,5 @@ abbrev pub AnswerSays : Bool → List ℕ → Found → Type 0
 AnswerSays to_head bytes (found.Final skipped m) =
     (skipped + length m.bytes ≤ length bytes) × IsAnswer to_head bytes m (drop (skipped + length m.bytes) bytes)
 AnswerSays to_head bytes found.Unanswered = AfterInterim to_head bytes []
-AnswerSays to_head bytes found.Bad = (before : List ℕ) × AfterInterim to_head bytes before × BeginsWithNoResponse to_head before × (0 < length before)
+AnswerSays to_head bytes found.Bad = (before : List ℕ) × AfterInterim to_head bytes before
+    × BeginsWithNoResponse to_head before × (0 < length before)

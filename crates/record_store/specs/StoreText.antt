@@ -1,5 +1,6 @@
 -- Texts of stores, and what a text says.
-use Rattle.std.specs.Prelude.{◌≡◌, ℕ, ◌+◌, ◌<◌, List, [], ◌∷◌, ◌++◌, All, length, take, codes, Option, Some, None, Result, Ok, Err, if◌then◌else◌}
+use Rattle.std.specs.Prelude.{◌≡◌, ℕ, ◌+◌, ◌<◌, List, [], ◌∷◌, ◌++◌, All, length, take, codes, Option, Some, None}
+use Rattle.std.specs.Prelude.{Result, Ok, Err, if◌then◌else◌}
 use Rattle.std.specs.List.{flat_map}
 use Rattle.std.specs.Str.{bytes_eq}
 use Rattle.record_store.specs.Records.{IsRecord}
@@ -21,7 +22,8 @@ magic Two = codes "MMSTORE 2" ++ 10 ∷ []
 -- the header line with its line feed, the request's bytes, the response's bytes, and a line feed
 abbrev pub record_text : Form → Record → List ℕ
 record_text form r =
-    header_line form r.port (length r.request.bytes) (length r.response.bytes) ++ 10 ∷ (r.request.bytes ++ (r.response.bytes ++ 10 ∷ []))
+    header_line form r.port (length r.request.bytes) (length r.response.bytes)
+    ++ 10 ∷ (r.request.bytes ++ (r.response.bytes ++ 10 ∷ []))
 
 abbrev pub records_text : Form → List Record → List ℕ
 records_text form rs = flat_map (record_text form) rs
@@ -36,7 +38,8 @@ IsRecordIn form r = IsRecord r × HasPort form r.port
 
 -- the form of a text, by its first 10 bytes
 abbrev pub form_of : List ℕ → Option Form
-form_of text = if bytes_eq (take 10 text) (magic Two) then Some Two else (if bytes_eq (take 10 text) (magic One) then Some One else None)
+form_of text = if bytes_eq (take 10 text) (magic Two) then Some Two
+    else (if bytes_eq (take 10 text) (magic One) then Some One else None)
 
 -- the text is the text of those records, and then the rest
 pub record Reaches (form : Form) (text : List ℕ) (rs : List Record) (rest : List ℕ) : Type 0 where
@@ -46,14 +49,17 @@ pub record Reaches (form : Form) (text : List ℕ) (rs : List Record) (rest : Li
 -- what a text says: its records, or the first refusal, which the first record that can't be read gives
 pub data StoreSays (text : List ℕ) (result : Result (List Record) StoreError) : Type 0 where
   -- the text is the text of these records
-  whole : (form : Form) (rs : List Record) → text ≡ store_text form rs → All (IsRecordIn form) rs → result ≡ Ok rs → StoreSays text result
+  whole : (form : Form) (rs : List Record) → text ≡ store_text form rs → All (IsRecordIn form) rs → result ≡ Ok rs
+      → StoreSays text result
   -- it begins as no form does
   no_form : form_of text ≡ None → result ≡ Err errors.BadMagic → StoreSays text result
   -- after these records bytes are left that aren't cut into the parts of a record
-  no_parts : (form : Form) (rs : List Record) (rest : List ℕ) (e : StoreError) → Reaches form text rs rest → 0 < length rest
+  no_parts : (form : Form) (rs : List Record) (rest : List ℕ) (e : StoreError) → Reaches form text rs rest
+      → 0 < length rest
       → cut_of form (length (store_text form rs)) rest ≡ Err e → result ≡ Err e → StoreSays text result
   -- or that are, into parts that are no request with a response to it
   no_exchange : (form : Form) (rs : List Record) (rest : List ℕ) (cut : Cut) → Reaches form text rs rest
-      → cut_of form (length (store_text form rs)) rest ≡ Ok cut → (IsExchange (request_part cut rest) (response_part cut rest) → ⊥)
+      → cut_of form (length (store_text form rs)) rest ≡ Ok cut
+      → (IsExchange (request_part cut rest) (response_part cut rest) → ⊥)
       → result ≡ Err (errors.BadMessage (length rs + 1)) → StoreSays text result
   no_memory : result ≡ Err errors.OutOfMemory → StoreSays text result

@@ -1,7 +1,8 @@
 // The header line of a record, read.
 ghost use Rattle.std.specs.Prelude.{◌≡◌, ◌≤◌, IfOk, IfSome};
 ghost use Rattle.std.specs.List.{list_all};
-ghost use Rattle.record_store.specs.Headers.{number_up_to, lengths_of, port_and_lengths_of, is_scheme, check_scheme, header_by_form, header_of, is_letter, IsShort};
+ghost use Rattle.record_store.specs.Headers.{number_up_to, lengths_of, port_and_lengths_of, is_scheme, check_scheme};
+ghost use Rattle.record_store.specs.Headers.{header_by_form, header_of, is_letter, IsShort};
 
 use crate::store_error::StoreError;
 use mm_base::{read_canonical, split_word};

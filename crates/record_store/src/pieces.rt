@@ -24,8 +24,10 @@ pub struct StorePieces<'a> {
 
 // Writes records until the piece is full, and gives those that are left.
 fn fill<'a>(piece: &mut Bytes, records: &'a [Record]) -> Result<&'a [Record], OutOfMemory>
-    ensures same { IfOk result (λ left. piece.old ++ records_text forms.Two records.now ≡ piece.new ++ records_text forms.Two left.now) }
-    ensures some { IfOk result (λ left. 0 < length (piece.old ++ records_text forms.Two records.now) → 0 < length piece.new) }
+    ensures same { IfOk result (λ left. piece.old ++ records_text forms.Two records.now ≡ piece.new
+        ++ records_text forms.Two left.now) }
+    ensures some { IfOk result (λ left. 0 < length (piece.old ++ records_text forms.Two records.now)
+        → 0 < length piece.new) }
     ensures err { OnErr result (0 < length records.now) }
 {
     let mut left = records;
@@ -59,9 +61,9 @@ impl<'a> StorePieces<'a> {
         }
     }
 
-    /// Goes on to the next piece, which isn't empty. False: there is no more, and no piece in hand. After `OutOfMemory`,
-    /// which is want of memory and comes only where there is more, no piece is in hand, and the next one goes on from
-    /// there.
+    /// Goes on to the next piece, which isn't empty. False: there is no more, and no piece in hand. After
+    /// `OutOfMemory`, which is want of memory and comes only where there is more, no piece is in hand, and the next
+    /// one goes on from there.
     pub fn next(&mut self) -> Result<bool, OutOfMemory>
         ensures same { self.old.rest ≡ self.new.piece ++ self.new.rest }
         ensures some { IfOk result (λ more. IsTrue more → 0 < length self.new.piece) }

@@ -52,10 +52,12 @@ fn entries_of(
 
 /// The place of the first entry whose key isn't below that one.
 fn first_from(entries: &[(u64, usize)], key: u64) -> usize
-    requires { (i j : ℕ) (d : Entry) → i ≤ j → j < length entries.now → (slice_index_or entries.now i d).0 ≤ (slice_index_or entries.now j d).0 }
+    requires { (i j : ℕ) (d : Entry) → i ≤ j → j < length entries.now
+        → (slice_index_or entries.now i d).0 ≤ (slice_index_or entries.now j d).0 }
     ensures bound { result ≤ length entries.now }
     ensures below { (k : ℕ) (d : Entry) → k < result → (slice_index_or entries.now k d).0 < key }
-    ensures from { (k : ℕ) (d : Entry) → result ≤ k → k < length entries.now → key ≤ (slice_index_or entries.now k d).0 }
+    ensures from { (k : ℕ) (d : Entry) → result ≤ k → k < length entries.now
+        → key ≤ (slice_index_or entries.now k d).0 }
 {
     let mut low = 0;
     let mut high = entries.len();

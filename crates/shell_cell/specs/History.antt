@@ -1,5 +1,6 @@
 -- The history of a cell, read by number from the lists of its two seats.
-use Rattle.std.specs.Prelude.{◌≡◌, ℕ, zero, suc, ◌+◌, ◌<◌, ◌≤◌, List, [], ◌∷◌, count_by, fold, false, ◌==◌, ◌&&◌, nat_le, nat_lt, Option, Some, None, if◌then◌else◌}
+use Rattle.std.specs.Prelude.{◌≡◌, ℕ, zero, suc, ◌+◌, ◌<◌, ◌≤◌, List, [], ◌∷◌, count_by, fold, false, ◌==◌, ◌&&◌}
+use Rattle.std.specs.Prelude.{nat_le, nat_lt, Option, Some, None, if◌then◌else◌}
 use Rattle.packet_record.specs.declared.item.Item.{Item}
 use Rattle.packet_record.specs.declared.item.FlowEnd.TheVariants.{Open}
 use Rattle.packet_record.specs.declared.item.Stream.{Stream}
@@ -54,11 +55,13 @@ IsTurn None None s = ⊥
 
 -- each of the turns 1 to n gives its answer
 abbrev pub IsLegal : State → List FeedTurn → List DrainTurn → ℕ → Type 0
-IsLegal x fed drained n = (i : ℕ) → i < n → IsTurn (fed_at fed (suc i)) (drained_at drained (suc i)) (state_at x fed drained i)
+IsLegal x fed drained n = (i : ℕ) → i < n → IsTurn (fed_at fed (suc i)) (drained_at drained (suc i))
+    (state_at x fed drained i)
 
 -- how often a number stands in the two lists
 abbrev pub times : List FeedTurn → List DrainTurn → ℕ → ℕ
-times fed drained k = count_by (λ (t : FeedTurn). t.number == k) fed + count_by (λ (t : DrainTurn). t.number == k) drained
+times fed drained k = count_by (λ (t : FeedTurn). t.number == k) fed + count_by (λ (t : DrainTurn). t.number == k)
+    drained
 
 -- 1 for the numbers 1 to n, and 0 for others
 abbrev pub once_to : ℕ → ℕ → ℕ

@@ -1,5 +1,6 @@
 -- What stands in the table at every moment, and what each step tells the seat that makes it.
-use Rattle.std.specs.Prelude.{◌≡◌, ◌≢◌, ℕ, suc, ◌+◌, ◌*◌, ◌<◌, List, [], ◌∷◌, ◌++◌, Bool, true, false, ◌||◌, Option, Some, None, All, ◌⊎◌}
+use Rattle.std.specs.Prelude.{◌≡◌, ◌≢◌, ℕ, suc, ◌+◌, ◌*◌, ◌<◌, List, [], ◌∷◌, ◌++◌, Bool, true, false, ◌||◌, Option}
+use Rattle.std.specs.Prelude.{Some, None, All, ◌⊎◌}
 use mathlib.Core.Option.{some, none}
 use lib.ListN.{get_elem?}
 use Rattle.atomic_table.specs.Table.{State as TableState, Me, Step, rest}
@@ -28,7 +29,14 @@ pub data Holder : Type 0 where
   drain : Holder
 
 abbrev pub view : Role → State → List FeedTurn → List DrainTurn → Bool → Option Note → View
-view role opening fed drained broken note = record { role = role; opening = opening; fed = fed; drained = drained; broken = broken; note = note }
+view role opening fed drained broken note = record {
+  role = role;
+  opening = opening;
+  fed = fed;
+  drained = drained;
+  broken = broken;
+  note = note;
+}
 
 abbrev pub spent_view : View
 spent_view = view Spent (new_state Pass 0) [] [] false None
@@ -37,7 +45,8 @@ abbrev pub note_of : ℕ → State → Note
 note_of n y = record { spent = n; state = y }
 
 -- the views: of the feeder, whether it has found the state broken and its note, and of the drain likewise
-abbrev pub views_of : Stage → State → List FeedTurn → List DrainTurn → Bool → Bool → Option Note → Option Note → List View
+abbrev pub views_of : Stage → State → List FeedTurn → List DrainTurn → Bool → Bool → Option Note → Option Note
+    → List View
 views_of whole x fed drained f d a b = view Whole x fed drained false None ∷ []
 views_of shared x fed drained f d a b = view Feeder x fed [] f a ∷ view Drain x [] drained d b ∷ []
 views_of joined x fed drained f d a b = view Joined x fed drained (f || d) None ∷ spent_view ∷ []
@@ -83,7 +92,8 @@ pub record Kept (x : State) (s : TableState (Option State) View) : Type 0 where
   pub feeder_right : feeder_found ≡ true → left.broken ≡ true
   pub drain_right : drain_found ≡ true → left.broken ≡ true
   pub settles : Settles stage holder
-  pub views : s.views ≡ views_of stage x fed drained feeder_found drain_found (feeder_note holder (note_of turns left)) (drain_note holder (note_of turns left))
+  pub views : s.views ≡ views_of stage x fed drained feeder_found drain_found
+      (feeder_note holder (note_of turns left)) (drain_note holder (note_of turns left))
   pub words : s.words ≡ word_of holder turns ∷ []
   pub homes : s.homes ≡ home_of holder left ∷ []
 
@@ -137,8 +147,10 @@ broken_by call (Some m) = (after_call call m.state).broken
 
 -- the view with one more turn, which is given back
 abbrev pub with_turn : View → Call → View
-with_turn v (Feeds item) = view v.role v.opening (v.fed ++ record { number = number_in v.note; item = item } ∷ []) v.drained (broken_by (Feeds item) v.note) None
-with_turn v (Drains call) = view v.role v.opening v.fed (v.drained ++ record { number = number_in v.note; call = call } ∷ []) (broken_by (Drains call) v.note) None
+with_turn v (Feeds item) = view v.role v.opening (v.fed ++ record { number = number_in v.note; item = item } ∷ [])
+    v.drained (broken_by (Feeds item) v.note) None
+with_turn v (Drains call) = view v.role v.opening v.fed (v.drained
+    ++ record { number = number_in v.note; call = call } ∷ []) (broken_by (Drains call) v.note) None
 
 -- the number is above those of the seat's turns
 abbrev pub IsAbove : View → ℕ → Type 0

@@ -21,7 +21,8 @@ pub record Cell : Type 0 where
   pub table : TableId
   pub opening : State
 
--- a seat: the turns that it has spent, the flow of its items, whether it has found the state broken, the horizon and its cell
+-- a seat: the turns that it has spent, the flow of its items, whether it has found the state broken, the horizon and
+-- its cell
 pub record Seat (Turn : Type 0) : Type 0 where
   pub turns : List Turn
   pub flow : Stream
@@ -37,10 +38,22 @@ DrainView = Seat DrainTurn
 
 -- what a seat at this table shows by what it knows
 abbrev pub feed_seat : TableId → View → FeedView
-feed_seat table v = record { turns = v.fed; flow = fed_flow v.fed; broken = v.broken; horizon = v.opening.horizon; cell = record { table = table; opening = v.opening } }
+feed_seat table v = record {
+  turns = v.fed;
+  flow = fed_flow v.fed;
+  broken = v.broken;
+  horizon = v.opening.horizon;
+  cell = record { table = table; opening = v.opening };
+}
 
 abbrev pub drain_seat : TableId → View → DrainView
-drain_seat table v = record { turns = v.drained; flow = taken_flow v.drained; broken = v.broken; horizon = v.opening.horizon; cell = record { table = table; opening = v.opening } }
+drain_seat table v = record {
+  turns = v.drained;
+  flow = taken_flow v.drained;
+  broken = v.broken;
+  horizon = v.opening.horizon;
+  cell = record { table = table; opening = v.opening };
+}
 
 -- a seat keeps its horizon and its cell
 abbrev pub IsSameSeat : {Turn : Type 0} → Seat Turn → Seat Turn → Type 0
@@ -67,7 +80,8 @@ FindsBroken old new = (new.broken ≡ true) × IsUnspent old new
 
 -- the item was added to the flow, or the state was found broken
 abbrev pub Fed : FeedView → Item → FeedView → Type 0
-Fed old item new = ((old.broken ≡ false) × (new.flow ≡ after old.flow item)) ⊎ ((new.broken ≡ true) × (new.flow ≡ old.flow))
+Fed old item new = ((old.broken ≡ false) × (new.flow ≡ after old.flow item))
+    ⊎ ((new.broken ≡ true) × (new.flow ≡ old.flow))
 
 -- a call of the drain spent a turn with a number above those that the seat had
 pub record SpendsDrain (old : DrainView) (call : DrainCall) (new : DrainView) : Type 0 where
@@ -75,7 +89,8 @@ pub record SpendsDrain (old : DrainView) (call : DrainCall) (new : DrainView) : 
   pub turns : new.turns ≡ old.turns ++ record { number = number; call = call } ∷ []
   pub above : All (λ (t : DrainTurn). t.number < number) old.turns
 
--- the answer is that of the state which the turn found, with its causes; that state stands, and its taken flow was the seat's
+-- the answer is that of the state which the turn found, with its causes; that state stands, and its taken flow was
+-- the seat's
 pub record Found (old : DrainView) (most : ℕ) (answer : Taken) (new : DrainView) : Type 0 where
   pub state : State
   pub stands : Stands state
@@ -98,6 +113,7 @@ Took old (Gives item) new = (new.flow ≡ after old.flow item) × MayFollow old.
 Took old (Again burnt) new = new.flow ≡ old.flow
 Took old (NotYet bound) new = new.flow ≡ old.flow
 
--- the numbers of both seats are together 1 to n, each once, and the calls in their order are legal from the first state and leave the second
+-- the numbers of both seats are together 1 to n, each once, and the calls in their order are legal from the first
+-- state and leave the second
 abbrev pub HasHistory : State → List FeedTurn → List DrainTurn → State → Type 0
 HasHistory x fed drained y = (n : ℕ) × IsPast x fed drained n y

@@ -73,7 +73,8 @@ impl ShellCell {
     ghost use Rattle.shell_state.specs.Standing.{Stands};
     ghost use Rattle.shell_state.specs.declared.taken.Taken.TheVariants.{Item as Gives};
     ghost use Rattle.shell_cell.specs.declared.view.DrainCall.TheVariants.{Takes, Breaks};
-    ghost use Rattle.shell_cell.specs.Seats.{MayFeedAt, SpendsFeed, FindsBroken, Fed, SpendsDrain, Found, Took, IsUnspent, IsSameSeat, HasHistory};
+    ghost use Rattle.shell_cell.specs.Seats.{MayFeedAt, SpendsFeed, FindsBroken, Fed, SpendsDrain, Found, Took};
+    ghost use Rattle.shell_cell.specs.Seats.{IsUnspent, IsSameSeat, HasHistory};
 
     /// Waits for the turn and feeds the item, which spends the turn. The item may follow what the seat has
     /// fed, unless the seat has found the state broken, and is within the horizon: a packet up to it, a

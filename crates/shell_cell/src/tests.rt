@@ -133,8 +133,8 @@ fn a_broken_cell_stays_broken(rt: HostRuntime) -> Result<(), Fail> {
     Ok(())
 }
 
-// Feeds a packet at each of the moments 1 to `count`, and then the end. Where it finds no memory it breaks the state, since the other
-// thread would wait for the end, and answers false.
+// Feeds a packet at each of the moments 1 to `count`, and then the end. Where it finds no memory it breaks the state,
+// since the other thread would wait for the end, and answers false.
 fn feed_all<R: Wait>(rt: &R, cell: &ShellCell, seat: &mut FeedSeat, count: u32) -> bool
     requires own { seat.old.cell ≡ cell.now }
     requires empty { seat.old.flow ≡ no_items }

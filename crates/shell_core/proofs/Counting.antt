@@ -22,7 +22,8 @@ count_to-grows (o ∷ os) m n le =
       | inl later ↦
           let a : count_to (o ∷ os) m ≡ count_to os m = ap length (up_to_out m o os later) in
           elim (cases_lt n o.moment) [
-            | inr here ↦ let b : count_to (o ∷ os) n ≡ suc (count_to os n) = ap length (up_to_in n o os here) in omega arith
+            | inr here ↦ let b : count_to (o ∷ os) n ≡ suc (count_to os n) = ap length (up_to_in n o os here)
+                in omega arith
             | inl past ↦ let b : count_to (o ∷ os) n ≡ count_to os n = ap length (up_to_out n o os past) in omega arith
           ]
     ]

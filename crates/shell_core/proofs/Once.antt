@@ -1,5 +1,6 @@
 -- Each packet that arrives departs, is dropped, or stays inside, once.
-use Rattle.std.proofs.Common.{◌≡◌, ℕ, ◌+◌, Bool, true, false, not, cond, List, [], ◌∷◌, ◌++◌, map, nat_le, reverse, take, refl, ap, arith}
+use Rattle.std.proofs.Common.{◌≡◌, ℕ, ◌+◌, Bool, true, false, not, cond, List, [], ◌∷◌, ◌++◌, map, nat_le, reverse}
+use Rattle.std.proofs.Common.{take, refl, ap, arith}
 use Rattle.packet_record.specs.declared.packet.Packet.{Packet}
 use Rattle.packet_record.specs.declared.packet.Timed.{Timed}
 use Rattle.delay_core.specs.Delays.{later, delayed, kept_inside}
@@ -22,16 +23,19 @@ use Rattle.shell_core.specs.Shells.{IsBuilt, out, lost, inside}
 one : (Packet → Bool) → Timed → ℕ
 one p t = cond (p t.packet) 1 0
 
-delayed_one : (p : Packet → Bool) (ms : ℕ) (b : Bool) (t : Timed) (us vs : List Timed) (n : ℕ) → n ≡ number p (map (later ms) us) + number p vs
+delayed_one : (p : Packet → Bool) (ms : ℕ) (b : Bool) (t : Timed) (us vs : List Timed) (n : ℕ)
+    → n ≡ number p (map (later ms) us) + number p vs
     → one p t + n ≡ number p (map (later ms) (cond b (t ∷ us) us)) + number p (cond (not b) (t ∷ vs) vs)
 unfolding one
 delayed_one p ms true t us vs n e = omega arith
 delayed_one p ms false t us vs n e = omega arith
 
-number-delayed : (p : Packet → Bool) (ms h : ℕ) (l : List Timed) → number p l ≡ number p (delayed ms h l) + number p (kept_inside ms h l)
+number-delayed : (p : Packet → Bool) (ms h : ℕ) (l : List Timed)
+    → number p l ≡ number p (delayed ms h l) + number p (kept_inside ms h l)
 unfolding one
 number-delayed p ms h [] = refl
-number-delayed p ms h (t ∷ ts) = delayed_one p ms (nat_le (t.moment + ms) h) t _ _ (number p ts) (number-delayed p ms h ts)
+number-delayed p ms h (t ∷ ts) = delayed_one p ms (nat_le (t.moment + ms) h) t _ _ (number p ts)
+    (number-delayed p ms h ts)
 
 lost_one : (p : Packet → Bool) (b : Bool) (t : Timed) (us vs : List Timed) (n : ℕ) → n ≡ number p us + number p vs
     → one p t + n ≡ number p (cond b [] (t ∷ []) ++ us) + number p (cond b (t ∷ []) [] ++ vs)
@@ -39,10 +43,12 @@ unfolding one
 lost_one p true t us vs n e = omega arith
 lost_one p false t us vs n e = omega arith
 
-number-passed : (p : Packet → Bool) (rate : ℕ) (word : ℕ → ℕ) (k : ℕ) (l : List Timed) → number p l ≡ number p (passed rate word k l) + number p (dropped rate word k l)
+number-passed : (p : Packet → Bool) (rate : ℕ) (word : ℕ → ℕ) (k : ℕ) (l : List Timed)
+    → number p l ≡ number p (passed rate word k l) + number p (dropped rate word k l)
 unfolding one
 number-passed p rate word k [] = refl
-number-passed p rate word k (t ∷ ts) = lost_one p (drops rate (word k)) t _ _ (number p ts) (number-passed p rate word (k + 1) ts)
+number-passed p rate word k (t ∷ ts) = lost_one p (drops rate (word k)) t _ _ (number p ts)
+    (number-passed p rate word (k + 1) ts)
 
 number_reverse : (p : Packet → Bool) (l : List Timed) → number p (reverse l) ≡ number p l
 unfolding one
@@ -69,5 +75,7 @@ pub number_once : (p : Packet → Bool) (c : DirSpec) (h b : ℕ) (l : List Time
 unfolding out lost inside
 number_once p Pass h b l i = omega arith
 number_once p (Delay ms) h b l i = let e = number-delayed p ms h l in omega arith
-number_once p (Loss rate seed stream) h b l i = let e = number-passed p rate.billionths (cha_word seed stream) 0 l in omega arith
-number_once p (Link trace once queue) h b l i = number-link p queue (take b (opps trace.opportunities once h)) l (rising_take b (opps trace.opportunities once h) (opps_rising trace once h i))
+number_once p (Loss rate seed stream) h b l i = let e = number-passed p rate.billionths (cha_word seed stream) 0 l
+    in omega arith
+number_once p (Link trace once queue) h b l i = number-link p queue (take b (opps trace.opportunities once h)) l
+    (rising_take b (opps trace.opportunities once h) (opps_rising trace once h i))

@@ -30,7 +30,12 @@ burnt_of (Loss core seed stream) = 0
 burnt_of (Link core) = core.burnt
 
 abbrev pub core_view : Inside → CorePart
-core_view c = record { spec = spec_of c.inner; horizon = c.until; arrivals = arrivals_of c.inner; burnt = burnt_of c.inner }
+core_view c = record {
+  spec = spec_of c.inner;
+  horizon = c.until;
+  arrivals = arrivals_of c.inner;
+  burnt = burnt_of c.inner;
+}
 
 -- the core of a kind is that of the specification and the horizon
 abbrev pub IsInner : ℕ → Inner → Type 0

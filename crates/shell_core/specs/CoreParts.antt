@@ -16,7 +16,12 @@ new_part c horizon = record { spec = c; horizon = horizon; arrivals = []; burnt 
 
 -- one more arrival: every opportunity up to its moment is burnt before it
 abbrev pub with_arrival : CorePart → Timed → CorePart
-with_arrival c t = record { spec = c.spec; horizon = c.horizon; arrivals = c.arrivals ++ t ∷ []; burnt = max c.burnt (count_to (opportunities c.spec c.horizon) t.moment) }
+with_arrival c t = record {
+  spec = c.spec;
+  horizon = c.horizon;
+  arrivals = c.arrivals ++ t ∷ [];
+  burnt = max c.burnt (count_to (opportunities c.spec c.horizon) t.moment);
+}
 
 abbrev pub with_burnt : CorePart → ℕ → CorePart
 with_burnt c n = record { spec = c.spec; horizon = c.horizon; arrivals = c.arrivals; burnt = c.burnt + n }

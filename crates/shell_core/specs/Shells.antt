@@ -1,5 +1,6 @@
--- The functions of a shell over the whole list of its arrivals, by what the direction does, the horizon, and the number of
--- opportunities that were burnt. They are the meaning of each shell; nothing else here says what a shell does.
+-- The functions of a shell over the whole list of its arrivals, by what the direction does, the horizon, and the
+-- number of opportunities that were burnt. They are the meaning of each shell; nothing else here says what a shell
+-- does.
 use Rattle.std.specs.Prelude.{◌≤◌, ◌+◌, ℕ, List, [], length, take, min}
 use Rattle.packet_record.specs.declared.packet.Timed.{Timed}
 use Rattle.trace_reader.specs.declared.opportunity.Opportunity.{Opportunity}
@@ -62,8 +63,8 @@ shell_log (Delay ms) h b arrivals = []
 shell_log (Loss rate seed stream) h b arrivals = []
 shell_log (Link trace once queue) h b arrivals = link_log queue (take b (opps trace.opportunities once h)) arrivals
 
--- No packet that is still to depart does so before this moment, where none that is still to arrive is before the bound. One that
--- has departed may be before it.
+-- No packet that is still to depart does so before this moment, where none that is still to arrive is before the
+-- bound. One that has departed may be before it.
 unfoldable pub floor : DirSpec → ℕ → ℕ → ℕ → ℕ
 floor Pass h b bound = bound
 floor (Delay ms) h b bound = min (bound + ms) (h + 1)

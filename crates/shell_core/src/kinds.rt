@@ -186,7 +186,8 @@ impl Core {
     /// The numbers of the packets that neither departed nor were dropped, in order; in a link the
     /// one in transit is the first.
     pub fn inside(&self) -> Result<Vec<u32>, OutOfMemory>
-        ensures { IfOk result (λ ids. ids.items ≡ map (λ t. t.packet.id) (inside self.now.spec self.now.horizon self.now.burnt self.now.arrivals)) }
+        ensures { IfOk result (λ ids. ids.items ≡ map (λ t. t.packet.id)
+            (inside self.now.spec self.now.horizon self.now.burnt self.now.arrivals)) }
     {
         match &self.inner {
             Inner::Pass(_) | Inner::Loss { .. } => Ok(Vec::new(self.alloc)),

@@ -4,7 +4,8 @@ ghost use Rattle.packet_record.specs.Moments.{AreUpTo, Rise};
 ghost use Rattle.trace_reader.specs.Opps.{opps};
 ghost use Rattle.trace_reader.specs.Traces.{IsTrace};
 ghost use Rattle.shell_core.specs.Wholes.{if_link};
-ghost use Rattle.shell_core.specs.Shells.{IsInRange, IsBuilt, opportunities, out, lost, inside, whole_out, whole_lost, whole_log};
+ghost use Rattle.shell_core.specs.Shells.{IsInRange, IsBuilt, opportunities, out, lost, inside, whole_out, whole_lost};
+ghost use Rattle.shell_core.specs.Shells.{whole_log};
 
 use crate::kinds::{Core, Inner};
 use crate::spec::DirSpec;
@@ -61,9 +62,12 @@ fn link(
     requires few { length (opps trace.opportunities once horizon) ≤ 16000000 }
     requires rises { Rise packets.items }
     requires within { AreUpTo horizon packets.items }
-    ensures departed { IfOk result (λ p. p.departed.items ≡ whole_out (DirSpec.Link trace once queue) horizon packets.items) }
+    ensures departed { IfOk result (λ p. p.departed.items ≡ whole_out (DirSpec.Link trace once queue) horizon
+        packets.items) }
     ensures lost { IfOk result (λ p. p.lost.items ≡ whole_lost (DirSpec.Link trace once queue) horizon packets.items) }
-    ensures held { IfOk result (λ p. p.held.items ≡ map (λ t. t.packet.id) (inside (DirSpec.Link trace once queue) horizon (length (opps trace.opportunities once horizon)) packets.items)) }
+    ensures held { IfOk result (λ p. p.held.items ≡ map (λ t. t.packet.id)
+        (inside (DirSpec.Link trace once queue) horizon (length (opps trace.opportunities once horizon))
+        packets.items)) }
     ensures log { IfOk result (λ p. p.log ≡ Some (whole_log (DirSpec.Link trace once queue) horizon packets.items)) }
     ensures built { IsTrace trace }
 {
@@ -87,7 +91,8 @@ pub fn run_whole(
     requires within { AreUpTo horizon packets.items }
     ensures departed { IfOk result (λ p. p.departed.items ≡ whole_out spec horizon packets.items) }
     ensures lost { IfOk result (λ p. p.lost.items ≡ whole_lost spec horizon packets.items) }
-    ensures held { IfOk result (λ p. p.held.items ≡ map (λ t. t.packet.id) (inside spec horizon (length (opportunities spec horizon)) packets.items)) }
+    ensures held { IfOk result (λ p. p.held.items ≡ map (λ t. t.packet.id)
+        (inside spec horizon (length (opportunities spec horizon)) packets.items)) }
     ensures log { IfOk result (λ p. p.log ≡ if_link spec (whole_log spec horizon packets.items)) }
     ensures built { OnOk result (IsBuilt spec) }
 {
@@ -117,7 +122,8 @@ impl Core {
         requires within { AreUpTo self.horizon self.arrivals }
         ensures departed { IfOk result (λ p. p.departed.items ≡ out self.spec self.horizon self.burnt self.arrivals) }
         ensures lost { IfOk result (λ p. p.lost.items ≡ lost self.spec self.horizon self.burnt self.arrivals) }
-        ensures held { IfOk result (λ p. p.held.items ≡ map (λ t. t.packet.id) (inside self.spec self.horizon self.burnt self.arrivals)) }
+        ensures held { IfOk result (λ p. p.held.items ≡ map (λ t. t.packet.id)
+            (inside self.spec self.horizon self.burnt self.arrivals)) }
         ensures log { IfOk result (λ p. p.log ≡ if_link self.spec (whole_log self.spec self.horizon self.arrivals)) }
     {
         let Core {

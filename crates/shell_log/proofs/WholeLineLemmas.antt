@@ -1,5 +1,6 @@
 -- The line at the front of a text, from its numbers.
-use Rattle.std.proofs.Common.{◌≡◌, ℕ, ◌+◌, ◌-◌, ◌≤◌, ◌<◌, ◌++◌, Bool, true, false, cond, List, [], ◌∷◌, length, take, Option, Some, None, refl, ap, sym, subst, ◌∙◌, arith, append_assoc, length-append}
+use Rattle.std.proofs.Common.{◌≡◌, ℕ, ◌+◌, ◌-◌, ◌≤◌, ◌<◌, ◌++◌, Bool, true, false, cond, List, [], ◌∷◌, length, take}
+use Rattle.std.proofs.Common.{Option, Some, None, refl, ap, sym, subst, ◌∙◌, arith, append_assoc, length-append}
 use Rattle.mm_base.specs.Numbers.{decimal_of, canonical_of, leads_with_zero}
 use Rattle.mm_base.proofs.NumbersLemmas.{canonical_of-Some, decimal-canonical_of}
 use Rattle.std.specs.Fmt.{decimal}
@@ -13,7 +14,8 @@ use Rattle.shell_log.specs.LogText.{line_of}
 one_more : (front : List ℕ) (sign n : ℕ) (text rest : List ℕ) → text ≡ decimal n ++ 10 ∷ rest
     → front ++ 32 ∷ sign ∷ 32 ∷ text ≡ (front ++ 32 ∷ sign ∷ 32 ∷ decimal n) ++ 10 ∷ rest
 one_more front sign n text rest e =
-    ap (λ (t : List ℕ). front ++ 32 ∷ sign ∷ 32 ∷ t) e ∙ sym (append_assoc front (32 ∷ sign ∷ 32 ∷ decimal n) (10 ∷ rest))
+    ap (λ (t : List ℕ). front ++ 32 ∷ sign ∷ 32 ∷ t) e
+    ∙ sym (append_assoc front (32 ∷ sign ∷ 32 ∷ decimal n) (10 ∷ rest))
 
 -- and two numbers
 two_more : (front : List ℕ) (sign m n : ℕ) (text rest : List ℕ) → text ≡ decimal m ++ 32 ∷ (decimal n ++ 10 ∷ rest)
@@ -30,21 +32,25 @@ pub opportunity_in_front : (moment bytes : ℕ) (text rest : List ℕ) → text 
     → decimal moment ++ 32 ∷ 35 ∷ 32 ∷ text ≡ line_of (Opportunity moment bytes) ++ 10 ∷ rest
 opportunity_in_front moment bytes text rest e = one_more (decimal moment) 35 bytes text rest e
 
-pub departure_in_front : (moment size delay : ℕ) (text rest : List ℕ) → text ≡ decimal size ++ 32 ∷ (decimal delay ++ 10 ∷ rest)
+pub departure_in_front : (moment size delay : ℕ) (text rest : List ℕ) → text ≡ decimal size
+    ++ 32 ∷ (decimal delay ++ 10 ∷ rest)
     → decimal moment ++ 32 ∷ 45 ∷ 32 ∷ text ≡ line_of (Departure moment size delay) ++ 10 ∷ rest
 departure_in_front moment size delay text rest e = two_more (decimal moment) 45 size delay text rest e
 
-pub drop_in_front : (moment packets bytes : ℕ) (text rest : List ℕ) → text ≡ decimal packets ++ 32 ∷ (decimal bytes ++ 10 ∷ rest)
+pub drop_in_front : (moment packets bytes : ℕ) (text rest : List ℕ) → text ≡ decimal packets
+    ++ 32 ∷ (decimal bytes ++ 10 ∷ rest)
     → decimal moment ++ 32 ∷ 100 ∷ 32 ∷ text ≡ line_of (Drop moment packets bytes) ++ 10 ∷ rest
 drop_in_front moment packets bytes text rest e = two_more (decimal moment) 100 packets bytes text rest e
 
 -- the word before what follows, of which a number is read
-pub number_in_front : (text word rest : List ℕ) (n : ℕ) → text ≡ word ++ rest → decimal_of word ≡ Some n → leads_with_zero (take (length text - length rest) text) ≡ false
+pub number_in_front : (text word rest : List ℕ) (n : ℕ) → text ≡ word ++ rest → decimal_of word ≡ Some n
+    → leads_with_zero (take (length text - length rest) text) ≡ false
     → (text ≡ decimal n ++ rest) × IsShort n
 number_in_front text word rest n cut said plain =
     let long : length text ≡ length word + length rest = ap length cut ∙ length-append word rest in
     let front : take (length text - length rest) text ≡ word =
-    ap (λ (k : ℕ). take k text) (let e : length text - length rest ≡ length word = omega arith in e) ∙ ap (take (length word)) cut ∙ take-append_seam word rest in
+    ap (λ (k : ℕ). take k text) (let e : length text - length rest ≡ length word = omega arith in e)
+    ∙ ap (take (length word)) cut ∙ take-append_seam word rest in
     let none : leads_with_zero word ≡ false = sym (ap leads_with_zero front) ∙ plain in
     let canonical : canonical_of word ≡ Some n = ap (λ (b : Bool). cond b None (decimal_of word)) none ∙ said in (
       cut ∙ ap (λ (w : List ℕ). w ++ rest) (sym (decimal-canonical_of word n canonical)),

@@ -1,5 +1,6 @@
 -- A text cut at its first line feed.
-use Rattle.std.proofs.Common.{◌≡◌, ℕ, ◌+◌, ◌-◌, ◌<◌, ◌==◌, Bool, true, false, cond, List, [], ◌∷◌, length, take, drop, Some, refl, ap, sym, subst, ◌∙◌}
+use Rattle.std.proofs.Common.{◌≡◌, ℕ, ◌+◌, ◌-◌, ◌<◌, ◌==◌, Bool, true, false, cond, List, [], ◌∷◌, length, take, drop}
+use Rattle.std.proofs.Common.{Some, refl, ap, sym, subst, ◌∙◌}
 use Rattle.std.specs.List.{position, after_first, slice_split, onto_first}
 use Rattle.std.proofs.lemmas.List.Splits.{slice_split_first}
 use Rattle.mm_base.proofs.WordsLemmas.{place_is, before_cut, after_cut}
@@ -16,7 +17,8 @@ parts_cut test xs n e lt =
 pub some_part : (xs : List ℕ) → (w : List ℕ) × (ws : List (List ℕ)) × (parts_of xs ≡ w ∷ ws)
 some_part [] = ([], [], refl)
 some_part (x ∷ xs) =
-    elim (x == 10) as (λ b. (w : List ℕ) × (ws : List (List ℕ)) × (cond b ([] ∷ parts_of xs) (onto_first x (parts_of xs)) ≡ w ∷ ws)) [
+    elim (x == 10) as (λ b. (w : List ℕ) × (ws : List (List ℕ))
+    × (cond b ([] ∷ parts_of xs) (onto_first x (parts_of xs)) ≡ w ∷ ws)) [
       | true ↦ ([], parts_of xs, refl)
       | false ↦ let rest = some_part xs in (x ∷ rest.0, rest.1, ap (onto_first x) rest.2)
     ]

@@ -1,5 +1,6 @@
 -- What reading the front of a log's text has come to.
-use Rattle.std.specs.Prelude.{◌≡◌, ◌≢◌, ℕ, ◌+◌, List, [], ◌∷◌, ◌++◌, length, Bool, true, false, if◌then◌else◌, Option, Some, MatchOption, fold}
+use Rattle.std.specs.Prelude.{◌≡◌, ◌≢◌, ℕ, ◌+◌, List, [], ◌∷◌, ◌++◌, length, Bool, true, false, if◌then◌else◌, Option}
+use Rattle.std.specs.Prelude.{Some, MatchOption, fold}
 use Rattle.shell_log.specs.declared.entry.Entry.{Entry}
 use Rattle.shell_log.specs.declared.reading.LogError.{LogError}
 use Rattle.shell_log.specs.declared.reading.LogError.TheVariants.{BadHeader, BadLine, OutOfMemory}
@@ -7,8 +8,8 @@ use Rattle.shell_log.specs.Entries.{IsLog, moment_of}
 use Rattle.shell_log.specs.LogText.{log_text}
 use Rattle.shell_log.specs.Reading.{log_fault}
 
--- whether the first line was read, how many entries were, the moment of the last (0 at first), the first refusal, and what is kept of
--- a line that has begun
+-- whether the first line was read, how many entries were, the moment of the last (0 at first), the first refusal, and
+-- what is kept of a line that has begun
 pub record LogPart : Type 0 where
   pub has_begun : Bool
   pub entries : ℕ

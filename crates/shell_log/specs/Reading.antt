@@ -1,5 +1,6 @@
 -- What a line of a log says, and the first refusal of a text.
-use Rattle.std.specs.Prelude.{ℕ, ◌+◌, Bool, ◌&&◌, List, [], ◌∷◌, Option, Some, None, option_and_then, codes, nat_le, nat_lt, if◌then◌else◌}
+use Rattle.std.specs.Prelude.{ℕ, ◌+◌, Bool, ◌&&◌, List, [], ◌∷◌, Option, Some, None, option_and_then, codes, nat_le}
+use Rattle.std.specs.Prelude.{nat_lt, if◌then◌else◌}
 use Rattle.std.specs.Str.{bytes_eq}
 use Rattle.mm_base.specs.Numbers.{canonical_of}
 use Rattle.shell_log.specs.declared.entry.Entry.{Entry}
@@ -86,17 +87,20 @@ abbrev pub or_else : Option LogError → Option LogError → Option LogError
 or_else None more = more
 or_else (Some fault) more = Some fault
 
--- the first refusal of the lines from this number on; what follows the last line feed is a line without one, unless it is empty
+-- the first refusal of the lines from this number on; what follows the last line feed is a line without one, unless
+-- it is empty
 abbrev pub first_fault : ℕ → ℕ → List (List ℕ) → Option LogError
 first_fault number low [] = None
 first_fault number low ([] ∷ []) = None
 first_fault number low ((byte ∷ bytes) ∷ []) = Some (errors.BadLine number)
-first_fault number low (line ∷ next ∷ rest) = or_else (fault_of number low (entry_of line)) (first_fault (number + 1) (moment_after (entry_of line)) (next ∷ rest))
+first_fault number low (line ∷ next ∷ rest) = or_else (fault_of number low (entry_of line))
+    (first_fault (number + 1) (moment_after (entry_of line)) (next ∷ rest))
 
 abbrev pub fault_by_parts : List (List ℕ) → Option LogError
 fault_by_parts [] = Some errors.BadHeader
 fault_by_parts (first ∷ []) = Some errors.BadHeader
-fault_by_parts (first ∷ next ∷ rest) = if bytes_eq first header then first_fault 2 0 (next ∷ rest) else Some errors.BadHeader
+fault_by_parts (first ∷ next ∷ rest) = if bytes_eq first header then first_fault 2 0 (next ∷ rest)
+    else Some errors.BadHeader
 
 -- the first refusal of a text, if it has one
 abbrev pub log_fault : List ℕ → Option LogError

@@ -172,7 +172,8 @@ impl LogText {
         requires { self.old.refused ≡ None }
         ensures some { IfSome result (λ e. (said ≡ Some e) × (self.old.last ≤ moment_of e)
             × (self.new ≡ with_entry e self.old)) }
-        ensures none { IfNone result (IsRefusing (fault_of (self.old.entries + 2) self.old.last said) self.old self.new) }
+        ensures none { IfNone result (IsRefusing (fault_of (self.old.entries + 2) self.old.last said) self.old
+            self.new) }
     {
         match self.check(said) {
             Ok(entry) => {

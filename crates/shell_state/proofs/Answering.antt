@@ -1,5 +1,7 @@
 -- The code's parts and the state that they make.
-use Rattle.std.proofs.Common.{◌≡◌, ◌⊎◌, inl, inr, ℕ, zero, suc, ◌-◌, ◌≤◌, ◌<◌, ◌==◌, ◌&&◌, Bool, true, false, cond, List, [], ◌∷◌, length, drop, nat_le, nat_lt, ap, sym, subst, ◌∙◌, refl, arith, rules, tests}
+use Rattle.std.proofs.Common.{◌≡◌, ◌⊎◌, inl, inr, ℕ, zero, suc, ◌-◌, ◌≤◌, ◌<◌, ◌==◌, ◌&&◌, Bool, true, false, cond}
+use Rattle.std.proofs.Common.{List, [], ◌∷◌, length, drop, nat_le, nat_lt, ap, sym, subst, ◌∙◌, refl, arith, rules}
+use Rattle.std.proofs.Common.{tests}
 use Rattle.packet_record.specs.declared.packet.Timed.{Timed}
 use Rattle.packet_record.specs.declared.item.Item.{Item}
 use Rattle.packet_record.specs.declared.item.Item.TheVariants.{Packet, Mark, End, Broken}
@@ -19,7 +21,8 @@ use Rattle.shell_state.specs.declared.front.Front.{Front}
 use Rattle.shell_state.specs.declared.taken.Taken.{Taken}
 use Rattle.shell_state.specs.declared.taken.Taken.TheVariants.{Item as Gives, Again, NotYet}
 use Rattle.shell_state.specs.States.{State, new_state, opps_of, ready, floor_of}
-use Rattle.shell_state.specs.Steps.{is_ended, licensed, burns, burns_where, with_burnt, with_answer, answer_where, answer_after, answer_of, after_take, after_feed, fed_more, breaks}
+use Rattle.shell_state.specs.Steps.{is_ended, licensed, burns, burns_where, with_burnt, with_answer, answer_where}
+use Rattle.shell_state.specs.Steps.{answer_after, answer_of, after_take, after_feed, fed_more, breaks}
 use Rattle.shell_state.specs.Standing.{Stands}
 use Rattle.shell_state.specs.Fronts.{no_front}
 use Rattle.shell_state.specs.Inside.{departed_of, state_of, core_fed, IsState, IsWhole, front_with, AnswerFollows}
@@ -27,7 +30,8 @@ use Rattle.shell_state.proofs.FrontLemmas.{same_ready, front_stays, front_within
 use Rattle.shell_state.proofs.Keeping.{burnt_keeps, fed_keeps, answer_keeps, burns-le}
 
 -- answers
-pub nothing_burns : (core : CorePart) (fed : Reach) (taken : Front) (most : ℕ) → taken.count < length (departed_of core) → 0 ≡ burns (state_of core fed taken false) most
+pub nothing_burns : (core : CorePart) (fed : Reach) (taken : Front) (most : ℕ)
+    → taken.count < length (departed_of core) → 0 ≡ burns (state_of core fed taken false) most
 nothing_burns core fed taken most lt =
     let d = departed_of core in
     sym (ap (λ r. burns_where r s most) (same_ready taken.count d lt) ∙ by d taken.count lt)
@@ -47,11 +51,15 @@ answer_follows s n most st = by (ready s) refl
     third true = tt
     third false = tt
 
-    second : (b : Bool) → nat_lt s.taken.bound (floor_of s) ≡ b → AnswerFollows s.taken.bound (cond b (Gives (Mark (floor_of s))) (cond (n == most) (Again n) (NotYet s.fed.bound)))
+    second : (b : Bool) → nat_lt s.taken.bound (floor_of s) ≡ b
+        → AnswerFollows s.taken.bound (cond b (Gives (Mark (floor_of s)))
+        (cond (n == most) (Again n) (NotYet s.fed.bound)))
     second true e = let lt : s.taken.bound < floor_of s = search (rules, tests) in omega arith
     second false e = third (n == most)
 
-    first : (b : Bool) → AnswerFollows s.taken.bound (cond b (Gives End) (cond (nat_lt s.taken.bound (floor_of s)) (Gives (Mark (floor_of s))) (cond (n == most) (Again n) (NotYet s.fed.bound))))
+    first : (b : Bool) → AnswerFollows s.taken.bound
+        (cond b (Gives End) (cond (nat_lt s.taken.bound (floor_of s)) (Gives (Mark (floor_of s)))
+        (cond (n == most) (Again n) (NotYet s.fed.bound))))
     first true = tt
     first false = second (nat_lt s.taken.bound (floor_of s)) refl
 
@@ -61,7 +69,14 @@ answer_follows s n most st = by (ready s) refl
 
 -- a state with another front
 abbrev with_front : State → List Timed → State
-with_front s l = record { spec = s.spec; horizon = s.horizon; fed = s.fed; taken = stream l s.taken.bound s.taken.end; burnt = s.burnt; broken = s.broken }
+with_front s l = record {
+  spec = s.spec;
+  horizon = s.horizon;
+  fed = s.fed;
+  taken = stream l s.taken.bound s.taken.end;
+  burnt = s.burnt;
+  broken = s.broken;
+}
 
 -- the first state
 from_zero : (ts : List Timed) → AreFrom 0 ts
@@ -83,7 +98,8 @@ new_stands c h built = record {
   taken_broken = λ e. absurd (let no : Open ≡ Cut = e in cc no);
 }
 
-pub whole_new : (c : DirSpec) (h : ℕ) (core : CorePart) (fed : Reach) (taken : Front) → IsBuilt c → core ≡ new_part c h → fed ≡ nowhere → taken ≡ no_front → IsWhole core fed taken false
+pub whole_new : (c : DirSpec) (h : ℕ) (core : CorePart) (fed : Reach) (taken : Front) → IsBuilt c
+    → core ≡ new_part c h → fed ≡ nowhere → taken ≡ no_front → IsWhole core fed taken false
 whole_new c h core fed taken built ec ef et =
     subst (λ (k : CorePart). IsWhole k fed taken false) (sym ec)
     (subst (λ (r : Reach). IsWhole (new_part c h) r taken false) (sym ef)
@@ -93,31 +109,41 @@ whole_new c h core fed taken built ec ef et =
 pub follows_packet : (r : Reach) (item : Item) (t : Timed) → item ≡ Packet t → IsNext r item → IsNext r (Packet t)
 follows_packet r item t e m = subst (IsNext r) e m
 
-pub arrives_in_order : (core : CorePart) (fed : Reach) (t : Timed) → IsState core fed → fed.bound ≤ t.moment → AreUpTo t.moment core.arrivals
+pub arrives_in_order : (core : CorePart) (fed : Reach) (t : Timed) → IsState core fed → fed.bound ≤ t.moment
+    → AreUpTo t.moment core.arrivals
 arrives_in_order core fed t is le = up_to_higher fed.bound t.moment core.arrivals le is.bounded
 
-pub arrives_burnt : (core : CorePart) (fed : Reach) (t : Timed) → IsState core fed → IsNext fed (Packet t) → core.burnt ≤ count_to (opportunities core.spec core.horizon) t.moment
-arrives_burnt core fed t is m = let a = is.allowed m.0 in let g = count_to-grows (opportunities core.spec core.horizon) fed.bound t.moment m.1 in omega arith
+pub arrives_burnt : (core : CorePart) (fed : Reach) (t : Timed) → IsState core fed → IsNext fed (Packet t)
+    → core.burnt ≤ count_to (opportunities core.spec core.horizon) t.moment
+arrives_burnt core fed t is m = let a = is.allowed m.0
+    in let g = count_to-grows (opportunities core.spec core.horizon) fed.bound t.moment m.1 in omega arith
 
-pub not_broken : (core : CorePart) (fed : Reach) (taken : Front) (b : Bool) → b ≡ false → IsWhole core fed taken b → IsWhole core fed taken false
+pub not_broken : (core : CorePart) (fed : Reach) (taken : Front) (b : Bool) → b ≡ false → IsWhole core fed taken b
+    → IsWhole core fed taken false
 not_broken core fed taken b e w = subst (IsWhole core fed taken) e w
 
-pub may_feed : (s v : State) (item : Item) → s ≡ v → s.broken ≡ false → MayFollow v.fed item ⊎ (v.broken ≡ true) → MayFollow s.fed item
+pub may_feed : (s v : State) (item : Item) → s ≡ v → s.broken ≡ false → MayFollow v.fed item ⊎ (v.broken ≡ true)
+    → MayFollow s.fed item
 may_feed s v item e whole (inl m) = subst (λ (x : State). MayFollow x.fed item) (sym e) m
-may_feed s v item e whole (inr b) = absurd (let no : true ≡ false = sym b ∙ ap (λ (x : State). x.broken) (sym e) ∙ whole in cc no)
+may_feed s v item e whole (inr b) = absurd (let no : true ≡ false = sym b ∙ ap (λ (x : State). x.broken) (sym e)
+    ∙ whole in cc no)
 
 -- after a feed
-fed_state : (core : CorePart) (fed : Reach) (taken : Front) (item : Item) → IsWhole core fed taken false → IsNext fed item → IsUpTo core.horizon item
-    → state_of (core_fed core item) (reach_after fed item) taken (breaks item) ≡ fed_more (state_of core fed taken false) item
+fed_state : (core : CorePart) (fed : Reach) (taken : Front) (item : Item) → IsWhole core fed taken false
+    → IsNext fed item → IsUpTo core.horizon item
+    → state_of (core_fed core item) (reach_after fed item) taken (breaks item) ≡ fed_more
+    (state_of core fed taken false) item
 fed_state core fed taken (Packet t) w m u =
     let s' = fed_more (state_of core fed taken false) (Packet t) in
     let st = fed_keeps (state_of core fed taken false) (Packet t) w.stands refl m u in
-    ap (with_front s') (front_stays taken.count (departed_of core) (departed_of (core_fed core (Packet t))) (ready s') w.counted st.taken)
+    ap (with_front s') (front_stays taken.count (departed_of core) (departed_of (core_fed core (Packet t))) (ready s')
+    w.counted st.taken)
 fed_state core fed taken (Mark n) w m u = refl
 fed_state core fed taken End w m u = refl
 fed_state core fed taken Broken w m u = refl
 
-fed_counted : (core : CorePart) (fed : Reach) (taken : Front) (item : Item) → IsWhole core fed taken false → IsNext fed item → IsUpTo core.horizon item → taken.count ≤ length (departed_of (core_fed core item))
+fed_counted : (core : CorePart) (fed : Reach) (taken : Front) (item : Item) → IsWhole core fed taken false
+    → IsNext fed item → IsUpTo core.horizon item → taken.count ≤ length (departed_of (core_fed core item))
 fed_counted core fed taken (Packet t) w m u =
     let s' = fed_more (state_of core fed taken false) (Packet t) in
     let st = fed_keeps (state_of core fed taken false) (Packet t) w.stands refl m u in
@@ -126,7 +152,8 @@ fed_counted core fed taken (Mark n) w m u = w.counted
 fed_counted core fed taken End w m u = w.counted
 fed_counted core fed taken Broken w m u = w.counted
 
-pub whole_fed : (core : CorePart) (fed : Reach) (taken : Front) (item : Item) (core' : CorePart) (fed' : Reach) (b' : Bool) → IsWhole core fed taken false → IsNext fed item → IsUpTo core.horizon item
+pub whole_fed : (core : CorePart) (fed : Reach) (taken : Front) (item : Item) (core' : CorePart) (fed' : Reach)
+    (b' : Bool) → IsWhole core fed taken false → IsNext fed item → IsUpTo core.horizon item
     → core' ≡ core_fed core item → fed' ≡ reach_after fed item → b' ≡ breaks item → IsWhole core' fed' taken b'
 whole_fed core fed taken item core' fed' b' w m u ec ef eb =
     subst (λ (k : CorePart). IsWhole k fed' taken b') (sym ec)
@@ -134,11 +161,14 @@ whole_fed core fed taken item core' fed' b' w m u ec ef eb =
     (subst (λ (b : Bool). IsWhole (core_fed core item) (reach_after fed item) taken b) (sym eb)
     (record {
       counted = fed_counted core fed taken item w m u;
-      stands = subst Stands (sym (fed_state core fed taken item w m u)) (fed_keeps (state_of core fed taken false) item w.stands refl m u);
+      stands = subst Stands (sym (fed_state core fed taken item w m u))
+          (fed_keeps (state_of core fed taken false) item w.stands refl m u);
     })))
 
-pub fed_is : (core : CorePart) (fed : Reach) (taken : Front) (item : Item) (b : Bool) (core' : CorePart) (fed' : Reach) (b' : Bool) → b ≡ false → IsWhole core fed taken b → IsNext fed item → IsUpTo core.horizon item
-    → core' ≡ core_fed core item → fed' ≡ reach_after fed item → b' ≡ breaks item → state_of core' fed' taken b' ≡ after_feed (state_of core fed taken b) item
+pub fed_is : (core : CorePart) (fed : Reach) (taken : Front) (item : Item) (b : Bool) (core' : CorePart)
+    (fed' : Reach) (b' : Bool) → b ≡ false → IsWhole core fed taken b → IsNext fed item → IsUpTo core.horizon item
+    → core' ≡ core_fed core item → fed' ≡ reach_after fed item → b' ≡ breaks item
+    → state_of core' fed' taken b' ≡ after_feed (state_of core fed taken b) item
 unfolding after_feed
 fed_is core fed taken item b core' fed' b' whole w m u ec ef eb =
     ap (λ (k : CorePart). state_of k fed' taken b') ec
@@ -148,27 +178,33 @@ fed_is core fed taken item b core' fed' b' whole w m u ec ef eb =
     ∙ sym (ap (λ (x : Bool). cond x (state_of core fed taken x) (fed_more (state_of core fed taken x) item)) whole)
 
 -- after burning
-burnt_keeps_whole : (core : CorePart) (fed : Reach) (taken : Front) (n most : ℕ) → IsWhole core fed taken false → taken.reach.end ≡ Open → n ≡ burns (state_of core fed taken false) most
+burnt_keeps_whole : (core : CorePart) (fed : Reach) (taken : Front) (n most : ℕ) → IsWhole core fed taken false
+    → taken.reach.end ≡ Open → n ≡ burns (state_of core fed taken false) most
     → Stands (with_burnt (state_of core fed taken false) n)
 burnt_keeps_whole core fed taken n most w open' en =
     let s = state_of core fed taken false in
     burnt_keeps s n w.stands open' (subst (λ k. k ≤ licensed s - s.burnt) (sym en) (burns-le s most))
 
-burnt_is : (core : CorePart) (fed : Reach) (taken : Front) (n most : ℕ) → IsWhole core fed taken false → taken.reach.end ≡ Open → n ≡ burns (state_of core fed taken false) most
+burnt_is : (core : CorePart) (fed : Reach) (taken : Front) (n most : ℕ) → IsWhole core fed taken false
+    → taken.reach.end ≡ Open → n ≡ burns (state_of core fed taken false) most
     → state_of (core_burnt core n) fed taken false ≡ with_burnt (state_of core fed taken false) n
 burnt_is core fed taken n most w open' en =
     let s' = with_burnt (state_of core fed taken false) n in
     let st = burnt_keeps_whole core fed taken n most w open' en in
-    ap (with_front s') (front_stays taken.count (departed_of core) (departed_of (core_burnt core n)) (ready s') w.counted st.taken)
+    ap (with_front s') (front_stays taken.count (departed_of core) (departed_of (core_burnt core n)) (ready s')
+    w.counted st.taken)
 
-burnt_whole : (core : CorePart) (fed : Reach) (taken : Front) (core' : CorePart) (n most : ℕ) → IsWhole core fed taken false → taken.reach.end ≡ Open → n ≡ burns (state_of core fed taken false) most → core' ≡ core_burnt core n
+burnt_whole : (core : CorePart) (fed : Reach) (taken : Front) (core' : CorePart) (n most : ℕ)
+    → IsWhole core fed taken false → taken.reach.end ≡ Open → n ≡ burns (state_of core fed taken false) most
+    → core' ≡ core_burnt core n
     → IsWhole core' fed taken false
 burnt_whole core fed taken core' n most w open' en ec =
     let s' = with_burnt (state_of core fed taken false) n in
     let st = burnt_keeps_whole core fed taken n most w open' en in
     subst (λ (k : CorePart). IsWhole k fed taken false) (sym ec)
     (record {
-      counted = front_within taken.count (departed_of core) (departed_of (core_burnt core n)) (ready s') w.counted st.taken;
+      counted = front_within taken.count (departed_of core) (departed_of (core_burnt core n)) (ready s') w.counted
+          st.taken;
       stands = subst Stands (sym (burnt_is core fed taken n most w open' en)) st;
     })
 
@@ -188,11 +224,14 @@ tells s n most = by (ready s)
     third true = tt
     third false = tt
 
-    second : (b : Bool) → Tells [] (cond b (Gives (Mark (floor_of s))) (cond (n == most) (Again n) (NotYet s.fed.bound)))
+    second : (b : Bool) → Tells [] (cond b (Gives (Mark (floor_of s)))
+        (cond (n == most) (Again n) (NotYet s.fed.bound)))
     second true = tt
     second false = third (n == most)
 
-    first : (b : Bool) → Tells [] (cond b (Gives End) (cond (nat_lt s.taken.bound (floor_of s)) (Gives (Mark (floor_of s))) (cond (n == most) (Again n) (NotYet s.fed.bound))))
+    first : (b : Bool) → Tells [] (cond b (Gives End)
+        (cond (nat_lt s.taken.bound (floor_of s)) (Gives (Mark (floor_of s)))
+        (cond (n == most) (Again n) (NotYet s.fed.bound))))
     first true = tt
     first false = second (nat_lt s.taken.bound (floor_of s))
 
@@ -201,20 +240,24 @@ tells s n most = by (ready s)
     by (t ∷ ts) = (ts, refl)
 
 -- after an answer
-put_state : (core : CorePart) (fed : Reach) (taken : Front) (a : Taken) → IsWhole core fed taken false → Tells (ready (state_of core fed taken false)) a
+put_state : (core : CorePart) (fed : Reach) (taken : Front) (a : Taken) → IsWhole core fed taken false
+    → Tells (ready (state_of core fed taken false)) a
     → state_of core fed (front_with taken a) false ≡ with_answer (state_of core fed taken false) a
 put_state core fed taken (Gives (Packet t)) w told =
     let s = state_of core fed taken false in
-    ap (with_front (with_answer s (Gives (Packet t)))) (next taken.count (departed_of core) t told.0 (ready s) w.counted w.stands.taken told.1).is
+    ap (with_front (with_answer s (Gives (Packet t))))
+    (next taken.count (departed_of core) t told.0 (ready s) w.counted w.stands.taken told.1).is
 put_state core fed taken (Gives (Mark m)) w told = refl
 put_state core fed taken (Gives End) w told = refl
 put_state core fed taken (Gives Broken) w told = refl
 put_state core fed taken (Again n) w told = refl
 put_state core fed taken (NotYet m) w told = refl
 
-put_counted : (core : CorePart) (fed : Reach) (taken : Front) (a : Taken) → IsWhole core fed taken false → Tells (ready (state_of core fed taken false)) a → (front_with taken a).count ≤ length (departed_of core)
+put_counted : (core : CorePart) (fed : Reach) (taken : Front) (a : Taken) → IsWhole core fed taken false
+    → Tells (ready (state_of core fed taken false)) a → (front_with taken a).count ≤ length (departed_of core)
 put_counted core fed taken (Gives (Packet t)) w told =
-    (next taken.count (departed_of core) t told.0 (ready (state_of core fed taken false)) w.counted w.stands.taken told.1).counted
+    (next taken.count (departed_of core) t told.0 (ready (state_of core fed taken false)) w.counted w.stands.taken
+    told.1).counted
 put_counted core fed taken (Gives (Mark m)) w told = w.counted
 put_counted core fed taken (Gives End) w told = w.counted
 put_counted core fed taken (Gives Broken) w told = w.counted
@@ -226,34 +269,46 @@ told_by : (s : State) (n most : ℕ) (a : Taken) → a ≡ answer_after s n most
 told_by s n most a e = subst (Tells (ready s)) (sym e) (tells s n most)
 
 -- what the steps of a take make
-pub record Steps (core : CorePart) (fed : Reach) (taken : Front) (core' : CorePart) (taken' : Front) (n most : ℕ) (answer : Taken) : Type 0 where
+pub record Steps (core : CorePart) (fed : Reach) (taken : Front) (core' : CorePart) (taken' : Front) (n most : ℕ)
+    (answer : Taken) : Type 0 where
   pub open' : taken.reach.end ≡ Open
   pub burnt : n ≡ burns (state_of core fed taken false) most
   pub core_is : core' ≡ core_burnt core n
   pub answer_is : answer ≡ answer_after (state_of core' fed taken false) n most
   pub taken_is : taken' ≡ front_with taken answer
 
-pub take_follows : (core : CorePart) (fed : Reach) (taken : Front) (core' : CorePart) (n most : ℕ) (answer : Taken) → IsWhole core fed taken false → taken.reach.end ≡ Open
-    → n ≡ burns (state_of core fed taken false) most → core' ≡ core_burnt core n → answer ≡ answer_after (state_of core' fed taken false) n most → AnswerFollows taken.reach.bound answer
+pub take_follows : (core : CorePart) (fed : Reach) (taken : Front) (core' : CorePart) (n most : ℕ) (answer : Taken)
+    → IsWhole core fed taken false → taken.reach.end ≡ Open
+    → n ≡ burns (state_of core fed taken false) most → core' ≡ core_burnt core n
+    → answer ≡ answer_after (state_of core' fed taken false) n most → AnswerFollows taken.reach.bound answer
 take_follows core fed taken core' n most answer w open' en ec ea =
-    subst (AnswerFollows taken.reach.bound) (sym ea) (answer_follows (state_of core' fed taken false) n most (burnt_whole core fed taken core' n most w open' en ec).stands)
+    subst (AnswerFollows taken.reach.bound) (sym ea)
+    (answer_follows (state_of core' fed taken false) n most
+    (burnt_whole core fed taken core' n most w open' en ec).stands)
 
-pub whole_taken : (core : CorePart) (fed : Reach) (taken : Front) (core' : CorePart) (taken' : Front) (n most : ℕ) (answer : Taken) → IsWhole core fed taken false → Steps core fed taken core' taken' n most answer
+pub whole_taken : (core : CorePart) (fed : Reach) (taken : Front) (core' : CorePart) (taken' : Front) (n most : ℕ)
+    (answer : Taken) → IsWhole core fed taken false → Steps core fed taken core' taken' n most answer
     → IsWhole core' fed taken' false
 whole_taken core fed taken core' taken' n most answer w e =
     let s = state_of core' fed taken false in
     let wb = burnt_whole core fed taken core' n most w e.open' e.burnt e.core_is in
     let told = told_by s n most answer e.answer_is in
-    let st = subst (λ (a : Taken). Stands (with_answer s a)) (sym e.answer_is) (answer_keeps s n most wb.stands e.open') in
+    let st = subst (λ (a : Taken). Stands (with_answer s a)) (sym e.answer_is)
+    (answer_keeps s n most wb.stands e.open') in
     subst (λ (f : Front). IsWhole core' fed f false) (sym e.taken_is)
-    (record { counted = put_counted core' fed taken answer wb told; stands = subst Stands (sym (put_state core' fed taken answer wb told)) st })
+    (record {
+      counted = put_counted core' fed taken answer wb told;
+      stands = subst Stands (sym (put_state core' fed taken answer wb told)) st;
+    })
 
-burnt_state : (core : CorePart) (fed : Reach) (taken : Front) (core' : CorePart) (taken' : Front) (n most : ℕ) (answer : Taken) → IsWhole core fed taken false → Steps core fed taken core' taken' n most answer
+burnt_state : (core : CorePart) (fed : Reach) (taken : Front) (core' : CorePart) (taken' : Front) (n most : ℕ)
+    (answer : Taken) → IsWhole core fed taken false → Steps core fed taken core' taken' n most answer
     → state_of core' fed taken false ≡ with_burnt (state_of core fed taken false) n
 burnt_state core fed taken core' taken' n most answer w e =
     ap (λ (k : CorePart). state_of k fed taken false) e.core_is ∙ burnt_is core fed taken n most w e.open' e.burnt
 
-taken_state : (core : CorePart) (fed : Reach) (taken : Front) (core' : CorePart) (taken' : Front) (n most : ℕ) (answer : Taken) → IsWhole core fed taken false → Steps core fed taken core' taken' n most answer
+taken_state : (core : CorePart) (fed : Reach) (taken : Front) (core' : CorePart) (taken' : Front) (n most : ℕ)
+    (answer : Taken) → IsWhole core fed taken false → Steps core fed taken core' taken' n most answer
     → state_of core' fed taken' false ≡ with_answer (with_burnt (state_of core fed taken false) n) answer
 taken_state core fed taken core' taken' n most answer w e =
     let wb = burnt_whole core fed taken core' n most w e.open' e.burnt e.core_is in
@@ -262,7 +317,8 @@ taken_state core fed taken core' taken' n most answer w e =
     ∙ put_state core' fed taken answer wb told
     ∙ ap (λ (v : State). with_answer v answer) (burnt_state core fed taken core' taken' n most answer w e)
 
-answered : (core : CorePart) (fed : Reach) (taken : Front) (core' : CorePart) (taken' : Front) (n most : ℕ) (answer : Taken) → IsWhole core fed taken false → Steps core fed taken core' taken' n most answer
+answered : (core : CorePart) (fed : Reach) (taken : Front) (core' : CorePart) (taken' : Front) (n most : ℕ)
+    (answer : Taken) → IsWhole core fed taken false → Steps core fed taken core' taken' n most answer
     → answer ≡ answer_of (state_of core fed taken false) most
 unfolding answer_of
 answered core fed taken core' taken' n most answer w e =
@@ -271,7 +327,8 @@ answered core fed taken core' taken' n most answer w e =
     ∙ ap (λ (v : State). answer_after v n most) (burnt_state core fed taken core' taken' n most answer w e)
     ∙ ap (λ k. answer_after (with_burnt s k) k most) e.burnt
 
-took : (core : CorePart) (fed : Reach) (taken : Front) (core' : CorePart) (taken' : Front) (n most : ℕ) (answer : Taken) → IsWhole core fed taken false → Steps core fed taken core' taken' n most answer
+took : (core : CorePart) (fed : Reach) (taken : Front) (core' : CorePart) (taken' : Front) (n most : ℕ)
+    (answer : Taken) → IsWhole core fed taken false → Steps core fed taken core' taken' n most answer
     → state_of core' fed taken' false ≡ after_take (state_of core fed taken false) most
 unfolding after_take
 took core fed taken core' taken' n most answer w e =
@@ -280,12 +337,19 @@ took core fed taken core' taken' n most answer w e =
     ∙ ap (λ k. with_answer (with_burnt s k) answer) e.burnt
     ∙ ap (with_answer (with_burnt s (burns s most))) (answered core fed taken core' taken' n most answer w e)
 
-pub take_is : (core : CorePart) (fed : Reach) (taken : Front) (b : Bool) (core' : CorePart) (taken' : Front) (n most : ℕ) (answer : Taken) → b ≡ false → IsWhole core fed taken b → Steps core fed taken core' taken' n most answer
-    → (answer ≡ answer_of (state_of core fed taken b) most) × (state_of core' fed taken' b ≡ after_take (state_of core fed taken b) most)
+pub take_is : (core : CorePart) (fed : Reach) (taken : Front) (b : Bool) (core' : CorePart) (taken' : Front)
+    (n most : ℕ) (answer : Taken) → b ≡ false → IsWhole core fed taken b
+    → Steps core fed taken core' taken' n most answer
+    → (answer ≡ answer_of (state_of core fed taken b) most)
+    × (state_of core' fed taken' b ≡ after_take (state_of core fed taken b) most)
 take_is core fed taken b core' taken' n most answer whole w e =
-    let Is : Bool → Type 0 = λ x. (answer ≡ answer_of (state_of core fed taken x) most) × (state_of core' fed taken' x ≡ after_take (state_of core fed taken x) most) in
+    let Is : Bool → Type 0 = λ x. (answer ≡ answer_of (state_of core fed taken x) most)
+    × (state_of core' fed taken' x ≡ after_take (state_of core fed taken x) most) in
     let w' = not_broken core fed taken b whole w in
-    subst Is (sym whole) (answered core fed taken core' taken' n most answer w' e, took core fed taken core' taken' n most answer w' e)
+    subst Is (sym whole) (
+      answered core fed taken core' taken' n most answer w' e,
+      took core fed taken core' taken' n most answer w' e,
+    )
 
 pub licence_ended : (s : State) (m : ℕ) → s.fed.end ≡ Ended → m ≡ s.horizon → count_to (opps_of s) m ≡ licensed s
 licence_ended s m e h =

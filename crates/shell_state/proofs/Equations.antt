@@ -15,7 +15,10 @@ feed_taken s item = elim s.broken as (λ b. (cond b s (fed_more s item)).taken �
 
 pub feed_horizon : (s : State) (item : Item) → (after_feed s item).horizon ≡ s.horizon
 unfolding after_feed
-feed_horizon s item = elim s.broken as (λ b. (cond b s (fed_more s item)).horizon ≡ s.horizon) [ true ↦ refl | false ↦ refl ]
+feed_horizon s item = elim s.broken as (λ b. (cond b s (fed_more s item)).horizon ≡ s.horizon) [
+  | true ↦ refl
+  | false ↦ refl
+]
 
 pub feed_spec : (s : State) (item : Item) → (after_feed s item).spec ≡ s.spec
 unfolding after_feed

@@ -1,5 +1,6 @@
 -- The front of a list: so many of it, where the list goes on.
-use Rattle.std.proofs.Common.{◌≡◌, ℕ, ◌+◌, ◌≤◌, ◌<◌, List, [], ◌∷◌, ◌++◌, length, take, drop, ap, sym, ◌∙◌, append_assoc, arith}
+use Rattle.std.proofs.Common.{◌≡◌, ℕ, ◌+◌, ◌≤◌, ◌<◌, List, [], ◌∷◌, ◌++◌, length, take, drop, ap, sym, ◌∙◌}
+use Rattle.std.proofs.Common.{append_assoc, arith}
 use Rattle.std.proofs.lemmas.List.{length-append, length-take-le, take_at}
 use Rattle.packet_record.specs.declared.packet.Timed.{Timed}
 
@@ -22,7 +23,8 @@ pub record Next (n : ℕ) (d : List Timed) (t : Timed) : Type 0 where
   pub is : take (n + 1) d ≡ take n d ++ t ∷ []
   pub counted : n + 1 ≤ length d
 
-pub next : (n : ℕ) (d : List Timed) (t : Timed) (ts r : List Timed) → n ≤ length d → d ≡ take n d ++ r → r ≡ t ∷ ts → Next n d t
+pub next : (n : ℕ) (d : List Timed) (t : Timed) (ts r : List Timed) → n ≤ length d → d ≡ take n d ++ r → r ≡ t ∷ ts
+    → Next n d t
 next n d t ts r le e first =
     let front = take n d in
     let whole : d ≡ (front ++ t ∷ []) ++ ts = e ∙ ap (λ l. front ++ l) first ∙ sym (append_assoc front (t ∷ []) ts) in

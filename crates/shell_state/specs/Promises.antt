@@ -27,8 +27,8 @@ pub record MayCome (f : Stream) (packets : List Timed) : Type 0 where
   pub later : AreFrom f.bound packets
   pub open' : (f.end ≡ Open) ⊎ (packets ≡ [])
 
--- Whatever packets may still be fed: with them, what departs is what was taken and then packets at or after the bound of
--- that, and the log goes on from what it is.
+-- Whatever packets may still be fed: with them, what departs is what was taken and then packets at or after the bound
+-- of that, and the log goes on from what it is.
 abbrev pub ForetellsMore : State → Type 0
 ForetellsMore s = (coming : List Timed) → MayCome s.fed coming → Foretells s (s.fed.packets ++ coming)
 
@@ -46,11 +46,12 @@ open_of Ended = 0
 open_of Cut = 0
 
 -- At most so many takes may still answer anything but NotYet, where these are all packets that are ever fed: one for
--- each opportunity that isn't burnt, each moment up to the horizon plus 1 that nothing taken has reached, each departure
--- that wasn't taken, and the end.
+-- each opportunity that isn't burnt, each moment up to the horizon plus 1 that nothing taken has reached, each
+-- departure that wasn't taken, and the end.
 abbrev pub takes_left : List Timed → State → ℕ
 takes_left packets s =
-    (length (opps_of s) - s.burnt) + (s.horizon + 1 - s.taken.bound) + (length (whole_out s.spec s.horizon packets) - length s.taken.packets) + open_of s.taken.end
+    (length (opps_of s) - s.burnt) + (s.horizon + 1 - s.taken.bound) +
+    (length (whole_out s.spec s.horizon packets) - length s.taken.packets) + open_of s.taken.end
 
 -- the same with a feed for each item that is still to be fed
 abbrev pub steps_left : List Item → State → ℕ
@@ -59,10 +60,12 @@ steps_left items s = length items + takes_left (after_all s.fed items).packets s
 pub record GoesOn (s : State) : Type 0 where
   -- a take leaves fewer takes, unless it answers NotYet
   pub take : (most : ℕ) → 1 ≤ most → s.taken.end ≡ Open → (coming : List Timed) → MayCome s.fed coming
-      → (answer_of s most ≡ NotYet s.fed.bound) ⊎ (takes_left (s.fed.packets ++ coming) (after_take s most) < takes_left (s.fed.packets ++ coming) s)
+      → (answer_of s most ≡ NotYet s.fed.bound)
+      ⊎ (takes_left (s.fed.packets ++ coming) (after_take s most) < takes_left (s.fed.packets ++ coming) s)
   -- a feed leaves no more
   pub feed : (item : Item) (packets : List Timed) → takes_left packets (after_feed s item) ≤ takes_left packets s
   -- both leave fewer steps
   pub take_step : (most : ℕ) → 1 ≤ most → s.taken.end ≡ Open → (items : List Item) → AllFollow s.horizon s.fed items
       → (answer_of s most ≡ NotYet s.fed.bound) ⊎ (steps_left items (after_take s most) < steps_left items s)
-  pub feed_step : (item : Item) (items : List Item) → s.broken ≡ false → steps_left items (after_feed s item) < steps_left (item ∷ items) s
+  pub feed_step : (item : Item) (items : List Item) → s.broken ≡ false
+      → steps_left items (after_feed s item) < steps_left (item ∷ items) s

@@ -51,4 +51,5 @@ ForetellsAll s = (items : List Item) → AllFollow s.horizon s.fed items → For
 
 -- what is left to be taken where nothing more is fed: each answer but the end lowers it
 abbrev pub left_of : State → ℕ
-left_of s = (length (opps_of s) - s.burnt) + (s.horizon + 1 - s.taken.bound) + (length (whole_out s.spec s.horizon s.fed.packets) - length s.taken.packets)
+left_of s = (length (opps_of s) - s.burnt) + (s.horizon + 1 - s.taken.bound) +
+    (length (whole_out s.spec s.horizon s.fed.packets) - length s.taken.packets)

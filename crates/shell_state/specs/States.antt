@@ -16,7 +16,14 @@ pub record State : Type 0 where
   pub broken : Bool
 
 abbrev pub new_state : DirSpec → ℕ → State
-new_state c horizon = record { spec = c; horizon = horizon; fed = no_items; taken = no_items; burnt = 0; broken = false }
+new_state c horizon = record {
+  spec = c;
+  horizon = horizon;
+  fed = no_items;
+  taken = no_items;
+  burnt = 0;
+  broken = false;
+}
 
 abbrev pub opps_of : State → List Opportunity
 opps_of s = opportunities s.spec s.horizon

@@ -1,5 +1,6 @@
 -- What feeding, taking and breaking do.
-use Rattle.std.specs.Prelude.{ℕ, ◌+◌, ◌-◌, ◌==◌, ◌&&◌, Bool, true, false, List, [], ◌∷◌, length, min, max, nat_le, nat_lt, if◌then◌else◌}
+use Rattle.std.specs.Prelude.{ℕ, ◌+◌, ◌-◌, ◌==◌, ◌&&◌, Bool, true, false, List, [], ◌∷◌, length, min, max, nat_le}
+use Rattle.std.specs.Prelude.{nat_lt, if◌then◌else◌}
 use Rattle.packet_record.specs.declared.packet.Timed.{Timed}
 use Rattle.packet_record.specs.declared.item.Stream.{Stream}
 use Rattle.packet_record.specs.declared.item.Item.{Item}
@@ -31,14 +32,28 @@ burnt_by s End = s.burnt
 burnt_by s Broken = s.burnt
 
 abbrev pub fed_more : State → Item → State
-fed_more s item = record { spec = s.spec; horizon = s.horizon; fed = after s.fed item; taken = s.taken; burnt = burnt_by s item; broken = breaks item }
+fed_more s item = record {
+  spec = s.spec;
+  horizon = s.horizon;
+  fed = after s.fed item;
+  taken = s.taken;
+  burnt = burnt_by s item;
+  broken = breaks item;
+}
 
 -- a broken state stays as it is
 unfoldable pub after_feed : State → Item → State
 after_feed s item = if s.broken then s else fed_more s item
 
 unfoldable pub after_break : State → State
-after_break s = record { spec = s.spec; horizon = s.horizon; fed = s.fed; taken = s.taken; burnt = s.burnt; broken = true }
+after_break s = record {
+  spec = s.spec;
+  horizon = s.horizon;
+  fed = s.fed;
+  taken = s.taken;
+  burnt = s.burnt;
+  broken = true;
+}
 
 -- how many opportunities may be burnt: those up to the fed bound, or all where nothing more is fed
 abbrev pub licensed : State → ℕ
@@ -53,7 +68,14 @@ abbrev pub burns : State → ℕ → ℕ
 burns s most = if s.broken then 0 else burns_where (ready s) s most
 
 abbrev pub with_burnt : State → ℕ → State
-with_burnt s n = record { spec = s.spec; horizon = s.horizon; fed = s.fed; taken = s.taken; burnt = s.burnt + n; broken = s.broken }
+with_burnt s n = record {
+  spec = s.spec;
+  horizon = s.horizon;
+  fed = s.fed;
+  taken = s.taken;
+  burnt = s.burnt + n;
+  broken = s.broken;
+}
 
 -- the answer of a state of which a take has just burnt n opportunities
 abbrev pub answer_where : List Timed → State → ℕ → ℕ → Taken
@@ -76,7 +98,14 @@ stream_after f (Again n) = f
 stream_after f (NotYet bound) = f
 
 abbrev pub with_answer : State → Taken → State
-with_answer s answer = record { spec = s.spec; horizon = s.horizon; fed = s.fed; taken = stream_after s.taken answer; burnt = s.burnt; broken = s.broken }
+with_answer s answer = record {
+  spec = s.spec;
+  horizon = s.horizon;
+  fed = s.fed;
+  taken = stream_after s.taken answer;
+  burnt = s.burnt;
+  broken = s.broken;
+}
 
 unfoldable pub after_take : State → ℕ → State
 after_take s most = with_answer (with_burnt s (burns s most)) (answer_of s most)

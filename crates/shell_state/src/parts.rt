@@ -10,7 +10,8 @@ ghost use Rattle.shell_core.specs.CoreParts.{with_burnt as core_burnt, is_spent}
 ghost use Rattle.shell_state.specs.States.{ready};
 ghost use Rattle.shell_state.specs.Steps.{answer_after, burns, licensed, is_ended, breaks};
 ghost use Rattle.shell_state.specs.Fronts.{no_front};
-ghost use Rattle.shell_state.specs.Inside.{departed_of, state_of, core_fed, IsState, front_with, AnswerFollows, AnswerFits};
+ghost use Rattle.shell_state.specs.Inside.{departed_of, state_of, core_fed, IsState, front_with, AnswerFollows};
+ghost use Rattle.shell_state.specs.Inside.{AnswerFits};
 
 use crate::front::Front;
 use crate::taken::Taken;
@@ -37,7 +38,8 @@ pub(crate) fn arrive(core: &mut Core, fed: &mut Reach, item: Item) -> Result<(),
 
 // The moment up to which opportunities may be burnt.
 fn licence(core: &Core, fed: Reach) -> u64
-    ensures { count_to (opportunities core.now.spec core.now.horizon) result ≡ licensed (state_of core.now fed no_front false) }
+    ensures { count_to (opportunities core.now.spec core.now.horizon) result ≡ licensed
+        (state_of core.now fed no_front false) }
 {
     match fed.end {
         FlowEnd::Ended => core.horizon(),

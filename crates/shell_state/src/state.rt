@@ -3,7 +3,8 @@ ghost use Rattle.std.specs.Prelude.{◌≡◌, ◌⊎◌, ◌≤◌, ◌<◌, le
 ghost use Rattle.packet_record.specs.Streams.{MayFollow, IsUpTo};
 ghost use Rattle.packet_record.specs.declared.item.FlowEnd.TheVariants.{Open, Ended};
 ghost use Rattle.packet_record.specs.Takes.{IsPacket};
-ghost use Rattle.shell_core.specs.Shells.{IsInRange, opportunities, lost, inside, shell_log, whole_out, whole_lost, whole_inside, whole_log};
+ghost use Rattle.shell_core.specs.Shells.{IsInRange, opportunities, lost, inside, shell_log, whole_out, whole_lost};
+ghost use Rattle.shell_core.specs.Shells.{whole_inside, whole_log};
 ghost use Rattle.shell_core.specs.Wholes.{if_link};
 ghost use Rattle.shell_state.specs.States.{new_state};
 ghost use Rattle.shell_state.specs.Steps.{after_feed, after_take, after_break, answer_of, burns};
@@ -163,7 +164,8 @@ impl ShellState {
     /// The numbers of the packets that neither departed nor were dropped, in order; in a link the
     /// one in transit is the first.
     pub fn inside(&self) -> Result<Vec<u32>, OutOfMemory>
-        ensures { IfOk result (λ ids. ids.items ≡ map (λ t. t.packet.id) (inside self.now.spec self.now.horizon self.now.burnt self.now.fed.packets)) }
+        ensures { IfOk result (λ ids. ids.items ≡ map (λ t. t.packet.id)
+            (inside self.now.spec self.now.horizon self.now.burnt self.now.fed.packets)) }
     {
         self.core.inside()
     }
@@ -197,7 +199,8 @@ impl ShellState {
         requires { self.taken.end ≡ Ended }
         ensures departed { IfOk result (λ p. p.departed.items ≡ whole_out self.spec self.horizon self.fed.packets) }
         ensures lost { IfOk result (λ p. p.lost.items ≡ whole_lost self.spec self.horizon self.fed.packets) }
-        ensures held { IfOk result (λ p. p.held.items ≡ map (λ t. t.packet.id) (whole_inside self.spec self.horizon self.fed.packets)) }
+        ensures held { IfOk result (λ p. p.held.items ≡ map (λ t. t.packet.id)
+            (whole_inside self.spec self.horizon self.fed.packets)) }
         ensures log { IfOk result (λ p. p.log ≡ if_link self.spec (whole_log self.spec self.horizon self.fed.packets)) }
     {
         self.core.into_passage()

@@ -1,5 +1,6 @@
 -- The moments that the generator makes, one by one.
-use Rattle.std.proofs.Common.{◌≡◌, ℕ, suc, ◌+◌, ◌-◌, ◌%◌, ◌<◌, ◌++◌, List, [], ◌∷◌, map, IfOk, Result, Ok, Err, ap, sym, subst, ◌∙◌, arith, append_assoc}
+use Rattle.std.proofs.Common.{◌≡◌, ℕ, suc, ◌+◌, ◌-◌, ◌%◌, ◌<◌, ◌++◌, List, [], ◌∷◌, map, IfOk, Result, Ok, Err, ap, sym}
+use Rattle.std.proofs.Common.{subst, ◌∙◌, arith, append_assoc}
 use Rattle.std.proofs.lemmas.List.{map-append, append-nil}
 use Rattle.packet_record.specs.Draws.{next_draw}
 use Rattle.trace_reader.specs.declared.opportunity.Opportunity.{Opportunity}
@@ -10,7 +11,8 @@ abbrev pub moments : List Opportunity → List ℕ
 moments opps = map (λ o. o.moment) opps
 
 pub moments_more : (x x' moment n : ℕ) (opps opps' : List Opportunity) (o : Opportunity) (all : List ℕ) → n < 100
-    → moments opps ++ moments_from x moment (100 - n) ≡ all → x' ≡ next_draw x → o.moment ≡ moment + (1 + next_draw x % 3) → opps' ≡ opps ++ o ∷ []
+    → moments opps ++ moments_from x moment (100 - n) ≡ all → x' ≡ next_draw x
+    → o.moment ≡ moment + (1 + next_draw x % 3) → opps' ≡ opps ++ o ∷ []
     → moments opps' ++ moments_from x' o.moment (100 - (n + 1)) ≡ all
 moments_more x x' moment n opps opps' o all lt before drawn at more =
     let e : 100 - n ≡ suc (100 - (n + 1)) = omega arith in
@@ -23,12 +25,14 @@ moments_more x x' moment n opps opps' o all lt before drawn at more =
     ∙ ap (λ (k : ℕ). moments opps ++ moments_from x moment k) (sym e)
     ∙ before
 
-pub moments_end : (x moment n : ℕ) (opps : List Opportunity) (all : List ℕ) → n ≡ 100 → moments opps ++ moments_from x moment (100 - n) ≡ all → moments opps ≡ all
+pub moments_end : (x moment n : ℕ) (opps : List Opportunity) (all : List ℕ) → n ≡ 100 → moments opps
+    ++ moments_from x moment (100 - n) ≡ all → moments opps ≡ all
 moments_end x moment n opps all end before =
     let e : 0 ≡ 100 - n = omega arith in
     sym (append-nil (moments opps)) ∙ ap (λ (k : ℕ). moments opps ++ moments_from x moment k) e ∙ before
 
 -- what holds of the trace that was made, if one was
-pub if_made : {E : Type 0} (P : TraceView → Type 0) (t : TraceView) (result : Result TraceView E) → IfOk result (λ s. s ≡ t) → P t → IfOk result P
+pub if_made : {E : Type 0} (P : TraceView → Type 0) (t : TraceView) (result : Result TraceView E)
+    → IfOk result (λ s. s ≡ t) → P t → IfOk result P
 if_made P t (Ok s) e p = subst P (sym e) p
 if_made P t (Err fault) e p = tt

@@ -1,5 +1,6 @@
 -- How many opportunities a text of so many bytes can state.
-use Rattle.std.proofs.Common.{◌≡◌, ℕ, zero, suc, ◌+◌, ◌*◌, ◌/◌, ◌≤◌, List, [], ◌∷◌, length, map, min, drop, Some, None, arith}
+use Rattle.std.proofs.Common.{◌≡◌, ℕ, zero, suc, ◌+◌, ◌*◌, ◌/◌, ◌≤◌, List, [], ◌∷◌, length, map, min, drop, Some, None}
+use Rattle.std.proofs.Common.{arith}
 use Rattle.mm_base.specs.Lines.{lines_of}
 use Rattle.packet_record.proofs.RoomLemmas.{room_of, lines_fit}
 use Rattle.trace_reader.specs.declared.opportunity.Form.{Form}
@@ -14,7 +15,8 @@ some_bytes Moments [] s e = let none : None ≡ Some s = e in absurd cc
 some_bytes MomentsAndBytes [] s e = let none : None ≡ Some s = e in absurd cc
 some_bytes form (byte ∷ bytes) s e = omega arith
 
-lines_room : (form : Form) (lines : List (List ℕ)) (opps : List Opportunity) → map (said_of form) lines ≡ map (λ o. Some (said o)) opps
+lines_room : (form : Form) (lines : List (List ℕ)) (opps : List Opportunity)
+    → map (said_of form) lines ≡ map (λ o. Some (said o)) opps
     → 2 * length opps ≤ room_of lines
 unfolding room_of
 lines_room form [] [] e = omega arith

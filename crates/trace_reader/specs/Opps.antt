@@ -1,5 +1,6 @@
 -- The opportunities that a trace gives up to a horizon (mm-link: the trace begins again at its last moment).
-use Rattle.std.specs.Prelude.{ℕ, zero, suc, ◌+◌, ◌*◌, ◌/◌, ◌%◌, ◌++◌, ◌&&◌, Bool, List, [], ◌∷◌, Option, None, length, filter, nat_le, slice_get, option_to_list, if◌then◌else◌}
+use Rattle.std.specs.Prelude.{ℕ, zero, suc, ◌+◌, ◌*◌, ◌/◌, ◌%◌, ◌++◌, ◌&&◌, Bool, List, [], ◌∷◌, Option, None, length}
+use Rattle.std.specs.Prelude.{filter, nat_le, slice_get, option_to_list, if◌then◌else◌}
 use Rattle.std.specs.Option.{option_map}
 use Rattle.trace_reader.specs.declared.opportunity.Opportunity.{Opportunity}
 

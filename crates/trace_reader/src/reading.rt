@@ -1,5 +1,6 @@
 // Traces read from their text.
-ghost use Rattle.std.specs.Prelude.{◌≡◌, ◌≢◌, ◌≤◌, ◌<◌, ◌+◌, ◌/◌, ◌∷◌, ℕ, List, Option, Some, None, MatchResult, IfOk, OnOk, length};
+ghost use Rattle.std.specs.Prelude.{◌≡◌, ◌≢◌, ◌≤◌, ◌<◌, ◌+◌, ◌/◌, ◌∷◌, ℕ, List, Option, Some, None, MatchResult, IfOk};
+ghost use Rattle.std.specs.Prelude.{OnOk, length};
 ghost use Rattle.trace_reader.specs.declared.reading.TraceError.TheVariants as errors;
 ghost use Rattle.trace_reader.specs.Opps.{last_moment};
 ghost use Rattle.trace_reader.specs.Traces.{TraceView, IsTrace};

@@ -7,8 +7,8 @@ use mm_base::{Disk, DiskError, MemSink};
 use std::alloc::Global;
 use std::test::Fail;
 
-// A disk that tells no files, and on which each has one byte more than an input may have. None is read or written. Its counts stand at
-// their last value.
+// A disk that tells no files, and on which each has one byte more than an input may have. None is read or written.
+// Its counts stand at their last value.
 #[derive(Drop)]
 struct LargeDisk;
 

@@ -13,7 +13,10 @@ returns-in_err-send_all g c =
     let q = p.2 in
     rw p.1 (record {
       ok = tt;
-      err = cut_in (λ piece. piece.now) c.args.pieces.now c.loop-piece.piece-index _ _ _ _ _ c.loop-piece-test.true c.loop-piece.invariant.so_far c.in_err-send_all.ensures.err.1 c.in_err-send_all.ensures.err.2;
+      err = cut_in (λ piece. piece.now) c.args.pieces.now c.loop-piece.piece-index _ _ _ _ _ c.loop-piece-test.true
+          c.loop-piece.invariant.so_far c.in_err-send_all.ensures.err.1 c.in_err-send_all.ensures.err.2;
       counts = CountsFaults-then c.loop-piece.invariant.counts c.send_all.ensures.counts;
-      cause = λ e. Rose-later _ _ _ c.loop-piece.invariant.counts.grows (c.in_err-send_all.ensures.failed_cause (subst (λ (k : EndError). IsErrOf {T = Unit {0}} (Err k) Failed) q e));
+      cause = λ e. Rose-later _ _ _ c.loop-piece.invariant.counts.grows
+          (c.in_err-send_all.ensures.failed_cause (subst (λ (k : EndError). IsErrOf {T = Unit {0}} (Err k) Failed) q
+          e));
     })

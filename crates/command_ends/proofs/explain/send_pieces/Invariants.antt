@@ -5,6 +5,7 @@ use Rattle.command_ends.proofs.explain.send_pieces.Given as goal
 
 abbrev pub invariant-loop-piece : goal.invariant-loop-piece
 invariant-loop-piece g l = record {
-  so_far : (g.O.Sink.view l.out).written ≡ sending (flat_map (λ piece. piece.now) (take l.piece-index l.pieces)) (g.O.Sink.view l.fn.out).written;
+  so_far : (g.O.Sink.view l.out).written ≡ sending (flat_map (λ piece. piece.now) (take l.piece-index l.pieces))
+      (g.O.Sink.view l.fn.out).written;
   counts : CountsSinkFaults (g.O.Sink.view l.fn.out) (g.O.Sink.view l.out);
 }

@@ -12,7 +12,9 @@ returns-clause-piece g c =
       bytes = take n buf;
       long = omega (arith, length-take n buf, c.in_ok-read.ensures.within);
       held = λ m whole told held.
-          sym (take-take n read buf le) ∙ ap (take n) (c.in_ok-read.ensures.bytes m whole told held) ∙ take-take n read (drop c.args.at whole) le;
-      end = λ none m whole told held. let e = c.in_ok-read.ensures.end m whole told held in e.1 (omega arith) c.requires.some;
+          sym (take-take n read buf le) ∙ ap (take n) (c.in_ok-read.ensures.bytes m whole told held)
+          ∙ take-take n read (drop c.args.at whole) le;
+      end = λ none m whole told held. let e = c.in_ok-read.ensures.end m whole told held
+          in e.1 (omega arith) c.requires.some;
       goes_on = c.push.ensures;
     }

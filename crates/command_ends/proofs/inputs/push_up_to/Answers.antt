@@ -10,11 +10,13 @@ pieces-preserved g c =
     let told = (g.D.Disk.view c.args.disk.now).files in
     let read = c.in_ok-read.read in
     let same = c.pieces.invariant.only_reads.same_files in
-    let piece = subst (λ files. PieceIsRead has_read files c.args.name.now c.pieces.at read c.pieces.reader c.push_piece.new.reader) same c.in_ok-read.ensures.piece in
+    let piece = subst (λ files. PieceIsRead has_read files c.args.name.now c.pieces.at read c.pieces.reader
+    c.push_piece.new.reader) same c.in_ok-read.ensures.piece in
     record {
       piece = search rules;
       room = c.in_ok-read.ensures.short;
-      front = more_read has_read told c.args.name.now c.pieces.at read c.args.reader.now c.pieces.reader c.push_piece.new.reader c.pieces.invariant.front piece;
+      front = more_read has_read told c.args.name.now c.pieces.at read c.args.reader.now c.pieces.reader
+          c.push_piece.new.reader c.pieces.invariant.front piece;
       only_reads = OnlyReads-then c.pieces.invariant.only_reads c.push_piece.ensures.only_reads;
     }
 
@@ -24,8 +26,10 @@ returns-then-read-eq0-clause-front g c =
     let told = (g.D.Disk.view c.args.disk.now).files in
     let read = c.in_ok-read.read in
     let same = c.pieces.invariant.only_reads.same_files in
-    let piece = subst (λ files. PieceIsRead has_read files c.args.name.now c.pieces.at read c.pieces.reader c.push_piece.new.reader) same c.in_ok-read.ensures.piece in
+    let piece = subst (λ files. PieceIsRead has_read files c.args.name.now c.pieces.at read c.pieces.reader
+    c.push_piece.new.reader) same c.in_ok-read.ensures.piece in
     all_read has_read told c.args.name.now (c.pieces.at + read) c.args.size c.args.reader.now c.push_piece.new.reader
-    (more_read has_read told c.args.name.now c.pieces.at read c.args.reader.now c.pieces.reader c.push_piece.new.reader c.pieces.invariant.front piece)
+    (more_read has_read told c.args.name.now c.pieces.at read c.args.reader.now c.pieces.reader
+    c.push_piece.new.reader c.pieces.invariant.front piece)
     c.in_ok-read.ensures.short
     (λ m whole t h. let end = piece.end c.if-read-eq0.true m whole t h in omega (arith, end))

@@ -12,5 +12,7 @@ returns-in_ok-from_text-in-Err-clause-stopped g c =
     let new = g.D.Disk.view c.load.new.disk in
     let error = c.in-Err.error in
     let why = c.in-Err.ensures in
-    subst (λ (cause : Cause). StopsAtFile name old new cause) (sym (c.cause_of_load.ensures ∙ ap (λ n. cause_of_load n error) c.in_ok-from_text-in-Err.ensures))
-    (load_stops name old new error (λ e. why.absent (ap Err e)) (λ e. why.absent_cause (ap Err e)) (λ e. why.failed_cause (ap Err e)) (λ size e. why.too_long size (ap Err e)))
+    subst (λ (cause : Cause). StopsAtFile name old new cause)
+    (sym (c.cause_of_load.ensures ∙ ap (λ n. cause_of_load n error) c.in_ok-from_text-in-Err.ensures))
+    (load_stops name old new error (λ e. why.absent (ap Err e)) (λ e. why.absent_cause (ap Err e))
+    (λ e. why.failed_cause (ap Err e)) (λ size e. why.too_long size (ap Err e)))

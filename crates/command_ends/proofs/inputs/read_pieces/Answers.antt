@@ -8,7 +8,8 @@ use Rattle.command_ends.proofs.inputs.read_pieces.Goals as goal
 
 pub returns-in-Ok-clause-read : goal.returns-in-Ok-clause-read
 returns-in-Ok-clause-read g c =
-    input_read g.P.PieceReader.has_read (g.D.Disk.view c.args.disk.now).files c.args.name.now c.args.size c.args.reader.now c.push_up_to.new.reader c.requires c.in-Ok.ensures.front
+    input_read g.P.PieceReader.has_read (g.D.Disk.view c.args.disk.now).files c.args.name.now c.args.size
+    c.args.reader.now c.push_up_to.new.reader c.requires c.in-Ok.ensures.front
 
 pub returns-clause-stopped : goal.returns-clause-stopped
 returns-clause-stopped g c =
@@ -17,5 +18,7 @@ returns-clause-stopped g c =
     let new = g.D.Disk.view c.push_up_to.new.disk in
     let error = c.in-Err.error in
     let why = c.in-Err.ensures in
-    subst (λ (cause : Cause). StopsAtFile name old new cause) (sym (c.cause_of_disk.ensures ∙ ap (λ n. cause_of_disk n error) c.in_ok-from_text-in-Err.ensures))
-    (disk_stops name old new error (λ e. why.absent (ap Err e)) (λ e. why.cause.absent (ap Err e)) (λ e. why.cause.failed (ap Err e)))
+    subst (λ (cause : Cause). StopsAtFile name old new cause)
+    (sym (c.cause_of_disk.ensures ∙ ap (λ n. cause_of_disk n error) c.in_ok-from_text-in-Err.ensures))
+    (disk_stops name old new error (λ e. why.absent (ap Err e)) (λ e. why.cause.absent (ap Err e))
+    (λ e. why.cause.failed (ap Err e)))

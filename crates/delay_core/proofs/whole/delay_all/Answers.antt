@@ -7,4 +7,5 @@ use Rattle.delay_core.proofs.whole.delay_all.Goals as goal
 pub let_out-requires : goal.let_out-requires
 let_out-requires c =
     let front : c.as_mut_slice.result.now ≡ take c.departing-count.result c.args.packets.now.items = search rules in
-    subst (AreUpTo 3600000) (sym front) (up_to_take 3600000 _ _ (up_to_higher c.args.horizon 3600000 _ c.requires.horizon c.requires.within))
+    subst (AreUpTo 3600000) (sym front)
+    (up_to_take 3600000 _ _ (up_to_higher c.args.horizon 3600000 _ c.requires.horizon c.requires.within))

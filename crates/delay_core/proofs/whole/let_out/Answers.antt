@@ -14,7 +14,8 @@ departure-requires c =
     let d = c.t-item.result in
     let before = c.args.packets.now in
     let lt : i < length before = omega arith in
-    let here : get_or c.loop-t.packets i d ≡ get_or before i d = ap (λ l. get_or l i d) c.loop-t.invariant ∙ read_partly c.args.rule.delay before i d lt in
+    let here : get_or c.loop-t.packets i d ≡ get_or before i d = ap (λ l. get_or l i d) c.loop-t.invariant
+    ∙ read_partly c.args.rule.delay before i d lt in
     let same = ap (λ t. t.moment) here in
     let early = up_at 3600000 before i d lt c.requires in
     omega arith
@@ -25,7 +26,8 @@ loop-t-preserved c =
     let d = c.t-item.result in
     let before = c.args.packets.now in
     let lt : i < length before = omega arith in
-    let here : get_or c.loop-t.packets i d ≡ get_or before i d = ap (λ l. get_or l i d) c.loop-t.invariant ∙ read_partly c.args.rule.delay before i d lt in
+    let here : get_or c.loop-t.packets i d ≡ get_or before i d = ap (λ l. get_or l i d) c.loop-t.invariant
+    ∙ read_partly c.args.rule.delay before i d lt in
     ap (λ t. set c.loop-t.packets i t) c.departure.ensures
     ∙ ap (λ t. set c.loop-t.packets i (later c.args.rule.delay t)) here
     ∙ ap (λ l. set l i (later c.args.rule.delay (get_or before i d))) c.loop-t.invariant

@@ -11,11 +11,13 @@ loop-i-preserved c =
     elim c.if-byte-eq10.branch [
       | then-byte-eq10 w ↦ record {
         inside = omega (arith, w.start-is);
-        same = subst (λ n. drop n (take (i + 1) bytes) ≡ line_left (take (i + 1) bytes)) (sym w.start-is) (last_feed bytes i c.loop-i-test.true w.if-byte-eq10.true);
+        same = subst (λ n. drop n (take (i + 1) bytes) ≡ line_left (take (i + 1) bytes)) (sym w.start-is)
+            (last_feed bytes i c.loop-i-test.true w.if-byte-eq10.true);
       }
       | else-byte-eq10 w ↦ record {
         inside = omega (arith, w.start-is, c.loop-i.invariant.inside);
         same = subst (λ n. drop n (take (i + 1) bytes) ≡ line_left (take (i + 1) bytes)) (sym w.start-is)
-            (last_other bytes i c.loop-i.start c.loop-i-test.true w.if-byte-eq10.false c.loop-i.invariant.inside c.loop-i.invariant.same);
+            (last_other bytes i c.loop-i.start c.loop-i-test.true w.if-byte-eq10.false c.loop-i.invariant.inside
+            c.loop-i.invariant.same);
       }
     ]

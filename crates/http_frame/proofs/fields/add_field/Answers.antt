@@ -15,5 +15,6 @@ unreachable-requires c =
 pub unreachable-requires-in-Err-MaxSizeReached : goal.unreachable-requires-in-Err-MaxSizeReached
 unreachable-requires-in-Err-MaxSizeReached c =
     let a = c.in-Err-MaxSizeReached in
-    let is : IsErrOf c.append.result MaxSizeReached = subst (λ r. IsErrOf r MaxSizeReached) (sym (a.is ∙ ap Err a.field-0-is)) refl in
+    let is : IsErrOf c.append.result MaxSizeReached = subst (λ r. IsErrOf r MaxSizeReached)
+    (sym (a.is ∙ ap Err a.field-0-is)) refl in
     has_room c.args.fields.now _ c.requires.names c.requires.values (c.append.ensures.full.0 is)

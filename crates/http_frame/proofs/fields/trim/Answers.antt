@@ -2,7 +2,8 @@ use Rattle.std.proofs.Common.{◌≡◌, ℕ, List, reverse, slice_range, sym, a
 use Rattle.std.proofs.lemmas.List.{reverse-reverse}
 use Rattle.httparse.specs.Grammar.{skip_ows, trim_ows}
 use Rattle.httparse.proofs.TrimLemmas.{skip_ows_yes, skip_ows_no, slice_first, slice_last, slice_empty}
-use Rattle.http_frame.proofs.fields.trim.Goals.{then-loop-start-test+else-is_blank, else-loop-start-test, then-loop-end-test+else-is_blank-2, else-loop-end-test}
+use Rattle.http_frame.proofs.fields.trim.Goals.{then-loop-start-test+else-is_blank, else-loop-start-test}
+use Rattle.http_frame.proofs.fields.trim.Goals.{then-loop-end-test+else-is_blank-2, else-loop-end-test}
 use Rattle.http_frame.proofs.fields.trim.Goals as goal
 
 pub loop-end-init : goal.loop-end-init
@@ -15,7 +16,8 @@ loop-end-init c =
           let first = slice_first _ _ _ w.loop-start-test.true (omega arith) in
           skip_ows_no first w.if-is_blank.ensures
       | else-loop-start-test w ↦
-          let empty = slice_empty c.args.text.now c.loop-start.start (length c.args.text.now) (omega arith) (omega arith) in
+          let empty = slice_empty c.args.text.now c.loop-start.start (length c.args.text.now) (omega arith)
+          (omega arith) in
           ap skip_ows empty ∙ sym empty
     ] in (
       omega arith,

@@ -16,5 +16,7 @@ pub returns-in-Ok-Head : goal.returns-in-Ok-Head
 returns-in-Ok-Head c =
     let read = rw c.in-Ok-Head.field-0-is at c.in-Ok-Head.ensures in
     let r = c.in-Ok-Head.read in
-    finish_says request_form false c.args.unread.now (record { head = r.head; len = r.len; framing = r.framing; place = 0 })
-    c.finish-later-in-Ok-Head.result.0 c.finish-later-in-Ok-Head.result.1 (read, from_start r.framing _) c.finish-later-in-Ok-Head.ensures
+    finish_says request_form false c.args.unread.now
+    (record { head = r.head; len = r.len; framing = r.framing; place = 0 })
+    c.finish-later-in-Ok-Head.result.0 c.finish-later-in-Ok-Head.result.1 (read, from_start r.framing _)
+    c.finish-later-in-Ok-Head.ensures

@@ -3,11 +3,13 @@ use Rattle.std.proofs.lemmas.Result.{IfOk-weaker}
 use Rattle.http_frame.specs.Forms.{request_form}
 use Rattle.http_frame.specs.Heads.{BeginsWith, HeadCause}
 use Rattle.http_frame.proofs.HeadLemmas.{says_cause, limit_fault, request_form_gives}
-use Rattle.httparse.specs.Grammar.{RequestHead, IsRequestHead, print_request, HasNoRequest, NeverHasRequest, MayBecomeRequest}
+use Rattle.httparse.specs.Grammar.{RequestHead, IsRequestHead, print_request, HasNoRequest, NeverHasRequest}
+use Rattle.httparse.specs.Grammar.{MayBecomeRequest}
 use Rattle.httparse.specs.Spans.{IsRequestAt, IsRequestOf, RequestOverflows, RequestExceeds}
 use Rattle.httparse.proofs.GrammarLemmas.{request_unique}
 use Rattle.http_frame.specs.Window.{line_feeds}
-use Rattle.http_frame.proofs.WindowLemmas.{exceeds_lines, from_front, heavy_lines, heavy_none, none_within, overflow_none, request_lines, below_all}
+use Rattle.http_frame.proofs.WindowLemmas.{exceeds_lines, from_front, heavy_lines, heavy_none, none_within}
+use Rattle.http_frame.proofs.WindowLemmas.{overflow_none, request_lines, below_all}
 use Rattle.http_frame.proofs.request_head.read_request.Goals as goal
 
 heavy : (h : RequestHead) → 100 < (λ (h : RequestHead). length h.fields) h → 102 < line_feeds (print_request h)
@@ -18,12 +20,15 @@ returns-then-line_feeds-gt-MOST_LINES c =
     let bytes = c.args.bytes.now in
     let spans = c.in-Ok-Complete.spans in
     let there = rw c.in-Ok-Complete.field-0-is at c.in-Ok-Complete.ensures.complete in
-    let of : IsRequestOf (take 65536 bytes) c.parse_request.new.headers spans = subst (λ ys. IsRequestOf ys c.parse_request.new.headers spans) c.front_of-front.ensures there in
+    let of : IsRequestOf (take 65536 bytes) c.parse_request.new.headers spans =
+    subst (λ ys. IsRequestOf ys c.parse_request.new.headers spans) c.front_of-front.ensures there in
     let all = from_front print_request IsRequestHead 102 bytes of.0 spans.len of.1.len of.1.reads in
     let same = ap (λ ys. line_feeds (take spans.len ys)) c.front_of-front.ensures ∙ ap line_feeds all.2 in
-    let over : 102 < line_feeds (print_request of.0) = omega (arith, c.line_feeds.ensures, same, c.if-line_feeds-gt-MOST_LINES.true) in (
+    let over : 102 < line_feeds (print_request of.0) =
+    omega (arith, c.line_feeds.ensures, same, c.if-line_feeds-gt-MOST_LINES.true) in (
       heavy_lines print_request IsRequestHead 102 bytes of.0 _ of.1.reads over,
-      heavy_none print_request IsRequestHead 102 bytes (λ buf h k r q x y. (request_unique buf h k r q x y).0) of.0 _ of.1.reads over,
+      heavy_none print_request IsRequestHead 102 bytes (λ buf h k r q x y. (request_unique buf h k r q x y).0) of.0 _
+          of.1.reads over,
     )
 
 pub returns-else-line_feeds-gt-MOST_LINES : goal.returns-else-line_feeds-gt-MOST_LINES
@@ -31,22 +36,30 @@ returns-else-line_feeds-gt-MOST_LINES c =
     let bytes = c.args.bytes.now in
     let spans = c.in-Ok-Complete.spans in
     let there = rw c.in-Ok-Complete.field-0-is at c.in-Ok-Complete.ensures.complete in
-    let of : IsRequestOf (take 65536 bytes) c.parse_request.new.headers spans = subst (λ ys. IsRequestOf ys c.parse_request.new.headers spans) c.front_of-front.ensures there in
+    let of : IsRequestOf (take 65536 bytes) c.parse_request.new.headers spans =
+    subst (λ ys. IsRequestOf ys c.parse_request.new.headers spans) c.front_of-front.ensures there in
     let all = from_front print_request IsRequestHead 102 bytes of.0 spans.len of.1.len of.1.reads in
     let same = ap (λ ys. line_feeds (take spans.len ys)) c.front_of-front.ensures ∙ ap line_feeds all.2 in
     let begins : BeginsWith request_form bytes of.0 (drop spans.len bytes) = record {
       reads = all.0;
-      within = record { bytes = all.1; lines = omega (arith, c.line_feeds.ensures, same, c.if-line_feeds-gt-MOST_LINES.false) };
+      within = record {
+        bytes = all.1;
+        lines = omega (arith, c.line_feeds.ensures, same, c.if-line_feeds-gt-MOST_LINES.false);
+      };
     } in
-    let at : IsRequestAt c.front_of-front.result.now c.parse_request.new.headers spans of.0 = subst (λ ys. IsRequestAt ys c.parse_request.new.headers spans of.0) (sym c.front_of-front.ensures) of.1 in
+    let at : IsRequestAt c.front_of-front.result.now c.parse_request.new.headers spans of.0 =
+    subst (λ ys. IsRequestAt ys c.parse_request.new.headers spans of.0) (sym c.front_of-front.ensures) of.1 in
     IfOk-weaker c.request_step.result _ (HeadCause request_form bytes)
-    (λ step says. says_cause request_form request_form_gives bytes of.0 spans.len step begins of.1.len (says of.0 at)) c.request_step.ensures
+    (λ step says. says_cause request_form request_form_gives bytes of.0 spans.len step begins of.1.len (says of.0 at))
+    c.request_step.ensures
 
 pub returns-in-Some : goal.returns-in-Some
 returns-in-Some c =
     let bytes = c.args.bytes.now in
-    let n = subst HasNoRequest c.front_of-front.ensures (rw c.in-Ok-Partial.field-0-is at c.in-Ok-Partial.ensures.partial) in
-    limit_fault request_form bytes c.in-Some.error (rw c.in-Some.is at c.limit_of.ensures) (none_within print_request IsRequestHead 102 bytes n)
+    let n = subst HasNoRequest c.front_of-front.ensures
+    (rw c.in-Ok-Partial.field-0-is at c.in-Ok-Partial.ensures.partial) in
+    limit_fault request_form bytes c.in-Some.error (rw c.in-Some.is at c.limit_of.ensures)
+    (none_within print_request IsRequestHead 102 bytes n)
 
 pub returns-in-None : goal.returns-in-None
 returns-in-None c =
@@ -62,8 +75,10 @@ returns-in-Err-TooManyHeaders c =
     let bytes = c.args.bytes.now in
     let e = c.in-Err-TooManyHeaders.ensures in
     let over = subst (RequestOverflows 100) c.front_of-front.ensures e.no_room in
-    let o = subst (RequestExceeds 100) c.front_of-front.ensures (e.too_many (ap Err c.in-Err-TooManyHeaders.field-0-is)) in (
-      exceeds_lines print_request IsRequestHead 102 bytes (λ (h : RequestHead). length h.fields) 100 heavy o.0 o.1 o.2 o.3 o.4 o.5,
+    let o = subst (RequestExceeds 100) c.front_of-front.ensures
+    (e.too_many (ap Err c.in-Err-TooManyHeaders.field-0-is)) in (
+      exceeds_lines print_request IsRequestHead 102 bytes (λ (h : RequestHead). length h.fields) 100 heavy o.0 o.1 o.2
+          o.3 o.4 o.5,
       overflow_none print_request IsRequestHead 102 bytes (λ (h : RequestHead). length h.fields) 100 heavy over,
     )
 

@@ -10,4 +10,5 @@ add-requires c =
     let same = c.entries-entries.ensures.entries in
     let i = c.loop-entry.entry-index in
     subst (λ (es : List Entry). IsEntry (get_or es i (Arrival 0 0))) (sym same)
-    (entry_in_log c.args.log.now.entries i (Arrival 0 0) c.entries-entries.ensures.order (subst (λ (es : List Entry). i < length es) same c.loop-entry-test.true))
+    (entry_in_log c.args.log.now.entries i (Arrival 0 0) c.entries-entries.ensures.order
+    (subst (λ (es : List Entry). i < length es) same c.loop-entry-test.true))

@@ -10,19 +10,22 @@ loop-t-preserved g c =
     let rate = c.args.rate.billionths in
     let n = c.loop-t.t-index in
     let draws = c.loop-t.invariant.draws in
-    let here : g.W.Words.word c.loop-t.words 0 ≡ word n = draws.next 0 ∙ ap word (let e : n + 0 ≡ n = omega arith in e) in
+    let here : g.W.Words.word c.loop-t.words 0 ≡ word n = draws.next 0
+    ∙ ap word (let e : n + 0 ≡ n = omega arith in e) in
     elim c.if-drops.branch [
       | then-drops w ↦
           let test : drops rate (g.W.Words.word c.loop-t.words 0) ≡ true = search rules in
           record {
-            draws = one_lost rate word _ _ _ n c.t-item.result _ _ _ _ (omega arith) c.t-item.is draws c.next-word.ensures.after (ap (drops rate) (sym here) ∙ test) (search rules) (search rules);
+            draws = one_lost rate word _ _ _ n c.t-item.result _ _ _ _ (omega arith) c.t-item.is draws
+                c.next-word.ensures.after (ap (drops rate) (sym here) ∙ test) (search rules) (search rules);
             departed_room = search rules;
             lost_room = search rules;
           }
       | else-drops w ↦
           let test : drops rate (g.W.Words.word c.loop-t.words 0) ≡ false = search rules in
           record {
-            draws = one_passes rate word _ _ _ n c.t-item.result _ _ _ _ (omega arith) c.t-item.is draws c.next-word.ensures.after (ap (drops rate) (sym here) ∙ test) (search rules) (search rules);
+            draws = one_passes rate word _ _ _ n c.t-item.result _ _ _ _ (omega arith) c.t-item.is draws
+                c.next-word.ensures.after (ap (drops rate) (sym here) ∙ test) (search rules) (search rules);
             departed_room = search rules;
             lost_room = search rules;
           }

@@ -17,13 +17,16 @@ by_end : End → Carried
 by_end e = carried e.flow e.items
 
 -- what was sent is what was received and what the channel held at the end
-told : (c : goal.After-drop-end) → (items : List Item) × (by_end c.args.sender ≡ carrying_all (by_end c.args.receiver) items) × AllFollow c.args.sender.horizon c.args.receiver.flow items
+told : (c : goal.After-drop-end) → (items : List Item)
+    × (by_end c.args.sender ≡ carrying_all (by_end c.args.receiver) items)
+    × AllFollow c.args.sender.horizon c.args.receiver.flow items
 unfolding by_end
 told c =
     let r = c.learn_as.ensures.rule in
     let is : Settles (settling c.args.sender.horizon (by_end c.args.sender) (by_end c.args.receiver)) r.0 =
     subst (λ (v : View). Settles v r.0)
-    (c.absorb.ensures.rule ∙ (λ k. settling (c.sender.view_is k).horizon (by_end (c.sender.view_is k)) (by_end (c.receiver.view_is k)))) r.1 in
+    (c.absorb.ensures.rule ∙ (λ k. settling (c.sender.view_is k).horizon (by_end (c.sender.view_is k))
+    (by_end (c.receiver.view_is k)))) r.1 in
     (r.0, is.0, is.1)
 
 pub returns-clause-prefix : goal.returns-clause-prefix

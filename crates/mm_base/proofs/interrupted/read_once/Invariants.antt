@@ -4,4 +4,5 @@ use Rattle.std.specs.Io.KnownBytes.{Keeps}
 use Rattle.mm_base.proofs.interrupted.read_once.Given as goal
 
 abbrev pub invariant-calls : goal.invariant-calls
-invariant-calls g l = (length l.buf ≡ length l.initial.buf) × Keeps (g.R.Read.remaining l.initial.reader) (g.R.Read.remaining l.reader)
+invariant-calls g l = (length l.buf ≡ length l.initial.buf)
+    × Keeps (g.R.Read.remaining l.initial.reader) (g.R.Read.remaining l.reader)

@@ -6,7 +6,8 @@ use Rattle.mm_base.proofs.line_texts.append_lines.Given as goal
 
 abbrev pub invariant-pieces : goal.invariant-pieces
 invariant-pieces g l = record {
-  so_far : (front : List ℕ) × (front ++ flat_map g.T.PrintLine.line l.left ≡ flat_map g.T.PrintLine.line l.items) × ((g.D.Disk.view l.disk).files ≡ lengthened l.name front (g.D.Disk.view l.fn.disk).files);
+  so_far : (front : List ℕ) × (front ++ flat_map g.T.PrintLine.line l.left ≡ flat_map g.T.PrintLine.line l.items)
+      × ((g.D.Disk.view l.disk).files ≡ lengthened l.name front (g.D.Disk.view l.fn.disk).files);
   only_writes : OnlyWrites (g.D.Disk.view l.fn.disk) (g.D.Disk.view l.disk);
 }
 

@@ -20,6 +20,7 @@ returns-clause-err g c =
       length c.args.first.now + part.0,
       omega (arith, part.1, length-append c.args.first.now lines),
       holding-lengthened _ _ _ _ c.args.first.now _ c.in_ok-save.ensures.ok part.2
-          ∙ ap (λ l. holding c.args.name.now l (g.D.Disk.view c.args.disk.now).files) (sym (take-append-add c.args.first.now lines part.0)),
+          ∙ ap (λ l. holding c.args.name.now l (g.D.Disk.view c.args.disk.now).files)
+          (sym (take-append-add c.args.first.now lines part.0)),
     ))
     c.append_lines.ensures.err

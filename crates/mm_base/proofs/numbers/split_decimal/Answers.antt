@@ -1,8 +1,10 @@
-use Rattle.std.proofs.Common.{◌≡◌, ◌-◌, ◌<◌, ℕ, ◌++◌, List, Some, false, length, take, drop, get_or, subst, sym, ◌∙◌, arith, rules, length-drop}
+use Rattle.std.proofs.Common.{◌≡◌, ◌-◌, ◌<◌, ℕ, ◌++◌, List, Some, false, length, take, drop, get_or, subst, sym, ◌∙◌}
+use Rattle.std.proofs.Common.{arith, rules, length-drop}
 use Rattle.std.proofs.lemmas.List.{take_all}
 use Rattle.mm_base.specs.Numbers.{is_digit, decimal_of}
 use Rattle.mm_base.proofs.SplitLemmas.{front_read, front_every}
-use Rattle.mm_base.proofs.numbers.split_decimal.Goals.{then-loop-count-test+then-count-lt10+else-is_digit, then-loop-count-test+else-count-lt10, else-loop-count-test}
+use Rattle.mm_base.proofs.numbers.split_decimal.Goals.{then-loop-count-test+then-count-lt10+else-is_digit}
+use Rattle.mm_base.proofs.numbers.split_decimal.Goals.{then-loop-count-test+else-count-lt10, else-loop-count-test}
 use Rattle.mm_base.proofs.numbers.split_decimal.Goals as goal
 
 pub returns-clause-read : goal.returns-clause-read
@@ -10,7 +12,8 @@ returns-clause-read c =
     let text = c.args.text.now in
     let k = c.loop-count.count in
     let inv = c.loop-count.invariant in
-    let rest : take (length text - k) (drop k text) ≡ drop k text = take_all (length text - k) (drop k text) (omega (arith, length-drop k text)) in
+    let rest : take (length text - k) (drop k text) ≡ drop k text = take_all (length text - k) (drop k text)
+    (omega (arith, length-drop k text)) in
     subst (λ l. (word : List ℕ) × (text ≡ word ++ l) × (decimal_of word ≡ Some c.loop-count.value)) (sym rest)
     (front_read text c.loop-count.value k (omega (arith, c.if-count-eq0.false)) inv.few inv.within inv.digits inv.value)
 
@@ -19,7 +22,8 @@ returns-clause-every c =
     let text = c.args.text.now in
     let k = c.loop-count.count in
     let inv = c.loop-count.invariant in
-    let whole : take (length text - k) (drop k text) ≡ drop k text = take_all (length text - k) (drop k text) (omega (arith, length-drop k text)) in
+    let whole : take (length text - k) (drop k text) ≡ drop k text = take_all (length text - k) (drop k text)
+    (omega (arith, length-drop k text)) in
     let stops : k < length text → k < 10 → is_digit (get_or text k 0) ≡ false = elim c.loop-count-test.branch [
       | then-loop-count-test+then-count-lt10+else-is_digit w ↦ λ within few. search rules
       | then-loop-count-test+else-count-lt10 w ↦ λ within few. absurd (omega (arith, w.if-count-lt10.false))

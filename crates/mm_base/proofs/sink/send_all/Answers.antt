@@ -8,8 +8,15 @@ use Rattle.mm_base.proofs.sink.send_all.Goals as goal
 
 pub loop-at-preserved : goal.loop-at-preserved
 loop-at-preserved g c = record {
-  within = let bs = c.args.bytes.now in omega (arith, c.in_ok-at.ensures.within, length-take (length bs - c.loop-at.at) (drop c.loop-at.at bs), length-drop c.loop-at.at bs);
+  within = let bs = c.args.bytes.now
+      in omega (
+        arith,
+        c.in_ok-at.ensures.within,
+        length-take (length bs - c.loop-at.at) (drop c.loop-at.at bs),
+        length-drop c.loop-at.at bs,
+      );
   so_far = sent_more _ _ _ _ _ c.loop-at.invariant.so_far c.in_ok-at.ensures.ok
-      ∙ ap (λ l. sending l (g.O.Sink.view c.args.out.now).written) (next_piece c.args.bytes.now c.loop-at.at c.in_ok-at.field-0);
+      ∙ ap (λ l. sending l (g.O.Sink.view c.args.out.now).written)
+      (next_piece c.args.bytes.now c.loop-at.at c.in_ok-at.field-0);
   counts = CountsFaults-then c.loop-at.invariant.counts c.write.ensures.counts;
 }

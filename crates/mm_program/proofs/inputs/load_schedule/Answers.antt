@@ -21,7 +21,8 @@ returns-in_err-text-clause-stopped g c =
 pub returns-clause-found : goal.returns-clause-found
 returns-clause-found g c =
     let read = c.in_ok-text.ensures.read in
-    schedule_found (g.D.Disk.view c.args.disk.now).files c.args.name.now read.0 c.schedule_of.result read.1 (c.schedule_of.ensures.rows read.0 read.2) (c.schedule_of.ensures.refused read.0 read.2)
+    schedule_found (g.D.Disk.view c.args.disk.now).files c.args.name.now read.0 c.schedule_of.result read.1
+    (c.schedule_of.ensures.rows read.0 read.2) (c.schedule_of.ensures.refused read.0 read.2)
 
 pub returns-clause-stopped : goal.returns-clause-stopped
 returns-clause-stopped g c =
@@ -29,5 +30,6 @@ returns-clause-stopped g c =
     let old = g.D.Disk.view c.args.disk.now in
     let new = g.D.Disk.view c.read_schedule_file.new.disk in
     let read = c.in_ok-text.ensures.read in
-    text_stopped Task old new (schedule_refusal name) name read.0 c.schedule_of.result read.1 (λ refusal e. (schedule_text name read.0 refusal e).not_absent)
+    text_stopped Task old new (schedule_refusal name) name read.0 c.schedule_of.result read.1
+    (λ refusal e. (schedule_text name read.0 refusal e).not_absent)
     (c.schedule_of.ensures.refused read.0 read.2)

@@ -11,7 +11,8 @@ use Rattle.mm_program.proofs.inputs.load_trace.Goals as goal
 
 pub returns-clause-found : goal.returns-clause-found
 returns-clause-found g c =
-    trace_found (g.D.Disk.view c.args.disk.now).files c.args.name.now c.in_ok-bytes.bytes c.as_slice.result.now c.trace_of.result c.as_slice.ensures c.in_ok-bytes.ensures.input
+    trace_found (g.D.Disk.view c.args.disk.now).files c.args.name.now c.in_ok-bytes.bytes c.as_slice.result.now
+    c.trace_of.result c.as_slice.ensures c.in_ok-bytes.ensures.input
     c.trace_of.ensures.trace c.trace_of.ensures.refused
 
 pub returns-in_err-bytes-clause-stopped : goal.returns-in_err-bytes-clause-stopped
@@ -28,5 +29,6 @@ returns-clause-stopped g c =
     let name = c.args.name.now in
     let old = g.D.Disk.view c.args.disk.now in
     let new = g.D.Disk.view c.read_input.new.disk in
-    text_stopped Task old new (trace_refusal name) name c.in_ok-bytes.bytes c.trace_of.result c.in_ok-bytes.ensures.input (λ refusal e. (trace_text name c.in_ok-bytes.bytes refusal e).not_absent)
+    text_stopped Task old new (trace_refusal name) name c.in_ok-bytes.bytes c.trace_of.result
+    c.in_ok-bytes.ensures.input (λ refusal e. (trace_text name c.in_ok-bytes.bytes refusal e).not_absent)
     (rw c.as_slice.ensures at c.trace_of.ensures.refused)

@@ -14,7 +14,11 @@ use Rattle.mm_program.proofs.inputs.load_traces.Goals as goal
 
 pub loop-name-init : goal.loop-name-init
 loop-name-init g c = record {
-  so_far = ([], subst (λ (traces : List TraceView). HaveTraces (g.D.Disk.view c.args.disk.now).files [] [] traces) (sym c.new-traces.ensures.items) NoTraces);
+  so_far = (
+    [],
+    subst (λ (traces : List TraceView). HaveTraces (g.D.Disk.view c.args.disk.now).files [] [] traces)
+        (sym c.new-traces.ensures.items) NoTraces,
+  );
   only_reads = reads_none (g.D.Disk.view c.args.disk.now);
 }
 
@@ -26,7 +30,8 @@ returns-in_err-trace-clause-stopped g c =
     let new = g.D.Disk.view c.load_trace.new.disk in
     let have = c.loop-name.invariant.so_far in
     rw p.1 (λ next. subst (λ (k : Cause). StopsReading (reading_traces c.args.names.now next) old new k) (sym p.2)
-    (traces_stop c.args.names.now c.loop-name.name-index c.name-item.result c.as_str.result.now old mid new have.0 c.loop-name.traces.items _ c.loop-name-test.true c.name-item.is c.as_str.ensures
+    (traces_stop c.args.names.now c.loop-name.name-index c.name-item.result c.as_str.result.now old mid new have.0
+    c.loop-name.traces.items _ c.loop-name-test.true c.name-item.is c.as_str.ensures
     have.1 c.loop-name.invariant.only_reads c.in_err-trace.ensures.stopped next))
 
 pub returns-in_err-push-clause-stopped : goal.returns-in_err-push-clause-stopped
@@ -37,8 +42,10 @@ returns-in_err-push-clause-stopped g c =
 pub loop-name-preserved : goal.loop-name-preserved
 loop-name-preserved g c =
     let have = c.loop-name.invariant.so_far in record {
-      so_far = have_more (g.D.Disk.view c.args.disk.now).files (g.D.Disk.view c.loop-name.disk).files c.args.names.now c.loop-name.name-index c.name-item.result c.as_str.result.now have.0
-          c.loop-name.traces.items c.push.new.self.items c.in_ok-trace.trace c.loop-name-test.true c.name-item.is c.as_str.ensures have.1 c.loop-name.invariant.only_reads.same_files
+      so_far = have_more (g.D.Disk.view c.args.disk.now).files (g.D.Disk.view c.loop-name.disk).files c.args.names.now
+          c.loop-name.name-index c.name-item.result c.as_str.result.now have.0
+          c.loop-name.traces.items c.push.new.self.items c.in_ok-trace.trace c.loop-name-test.true c.name-item.is
+          c.as_str.ensures have.1 c.loop-name.invariant.only_reads.same_files
           c.in_ok-trace.ensures.found c.in_ok-push.ensures.items;
       only_reads = OnlyReads-then c.loop-name.invariant.only_reads c.load_trace.ensures.only_reads;
     }
@@ -46,11 +53,15 @@ loop-name-preserved g c =
 pub returns-clause-found : goal.returns-clause-found
 returns-clause-found g c =
     let have = c.loop-name.invariant.so_far in
-    let all = take_all c.loop-name.name-index c.args.names.now (omega arith) in
-    (have.0, subst (λ (l : List Text). HaveTraces (g.D.Disk.view c.args.disk.now).files l have.0 c.loop-name.traces.items) all have.1)
+    let all = take_all c.loop-name.name-index c.args.names.now (omega arith) in (
+      have.0,
+      subst (λ (l : List Text). HaveTraces (g.D.Disk.view c.args.disk.now).files l have.0
+          c.loop-name.traces.items) all have.1,
+    )
 
 pub returns-clause-count : goal.returns-clause-count
 returns-clause-count g c =
     let have = c.loop-name.invariant.so_far in
     let all = take_all c.loop-name.name-index c.args.names.now (omega arith) in
-    have_count (subst (λ (l : List Text). HaveTraces (g.D.Disk.view c.args.disk.now).files l have.0 c.loop-name.traces.items) all have.1)
+    have_count (subst (λ (l : List Text). HaveTraces (g.D.Disk.view c.args.disk.now).files l have.0
+    c.loop-name.traces.items) all have.1)

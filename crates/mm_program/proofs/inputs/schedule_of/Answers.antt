@@ -10,4 +10,5 @@ returns-in-Ok-clause-refused c = λ bytes has. schedule_accepted c.args.name.now
 
 pub returns-in_ok-from_text-in-Err-clause-refused : goal.returns-in_ok-from_text-in-Err-clause-refused
 returns-in_ok-from_text-in-Err-clause-refused c = λ bytes has.
-    subst (λ (name : Text). RefusesText (schedule_refusal name bytes) c.schedule_cause.result) c.in_ok-from_text-in-Err.ensures (c.schedule_cause.ensures bytes (c.in-Err.ensures.exact bytes has))
+    subst (λ (name : Text). RefusesText (schedule_refusal name bytes) c.schedule_cause.result)
+    c.in_ok-from_text-in-Err.ensures (c.schedule_cause.ensures bytes (c.in-Err.ensures.exact bytes has))

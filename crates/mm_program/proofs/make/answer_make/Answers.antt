@@ -15,12 +15,15 @@ use Rattle.mm_program.proofs.make.answer_make.Goals as goal
 
 pub returns-in-Some-clause-ends : goal.returns-in-Some-clause-ends
 returns-in-Some-clause-ends g c = λ disk.
-    ends_asked (make_job_of (map string_bytes c.args.words.now)) (make_values c.in-Some.job) make_reading (outside disk (g.O.Sink.view c.args.out.now)) (outside disk (g.O.Sink.view c.make.new.out))
-    (cause_in c.make.result) (ap (λ (o : Option MakeJob). option_map make_values o) (sym c.in-Some.is) ∙ c.in_ok-job.ensures) (c.make.ensures.ends disk)
+    ends_asked (make_job_of (map string_bytes c.args.words.now)) (make_values c.in-Some.job) make_reading
+    (outside disk (g.O.Sink.view c.args.out.now)) (outside disk (g.O.Sink.view c.make.new.out))
+    (cause_in c.make.result) (ap (λ (o : Option MakeJob). option_map make_values o) (sym c.in-Some.is)
+    ∙ c.in_ok-job.ensures) (c.make.ensures.ends disk)
 
 pub returns-in-None-clause-ends : goal.returns-in-None-clause-ends
 returns-in-None-clause-ends g c = λ disk.
-    ends_unasked (make_job_of (map string_bytes c.args.words.now)) make_reading (outside disk (g.O.Sink.view c.args.out.now)) c.usage.result
+    ends_unasked (make_job_of (map string_bytes c.args.words.now)) make_reading
+    (outside disk (g.O.Sink.view c.args.out.now)) c.usage.result
     (ap (λ (o : Option MakeJob). option_map make_values o) (sym c.in-None.is) ∙ c.in_ok-job.ensures) c.usage.ensures
 
 pub returns-in_err-job-clause-ends : goal.returns-in_err-job-clause-ends
@@ -28,4 +31,5 @@ returns-in_err-job-clause-ends g c = λ disk.
     let p = err_from_is_err_and c.from_residual.result c.from_residual.ensures.1 in
     let reading = make_words (map string_bytes c.args.words.now) in
     let out = g.O.Sink.view c.args.out.now in
-    rw p.1 (subst (λ (k : Cause). Ends Gives reading (outside disk out) (outside disk out) (Some k)) (sym p.2) (ends_early Gives reading disk disk out (keeps_all disk)))
+    rw p.1 (subst (λ (k : Cause). Ends Gives reading (outside disk out) (outside disk out) (Some k)) (sym p.2)
+    (ends_early Gives reading disk disk out (keeps_all disk)))

@@ -15,13 +15,17 @@ returns-in_err-summary-clause-ends g c = λ disk.
     let p = err_from_is_err_and c.from_residual.result c.from_residual.ensures.1 in
     let reading = make_reading (make_values c.args.job.now) in
     let out = g.O.Sink.view c.args.out.now in
-    rw p.1 (subst (λ (k : Cause). Ends Gives reading (outside disk out) (outside disk out) (Some k)) (sym p.2) (ends_early Gives reading disk disk out (keeps_all disk)))
+    rw p.1 (subst (λ (k : Cause). Ends Gives reading (outside disk out) (outside disk out) (Some k)) (sym p.2)
+    (ends_early Gives reading disk disk out (keeps_all disk)))
 
 pub returns-clause-ends : goal.returns-clause-ends
 returns-clause-ends g c = λ disk.
     let job = make_values c.args.job.now in
     let reading = make_reading job in
     let text = c.as_slice.result.now in
-    let is = subst (λ (t : List ℕ). IsSummary job.number job.packets t) (sym c.as_slice.ensures) c.in_ok-summary.ensures in
-    ends_printed Gives reading (outside disk (g.O.Sink.view c.args.out.now)) (outside disk (g.O.Sink.view c.print.new.out)) text c.print.result
-    (record { task = Make job; read = Stays reading; gives = record { text = text; is = is; output_is = refl } }) (keeps_all disk) c.print.ensures.ok c.print.ensures.stopped
+    let is = subst (λ (t : List ℕ). IsSummary job.number job.packets t) (sym c.as_slice.ensures)
+    c.in_ok-summary.ensures in
+    ends_printed Gives reading (outside disk (g.O.Sink.view c.args.out.now))
+    (outside disk (g.O.Sink.view c.print.new.out)) text c.print.result
+    (record { task = Make job; read = Stays reading; gives = record { text = text; is = is; output_is = refl } })
+    (keeps_all disk) c.print.ensures.ok c.print.ensures.stopped

@@ -16,13 +16,16 @@ use Rattle.mm_program.proofs.report.answer_report.Goals as goal
 
 pub returns-in-Some-clause-ends : goal.returns-in-Some-clause-ends
 returns-in-Some-clause-ends g c =
-    ends_asked (report_job_of (map string_bytes c.args.words.now)) (report_values c.in-Some.job) report_reading (outside (g.D.Disk.view c.args.disk.now) (g.O.Sink.view c.args.out.now))
+    ends_asked (report_job_of (map string_bytes c.args.words.now)) (report_values c.in-Some.job) report_reading
+    (outside (g.D.Disk.view c.args.disk.now) (g.O.Sink.view c.args.out.now))
     (outside (g.D.Disk.view c.report.new.disk) (g.O.Sink.view c.report.new.out)) (cause_in c.report.result)
-    (ap (λ (o : Option ReportJob). option_map report_values o) (sym c.in-Some.is) ∙ c.in_ok-job.ensures) c.report.ensures.ends
+    (ap (λ (o : Option ReportJob). option_map report_values o) (sym c.in-Some.is) ∙ c.in_ok-job.ensures)
+    c.report.ensures.ends
 
 pub returns-in-None-clause-ends : goal.returns-in-None-clause-ends
 returns-in-None-clause-ends g c =
-    ends_unasked (report_job_of (map string_bytes c.args.words.now)) report_reading (outside (g.D.Disk.view c.args.disk.now) (g.O.Sink.view c.args.out.now)) c.usage.result
+    ends_unasked (report_job_of (map string_bytes c.args.words.now)) report_reading
+    (outside (g.D.Disk.view c.args.disk.now) (g.O.Sink.view c.args.out.now)) c.usage.result
     (ap (λ (o : Option ReportJob). option_map report_values o) (sym c.in-None.is) ∙ c.in_ok-job.ensures) c.usage.ensures
 
 pub returns-in_err-job-clause-ends : goal.returns-in_err-job-clause-ends
@@ -31,4 +34,5 @@ returns-in_err-job-clause-ends g c =
     let reading = report_words (map string_bytes c.args.words.now) in
     let disk = g.D.Disk.view c.args.disk.now in
     let out = g.O.Sink.view c.args.out.now in
-    rw p.1 (subst (λ (k : Cause). Ends Gives reading (outside disk out) (outside disk out) (Some k)) (sym p.2) (ends_early Gives reading disk disk out (keeps_all disk)))
+    rw p.1 (subst (λ (k : Cause). Ends Gives reading (outside disk out) (outside disk out) (Some k)) (sym p.2)
+    (ends_early Gives reading disk disk out (keeps_all disk)))

@@ -27,7 +27,8 @@ returns-in_err-run-clause-ends g c = λ out.
     let new = g.D.Disk.view c.run_packets.new.disk in
     rw p.1 (subst (λ (k : Cause). Ends Gives (run_reading job) (outside old out) (outside new out) (Some k)) (sym p.2)
     (ends_stopped Gives (run_reading job) old new out _ (keeps c.run_packets.ensures.only_reads)
-    (stops_later (run_reading job) (run_inputs job c.in_ok-words.words) old old new _ (c.in_ok-words.ensures.read old) (reads_none old) c.in_err-run.ensures.stopped)))
+    (stops_later (run_reading job) (run_inputs job c.in_ok-words.words) old old new _ (c.in_ok-words.ensures.read old)
+    (reads_none old) c.in_err-run.ensures.stopped)))
 
 pub returns-clause-ends : goal.returns-clause-ends
 returns-clause-ends g c = λ out.
@@ -36,4 +37,5 @@ returns-clause-ends g c = λ out.
     let mid = g.D.Disk.view c.run_packets.new.disk in
     let new = g.D.Disk.view c.write_files.new.disk in
     ends_written Gives (run_reading job) old mid new out (run_files job.out c.in_ok-run.run') c.write_files.result
-    (finishes_later (c.in_ok-words.ensures.read old) c.in_ok-run.ensures.found) c.run_packets.ensures.only_reads c.write_files.ensures.ok c.write_files.ensures.stopped
+    (finishes_later (c.in_ok-words.ensures.read old) c.in_ok-run.ensures.found) c.run_packets.ensures.only_reads
+    c.write_files.ensures.ok c.write_files.ensures.stopped

@@ -6,7 +6,8 @@ use Rattle.mm_program.proofs.run_files.save_log.Given as goal
 
 abbrev pub invariant-pieces : goal.invariant-pieces
 invariant-pieces g l = record {
-  so_far : (front : List ℕ) × (front ++ lines_text l.pieces.rest ≡ log_text l.fn.log) × ((g.D.Disk.view l.disk).files ≡ holding l.name front (g.D.Disk.view l.fn.disk).files);
+  so_far : (front : List ℕ) × (front ++ lines_text l.pieces.rest ≡ log_text l.fn.log)
+      × ((g.D.Disk.view l.disk).files ≡ holding l.name front (g.D.Disk.view l.fn.disk).files);
   only_writes : OnlyWrites (g.D.Disk.view l.fn.disk) (g.D.Disk.view l.disk);
 }
 

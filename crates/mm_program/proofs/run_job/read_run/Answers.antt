@@ -29,4 +29,5 @@ returns-in-None c =
     ∙ sym (run_parts string_bytes words place (sym c.in-Some.ensures.place))
 
 pub returns-in_default : goal.returns-in_default
-returns-in_default c = sym (no_parts string_bytes c.args.words.now (sym c.end_of_options.ensures.place ∙ c.in_default.is))
+returns-in_default c = sym (no_parts string_bytes c.args.words.now (sym c.end_of_options.ensures.place
+    ∙ c.in_default.is))

@@ -15,14 +15,17 @@ use Rattle.nest_plain.specs.Unwritten.{unwritten}
 use Rattle.nest_plain.proofs.plain.run_nest.Goals as goal
 
 pub run_direction-requires : goal.run_direction-requires
-run_direction-requires c = subst (Rises 0) (sym c.rows-rows.ensures.rows) (rises-in_order 1 0 c.args.schedule.now c.rows-rows.ensures.schedule.order)
+run_direction-requires c = subst (Rises 0) (sym c.rows-rows.ensures.rows)
+    (rises-in_order 1 0 c.args.schedule.now c.rows-rows.ensures.schedule.order)
 
 pub run_direction-requires-2 : goal.run_direction-requires-2
-run_direction-requires-2 c = subst (Rises 0) (sym c.rows-rows.ensures.rows) (rises-in_order 1 0 c.args.schedule.now c.rows-rows.ensures.schedule.order)
+run_direction-requires-2 c = subst (Rises 0) (sym c.rows-rows.ensures.rows)
+    (rises-in_order 1 0 c.args.schedule.now c.rows-rows.ensures.schedule.order)
 
 pub in_nest_order-requires : goal.in_nest_order-requires
 in_nest_order-requires c =
-    same_long c.args.nest.now c.rows-rows.result.now (λ (entries : List Entry). entries) c.in_ok-up.up.items c.in_ok-down.down.items c.in_ok-up.ensures.logs c.in_ok-down.ensures.logs
+    same_long c.args.nest.now c.rows-rows.result.now (λ (entries : List Entry). entries) c.in_ok-up.up.items
+    c.in_ok-down.down.items c.in_ok-up.ensures.logs c.in_ok-down.ensures.logs
 
 pub returns-clause-value : goal.returns-clause-value
 returns-clause-value c =
@@ -33,11 +36,14 @@ returns-clause-value c =
     let down = c.in_ok-down.ensures in
     c.new.ensures
     ∙ ap (λ f. run_lists f (unwritten c.in_ok-logs.logs.items)) c.into_rows.ensures
-    ∙ result_is nest rows (λ (entries : List Entry). entries) c.in_ok-marking.marking c.run_direction.new.marking c.run_direction-2.new.marking c.in_ok-up.up.items c.in_ok-down.down.items c.in_ok-logs.logs.items
-    (apart rows (subst (λ (l : List Row). AreInOrder 1 0 l) (sym is) c.rows-rows.ensures.schedule.order)) (c.in_ok-marking.ensures ∙ ap (λ l. marks l (fated (λ _. Unsent) l)) (sym is))
+    ∙ result_is nest rows (λ (entries : List Entry). entries) c.in_ok-marking.marking c.run_direction.new.marking
+    c.run_direction-2.new.marking c.in_ok-up.up.items c.in_ok-down.down.items c.in_ok-logs.logs.items
+    (apart rows (subst (λ (l : List Row). AreInOrder 1 0 l) (sym is) c.rows-rows.ensures.schedule.order))
+    (c.in_ok-marking.ensures ∙ ap (λ l. marks l (fated (λ _. Unsent) l)) (sym is))
     (record { same = up.rows; fates = up.fates; named = up.logs; built = up.built })
     (record { same = down.rows; fates = down.fates; named = down.logs; built = down.built }) c.in_ok-logs.ensures
     ∙ ap (result_of nest) is
 
 pub returns-clause-once : goal.returns-clause-once
-returns-clause-once c = one_fate c.args.nest.now c.args.schedule.now (apart c.args.schedule.now c.rows-rows.ensures.schedule.order) c.in_ok-up.ensures.built c.in_ok-down.ensures.built
+returns-clause-once c = one_fate c.args.nest.now c.args.schedule.now
+    (apart c.args.schedule.now c.rows-rows.ensures.schedule.order) c.in_ok-up.ensures.built c.in_ok-down.ensures.built

@@ -21,8 +21,10 @@ run_shells-requires t c =
           (
             c.requires.horizon,
             (
-              departed_rise shell.spec a.horizon a.arrived.items c.in_ok-departed.departed.items went.built went.departed c.requires.rises,
-              departed_within shell.spec a.horizon a.arrived.items c.in_ok-departed.departed.items went.built went.departed c.requires.within,
+              departed_rise shell.spec a.horizon a.arrived.items c.in_ok-departed.departed.items went.built
+                  went.departed c.requires.rises,
+              departed_within shell.spec a.horizon a.arrived.items c.in_ok-departed.departed.items went.built
+                  went.departed c.requires.within,
             ),
           ),
         ),

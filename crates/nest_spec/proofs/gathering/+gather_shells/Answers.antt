@@ -17,13 +17,17 @@ returns-clause-fates t c =
     let shells_are = c.in-Some.ensures.cases.0 in
     let first = rw c.unwrap.ensures at c.split_first-2.ensures.cases in
     let state = c.unwrap.result.0.now in
-    let run = first_has_run h (specs_in a.shells.now) (specs_in rest) shell.spec a.arrived.now a.states.now c.unwrap.result.1.now state (ap specs_in shells_are) first.0 c.requires.passed c.stands.ensures.stands in
+    let run = first_has_run h (specs_in a.shells.now) (specs_in rest) shell.spec a.arrived.now a.states.now
+    c.unwrap.result.1.now state (ap specs_in shells_are) first.0 c.requires.passed c.stands.ensures.stands in
     let departed = c.packets.ensures ∙ ap (λ s. s.packets) c.taken.ensures ∙ run.departed in
     let lost = c.lost.ensures ∙ run.dropped in
     let held = c.as_slice.ensures.value ∙ c.in_ok-held.ensures ∙ ap ids_of run.held in
     on_ok_weaker c.gather_shells.result
     (λ later f e.
-    later (passed shell.number c.lost.result.now c.as_slice.result.now f) (c.pass.ensures.fates f e ∙ ap (fated (passed shell.number c.lost.result.now c.as_slice.result.now f)) (sym c.pass.ensures.rows))
-    ∙ ap (fated (marked_through h rest c.packets.result.now (passed shell.number c.lost.result.now c.as_slice.result.now f))) c.pass.ensures.rows
-    ∙ ap (λ g. fated g rows) (one_step h shell.number a.shells.now rest shell a.arrived.now c.packets.result.now c.lost.result.now c.as_slice.result.now f shells_are refl departed lost held))
+    later (passed shell.number c.lost.result.now c.as_slice.result.now f) (c.pass.ensures.fates f e
+    ∙ ap (fated (passed shell.number c.lost.result.now c.as_slice.result.now f)) (sym c.pass.ensures.rows))
+    ∙ ap (fated (marked_through h rest c.packets.result.now
+    (passed shell.number c.lost.result.now c.as_slice.result.now f))) c.pass.ensures.rows
+    ∙ ap (λ g. fated g rows) (one_step h shell.number a.shells.now rest shell a.arrived.now c.packets.result.now
+    c.lost.result.now c.as_slice.result.now f shells_are refl departed lost held))
     c.gather_shells.ensures.fates

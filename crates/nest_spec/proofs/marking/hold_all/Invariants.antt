@@ -9,7 +9,8 @@ abbrev pub invariant-ids : goal.invariant-ids
 invariant-ids l = record {
   left : l.left ≤ length l.ids;
   long : length l.list.items ≡ length l.rows;
-  fates : (f : Row → Fate) → l.fn.list.items ≡ fated f l.rows → l.list.items ≡ fated (held_in (drop l.left l.ids) l.shell f) l.rows;
+  fates : (f : Row → Fate) → l.fn.list.items ≡ fated f l.rows
+      → l.list.items ≡ fated (held_in (drop l.left l.ids) l.shell f) l.rows;
 }
 
 abbrev pub decreases-ids : goal.decreases-ids

@@ -17,7 +17,8 @@ packets-preserved c =
       fates = λ f e.
           c.put.ensures.fates (marked (drop (suc left) a.packets.now) a.mark f)
           (c.packets.invariant.fates f e ∙ ap (λ n. fated (marked (drop n a.packets.now) a.mark f) a.rows.now) back)
-          ∙ ap (λ x. fated (put t.packet.id x (marked (drop (suc left) a.packets.now) a.mark f)) a.rows.now) c.fate_by.ensures
+          ∙ ap (λ x. fated (put t.packet.id x (marked (drop (suc left) a.packets.now) a.mark f)) a.rows.now)
+          c.fate_by.ensures
           ∙ marks_more a.packets.now left t a.mark f a.rows.now le c.index-packets-left.is;
     }
 
@@ -31,4 +32,5 @@ packets-init c = record {
 pub returns-clause-fates : goal.returns-clause-fates
 returns-clause-fates c = λ f e.
     let done : c.packets.left ≡ 0 = omega arith in
-    c.packets.invariant.fates f e ∙ ap (λ n. fated (marked (drop n c.args.packets.now) c.args.mark f) c.args.rows.now) done
+    c.packets.invariant.fates f e ∙ ap (λ n. fated (marked (drop n c.args.packets.now) c.args.mark f) c.args.rows.now)
+    done

@@ -9,7 +9,8 @@ abbrev pub invariant-packets : goal.invariant-packets
 invariant-packets l = record {
   left : l.left ≤ length l.packets;
   long : length l.list.items ≡ length l.rows;
-  fates : (f : Row → Fate) → l.fn.list.items ≡ fated f l.rows → l.list.items ≡ fated (marked (drop l.left l.packets) l.mark f) l.rows;
+  fates : (f : Row → Fate) → l.fn.list.items ≡ fated f l.rows
+      → l.list.items ≡ fated (marked (drop l.left l.packets) l.mark f) l.rows;
 }
 
 abbrev pub decreases-packets : goal.decreases-packets

@@ -1,4 +1,5 @@
-use Rattle.std.proofs.Common.{◌≡◌, ◌+◌, ◌-◌, ◌<◌, ◌∷◌, Some, Ok, Err, map, string_bytes, ap, sym, subst, ◌∙◌, arith, rules}
+use Rattle.std.proofs.Common.{◌≡◌, ◌+◌, ◌-◌, ◌<◌, ◌∷◌, Some, Ok, Err, map, string_bytes, ap, sym, subst, ◌∙◌, arith}
+use Rattle.std.proofs.Common.{rules}
 use Rattle.std.specs.Result.{MatchResult}
 use Rattle.std.proofs.lemmas.Result.{err_from_is_err_and}
 use Rattle.nest_spec.specs.Words.{next_shell, kind_of, shell_words, followed, shells_from}
@@ -10,37 +11,54 @@ use Rattle.nest_spec.proofs.nest_words.+read_shells.Goals as goal
 
 pub returns-in_err-read : goal.returns-in_err-read
 returns-in_err-read t c =
-    let words : map string_bytes c.args.words.now ≡ c.as_str.result.now ∷ map string_bytes c.in-Some.rest.now = ap (map string_bytes) c.in-Some.ensures.cases.0 ∙ ap (λ w. w ∷ map string_bytes c.in-Some.rest.now) (sym c.as_str.ensures.value) in
+    let words : map string_bytes c.args.words.now ≡ c.as_str.result.now ∷ map string_bytes c.in-Some.rest.now =
+    ap (map string_bytes) c.in-Some.ensures.cases.0
+    ∙ ap (λ w. w ∷ map string_bytes c.in-Some.rest.now) (sym c.as_str.ensures.value) in
     let kind : kind_of c.as_str.result.now ≡ Some c.in-Some-kind_of.kind = sym c.in-Some-kind_of.ensures in
     let shell : c.len.result + 1 ≡ next_shell (draft_plan c.args.draft.now) = search rules in
     let some : 0 < c.args.left = omega arith in
     let p = err_from_is_err_and c.from_residual.result c.from_residual.ensures.1 in
-    rw (p.1, p.2) (λ no. stops c.args.left (draft_plan c.args.draft.now) c.args.place (c.len.result + 1) c.args.missing (map string_bytes c.args.words.now) c.as_str.result.now
+    rw (p.1, p.2) (λ no. stops c.args.left (draft_plan c.args.draft.now) c.args.place (c.len.result + 1)
+    c.args.missing (map string_bytes c.args.words.now) c.as_str.result.now
     (map string_bytes c.in-Some.rest.now) c.in-Some-kind_of.kind _ some words kind shell
-    (subst (λ place. shell_words c.in-Some-kind_of.kind (c.len.result + 1) place (map string_bytes c.in-Some.rest.now) ≡ Err c.in_err-read.field-0.0) c.next.ensures c.in_err-read.ensures))
+    (subst (λ place. shell_words c.in-Some-kind_of.kind (c.len.result + 1) place (map string_bytes c.in-Some.rest.now)
+    ≡ Err c.in_err-read.field-0.0) c.next.ensures c.in_err-read.ensures))
 
 pub returns-in_default-pass_over : goal.returns-in_default-pass_over
 returns-in_default-pass_over t c =
-    let words : map string_bytes c.args.words.now ≡ c.as_str.result.now ∷ map string_bytes c.in-Some.rest.now = ap (map string_bytes) c.in-Some.ensures.cases.0 ∙ ap (λ w. w ∷ map string_bytes c.in-Some.rest.now) (sym c.as_str.ensures.value) in
+    let words : map string_bytes c.args.words.now ≡ c.as_str.result.now ∷ map string_bytes c.in-Some.rest.now =
+    ap (map string_bytes) c.in-Some.ensures.cases.0
+    ∙ ap (λ w. w ∷ map string_bytes c.in-Some.rest.now) (sym c.as_str.ensures.value) in
     let kind : kind_of c.as_str.result.now ≡ Some c.in-Some-kind_of.kind = sym c.in-Some-kind_of.ensures in
     let shell : c.len.result + 1 ≡ next_shell (draft_plan c.args.draft.now) = search rules in
     let some : 0 < c.args.left = omega arith in
     let added = c.in_ok-add_shell.ensures in
-    let went = goes_on c.args.left (draft_plan c.args.draft.now) (draft_plan c.add_shell.new.draft) c.args.place (c.len.result + 1) c.args.missing (map string_bytes c.args.words.now) c.as_str.result.now
+    let went = goes_on c.args.left (draft_plan c.args.draft.now) (draft_plan c.add_shell.new.draft) c.args.place
+    (c.len.result + 1) c.args.missing (map string_bytes c.args.words.now) c.as_str.result.now
     (map string_bytes c.in-Some.rest.now) c.in-Some-kind_of.kind (shell_given c.in_ok-read.read) some words kind shell
-    (subst (λ place. shell_words c.in-Some-kind_of.kind (c.len.result + 1) place (map string_bytes c.in-Some.rest.now) ≡ Ok (shell_given c.in_ok-read.read)) c.next.ensures c.in_ok-read.ensures) added in
+    (subst (λ place. shell_words c.in-Some-kind_of.kind (c.len.result + 1) place (map string_bytes c.in-Some.rest.now)
+    ≡ Ok (shell_given c.in_ok-read.read)) c.next.ensures c.in_ok-read.ensures) added in
     went
-    ∙ ap (λ r. followed (draft_plan c.add_shell.new.draft) r (λ p ws. shells_from (c.args.left - 1) (draft_plan c.add_shell.new.draft) p (errors.MissingWord (c.len.result + 1)) ws)) (sym c.in_default-pass_over.ensures)
+    ∙ ap (λ r. followed (draft_plan c.add_shell.new.draft) r
+    (λ p ws. shells_from (c.args.left - 1) (draft_plan c.add_shell.new.draft) p
+    (errors.MissingWord (c.len.result + 1)) ws)) (sym c.in_default-pass_over.ensures)
 
 pub returns : goal.returns
 returns t c =
-    let words : map string_bytes c.args.words.now ≡ c.as_str.result.now ∷ map string_bytes c.in-Some.rest.now = ap (map string_bytes) c.in-Some.ensures.cases.0 ∙ ap (λ w. w ∷ map string_bytes c.in-Some.rest.now) (sym c.as_str.ensures.value) in
+    let words : map string_bytes c.args.words.now ≡ c.as_str.result.now ∷ map string_bytes c.in-Some.rest.now =
+    ap (map string_bytes) c.in-Some.ensures.cases.0
+    ∙ ap (λ w. w ∷ map string_bytes c.in-Some.rest.now) (sym c.as_str.ensures.value) in
     let kind : kind_of c.as_str.result.now ≡ Some c.in-Some-kind_of.kind = sym c.in-Some-kind_of.ensures in
     let shell : c.len.result + 1 ≡ next_shell (draft_plan c.args.draft.now) = search rules in
     let some : 0 < c.args.left = omega arith in
-    let went = goes_on c.args.left (draft_plan c.args.draft.now) (draft_plan c.add_shell.new.draft) c.args.place (c.len.result + 1) c.args.missing (map string_bytes c.args.words.now) c.as_str.result.now
+    let went = goes_on c.args.left (draft_plan c.args.draft.now) (draft_plan c.add_shell.new.draft) c.args.place
+    (c.len.result + 1) c.args.missing (map string_bytes c.args.words.now) c.as_str.result.now
     (map string_bytes c.in-Some.rest.now) c.in-Some-kind_of.kind (shell_given c.in_ok-read.read) some words kind shell
-    (subst (λ place. shell_words c.in-Some-kind_of.kind (c.len.result + 1) place (map string_bytes c.in-Some.rest.now) ≡ Ok (shell_given c.in_ok-read.read)) c.next.ensures c.in_ok-read.ensures) c.in_ok-add_shell.ensures in
+    (subst (λ place. shell_words c.in-Some-kind_of.kind (c.len.result + 1) place (map string_bytes c.in-Some.rest.now)
+    ≡ Ok (shell_given c.in_ok-read.read)) c.next.ensures c.in_ok-read.ensures) c.in_ok-add_shell.ensures in
     let whole = went
-    ∙ ap (λ r. followed (draft_plan c.add_shell.new.draft) r (λ p ws. shells_from (c.args.left - 1) (draft_plan c.add_shell.new.draft) p (errors.MissingWord (c.len.result + 1)) ws)) (sym c.in-Some-pass_over.ensures) in
-    subst (λ s. MatchResult c.read_shells.result (λ x. s ≡ Ok (draft_plan c.read_shells.new.draft)) (λ e. (e ≡ errors.OutOfMemory → ⊥) → s ≡ Err e)) (sym whole) c.read_shells.ensures
+    ∙ ap (λ r. followed (draft_plan c.add_shell.new.draft) r
+    (λ p ws. shells_from (c.args.left - 1) (draft_plan c.add_shell.new.draft) p
+    (errors.MissingWord (c.len.result + 1)) ws)) (sym c.in-Some-pass_over.ensures) in
+    subst (λ s. MatchResult c.read_shells.result (λ x. s ≡ Ok (draft_plan c.read_shells.new.draft))
+    (λ e. (e ≡ errors.OutOfMemory → ⊥) → s ≡ Err e)) (sym whole) c.read_shells.ensures

@@ -6,10 +6,13 @@ use Rattle.nest_spec.proofs.Scheduled.{apart}
 use Rattle.nest_spec.proofs.states_tests.run_schedule.Goals as goal
 
 pub run_direction-requires : goal.run_direction-requires
-run_direction-requires c = subst (Rises 0) (sym c.rows-rows.ensures.rows) (rises-in_order 1 0 c.args.schedule.now c.rows-rows.ensures.schedule.order)
+run_direction-requires c = subst (Rises 0) (sym c.rows-rows.ensures.rows)
+    (rises-in_order 1 0 c.args.schedule.now c.rows-rows.ensures.schedule.order)
 
 pub run_direction-requires-2 : goal.run_direction-requires-2
-run_direction-requires-2 c = subst (Rises 0) (sym c.rows-rows.ensures.rows) (rises-in_order 1 0 c.args.schedule.now c.rows-rows.ensures.schedule.order)
+run_direction-requires-2 c = subst (Rises 0) (sym c.rows-rows.ensures.rows)
+    (rises-in_order 1 0 c.args.schedule.now c.rows-rows.ensures.schedule.order)
 
 pub gather-requires-clause-apart : goal.gather-requires-clause-apart
-gather-requires-clause-apart c = subst AreApart (sym c.rows-rows.ensures.rows) (apart c.args.schedule.now c.rows-rows.ensures.schedule.order)
+gather-requires-clause-apart c = subst AreApart (sym c.rows-rows.ensures.rows)
+    (apart c.args.schedule.now c.rows-rows.ensures.schedule.order)

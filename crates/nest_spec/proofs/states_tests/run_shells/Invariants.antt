@@ -13,5 +13,6 @@ invariant-loop-spec l = record {
   fit : AllFit l.horizon (into_iter_items l.spec-iterator);
   rises : Rise l.packets.items;
   within : AreUpTo l.horizon l.packets.items;
-  passed : (rest : List State) → HavePassed l.horizon (into_iter_items l.spec-iterator) l.packets.items rest → HavePassed l.horizon l.fn.specs.items l.fn.packets.items (l.states.items ++ rest);
+  passed : (rest : List State) → HavePassed l.horizon (into_iter_items l.spec-iterator) l.packets.items rest
+      → HavePassed l.horizon l.fn.specs.items l.fn.packets.items (l.states.items ++ rest);
 }

@@ -5,5 +5,6 @@ use Rattle.option_words.proofs.fit.all_fit.Goals as goal
 
 pub returns-then-not-is_fit : goal.returns-then-not-is_fit
 returns-then-not-is_fit c =
-    one_unfit string_bytes c.args.words.now c.loop-word.word-index c.word-item.result c.loop-word-test.true c.word-item.is
+    one_unfit string_bytes c.args.words.now c.loop-word.word-index c.word-item.result c.loop-word-test.true
+    c.word-item.is
     (ap is_fit (sym c.as_str.ensures.value) ∙ sym c.is_fit.ensures ∙ c.if-not-is_fit.true)

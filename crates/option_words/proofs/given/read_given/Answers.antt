@@ -1,4 +1,5 @@
-use Rattle.std.proofs.Common.{◌≡◌, ◌+◌, ◌++◌, ◌∷◌, ◌≤◌, [], ℕ, List, Option, Some, None, length, get_or, map, take, string_bytes, sym, ap, subst, ◌∙◌, arith}
+use Rattle.std.proofs.Common.{◌≡◌, ◌+◌, ◌++◌, ◌∷◌, ◌≤◌, [], ℕ, List, Option, Some, None, length, get_or, map, take}
+use Rattle.std.proofs.Common.{string_bytes, sym, ap, subst, ◌∙◌, arith}
 use Rattle.std.specs.Option.{option_map}
 use Rattle.std.proofs.Math.Seq.{take-length}
 use Rattle.std.proofs.lemmas.List.{length-map}
@@ -14,7 +15,8 @@ use Rattle.option_words.proofs.given.read_given.Goals as goal
 pub returns-then-not-all_fit-clause-texts : goal.returns-then-not-all_fit-clause-texts
 returns-then-not-all_fit-clause-texts c =
     let t = map opt c.args.table.now in
-    sym (ap (option_map (λ us. map (given us) t)) (unfit t (map string_bytes c.args.words.now) (sym c.all_fit.ensures ∙ c.if-not-all_fit.true)))
+    sym (ap (option_map (λ us. map (given us) t))
+    (unfit t (map string_bytes c.args.words.now) (sym c.all_fit.ensures ∙ c.if-not-all_fit.true)))
 
 pub loop-option-preserved : goal.loop-option-preserved
 loop-option-preserved c = record {
@@ -22,8 +24,11 @@ loop-option-preserved c = record {
   texts = λ us holds.
       let i = c.loop-option.option-index in
       let table = c.args.table.now in
-      texts_more _ (given us) c.loop-option.texts.items c.push.new.self.items c.given_of.result (map opt table) i _ c.in_ok-push.ensures.items
-      (c.loop-option.invariant.texts us holds) (c.given_of.ensures us (holds_of opt table i _ c.loop-option-test.true holds)) (one_more opt table i _ c.loop-option-test.true);
+      texts_more _ (given us) c.loop-option.texts.items c.push.new.self.items c.given_of.result (map opt table) i _
+      c.in_ok-push.ensures.items
+      (c.loop-option.invariant.texts us holds)
+      (c.given_of.ensures us (holds_of opt table i _ c.loop-option-test.true holds))
+      (one_more opt table i _ c.loop-option-test.true);
 }
 
 pub returns-clause-texts : goal.returns-clause-texts
@@ -33,6 +38,8 @@ returns-clause-texts c =
     let found = subst (IsMatchOf t ws) c.in-Some.is c.in_ok-matches.ensures in
     let us = found.0 in
     let texts = c.loop-option.invariant.texts us (holds_at t ws us c.in-Some.matches found.1 found.2 c.requires) in
-    let long : c.loop-option.option-index ≡ length t = let a = c.loop-option-test.false in let b = c.loop-option.auto.option-index-end in rw length-map (omega arith) in
+    let long : c.loop-option.option-index ≡ length t = let a = c.loop-option-test.false
+    in let b = c.loop-option.auto.option-index-end in rw length-map (omega arith) in
     let all : take c.loop-option.option-index t ≡ t = ap (λ (n : ℕ). take n t) long ∙ take-length t in
-    ap Some (texts ∙ ap (λ (l : List Opt). map (given us) l) all) ∙ sym (ap (option_map (λ us. map (given us) t)) found.1)
+    ap Some (texts ∙ ap (λ (l : List Opt). map (given us) l) all)
+    ∙ sym (ap (option_map (λ us. map (given us) t)) found.1)

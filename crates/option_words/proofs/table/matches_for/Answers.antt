@@ -20,8 +20,10 @@ returns c =
     let t = map opt c.args.table.now in
     let ws = map string_bytes c.args.words.now in
     let app : app_of c.in_ok-command.command ≡ app_for t = c.in_ok-command.ensures in
-    let kinds : HasKind (fault_of (app_of c.in_ok-command.command) ws) c.in-Err.error = c.in-Err.ensures.kinds (ap is_simple_and_free app ∙ table_free t) in
+    let kinds : HasKind (fault_of (app_of c.in_ok-command.command) ws) c.in-Err.error =
+    c.in-Err.ensures.kinds (ap is_simple_and_free app ∙ table_free t) in
     unmatched t ws c.requires (λ none. elim kinds as (λ _. ⊥) [
       | inl h ↦ c.in_default.not-OutOfMemory (c.kind.ensures ∙ h)
-      | inr h ↦ subst (λ (ks : Kinds). IsAmong (kind_of c.in-Err.error) ks) (ap (λ (a : App). fault_of a ws) app ∙ none) h
+      | inr h ↦ subst (λ (ks : Kinds). IsAmong (kind_of c.in-Err.error) ks) (ap (λ (a : App). fault_of a ws) app
+          ∙ none) h
     ])

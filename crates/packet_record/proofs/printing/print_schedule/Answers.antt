@@ -8,5 +8,6 @@ use Rattle.packet_record.proofs.printing.print_schedule.Goals as goal
 pub returns-clause-read : goal.returns-clause-read
 returns-clause-read c =
     IfOk-weaker c.print_lines.result _ _
-    (λ text is. subst (λ t. IsScheduleText t c.args.schedule.now) (sym (is ∙ ap schedule_text c.rows.ensures.rows)) (printed c.args.schedule.now c.rows.ensures.schedule))
+    (λ text is. subst (λ t. IsScheduleText t c.args.schedule.now) (sym (is ∙ ap schedule_text c.rows.ensures.rows))
+    (printed c.args.schedule.now c.rows.ensures.schedule))
     c.print_lines.ensures

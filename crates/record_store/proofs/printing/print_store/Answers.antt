@@ -9,4 +9,5 @@ loop-record-preserved c =
     let same : c.records-record-items.result.now ≡ c.args.store.now = c.records-record-items.ensures.same in
     let within : at.record-index < length c.args.store.now = omega (arith, ap length same) in
     record_more c.args.store.now at.record-index c.record-item.result at.out c.write_record.new.out within
-    (c.record-item.is ∙ ap (λ (rs : List Record). get_or rs at.record-index c.record-item.result) same) at.invariant c.in_ok-write_record.ensures
+    (c.record-item.is ∙ ap (λ (rs : List Record). get_or rs at.record-index c.record-item.result) same) at.invariant
+    c.in_ok-write_record.ensures

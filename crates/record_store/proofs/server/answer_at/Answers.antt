@@ -9,7 +9,9 @@ returns-then-response-ge200 c =
     let place = c.interim.place in
     let m = c.in-Some.response in
     let n = place + length m.bytes in
-    let b : BeginsResponse c.args.to_head (drop place bytes) m = subst (λ ys. FirstResponse c.args.to_head ys (Some m)) c.from_place.ensures (rw c.in-Some.is at c.in_ok-response.ensures) in
+    let b : BeginsResponse c.args.to_head (drop place bytes) m =
+    subst (λ ys. FirstResponse c.args.to_head ys (Some m)) c.from_place.ensures
+    (rw c.in-Some.is at c.in_ok-response.ensures) in
     let after_is : drop n bytes ≡ b.after = drop_after bytes m.bytes b.after place n b.split refl in (
       place_inside bytes m.bytes b.after place n c.interim.invariant.inside b.split refl,
       record {
@@ -23,7 +25,13 @@ returns-then-response-ge200 c =
 pub interim-smaller : goal.interim-smaller
 interim-smaller c =
     let b = rw c.in-Some.is at c.in_ok-response.ensures in
-    omega (arith, c.len-place.ensures, response_some c.args.to_head c.in-Some.response b.is, c.interim-test.true, c.interim.invariant.inside)
+    omega (
+      arith,
+      c.len-place.ensures,
+      response_some c.args.to_head c.in-Some.response b.is,
+      c.interim-test.true,
+      c.interim.invariant.inside,
+    )
 
 pub interim-preserved : goal.interim-preserved
 interim-preserved c =
@@ -32,7 +40,9 @@ interim-preserved c =
     let m = c.in-Some.response in
     let n = place + c.len-place.result in
     let n_is : n ≡ place + length m.bytes = ap (λ k. place + k) c.len-place.ensures in
-    let b : BeginsResponse c.args.to_head (drop place bytes) m = subst (λ ys. FirstResponse c.args.to_head ys (Some m)) c.from_place.ensures (rw c.in-Some.is at c.in_ok-response.ensures) in
+    let b : BeginsResponse c.args.to_head (drop place bytes) m =
+    subst (λ ys. FirstResponse c.args.to_head ys (Some m)) c.from_place.ensures
+    (rw c.in-Some.is at c.in_ok-response.ensures) in
     let after_is : drop n bytes ≡ b.after = drop_after bytes m.bytes b.after place n b.split n_is in
     let before = c.interim.invariant.passed in
     record {
@@ -40,7 +50,8 @@ interim-preserved c =
       passed = (
         before.0 ++ m ∷ [],
         interim_push c.args.to_head bytes (drop place bytes) (drop n bytes) before.0 m before.1
-            (is_then c.args.to_head (drop place bytes) m (drop n bytes) b after_is) (omega (arith, c.if-response-ge200.false)),
+            (is_then c.args.to_head (drop place bytes) m (drop n bytes) b after_is)
+            (omega (arith, c.if-response-ge200.false)),
       );
     }
 
@@ -48,5 +59,7 @@ pub returns-in-None : goal.returns-in-None
 returns-in-None c =
     let bytes = c.args.bytes.now in
     let place = c.interim.place in
-    let none : BeginsWithNoResponse c.args.to_head (drop place bytes) = subst (λ ys. FirstResponse c.args.to_head ys None) c.from_place.ensures (rw c.in-None.is at c.in_ok-response.ensures) in
+    let none : BeginsWithNoResponse c.args.to_head (drop place bytes) =
+    subst (λ ys. FirstResponse c.args.to_head ys None) c.from_place.ensures
+    (rw c.in-None.is at c.in_ok-response.ensures) in
     (drop place bytes, c.interim.invariant.passed, none, omega (arith, length-drop place bytes, c.interim-test.true))

@@ -14,14 +14,17 @@ entries-init c =
     record {
       started = omega arith;
       inside = c.first_from-i.ensures.bound;
-      scanned = none_below c.args.request.now c.args.port c.args.records.now es c.requires c.first_from-i.result c.first_from-i.ensures.bound
-          (λ k d small. subst (λ n. (get_or es k d).0 < n) c.key-wanted.ensures (c.first_from-i.ensures.below k d small));
+      scanned = none_below c.args.request.now c.args.port c.args.records.now es c.requires c.first_from-i.result
+          c.first_from-i.ensures.bound
+          (λ k d small. subst (λ n. (get_or es k d).0 < n) c.key-wanted.ensures
+          (c.first_from-i.ensures.below k d small));
     }
 
 pub returns : goal.returns
 returns c =
     subst (BestCause c.args.request.now c.args.port c.args.records.now) (sym c.place_of-2.ensures)
-    (scanned_all c.args.request.now c.args.port c.args.records.now c.args.entries.now c.requires c.entries.i c.entries.found c.entries.invariant.scanned
+    (scanned_all c.args.request.now c.args.port c.args.records.now c.args.entries.now c.requires c.entries.i
+    c.entries.found c.entries.invariant.scanned
     (λ j up small e. omega (arith, up, small, c.entries-test.false)))
 
 pub entries-preserved : goal.entries-preserved
@@ -39,9 +42,11 @@ entries-preserved c =
       scanned = elim c.with_record-found.ensures [
         | inl x ↦
             subst (Scanned q c.args.port rs es (i + 1)) (sym x.1)
-            (agreeing_entry q c.args.port rs es i r there c.entries.found c.entries.invariant.scanned x.0 c.entries-test.true (c.if-found_key-wanted.false ∙ c.key-wanted.ensures)
+            (agreeing_entry q c.args.port rs es i r there c.entries.found c.entries.invariant.scanned x.0
+            c.entries-test.true (c.if-found_key-wanted.false ∙ c.key-wanted.ensures)
             (λ k up small. in_order es c.requires.ordered i k up small))
-        | inr x ↦ subst (Scanned q c.args.port rs es (i + 1)) (sym x.1) (other_entry q c.args.port rs es i r there c.entries.found c.entries.invariant.scanned x.0)
+        | inr x ↦ subst (Scanned q c.args.port rs es (i + 1)) (sym x.1)
+            (other_entry q c.args.port rs es i r there c.entries.found c.entries.invariant.scanned x.0)
       ];
     }
 
@@ -49,7 +54,10 @@ pub returns-then-found_key-wanted : goal.returns-then-found_key-wanted
 returns-then-found_key-wanted c =
     let es = c.args.entries.now in
     let i = c.entries.i in
-    let least : c.key-wanted.result ≤ (entry_at es i).0 = c.first_from-i.ensures.from i (0, 0) c.entries.invariant.started c.entries-test.true in
+    let least : c.key-wanted.result ≤ (entry_at es i).0 = c.first_from-i.ensures.from i (0, 0)
+    c.entries.invariant.started c.entries-test.true in
     subst (BestCause c.args.request.now c.args.port c.args.records.now) (sym c.place_of.ensures)
-    (scanned_all c.args.request.now c.args.port c.args.records.now es c.requires i c.entries.found c.entries.invariant.scanned
-    (λ j up small e. let o = in_order es c.requires.ordered i j up small in c.if-found_key-wanted.true (omega (arith, least, o.0, e, c.key-wanted.ensures))))
+    (scanned_all c.args.request.now c.args.port c.args.records.now es c.requires i c.entries.found
+    c.entries.invariant.scanned
+    (λ j up small e. let o = in_order es c.requires.ordered i j up small
+    in c.if-found_key-wanted.true (omega (arith, least, o.0, e, c.key-wanted.ensures))))

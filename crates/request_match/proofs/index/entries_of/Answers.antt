@@ -18,14 +18,17 @@ loop-place-preserved c =
           let added : c.if-fits_port.entries.items ≡ es ++ (key_of r.request.head, place) ∷ [] =
           ap (λ v. v.items) w.entries-is ∙ w.in_ok-push.ensures.items ∙ ap (λ n. es ++ (n, place) ∷ []) w.key.ensures in
           record {
-            entries = subst (All (IsEntry rs)) (sym added) (entry_more rs es place r c.loop-place-test.true is c.loop-place.invariant.entries);
-            whole = subst (HasAllTo rs c.args.port (place + 1)) (sym added) (whole_more rs c.args.port es place r c.loop-place-test.true is c.loop-place.invariant.whole);
+            entries = subst (All (IsEntry rs)) (sym added)
+                (entry_more rs es place r c.loop-place-test.true is c.loop-place.invariant.entries);
+            whole = subst (HasAllTo rs c.args.port (place + 1)) (sym added)
+                (whole_more rs c.args.port es place r c.loop-place-test.true is c.loop-place.invariant.whole);
           }
       | else-fits_port w ↦
           let kept = ap (λ v. v.items) w.entries-is in
           record {
             entries = subst (All (IsEntry rs)) (sym kept) c.loop-place.invariant.entries;
-            whole = subst (HasAllTo rs c.args.port (place + 1)) (sym kept) (whole_other rs c.args.port es place r c.loop-place-test.true is c.loop-place.invariant.whole
+            whole = subst (HasAllTo rs c.args.port (place + 1)) (sym kept)
+                (whole_other rs c.args.port es place r c.loop-place-test.true is c.loop-place.invariant.whole
                 (λ fits. true≢false (sym (c.fits_port.ensures.1 fits) ∙ w.if-fits_port.false)));
           }
     ]

@@ -28,7 +28,13 @@ returns c =
     let v : c.same_value-2.result ≡ true = search rules in
     let mine = c.without_query.ensures ∙ ap stripped c.as_slice.ensures in
     let asked = c.without_query-2.ensures ∙ ap stripped c.as_slice-2.ensures in
-    let d = slice_eq-Decides Decides-eqb c.without_query.result.now c.without_query-2.result.now c.eq.result c.eq.ensures in (
-      λ e. record { port = c.fits_port.ensures.0 t; host = c.same_value.ensures.0 u; agent = c.same_value-2.ensures.0 v; line = sym mine ∙ d.0 e ∙ asked },
+    let d = slice_eq-Decides Decides-eqb c.without_query.result.now c.without_query-2.result.now c.eq.result
+    c.eq.ensures in (
+      λ e. record {
+        port = c.fits_port.ensures.0 t;
+        host = c.same_value.ensures.0 u;
+        agent = c.same_value-2.ensures.0 v;
+        line = sym mine ∙ d.0 e ∙ asked;
+      },
       λ a. d.1 (mine ∙ a.line ∙ sym asked),
     )

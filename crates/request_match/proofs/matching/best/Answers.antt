@@ -10,10 +10,12 @@ loop-i-preserved c =
     let r = c.index-records-i.result in
     elim c.with_record-found.ensures [
       | inl x ↦
-          step_agrees q c.args.port records c.loop-i.i (score q r) r c.loop-i.found c.with_record-found.result c.loop-i-test.true c.index-records-i.is
+          step_agrees q c.args.port records c.loop-i.i (score q r) r c.loop-i.found c.with_record-found.result
+          c.loop-i-test.true c.index-records-i.is
           c.loop-i.invariant x.0 refl x.1
       | inr x ↦
-          step_other q c.args.port records c.loop-i.i r c.loop-i.found c.with_record-found.result c.loop-i-test.true c.index-records-i.is
+          step_other q c.args.port records c.loop-i.i r c.loop-i.found c.with_record-found.result c.loop-i-test.true
+          c.index-records-i.is
           c.loop-i.invariant x.0 x.1
     ]
 
@@ -21,4 +23,5 @@ pub returns : goal.returns
 returns c =
     let q = c.args.request.now in
     subst (BestCause q c.args.port c.args.store.now) (sym c.place_of.ensures)
-    (best_found q c.args.port c.records-records.result.now c.args.store.now c.loop-i.i c.loop-i.found c.loop-i.invariant (omega arith) c.records-records.ensures.same)
+    (best_found q c.args.port c.records-records.result.now c.args.store.now c.loop-i.i c.loop-i.found
+    c.loop-i.invariant (omega arith) c.records-records.ensures.same)

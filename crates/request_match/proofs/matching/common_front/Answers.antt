@@ -4,4 +4,8 @@ use Rattle.request_match.proofs.matching.common_front.Goals as goal
 
 pub returns-else-i-b : goal.returns-else-i-b
 returns-else-i-b c =
-    omega (arith, c.loop-i.invariant.same, common_right c.args.a.now c.args.b.now c.loop-i.i (omega (arith, c.if-i-b.false)))
+    omega (
+      arith,
+      c.loop-i.invariant.same,
+      common_right c.args.a.now c.args.b.now c.loop-i.i (omega (arith, c.if-i-b.false)),
+    )

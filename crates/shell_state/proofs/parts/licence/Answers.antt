@@ -5,4 +5,5 @@ use Rattle.shell_state.proofs.Answering.{licence_ended}
 use Rattle.shell_state.proofs.parts.licence.Goals as goal
 
 pub returns-in-Ended : goal.returns-in-Ended
-returns-in-Ended c = licence_ended (state_of c.args.core.now c.args.fed no_front false) c.horizon.result c.in-Ended.is c.horizon.ensures.is
+returns-in-Ended c = licence_ended (state_of c.args.core.now c.args.fed no_front false) c.horizon.result c.in-Ended.is
+    c.horizon.ensures.is

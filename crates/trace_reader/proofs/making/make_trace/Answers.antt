@@ -15,7 +15,8 @@ loop-init c =
       low = omega arith;
       high = omega arith;
       read = none_read Moments c.in_ok-list.list.items none;
-      made = ap (λ (l : List Opportunity). moments l ++ moments_from c.new-draws.result 0 100) none ∙ ap (λ (x : ℕ). moments_from x 0 100) c.new-draws.ensures;
+      made = ap (λ (l : List Opportunity). moments l ++ moments_from c.new-draws.result 0 100) none
+          ∙ ap (λ (x : ℕ). moments_from x 0 100) c.new-draws.ensures;
     }
 
 pub loop-preserved : goal.loop-preserved
@@ -28,8 +29,10 @@ loop-preserved c =
       count = search rules;
       low = omega arith;
       high = omega arith;
-      read = add_one Moments list c.push.new.self.items c.loop.moment _ c.loop.invariant.read (omega arith) (omega arith) (refl, tt) more;
-      made = moments_more c.loop.draws c.draw.new.self c.loop.moment c.loop.counter list c.push.new.self.items _ (made_moments c.args.number)
+      read = add_one Moments list c.push.new.self.items c.loop.moment _ c.loop.invariant.read (omega arith)
+          (omega arith) (refl, tt) more;
+      made = moments_more c.loop.draws c.draw.new.self c.loop.moment c.loop.counter list c.push.new.self.items _
+          (made_moments c.args.number)
           (omega arith) c.loop.invariant.made (search rules) (ap (λ (n : ℕ). c.loop.moment + (1 + n)) drawn) more;
     }
 
@@ -39,4 +42,5 @@ returns-clause-form c = if_made (λ t. t.form ≡ Moments) _ c.from_list.result 
 pub returns-clause-moments : goal.returns-clause-moments
 returns-clause-moments c =
     if_made (λ t. moments t.opportunities ≡ made_moments c.args.number) _ c.from_list.result c.from_list.ensures
-    (moments_end c.loop.draws c.loop.moment c.loop.counter c.loop.list.items (made_moments c.args.number) (search rules) c.loop.invariant.made)
+    (moments_end c.loop.draws c.loop.moment c.loop.counter c.loop.list.items (made_moments c.args.number)
+    (search rules) c.loop.invariant.made)

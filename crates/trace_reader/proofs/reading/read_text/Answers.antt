@@ -1,4 +1,5 @@
-use Rattle.std.proofs.Common.{◌≡◌, ◌+◌, ◌++◌, ◌∷◌, [], ℕ, List, Some, length, map, ap, sym, ◌∙◌, arith, rules, length-append}
+use Rattle.std.proofs.Common.{◌≡◌, ◌+◌, ◌++◌, ◌∷◌, [], ℕ, List, Some, length, map, ap, sym, ◌∙◌, arith, rules}
+use Rattle.std.proofs.Common.{length-append}
 use Rattle.mm_base.specs.Lines.{lines_of}
 use Rattle.mm_base.specs.LinesLeft.{lines_left}
 use Rattle.trace_reader.specs.declared.opportunity.Opportunity.{Opportunity}
@@ -15,7 +16,8 @@ loop-line-preserved c =
     let form = c.open-form.result.0 in
     let list = c.loop-line.list.items in
     let rest = lines_left c.next.new.self in
-    let more : c.push.new.self.items ≡ c.loop-line.list.items ++ c.in_ok-o.o ∷ [] = c.in_ok-push.ensures.items ∙ ap (λ (p : Opportunity). list ++ p ∷ []) c.new.ensures in
+    let more : c.push.new.self.items ≡ c.loop-line.list.items ++ c.in_ok-o.o ∷ [] = c.in_ok-push.ensures.items
+    ∙ ap (λ (p : Opportunity). list ++ p ∷ []) c.new.ensures in
     let step : lines_left c.loop-line.line-iterator ≡ c.in-Some.line.now ∷ lines_left c.next.new.self = search rules in
     let len : c.len.result ≡ length c.loop-line.list.items = search rules in
     let count : length c.push.new.self.items ≡ c.len.result + 1 =
@@ -24,9 +26,12 @@ loop-line-preserved c =
       can = search rules;
       ends = search rules;
       few = omega (arith, c.in_ok-o.ensures.few);
-      read = read_more form list c.push.new.self.items c.loop-line.low c.in-Some.line.now c.in_ok-o.o c.loop-line.invariant.read c.in_ok-o.ensures.said c.in_ok-o.ensures.order more;
-      lines = said_more form (stated (lines_of c.args.text.now)) rest c.in-Some.line.now list c.push.new.self.items c.in_ok-o.o
-          (c.loop-line.invariant.lines ∙ ap (λ (ls : List (List ℕ)). map (λ (p : Opportunity). Some (said p)) list ++ map (said_of form) ls) step) c.in_ok-o.ensures.said more;
+      read = read_more form list c.push.new.self.items c.loop-line.low c.in-Some.line.now c.in_ok-o.o
+          c.loop-line.invariant.read c.in_ok-o.ensures.said c.in_ok-o.ensures.order more;
+      lines = said_more form (stated (lines_of c.args.text.now)) rest c.in-Some.line.now list c.push.new.self.items
+          c.in_ok-o.o
+          (c.loop-line.invariant.lines ∙ ap (λ (ls : List (List ℕ)). map (λ (p : Opportunity). Some (said p)) list
+          ++ map (said_of form) ls) step) c.in_ok-o.ensures.said more;
       exact =
           ap (λ (n : ℕ). first_fault form n c.in_ok-o.o.moment rest) count
           ∙ sym (c.in_ok-o.ensures.fault rest)

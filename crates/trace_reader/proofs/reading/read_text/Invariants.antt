@@ -12,6 +12,7 @@ invariant-loop-line l = record {
   ends : (goal.iterator-loop-line).is_finite l.line-iterator;
   few : length l.list.items ≤ 1000000;
   read : IsRead l.form l.list.items l.low;
-  lines : map (said_of l.form) (stated (lines_of l.fn.text)) ≡ map (λ o. Some (said o)) l.list.items ++ map (said_of l.form) (lines_left l.line-iterator);
+  lines : map (said_of l.form) (stated (lines_of l.fn.text)) ≡ map (λ o. Some (said o)) l.list.items
+      ++ map (said_of l.form) (lines_left l.line-iterator);
   exact : first_fault l.form (length l.list.items) l.low (lines_left l.line-iterator) ≡ trace_fault l.fn.text;
 }

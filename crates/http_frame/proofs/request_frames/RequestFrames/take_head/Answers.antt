@@ -7,7 +7,8 @@ returns-in-Ok-Message c =
     (rw c.in-Ok-Message.field-0-is at rw c.in-Ok-Message.is at c.find.ensures) c.take_off.ensures
 
 pub returns-in-Ok-More : goal.returns-in-Ok-More
-returns-in-Ok-More c = no_head c.args.self.now c.find.new.self (rw c.in-Ok-More.field-0-is at rw c.in-Ok-More.is at c.find.ensures)
+returns-in-Ok-More c = no_head c.args.self.now c.find.new.self
+    (rw c.in-Ok-More.field-0-is at rw c.in-Ok-More.is at c.find.ensures)
 
 pub returns-in-Err : goal.returns-in-Err
 returns-in-Err c = refused_head c.args.self.now c.find.new.self c.in-Err.fault (rw c.in-Err.is at c.find.ensures)

@@ -7,4 +7,5 @@ pub advance-pending-requires : goal.advance-pending-requires
 advance-pending-requires c =
     let s = c.self.inside in
     subst (λ ys. IsPending (response_form c.args.head_request) ys c.of_kind-pending.result) (sym c.as_slice.ensures)
-    (c.of_kind-pending.ensures s.buffer (subst (IsPending (response_form s.to_head) s.buffer) (sym c.take.ensures.value) c.self.invariant))
+    (c.of_kind-pending.ensures s.buffer
+    (subst (IsPending (response_form s.to_head) s.buffer) (sym c.take.ensures.value) c.self.invariant))

@@ -13,8 +13,11 @@ returns c =
     record {
       says = says;
       input = keeps_ended form response_unique old new c.take_next.result says;
-      first = λ bytes after h r e stops is_open. gives_first form response_unique old new c.take_next.result bytes after h r says e stops is_open;
-      fails = λ e cause is_open. gives_fault form response_unique old new c.take_next.result e says cause is_open (no_clash c.args.head_request old.ended old.unread e cause);
-      waits = λ cause is_open. gives_more form response_unique old new c.take_next.result says cause is_open (more_has c.args.head_request old.ended old.unread cause);
+      first = λ bytes after h r e stops is_open. gives_first form response_unique old new c.take_next.result bytes
+          after h r says e stops is_open;
+      fails = λ e cause is_open. gives_fault form response_unique old new c.take_next.result e says cause is_open
+          (no_clash c.args.head_request old.ended old.unread e cause);
+      waits = λ cause is_open. gives_more form response_unique old new c.take_next.result says cause is_open
+          (more_has c.args.head_request old.ended old.unread cause);
       again = λ e was. answers_again form response_unique old new c.take_next.result e says was;
     }

@@ -12,6 +12,9 @@ returns-clause-goes_on c =
     let t = c.args.t in
     let up = subst (λ (v : Link). AreUpTo t.moment v.arrivals) (sym c.self.view_is) c.requires.order in
     let le = subst (λ (v : Link). v.burnt ≤ count_to (opps_of v) t.moment) (sym c.self.view_is) c.requires.burnt in
-    subst (λ (v : Link). OnlyGoesOn v (made new.line.queue.spec new.opportunities new.burnt new.arrived.come)) c.self.view_is
-    (only_arrive old.line.queue.spec new.line.queue.spec old.opportunities new.opportunities old.burnt new.burnt old.arrived.come new.arrived.come t
-    c.arrive.result (ready _ _ _ _ _ _ _ _ _ _ _ c.self.invariant.0) c.arrive.ensures.spec c.arrive.ensures.opportunities up le c.arrive.ensures.burnt c.arrive.ensures.arrived c.arrive.ensures.err)
+    subst (λ (v : Link). OnlyGoesOn v (made new.line.queue.spec new.opportunities new.burnt new.arrived.come))
+    c.self.view_is
+    (only_arrive old.line.queue.spec new.line.queue.spec old.opportunities new.opportunities old.burnt new.burnt
+    old.arrived.come new.arrived.come t
+    c.arrive.result (ready _ _ _ _ _ _ _ _ _ _ _ c.self.invariant.0) c.arrive.ensures.spec
+    c.arrive.ensures.opportunities up le c.arrive.ensures.burnt c.arrive.ensures.arrived c.arrive.ensures.err)

@@ -8,12 +8,15 @@ pub overflow_add-result : goal.overflow_add-result
 overflow_add-result c =
     let trace = c.args.trace.now.opportunities in
     let o = c.at-found.result in
-    let at = entry_at trace c.args.self.first c.args.self.start c.args.j o c.requires.lap c.requires.low c.requires.high c.at-found.ensures.at in
-    let within : o.moment + c.args.self.start ≤ 3600000 = moment_within (entry trace c.args.j) c.args.self.start o at c.requires.within in
+    let at = entry_at trace c.args.self.first c.args.self.start c.args.j o c.requires.lap c.requires.low
+    c.requires.high c.at-found.ensures.at in
+    let within : o.moment + c.args.self.start ≤ 3600000 = moment_within (entry trace c.args.j) c.args.self.start o at
+    c.requires.within in
     omega arith
 
 pub returns : goal.returns
 returns c =
     let o = c.at-found.result in
-    let at = entry_at c.args.trace.now.opportunities c.args.self.first c.args.self.start c.args.j o c.requires.lap c.requires.low c.requires.high c.at-found.ensures.at in
+    let at = entry_at c.args.trace.now.opportunities c.args.self.first c.args.self.start c.args.j o c.requires.lap
+    c.requires.low c.requires.high c.at-found.ensures.at in
     ap Some (same_opportunity (later c.args.self.start o) _ _ _ _ refl refl) ∙ sym at

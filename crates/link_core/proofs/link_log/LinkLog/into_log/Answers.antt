@@ -10,6 +10,7 @@ returns c =
     let l = c.self.inside in
     let is = c.in_ok-parts.ensures in
     c.into_log.ensures
-    ∙ whole_log c.in_ok-parts.parts is.sound is.played l.queue (span_opps l.opportunities) l.arrivals.items is.spec (ap span_opps is.opportunities) is.arrivals
+    ∙ whole_log c.in_ok-parts.parts is.sound is.played l.queue (span_opps l.opportunities) l.arrivals.items is.spec
+    (ap span_opps is.opportunities) is.arrivals
     ∙ ap (λ k. written k (link_log l.queue (span_opps l.opportunities) l.arrivals.items)) is.logged
     ∙ c.self.view_is

@@ -34,10 +34,12 @@ returns-clause-within c =
     let count : c.count_to.result ≡ length (opps s.trace.opportunities s.once (min c.args.moment s.horizon)) =
     c.count_to.ensures.count ∙ ap (λ h. length (opps s.trace.opportunities s.once h)) c.min-until.ensures
     in
-    let all : length (opps s.trace.opportunities s.once s.horizon) ≡ length (span_opps c.args.self.now) = ap (λ (v : Span). length (span_opps v)) c.self.view_is in
+    let all : length (opps s.trace.opportunities s.once s.horizon) ≡ length (span_opps c.args.self.now) =
+    ap (λ (v : Span). length (span_opps v)) c.self.view_is in
     omega arith
 
 pub returns-clause-order : goal.returns-clause-order
 returns-clause-order c =
     let s = c.self.inside in
-    subst (λ (v : Span). AreRising (span_opps v)) c.self.view_is (opps_rising s.trace s.once s.horizon c.count_to.ensures.trace)
+    subst (λ (v : Span). AreRising (span_opps v)) c.self.view_is
+    (opps_rising s.trace s.once s.horizon c.count_to.ensures.trace)

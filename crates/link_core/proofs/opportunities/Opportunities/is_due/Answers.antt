@@ -11,7 +11,8 @@ pub returns-then-j-self-clause-due : goal.returns-then-j-self-clause-due
 returns-then-j-self-clause-due c =
     let s = c.self.inside in
     let number = c.self.invariant.0 in
-    let all : length (opps s.trace.opportunities s.once s.horizon) ≡ length (span_opps c.args.self.now) = ap (λ (v : Span). length (span_opps v)) c.self.view_is in
+    let all : length (opps s.trace.opportunities s.once s.horizon) ≡ length (span_opps c.args.self.now) =
+    ap (λ (v : Span). length (span_opps v)) c.self.view_is in
     let some = length-up_to c.args.moment (span_opps c.args.self.now) in
     (λ no. absurd (let e : false ≡ true = no in cc e), λ lt. absurd (omega arith))
 
@@ -23,7 +24,12 @@ returns-clause-due c =
     let o = c.take.result in
     elim (cases_lt m o.moment) [
       | inl late ↦
-          let end = counted_end m j os o c.take.ensures.order c.take.ensures.at late in
-          (λ yes. absurd (let e : false ≡ true = sym (lt-leb o.moment m late) ∙ yes in cc e), λ lt. absurd (omega arith))
-      | inr early ↦ (λ yes. counted_place m os j o c.take.ensures.order (sym c.take.ensures.at) early, λ lt. le-leb o.moment m early)
+          let end = counted_end m j os o c.take.ensures.order c.take.ensures.at late in (
+            λ yes. absurd (let e : false ≡ true = sym (lt-leb o.moment m late) ∙ yes in cc e),
+            λ lt. absurd (omega arith),
+          )
+      | inr early ↦ (
+        λ yes. counted_place m os j o c.take.ensures.order (sym c.take.ensures.at) early,
+        λ lt. le-leb o.moment m early,
+      )
     ]

@@ -12,13 +12,17 @@ enter-requires c =
     let t = c.args.t in
     let m = t.moment in
     let os = span_opps c.args.self.now.opportunities in
-    let same : span_opps c.burn_to.new.self.opportunities ≡ os = ap span_opps (c.burn_to.ensures.opportunities ∙ c.reserve-2.ensures.opportunities ∙ c.count_from-end.ensures.same) in
-    let end : c.burn_to.new.self.burnt ≡ length (up_to m os) = c.burn_to.ensures.burnt ∙ c.count_from-end.ensures.count in
+    let same : span_opps c.burn_to.new.self.opportunities ≡ os = ap span_opps (c.burn_to.ensures.opportunities
+    ∙ c.reserve-2.ensures.opportunities ∙ c.count_from-end.ensures.same) in
+    let end : c.burn_to.new.self.burnt ≡ length (up_to m os) = c.burn_to.ensures.burnt
+    ∙ c.count_from-end.ensures.count in
     let arrived = c.burn_to.ensures.arrived ∙ c.reserve-2.ensures.arrived in
-    let come : c.push.new.self.come ≡ c.args.self.now.arrived.come = c.push.ensures.come ∙ ap (λ (a : Arriving). a.come) arrived ∙ c.reserve.ensures.come in
+    let come : c.push.new.self.come ≡ c.args.self.now.arrived.come = c.push.ensures.come
+    ∙ ap (λ (a : Arriving). a.come) arrived ∙ c.reserve.ensures.come in
     let coming : c.push.new.self.coming ≡ t ∷ [] =
     c.push.ensures.coming
-    ∙ ap (λ (ts : List Timed). ts ++ t ∷ []) (ap (λ (a : Arriving). a.coming) arrived ∙ c.reserve.ensures.coming ∙ c.requires.none)
+    ∙ ap (λ (ts : List Timed). ts ++ t ∷ []) (ap (λ (a : Arriving). a.coming) arrived ∙ c.reserve.ensures.coming
+    ∙ c.requires.none)
     in (
       rw c.push.ensures.come c.burn_to.ensures.sound,
       (
@@ -29,7 +33,13 @@ enter-requires c =
             rw (end, same) (counted m os c.requires.sound.order).0,
             (
               rw (end, same) (counted m os c.requires.sound.order).1,
-              (search rules, (coming ∙ ap (λ (ts : List Timed). t ∷ drop 1 ts) (sym coming), omega (arith, c.in_ok-reserve-2.ensures.spare, c.burn_to.ensures.spare))),
+              (
+                search rules,
+                (
+                  coming ∙ ap (λ (ts : List Timed). t ∷ drop 1 ts) (sym coming),
+                  omega (arith, c.in_ok-reserve-2.ensures.spare, c.burn_to.ensures.spare),
+                ),
+              ),
             ),
           ),
         ),

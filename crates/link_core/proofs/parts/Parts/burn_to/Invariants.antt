@@ -12,7 +12,8 @@ invariant-burning g l = record {
   entered : l.self.arrived ≡ l.fn.self.arrived;
   others : l.self.line.queue ≡ record l.fn.self.line.queue { packets = l.self.line.queue.packets };
   holds : length (inside_line l.self.line) + vec_len l.self.left ≤ vec_capacity l.self.left;
-  free : l.fn.self.log.spare + l.fn.self.burnt + length (inside_line l.self.line) ≤ l.self.log.spare + l.self.burnt + length (inside_line l.fn.self.line);
+  free : l.fn.self.log.spare + l.fn.self.burnt + length (inside_line l.self.line) ≤ l.self.log.spare + l.self.burnt +
+      length (inside_line l.fn.self.line);
 }
 
 abbrev pub decreases-burning : goal.decreases-burning

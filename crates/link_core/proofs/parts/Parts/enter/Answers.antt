@@ -15,27 +15,40 @@ pub returns-clause-sound : goal.returns-clause-sound
 returns-clause-sound g c =
     let old : Queue = c.args.self.now.line.queue in
     let t = c.args.t in
-    let spec_e : c.enqueue-dropped.new.self.spec ≡ old.spec = ap (λ (q : Queue). q.spec) c.enqueue-dropped.ensures.queue in
-    let packets_e : c.enqueue-dropped.new.self.packets ≡ enqueued old.spec old.packets t = ap (λ (q : Queue). q.packets) c.enqueue-dropped.ensures.queue in
-    let lost_e : c.enqueue-dropped.new.self.lost ≡ old.lost ++ map (moved_to t.moment) (dropped old.spec old.packets t) =
+    let spec_e : c.enqueue-dropped.new.self.spec ≡ old.spec =
+    ap (λ (q : Queue). q.spec) c.enqueue-dropped.ensures.queue in
+    let packets_e : c.enqueue-dropped.new.self.packets ≡ enqueued old.spec old.packets t =
+    ap (λ (q : Queue). q.packets) c.enqueue-dropped.ensures.queue in
+    let lost_e : c.enqueue-dropped.new.self.lost ≡ old.lost
+    ++ map (moved_to t.moment) (dropped old.spec old.packets t) =
     ap (λ (q : Queue). q.lost) c.enqueue-dropped.ensures.queue
     in
-    let come_e : c.enter.new.self.come ≡ c.args.self.now.arrived.come ++ t ∷ [] = c.enter.ensures.come ∙ ap (λ (ts : List Timed). c.args.self.now.arrived.come ++ take 1 ts) c.requires.1.1.1.1.1.1.0 in
+    let come_e : c.enter.new.self.come ≡ c.args.self.now.arrived.come ++ t ∷ [] = c.enter.ensures.come
+    ∙ ap (λ (ts : List Timed). c.args.self.now.arrived.come ++ take 1 ts) c.requires.1.1.1.1.1.1.0 in
     let logged = c.args.self.now.log.kept in
-    let log_e : c.note.new.log.entries ≡ c.args.self.now.log.entries ++ written logged (entries.Arrival t.moment t.packet.size ∷ drop_line t.moment (dropped old.spec old.packets t)) =
+    let log_e : c.note.new.log.entries ≡ c.args.self.now.log.entries
+    ++ written logged (entries.Arrival t.moment t.packet.size ∷ drop_line t.moment
+    (dropped old.spec old.packets t)) =
     c.note.ensures.log
-    ∙ ap (λ n. c.args.self.now.log.entries ++ written logged (entries.Arrival t.moment t.packet.size ∷ drop_line_by t.moment n c.enqueue-dropped.result.bytes)) c.enqueue-dropped.ensures.packets
-    ∙ ap (λ n. c.args.self.now.log.entries ++ written logged (entries.Arrival t.moment t.packet.size ∷ drop_line_by t.moment (length (dropped old.spec old.packets t)) n)) c.enqueue-dropped.ensures.bytes
+    ∙ ap (λ n. c.args.self.now.log.entries
+    ++ written logged (entries.Arrival t.moment t.packet.size ∷ drop_line_by t.moment n
+    c.enqueue-dropped.result.bytes)) c.enqueue-dropped.ensures.packets
+    ∙ ap (λ n. c.args.self.now.log.entries
+    ++ written logged (entries.Arrival t.moment t.packet.size ∷ drop_line_by t.moment
+    (length (dropped old.spec old.packets t)) n)) c.enqueue-dropped.ensures.bytes
     in
     let all_e : g.gone.log ++ c.note.new.log.entries
-    ≡ g.gone.log ++ c.args.self.now.log.entries ++ written logged (entries.Arrival t.moment t.packet.size ∷ drop_line t.moment (dropped old.spec old.packets t)) =
+    ≡ g.gone.log ++ c.args.self.now.log.entries
+    ++ written logged (entries.Arrival t.moment t.packet.size ∷ drop_line t.moment
+    (dropped old.spec old.packets t)) =
     behind g.gone.log _ _ _ log_e
     in
     rw (spec_e, packets_e, lost_e, come_e, c.note.ensures.kept, all_e)
     (sound_enter _ _ _ _ _ _ _ _ _ _ _ t c.requires.0 c.requires.1.1.0 c.requires.1.1.1.0 c.requires.1.1.1.1.0)
 
 pub note-requires-clause-order : goal.note-requires-clause-order
-note-requires-clause-order g c = log_behind_enter g.gone.log _ _ _ _ _ _ _ _ _ _ _ c.args.t c.requires.0 c.requires.1.1.0 c.requires.1.1.1.0
+note-requires-clause-order g c = log_behind_enter g.gone.log _ _ _ _ _ _ _ _ _ _ _ c.args.t c.requires.0
+    c.requires.1.1.0 c.requires.1.1.1.0
 
 pub note-requires-clause-some : goal.note-requires-clause-some
 note-requires-clause-some g c =

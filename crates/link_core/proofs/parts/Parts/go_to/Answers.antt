@@ -15,11 +15,14 @@ enter-requires g c =
     let m = t.moment in
     let os = span_opps now.opportunities in
     let due = c.count_from-due.ensures.count in
-    let same : span_opps c.burn_to.new.self.opportunities ≡ os = ap span_opps (c.burn_to.ensures.opportunities ∙ c.reserve.ensures.opportunities ∙ c.count_from-due.ensures.same) in
+    let same : span_opps c.burn_to.new.self.opportunities ≡ os = ap span_opps (c.burn_to.ensures.opportunities
+    ∙ c.reserve.ensures.opportunities ∙ c.count_from-due.ensures.same) in
     let end : c.burn_to.new.self.burnt ≡ length (up_to m os) = omega arith in
     let arrived : c.burn_to.new.self.arrived ≡ now.arrived = c.burn_to.ensures.arrived ∙ c.reserve.ensures.arrived in
-    let order = next_order os now.opportunities.horizon now.burnt now.arrived.come now.arrived.coming c.requires.1.0 t c.requires.1.1 in
-    let within = next_within os now.opportunities.horizon now.burnt now.arrived.come now.arrived.coming c.requires.1.0 t c.requires.1.1 in
+    let order = next_order os now.opportunities.horizon now.burnt now.arrived.come now.arrived.coming c.requires.1.0 t
+    c.requires.1.1 in
+    let within = next_within os now.opportunities.horizon now.burnt now.arrived.come now.arrived.coming c.requires.1.0
+    t c.requires.1.1 in
     let most = c.count_from-due.ensures.horizon in
     let here = counted m os c.requires.0.order in (
       c.burn_to.ensures.sound,
@@ -31,7 +34,13 @@ enter-requires g c =
             rw (end, same) here.0,
             (
               rw (end, same) here.1,
-              (search rules, (subst (λ (a : Arriving). a.coming ≡ t ∷ drop 1 a.coming) (sym arrived) c.requires.1.1, omega (arith, c.in_ok-reserve.ensures.spare, c.burn_to.ensures.spare))),
+              (
+                search rules,
+                (
+                  subst (λ (a : Arriving). a.coming ≡ t ∷ drop 1 a.coming) (sym arrived) c.requires.1.1,
+                  omega (arith, c.in_ok-reserve.ensures.spare, c.burn_to.ensures.spare),
+                ),
+              ),
             ),
           ),
         ),
@@ -45,11 +54,13 @@ returns-clause-playable g c =
     let os = span_opps now.opportunities in
     let due = c.count_from-due.ensures.count in
     let opps_e : c.enter.new.self.opportunities ≡ now.opportunities =
-    c.enter.ensures.opportunities ∙ c.burn_to.ensures.opportunities ∙ c.reserve.ensures.opportunities ∙ c.count_from-due.ensures.same
+    c.enter.ensures.opportunities ∙ c.burn_to.ensures.opportunities ∙ c.reserve.ensures.opportunities
+    ∙ c.count_from-due.ensures.same
     in
     let burnt_e : c.enter.new.self.burnt ≡ count_to os m = omega arith in
     let arrived : c.burn_to.new.self.arrived ≡ now.arrived = c.burn_to.ensures.arrived ∙ c.reserve.ensures.arrived in
     let come_e = c.enter.ensures.come ∙ ap (λ (a : Arriving). a.come ++ c.args.t ∷ []) arrived in
     let coming_e = c.enter.ensures.coming ∙ ap (λ (a : Arriving). drop 1 a.coming) arrived in
     rw (opps_e, burnt_e)
-    (playable_entered os now.opportunities.horizon now.burnt now.arrived.come now.arrived.coming c.requires.1.0 c.args.t c.requires.1.1 _ _ come_e coming_e)
+    (playable_entered os now.opportunities.horizon now.burnt now.arrived.come now.arrived.coming c.requires.1.0
+    c.args.t c.requires.1.1 _ _ come_e coming_e)

@@ -10,4 +10,5 @@ pub returns-clause-lost : goal.returns-clause-lost
 returns-clause-lost c = c.into_lost.ensures ∙ seen_lost _ _ _ _ _ _ _ _ _ _ _ c.requires.sound
 
 pub returns-clause-held : goal.returns-clause-held
-returns-clause-held c = c.in_ok-held.ensures ∙ ap (λ (ts : List Timed). map (λ (t : Timed). t.packet.id) ts) (seen_inside _ _ _ _ _ _ _ _ _ _ _ c.requires.sound)
+returns-clause-held c = c.in_ok-held.ensures ∙ ap (λ (ts : List Timed). map (λ (t : Timed). t.packet.id) ts)
+    (seen_inside _ _ _ _ _ _ _ _ _ _ _ c.requires.sound)

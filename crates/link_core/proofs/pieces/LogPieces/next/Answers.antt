@@ -25,7 +25,8 @@ invariant_of-self c =
 pub returns-clause-err : goal.returns-clause-err
 returns-clause-err c =
     let was = c.let_go.ensures in
-    let same_rest : rest_of c.let_go.new.self ≡ rest_of c.self.inside.parts = rw (was.opportunities, was.burnt, was.arrived, was.line) in
+    let same_rest : rest_of c.let_go.new.self ≡ rest_of c.self.inside.parts =
+    rw (was.opportunities, was.burnt, was.arrived, was.line) in
     let same : c.fill.new.self.log.entries ++ rest_of c.fill.new.self ≡ c.args.self.now.rest =
     c.fill.ensures.same
     ∙ ap (λ (es : List Entry). es ++ rest_of c.let_go.new.self) was.entries

@@ -16,7 +16,8 @@ pub returns-in_err-finish-clause-every : goal.returns-in_err-finish-clause-every
 returns-in_err-finish-clause-every c = λ es is read.
     let s = subst (λ (w : List ℕ). IsSummed w [] c.args.self) (append-nil (log_text es)) (read []) in
     let p = err_from_is_err_and c.from_residual.result c.from_residual.ensures.1 in
-    let memory = only_memory (log_text es) es c.in_err-finish.field-0.0 is refl (c.in_err-finish.ensures.exact (log_text es) s.0 s.1) in
+    let memory = only_memory (log_text es) es c.in_err-finish.field-0.0 is refl
+    (c.in_err-finish.ensures.exact (log_text es) s.0 s.1) in
     rw p.1 (p.2 ∙ memory)
 
 pub returns-clause-found : goal.returns-clause-found
@@ -29,7 +30,8 @@ pub returns-clause-every : goal.returns-clause-every
 returns-clause-every c = λ es is read.
     let s = subst (λ (w : List ℕ). IsSummed w [] c.args.self) (append-nil (log_text es)) (read []) in
     let found = c.in_ok-finish.ensures.found (log_text es) s.0 s.1 in
-    c.report.ensures s.0 (s.2 c.in_ok-finish.ensures.accepted) ∙ ap report_of (same_log (log_text es) s.0 es found.1 is found.0 refl)
+    c.report.ensures s.0 (s.2 c.in_ok-finish.ensures.accepted)
+    ∙ ap report_of (same_log (log_text es) s.0 es found.1 is found.0 refl)
 
 pub returns-clause-exact : goal.returns-clause-exact
 returns-clause-exact c = λ text read.

@@ -1,4 +1,5 @@
-use Rattle.std.proofs.Common.{◌≡◌, ◌++◌, ◌∷◌, [], ℕ, List, Result, Ok, Err, OnOk, false, true, sym, subst, ◌∙◌, append_assoc}
+use Rattle.std.proofs.Common.{◌≡◌, ◌++◌, ◌∷◌, [], ℕ, List, Result, Ok, Err, OnOk, false, true, sym, subst, ◌∙◌}
+use Rattle.std.proofs.Common.{append_assoc}
 use Rattle.std.specs.Result.{is_err}
 use Rattle.shell_log.proofs.PartLaws.{read_left}
 use Rattle.log_report.specs.ReportTexts.{IsSummed}
@@ -25,5 +26,8 @@ returns c = λ text read rest.
     let piece = c.args.piece.now in
     let P : List ℕ → Type 0 = λ w. IsSummed w (piece ++ rest) c.args.self.now in
     let given = subst P (sym (append_assoc text piece rest)) (read (piece ++ rest)) in
-    let before = c.entries.invariant ((text ++ piece) ++ rest) rest given in
-    (before.0, c.in_default.ensures.none ((text ++ piece) ++ rest) rest before.0 before.1, λ going. before.2 (c.in_default.ensures.stays going))
+    let before = c.entries.invariant ((text ++ piece) ++ rest) rest given in (
+      before.0,
+      c.in_default.ensures.none ((text ++ piece) ++ rest) rest before.0 before.1,
+      λ going. before.2 (c.in_default.ensures.stays going),
+    )

@@ -3,7 +3,8 @@ use Rattle.log_report.specs.ReportTexts.{IsSummed}
 use Rattle.log_report.proofs.text.ReportTextPieceReader.push.Given as goal
 
 abbrev pub invariant-entries : goal.invariant-entries
-invariant-entries l = (whole rest : List ℕ) → IsSummed whole (l.fn.piece ++ rest) l.fn.self → IsSummed whole (l.rest ++ rest) l.self
+invariant-entries l = (whole rest : List ℕ) → IsSummed whole (l.fn.piece ++ rest) l.fn.self
+    → IsSummed whole (l.rest ++ rest) l.self
 
 abbrev pub decreases-entries : goal.decreases-entries
 decreases-entries l = length l.rest

@@ -8,5 +8,8 @@ pub send_as-requires-clause-rule : goal.send_as-requires-clause-rule
 send_as-requires-clause-rule g c =
     let i = c.loop.invariant in
     let x = c.args.item in
-    let may = subst (λ (e : End). MayFollow e.flow x × IsUpTo e.horizon x) (sym i.1) (c.requires.follows, c.requires.within) in
+    let may = subst (λ (e : End). MayFollow e.flow x × IsUpTo e.horizon x) (sym i.1) (
+      c.requires.follows,
+      c.requires.within,
+    ) in
     (sends _ _ _ _ i.0.1 i.0.2 may.0 may.1, λ items views h at. tt)

@@ -7,7 +7,8 @@ returns-then-is_failing-clause-call c = record {
   same_fails = search rules;
   counted = search rules;
   failed = (
-    λ _. is_named _ _ _ _ (c.deref.ensures.value ∙ ap (λ s. s.fails) c.self.view_is) c.is_failing.ensures.failing c.if-is_failing.true,
+    λ _. is_named _ _ _ _ (c.deref.ensures.value ∙ ap (λ s. s.fails) c.self.view_is) c.is_failing.ensures.failing
+        c.if-is_failing.true,
     λ _. search rules,
   );
 }

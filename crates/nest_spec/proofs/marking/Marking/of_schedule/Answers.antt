@@ -9,5 +9,7 @@ use Rattle.nest_spec.proofs.marking.Marking.of_schedule.Goals as goal
 
 pub invariant_of-result : goal.invariant_of-result
 invariant_of-result c =
-    let long = length-map c.rows-rows.result.now (λ (row : Row). fate_row row Unsent) in
-    (subst AreFromOne (sym c.rows-rows.ensures.rows) (numbered c.args.schedule.now c.rows-rows.ensures.schedule), ap length c.in_ok-all_unsent.ensures ∙ long)
+    let long = length-map c.rows-rows.result.now (λ (row : Row). fate_row row Unsent) in (
+      subst AreFromOne (sym c.rows-rows.ensures.rows) (numbered c.args.schedule.now c.rows-rows.ensures.schedule),
+      ap length c.in_ok-all_unsent.ensures ∙ long,
+    )

@@ -9,7 +9,8 @@ returns c =
     let nest = a.self.now in
     let is : IsNest nest = subst IsNest c.self.view_is c.self.invariant in
     let list : c.in_passing_order.result.items ≡ shells_in a.direction nest = search rules in
-    let fit : AreFit nest.horizon c.in_passing_order.result.items = subst (AreFit nest.horizon) (sym list) (shells_fit a.direction nest is) in
+    let fit : AreFit nest.horizon c.in_passing_order.result.items = subst (AreFit nest.horizon) (sym list)
+    (shells_fit a.direction nest is) in
     let some = is.some in
     record {
       list = list;

@@ -9,7 +9,8 @@ pub invariant_of-self : goal.invariant_of-self
 invariant_of-self c =
     let spare_is = ap (λ (q : Queue). q.spare) c.self.view_is in
     let pushed : c.push_back.new.self.items ≡ c.self.inside.waiting.items ++ c.args.t ∷ [] = search rules in
-    let longer : length c.push_back.new.self.items ≡ length c.self.inside.waiting.items + 1 = ap length pushed ∙ length_push c.self.inside.waiting.items c.args.t in (
+    let longer : length c.push_back.new.self.items ≡ length c.self.inside.waiting.items + 1 = ap length pushed
+    ∙ length_push c.self.inside.waiting.items c.args.t in (
       kept_fitting c.self.inside.spec c.push_back.new.self.items c.shed.new.waiting.items c.shed.ensures.waiting,
       c.shed.ensures.size,
       grind (arith, common_steps, queue_steps),

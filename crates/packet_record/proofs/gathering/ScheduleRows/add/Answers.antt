@@ -9,9 +9,12 @@ invariant_of-self-2 c =
     let low = c.self.inside.low in
     let row = c.in_ok-row.row in
     let said = c.in_ok-row.ensures in
-    let within : row.timed.moment ≤ 9999999999 = subst (λ o. IfSome o (λ s. s.0 ≤ 9999999999)) said.said c.requires.within in
+    let within : row.timed.moment ≤ 9999999999 = subst (λ o. IfSome o (λ s. s.0 ≤ 9999999999)) said.said
+    c.requires.within in
     record {
       schedule = subst IsSchedule (sym c.in_ok-push.ensures.items)
-          (schedule_more low rows row c.self.invariant.schedule c.self.invariant.below said.order within (omega (arith, said.id)) (omega (arith, said.few)));
-      below = subst (AreWithin row.timed.moment) (sym c.in_ok-push.ensures.items) (below_more low rows row c.self.invariant.below said.order);
+          (schedule_more low rows row c.self.invariant.schedule c.self.invariant.below said.order within
+          (omega (arith, said.id)) (omega (arith, said.few)));
+      below = subst (AreWithin row.timed.moment) (sym c.in_ok-push.ensures.items)
+          (below_more low rows row c.self.invariant.below said.order);
     }

@@ -15,8 +15,13 @@ returns c = λ text read.
     let inside = subst (IsLeft text []) (sym c.self.view_is) end in
     elim c.if-not-is_empty.branch [
       | then-not-is_empty w ↦
-          let next = last_line all kept c.self.inside.rows c.self.invariant.one_line (some_kept kept (sym w.if-not-is_empty.true ∙ c.is_empty.ensures)) inside in
-          subst (Awaits all []) (sym w.rows-is) (w.take.ensures all [] w.as_slice.result.now (sym w.read_line.ensures.value) (subst (λ l. Awaits all (l ∷ []) c.self.inside.rows) (sym w.as_slice.ensures) next))
+          let next = last_line all kept c.self.inside.rows c.self.invariant.one_line
+          (some_kept kept (sym w.if-not-is_empty.true ∙ c.is_empty.ensures)) inside in
+          subst (Awaits all []) (sym w.rows-is)
+          (w.take.ensures all [] w.as_slice.result.now (sym w.read_line.ensures.value)
+          (subst (λ l. Awaits all (l ∷ []) c.self.inside.rows) (sym w.as_slice.ensures) next))
       | else-not-is_empty w ↦
-          subst (Awaits all []) (sym w.rows-is) (no_line all kept c.self.inside.rows (none_kept kept (sym w.if-not-is_empty.false ∙ c.is_empty.ensures)) inside)
+          subst (Awaits all []) (sym w.rows-is)
+          (no_line all kept c.self.inside.rows (none_kept kept (sym w.if-not-is_empty.false ∙ c.is_empty.ensures))
+          inside)
     ]

@@ -1,4 +1,5 @@
-use Rattle.std.proofs.Common.{◌≡◌, ◌-◌, ◌++◌, Result, Ok, Err, OnOk, length, take, true, false, ap, sym, subst, ◌∙◌, arith, length-append}
+use Rattle.std.proofs.Common.{◌≡◌, ◌-◌, ◌++◌, Result, Ok, Err, OnOk, length, take, true, false, ap, sym, subst, ◌∙◌}
+use Rattle.std.proofs.Common.{arith, length-append}
 use Rattle.std.proofs.lemmas.List.{length-take}
 use Rattle.std.specs.Result.{is_err}
 use Rattle.mm_base.specs.Lines.{lines_of, is_one_line}
@@ -23,8 +24,15 @@ invariant_of-self-else-is_err c =
     let few = c.self.invariant.few in
     record {
       one_line = subst (λ t. is_one_line t ≡ true) (sym held)
-          (is_one_line-append kept (take (27 - length kept) part) c.self.invariant.one_line (one_line_take (27 - length kept) part c.requires));
-      few = omega (arith, few, ap length held, length-append kept (take (27 - length kept) part), length-take (27 - length kept) part);
+          (is_one_line-append kept (take (27 - length kept) part) c.self.invariant.one_line
+          (one_line_take (27 - length kept) part c.requires));
+      few = omega (
+        arith,
+        few,
+        ap length held,
+        length-append kept (take (27 - length kept) part),
+        length-take (27 - length kept) part,
+      );
     }
 
 pub returns-else-is_err : goal.returns-else-is_err
@@ -34,7 +42,8 @@ returns-else-is_err c = λ whole rest left.
     let inside = subst (IsLeft whole (part ++ rest)) (sym c.self.view_is) left in
     let added = no_error c.append.result (sym c.if-is_err.false ∙ c.is_err.ensures.value) c.append.ensures.ok in
     let front = c.kept_front-front.ensures ∙ ap (λ n. take (27 - n) part) c.len.ensures in
-    subst (λ t. Awaits (lines_of whole) (lines_of (t ++ rest)) c.self.inside.rows) (sym (added ∙ ap (λ l. kept ++ l) front))
+    subst (λ t. Awaits (lines_of whole) (lines_of (t ++ rest)) c.self.inside.rows)
+    (sym (added ∙ ap (λ l. kept ++ l) front))
     (enough_kept (lines_of whole) kept part rest c.self.inside.rows c.self.invariant.one_line c.requires inside)
 
 pub returns-then-is_refused : goal.returns-then-is_refused

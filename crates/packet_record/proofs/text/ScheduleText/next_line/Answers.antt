@@ -13,5 +13,7 @@ returns-in-Some-clause-some c = λ whole rest left.
     let more = c.in-Some.after.now ++ rest in
     let inside = subst (IsLeft whole (c.args.text.now ++ rest)) (sym c.self.view_is) left in
     let cut = ap (λ t. t ++ rest) read.1 ∙ append_assoc read.0 (10 ∷ c.in-Some.after.now) rest in
-    let next = next_line all c.self.inside.kept read.0 more c.self.inside.rows none read.2 (subst (λ t. Awaits all (lines_of (c.self.inside.kept ++ t)) c.self.inside.rows) cut inside) in
-    subst (λ k. Awaits all (lines_of (k ++ more)) c.take.new.self) (sym none) (c.take.ensures all (lines_of more) read.0 read.3 next)
+    let next = next_line all c.self.inside.kept read.0 more c.self.inside.rows none read.2
+    (subst (λ t. Awaits all (lines_of (c.self.inside.kept ++ t)) c.self.inside.rows) cut inside) in
+    subst (λ k. Awaits all (lines_of (k ++ more)) c.take.new.self) (sym none)
+    (c.take.ensures all (lines_of more) read.0 read.3 next)

@@ -8,7 +8,9 @@ pub returns-then-is_refused-clause-read : goal.returns-then-is_refused-clause-re
 returns-then-is_refused-clause-read c = λ text read rest.
     let refused = sym c.is_refused.ensures ∙ c.if-is_refused.true in
     let piece = c.args.piece.now in
-    let left = subst (λ whole. IsLeft whole (piece ++ rest) c.args.self.now) (sym (append_assoc text piece rest)) (read (piece ++ rest)) in
+    let left = subst (λ whole. IsLeft whole (piece ++ rest) c.args.self.now) (sym (append_assoc text piece rest))
+    (read (piece ++ rest)) in
     let inside = subst (IsLeft ((text ++ piece) ++ rest) (piece ++ rest)) (sym c.self.view_is) left in
     subst (IsLeft ((text ++ piece) ++ rest) rest) c.self.view_is
-    (awaits_any (lines_of ((text ++ piece) ++ rest)) _ (lines_of (c.self.inside.kept ++ rest)) c.self.inside.rows refused inside)
+    (awaits_any (lines_of ((text ++ piece) ++ rest)) _ (lines_of (c.self.inside.kept ++ rest)) c.self.inside.rows
+    refused inside)

@@ -3,7 +3,8 @@ use Rattle.packet_record.specs.PartsRead.{IsLeft}
 use Rattle.packet_record.proofs.text.ScheduleTextPieceReader.push.Given as goal
 
 abbrev pub invariant-lines : goal.invariant-lines
-invariant-lines l = (whole rest : List ℕ) → IsLeft whole (l.fn.piece ++ rest) l.fn.self → IsLeft whole (l.rest ++ rest) l.self
+invariant-lines l = (whole rest : List ℕ) → IsLeft whole (l.fn.piece ++ rest) l.fn.self
+    → IsLeft whole (l.rest ++ rest) l.self
 
 abbrev pub decreases-lines : goal.decreases-lines
 decreases-lines l = length l.rest

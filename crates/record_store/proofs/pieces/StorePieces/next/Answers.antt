@@ -11,4 +11,6 @@ returns-in-Err-clause-err c =
       | then-not-self+in_ok-append w ↦ ap (λ s. s.records.now) w.self-inside-is
       | else-not-self w ↦ ap (λ s. s.records.now) w.self-inside-is
     ] in
-    subst (λ p. 0 < length p.rest) c.self.view_is (left_some c.self.inside.begun c.self.inside.records.now (subst (λ (rs : List Record). 0 < length rs) same c.in-Err.ensures.err))
+    subst (λ p. 0 < length p.rest) c.self.view_is
+    (left_some c.self.inside.begun c.self.inside.records.now
+    (subst (λ (rs : List Record). 0 < length rs) same c.in-Err.ensures.err))

@@ -9,14 +9,19 @@ give_up-requires-clause-gives g c = may_give_up _ _ _ _ _ c.claim-word.ensures.t
 pub spend-requires-clause-spends : goal.spend-requires-clause-spends
 spend-requires-clause-spends g c =
     may_feed _ _ _ _ _ _ c.claim-word.ensures.taken c.seat.invariant.role
-    (feed_may _ _ _ c.claim-word.new.seat.me _ _ _ c.seat.view_is c.claim-word.ensures.taken c.args.item c.seat.invariant.role (sym c.is_broken.ensures ∙ c.if-is_broken.false) c.requires.follows c.requires.within)
+    (feed_may _ _ _ c.claim-word.new.seat.me _ _ _ c.seat.view_is c.claim-word.ensures.taken c.args.item
+    c.seat.invariant.role (sym c.is_broken.ensures ∙ c.if-is_broken.false) c.requires.follows c.requires.within)
     c.in-Ok.ensures.ok
 
 pub give_up-requires-in-Err-clause-gives : goal.give_up-requires-in-Err-clause-gives
-give_up-requires-in-Err-clause-gives g c = may_give_up _ _ _ _ _ c.claim-word.ensures.taken (inl c.seat.invariant.role) c.in-Err.ensures.err.0
+give_up-requires-in-Err-clause-gives g c = may_give_up _ _ _ _ _ c.claim-word.ensures.taken
+    (inl c.seat.invariant.role) c.in-Err.ensures.err.0
 
 pub returns-in-Ok-clause-turn : goal.returns-in-Ok-clause-turn
-returns-in-Ok-clause-turn g c = inl (feed_spends _ _ _ _ _ _ _ c.seat.view_is c.claim-word.ensures.taken _ c.args.item (sym c.is_broken.ensures ∙ c.if-is_broken.false) c.spend.ensures.spent c.spend.ensures.above)
+returns-in-Ok-clause-turn g c =
+    inl (feed_spends _ _ _ _ _ _ _ c.seat.view_is c.claim-word.ensures.taken _ c.args.item (sym c.is_broken.ensures
+    ∙ c.if-is_broken.false) c.spend.ensures.spent c.spend.ensures.above)
 
 pub returns-in-Ok-clause-fed : goal.returns-in-Ok-clause-fed
-returns-in-Ok-clause-fed g c = feed_feeds _ _ _ _ _ _ _ c.seat.view_is c.claim-word.ensures.taken c.spend.new.seat.table_id c.args.item (sym c.is_broken.ensures ∙ c.if-is_broken.false) c.spend.ensures.spent
+returns-in-Ok-clause-fed g c = feed_feeds _ _ _ _ _ _ _ c.seat.view_is c.claim-word.ensures.taken
+    c.spend.new.seat.table_id c.args.item (sym c.is_broken.ensures ∙ c.if-is_broken.false) c.spend.ensures.spent

@@ -10,13 +10,17 @@ pub returns-clause-some : goal.returns-clause-some
 returns-clause-some c =
     let p = text_view c.self.inside in
     some_is c.take.result _ _ (λ e h whole rest es read.
-    read_line whole p.kept rest c.clear.new.self es e p c.take.new.self (ap (λ (q : LogPart). q.has_begun) c.self.view_is ∙ c.requires.begun) refl
-    (sym (c.read_entry-said.ensures ∙ ap entry_of c.as_slice.ensures) ∙ h.0) h.1 h.2 c.clear.ensures (subst (IsRead whole (10 ∷ rest) es) (sym c.self.view_is) read)) c.take.ensures.some
+    read_line whole p.kept rest c.clear.new.self es e p c.take.new.self
+    (ap (λ (q : LogPart). q.has_begun) c.self.view_is ∙ c.requires.begun) refl
+    (sym (c.read_entry-said.ensures ∙ ap entry_of c.as_slice.ensures) ∙ h.0) h.1 h.2 c.clear.ensures
+    (subst (IsRead whole (10 ∷ rest) es) (sym c.self.view_is) read)) c.take.ensures.some
 
 pub returns-clause-none : goal.returns-clause-none
 returns-clause-none c =
     let p = text_view c.self.inside in
     none_is c.take.result _ _ (λ refuses whole more rest es read.
-    refuse_line whole p.kept more rest c.clear.new.self es p c.take.new.self (ap (λ (q : LogPart). q.has_begun) c.self.view_is ∙ c.requires.begun) refl c.self.invariant.one_line
-    (subst (λ (o : Option Entry). IsRefusing (fault_of (p.entries + 2) p.last o) (keeping c.clear.new.self p) c.take.new.self) (c.read_entry-said.ensures ∙ ap entry_of c.as_slice.ensures) refuses)
+    refuse_line whole p.kept more rest c.clear.new.self es p c.take.new.self
+    (ap (λ (q : LogPart). q.has_begun) c.self.view_is ∙ c.requires.begun) refl c.self.invariant.one_line
+    (subst (λ (o : Option Entry). IsRefusing (fault_of (p.entries + 2) p.last o) (keeping c.clear.new.self p)
+    c.take.new.self) (c.read_entry-said.ensures ∙ ap entry_of c.as_slice.ensures) refuses)
     (subst (IsRead whole (10 ∷ more) es) (sym c.self.view_is) read)) c.take.ensures.none

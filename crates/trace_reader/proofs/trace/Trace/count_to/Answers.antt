@@ -19,5 +19,6 @@ returns-clause-which c =
     let count = length c.list-list.result.now in
     let not_once : IsTrue c.args.once → ⊥ = λ t. search rules in
     which_counted c.args.self.now c.args.once c.args.h (c.args.h / lap * count + c.count_up_to-2.result) is
-    (count_laps c.args.self.now.opportunities c.args.once c.args.h c.count_up_to-2.result count lap not_once is.rising c.last_moment-lap.ensures.last (ap length list)
+    (count_laps c.args.self.now.opportunities c.args.once c.args.h c.count_up_to-2.result count lap not_once is.rising
+    c.last_moment-lap.ensures.last (ap length list)
     (c.count_up_to-2.ensures.count ∙ ap (λ (l : List Opportunity). length (up_to (c.args.h % lap) l)) list))

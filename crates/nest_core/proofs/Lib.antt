@@ -1,0 +1,9 @@
+pub mod Meeting
+pub mod Changing
+pub mod Leading
+pub mod Resting
+pub mod Settling
+pub mod Lessening
+pub mod Stepping
+pub mod Beginning
+pub mod Ordering

@@ -1,0 +1,78 @@
+-- A shell of a world, and what its feeder and its drain do.
+use Rattle.std.specs.Prelude.{ℕ, Bool, true, false, Option, Some, None, IfSome, is_some, not, ◌&&◌, if◌then◌else◌}
+use Rattle.packet_record.specs.Streams.{MayFollow, IsUpTo}
+use Rattle.packet_record.specs.declared.item.Item.{Item}
+use Rattle.packet_record.specs.declared.item.FlowEnd.{FlowEnd}
+use Rattle.packet_record.specs.declared.item.FlowEnd.TheVariants.{Open, Ended, Broken}
+use Rattle.shell_core.specs.declared.spec.DirSpec.{DirSpec}
+use Rattle.shell_state.specs.declared.taken.Taken.{Taken}
+use Rattle.shell_state.specs.declared.taken.Taken.TheVariants.{Item as Gives, Again, NotYet}
+use Rattle.shell_state.specs.States.{State, new_state}
+use Rattle.shell_state.specs.Steps.{after_feed, after_take, answer_of}
+use Rattle.nest_core.specs.declared.stage.Stage.{Stage}
+use Rattle.nest_core.specs.Channels.{ChannelParts, new_channel, has_room, with_last}
+
+-- the most opportunities that one take burns
+abbrev pub most : ℕ
+most = 4
+
+abbrev pub stage : Option Item → State → Option Item → ChannelParts → Stage
+stage feeder state drain channel = record { feeder = feeder; state = state; drain = drain; channel = channel }
+
+abbrev pub new_stage : DirSpec → ℕ → ℕ → Stage
+new_stage spec horizon capacity = stage None (new_state spec horizon) None (new_channel capacity)
+
+-- a feeder that holds nothing receives the first item of a channel, if there is one
+abbrev pub receives : Option Item → Stage → Bool
+receives first s = not (is_some s.feeder) && is_some first
+
+abbrev pub after_receiving : Option Item → Stage → Stage
+after_receiving first s = stage (if is_some s.feeder then s.feeder else first) s.state s.drain s.channel
+
+-- the feeder feeds what it holds
+abbrev pub feeding : Option Item → Stage → Stage
+feeding None s = s
+feeding (Some item) s = stage None (after_feed s.state item) s.drain s.channel
+
+abbrev pub fed_stage : Stage → Stage
+fed_stage s = feeding s.feeder s
+
+-- what the feeder holds may be fed
+abbrev pub MayFeed : Stage → Type 0
+MayFeed s = IfSome s.feeder (λ item. MayFollow s.state.fed item × IsUpTo s.state.horizon item)
+
+-- what a take gives the drain to send: an item, or nothing
+abbrev pub given : Taken → Option Item
+given (Gives item) = Some item
+given (Again burnt) = None
+given (NotYet bound) = None
+
+-- the drain takes, where it holds nothing and what was taken is open
+abbrev pub taking : Option Item → FlowEnd → Stage → Stage
+taking (Some item) end s = s
+taking None Open s = stage s.feeder (after_take s.state most) (given (answer_of s.state most)) s.channel
+taking None Ended s = s
+taking None Broken s = s
+
+abbrev pub taken_stage : Stage → Stage
+taken_stage s = taking s.drain s.state.taken.end s
+
+-- whether a take gave anything
+abbrev pub goes_on : Taken → Bool
+goes_on (Gives item) = true
+goes_on (Again burnt) = true
+goes_on (NotYet bound) = false
+
+abbrev pub takes_where : Option Item → FlowEnd → Stage → Bool
+takes_where (Some item) end s = false
+takes_where None Open s = goes_on (answer_of s.state most)
+takes_where None Ended s = false
+takes_where None Broken s = false
+
+-- the drain sends what it holds, where there is room
+abbrev pub sending : Option Item → Stage → Stage
+sending None s = s
+sending (Some item) s = if has_room s.channel then stage s.feeder s.state None (with_last s.channel item) else s
+
+abbrev pub sent_stage : Stage → Stage
+sent_stage s = sending s.drain s

@@ -1,0 +1,69 @@
+// A bounded channel of items, as a list.
+ghost use Rattle.std.specs.Prelude.{◌≡◌, IsTrue, IfOk};
+ghost use Rattle.nest_core.specs.Channels.{new_channel, has_room, with_last, first_of, without_first};
+
+use mm_base::OutOfMemory;
+use packet_record::Item;
+use std::alloc::Global;
+use std::collections::VecDeque;
+use std::marker::Model;
+
+// The items that were sent and not received, the oldest first, of which there is room for so many.
+#[derive(Drop)]
+pub(crate) struct Channel {
+    items: VecDeque<Item>,
+    capacity: usize,
+}
+
+impl Model for Channel {
+    ghost use Rattle.nest_core.specs.Channels.{ChannelParts};
+
+    ghost Value = { ChannelParts };
+
+    ghost use Rattle.nest_core.specs.ChannelViews.{channel_view, HasPlaces};
+
+    ghost view = { channel_view };
+
+    ghost invariant = { HasPlaces };
+}
+
+impl Channel {
+    // An empty channel, with all the memory that it ever takes.
+    pub(crate) fn new(alloc: Global, capacity: usize) -> Result<Channel, OutOfMemory>
+        ensures { IfOk result (λ c. c ≡ new_channel capacity) }
+    {
+        Ok(Channel {
+            items: VecDeque::with_capacity(alloc, capacity)?,
+            capacity,
+        })
+    }
+
+    pub(crate) fn has_room(&self) -> bool
+        ensures { result ≡ has_room self.now }
+    {
+        self.items.len() < self.capacity
+    }
+
+    // Adds an item at the back.
+    pub(crate) fn send(&mut self, item: Item)
+        requires { IsTrue (has_room self.old) }
+        ensures { self.new ≡ with_last self.old item }
+    {
+        self.items.push_back_reserved(item);
+    }
+
+    // The oldest item, which stays.
+    pub(crate) fn first(&self) -> Option<Item>
+        ensures { result ≡ first_of self.now.items }
+    {
+        self.items.front().copied()
+    }
+
+    // Takes the oldest item off.
+    pub(crate) fn receive(&mut self) -> Option<Item>
+        ensures first { result ≡ first_of self.old.items }
+        ensures rest { self.new ≡ without_first self.old }
+    {
+        self.items.pop_front()
+    }
+}

@@ -1,0 +1,52 @@
+// The shells of a world behind a channel, and the collector behind them.
+ghost use Rattle.std.specs.Prelude.{◌≡◌, [], OnOk, OnErr, IfOk};
+ghost use Rattle.nest_core.specs.Worlds.{line};
+ghost use Rattle.nest_core.specs.WorldSteps.{received};
+ghost use Rattle.nest_core.specs.Does.{receives_at, MayCollect};
+
+use crate::channel::Channel;
+use crate::stage::Stage;
+use mm_base::OutOfMemory;
+use packet_record::Flow;
+
+// The collector receives. Answers whether it did.
+fn collect(channel: &mut Channel, collected: &mut Flow) -> Result<bool, OutOfMemory>
+    requires { MayCollect channel.old [] collected.old.stream }
+    ensures ok { OnOk result (line channel.new [] collected.new.stream
+        ≡ received 0 channel.old [] collected.old.stream) }
+    ensures did { IfOk result (λ did. did ≡ receives_at 0 channel.old []) }
+    ensures err { OnErr result ((channel.new ≡ channel.old) × (collected.new.stream ≡ collected.old.stream)) }
+{
+    let Some(item) = channel.first() else {
+        return Ok(false);
+    };
+    collected.push(item)?;
+    channel.receive();
+    Ok(true)
+}
+
+// The feeder of the shell at this place receives; past the last shell, the collector. Answers whether it did.
+pub(crate) fn receive(
+    channel: &mut Channel,
+    stages: &mut [Stage],
+    collected: &mut Flow,
+    shell: usize,
+) -> Result<bool, OutOfMemory>
+    requires { MayCollect channel.old stages.old collected.old.stream }
+    ensures ok { OnOk result (line channel.new stages.new collected.new.stream
+        ≡ received shell channel.old stages.old collected.old.stream) }
+    ensures did { IfOk result (λ did. did ≡ receives_at shell channel.old stages.old) }
+    ensures err { OnErr result ((channel.new ≡ channel.old) × (stages.new ≡ stages.old)
+        × (collected.new.stream ≡ collected.old.stream)) }
+{
+    let Some((stage, rest)) = stages.split_first_mut() else {
+        if shell == 0 {
+            return collect(channel, collected);
+        }
+        return Ok(false);
+    };
+    if shell == 0 {
+        return Ok(stage.receive(channel));
+    }
+    receive(&mut stage.channel, rest, collected, shell - 1)
+}

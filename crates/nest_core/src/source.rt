@@ -1,0 +1,106 @@
+// The source of a direction's items.
+ghost use Rattle.std.specs.Prelude.{◌≡◌, ◌++◌, ◌∷◌, [], drop, option_to_list, IfNone, MatchOption};
+ghost use Rattle.packet_record.specs.Sources.{items_from, source_items};
+ghost use Rattle.packet_record.specs.declared.item.Item.TheVariants.{End};
+
+use packet_record::{Direction, Item, Row, source_item};
+use std::marker::Model;
+
+// The items that the source of a direction has still to send: those of the rows, and then the end.
+#[derive(Drop)]
+pub(crate) struct Source<'a> {
+    direction: Direction,
+    horizon: u64,
+    rows: &'a [Row],
+    // The place of the first row that isn't sent.
+    place: usize,
+    // The greatest moment that was sent, 0 at first.
+    sent: u64,
+    is_over: bool,
+}
+
+impl<'a> Model for Source<'a> {
+    ghost use Rattle.std.specs.Prelude.{List};
+    ghost use Rattle.packet_record.specs.declared.item.Item.{Item};
+
+    ghost Value = { List Item };
+
+    ghost use Rattle.nest_core.specs.SourceViews.{source_view};
+
+    ghost view = { source_view };
+}
+
+// An item that a row gave, the place after that row, and the row's moment.
+#[derive(Drop)]
+struct Found {
+    item: Item,
+    place: usize,
+    sent: u64,
+}
+
+// The next item that the rows from this place on give, where this much was sent.
+fn next_item(
+    direction: Direction,
+    horizon: u64,
+    rows: &[Row],
+    place: usize,
+    sent: u64,
+) -> Option<Found>
+    ensures { MatchOption result (items_from direction horizon sent (drop place rows.now) ≡ End ∷ [])
+        (λ f. items_from direction horizon sent (drop place rows.now)
+        ≡ f.item ∷ items_from direction horizon f.sent (drop f.place rows.now)) }
+{
+    let mut place = place;
+    while place < rows.len() {
+        let row = rows[place];
+        place += 1;
+        if let Some(item) = source_item(direction, horizon, sent, &row) {
+            let sent = row.timed.moment;
+            return Some(Found { item, place, sent });
+        }
+    }
+    None
+}
+
+impl<'a> Source<'a> {
+    // All that the rows give.
+    pub(crate) fn new(direction: Direction, horizon: u64, rows: &'a [Row]) -> Source<'a>
+        ensures { result ≡ source_items direction horizon rows.now }
+    {
+        Source {
+            direction,
+            horizon,
+            rows,
+            place: 0,
+            sent: 0,
+            is_over: false,
+        }
+    }
+
+    // The next item, which is then sent.
+    pub(crate) fn next(&mut self) -> Option<Item>
+        ensures items { self.old ≡ option_to_list result ++ self.new }
+        ensures over { IfNone result (self.old ≡ []) }
+    {
+        if self.is_over {
+            return None;
+        }
+        match next_item(
+            self.direction,
+            self.horizon,
+            self.rows,
+            self.place,
+            self.sent,
+        ) {
+            Some(found) => {
+                self.place = found.place;
+                self.sent = found.sent;
+                Some(found.item)
+            }
+            None => {
+                self.is_over = true;
+                Some(Item::End)
+            }
+        }
+    }
+}

@@ -1,0 +1,258 @@
+// One direction of a nest in single steps.
+ghost use Rattle.std.specs.Prelude.{◌≡◌, ◌≢◌, ◌≤◌, ◌<◌, ◌+◌, ◌*◌, ◌↔◌, length, map, IsTrue, OnOk, OnErr, IfOk};
+ghost use Rattle.std.specs.Bool.{OnTrue, OnFalse};
+ghost use Rattle.packet_record.specs.Sources.{source_items};
+ghost use Rattle.nest_spec.specs.Nests.{directions_of};
+ghost use Rattle.nest_spec.specs.Passed.{HavePassed};
+ghost use Rattle.nest_core.specs.Standing.{StandAnew};
+ghost use Rattle.nest_core.specs.Worlds.{new_stages};
+
+use crate::actor::{Actor, actor_of};
+use crate::channel::Channel;
+use crate::line;
+use crate::source::Source;
+use crate::stage::Stage;
+use mm_base::OutOfMemory;
+use nest_spec::Nest;
+use packet_record::{Direction, Flow, FlowEnd, Schedule};
+use shell_state::ShellState;
+use std::alloc::Global;
+use std::marker::Model;
+
+/// One direction of a nest in single steps: its source, its shells, each with a feeder and a drain, the bounded
+/// channels between them, and what a collector received behind the last.
+///
+/// A step is an action of one actor: the source sends, a feeder receives or feeds, a drain takes or sends, or the
+/// collector receives. Whatever steps were taken, in any order, what was collected is a front of what the
+/// composition of the shells gives. Contracts see the items that the source has still to send, the channels as
+/// lists, what feeders and drains hold, the shells' states, and the collected stream.
+#[derive(Drop)]
+pub struct World<'a> {
+    horizon: u64,
+    source: Source<'a>,
+    channel: Channel,
+    stages: Vec<Stage>,
+    collected: Flow,
+}
+
+impl<'a> Model for World<'a> {
+    ghost use Rattle.nest_core.specs.Worlds.{WorldParts};
+
+    ghost Value = { WorldParts };
+
+    ghost use Rattle.nest_core.specs.WorldViews.{world_view, IsWorld};
+
+    ghost view = { world_view };
+
+    ghost invariant = { IsWorld };
+}
+
+impl<'a> World<'a> {
+    ghost use Rattle.nest_core.specs.Worlds.{new_world};
+    ghost use Rattle.nest_core.specs.WorldSteps.{actors_of, step_of, act};
+    ghost use Rattle.nest_core.specs.Promises.{arrivals_of, specs_of, departed_of, sent_stream, Keeps, KeepsFirst};
+    ghost use Rattle.nest_core.specs.Promises.{IsRunOf, IsFrontUntil, IsSettled, IsQuiet, IsFinished, IsWhole};
+    ghost use Rattle.nest_core.specs.Left.{left_of};
+    ghost use Rattle.nest_core.specs.Does.{does};
+    ghost use Rattle.nest_core.specs.Standing.{WorldStands};
+
+    /// A direction of the nest before its first step: nothing is sent yet. The source sends the items of the
+    /// schedule's rows, and each channel holds so many items, 1 to 64.
+    pub fn new(
+        alloc: Global,
+        nest: &Nest,
+        direction: Direction,
+        schedule: &'a Schedule,
+        capacity: u32,
+    ) -> Result<World<'a>, OutOfMemory>
+        requires some { 1 ≤ capacity }
+        requires most { capacity ≤ 64 }
+        ensures is { IfOk result (λ w. w ≡ new_world (directions_of direction nest.now) nest.now.horizon capacity
+            (source_items direction nest.now.horizon schedule.now)) }
+        ensures run { IfOk result (λ w. IsRunOf nest.now direction schedule.now w) }
+    {
+        let horizon = nest.horizon();
+        let stages = new_stages(alloc, nest, direction, horizon, capacity as usize)?;
+        Ok(World {
+            horizon,
+            source: Source::new(direction, horizon, schedule.rows()),
+            channel: Channel::new(alloc, capacity as usize)?,
+            stages,
+            collected: Flow::new(alloc),
+        })
+    }
+
+    /// How many actors it has: 4 k + 2 for k shells. They are numbered from 0: the source is 0; the feeder of the
+    /// j-th shell that packets pass, which is counted from 1, is 4 j - 3 where it receives and 4 j - 2 where it
+    /// feeds; its drain is 4 j - 1 where it takes and 4 j where it sends; the collector is 4 k + 1.
+    pub fn actors(&self) -> u32
+        ensures count { result ≡ actors_of self.now }
+        ensures most { result ≤ 34 }
+    {
+        4 * self.stages.len() as u32 + 2
+    }
+
+    /// Does the step of the actor of this number, if it can, and answers whether that changed the world. A
+    /// drain's take burns at most 4 opportunities. A step keeps what the first list is read from, and each that
+    /// changes the world lowers what is left to do. Where it finds no memory the world is as it was.
+    pub fn step(&mut self, actor: u32) -> Result<bool, OutOfMemory>
+        requires { actor < actors_of self.old }
+        ensures ok { OnOk result (self.new ≡ step_of self.old actor) }
+        ensures changed { IfOk result (λ did. IsTrue did ↔ (self.new ≢ self.old)) }
+        ensures same { IfOk result (λ did. OnFalse did (self.new ≡ self.old)) }
+        ensures less { IfOk result (λ did. OnTrue did (left_of self.new < left_of self.old)) }
+        ensures err { OnErr result (self.new ≡ self.old) }
+        ensures keeps { KeepsFirst self.old self.new }
+        ensures actors { actors_of self.new ≡ actors_of self.old }
+    {
+        self.reached();
+        match actor_of(actor) {
+            Actor::Source => Ok(self.send_next()),
+            Actor::Receiver(shell) => self.receive(shell),
+            Actor::Feeder(shell) => self.feed(shell),
+            Actor::Taker(shell) => self.take(shell),
+            Actor::Sender(shell) => Ok(self.send(shell)),
+        }
+    }
+
+    // What was reached by steps. It does nothing.
+    fn reached(&self)
+        ensures { WorldStands self.now }
+    {
+        let _ = &self.horizon;
+    }
+
+    // The source sends its next item, where there is room.
+    fn send_next(&mut self) -> bool
+        ensures after { self.new ≡ act self.old Actor.Source }
+        ensures did { result ≡ does self.old Actor.Source }
+    {
+        if !self.channel.has_room() {
+            return false;
+        }
+        match self.source.next() {
+            Some(item) => {
+                self.channel.send(item);
+                true
+            }
+            None => false,
+        }
+    }
+
+    fn receive(&mut self, shell: usize) -> Result<bool, OutOfMemory>
+        ensures ok { OnOk result (self.new ≡ act self.old (Actor.Receiver shell)) }
+        ensures did { IfOk result (λ did. did ≡ does self.old (Actor.Receiver shell)) }
+        ensures err { OnErr result (self.new ≡ self.old) }
+    {
+        line::receive(
+            &mut self.channel,
+            self.stages.as_mut_slice(),
+            &mut self.collected,
+            shell,
+        )
+    }
+
+    fn feed(&mut self, shell: usize) -> Result<bool, OutOfMemory>
+        requires { shell < length self.old.line.stages }
+        ensures ok { OnOk result (self.new ≡ act self.old (Actor.Feeder shell)) }
+        ensures did { IfOk result (λ did. did ≡ does self.old (Actor.Feeder shell)) }
+        ensures err { OnErr result (self.new ≡ self.old) }
+    {
+        self.stages[shell].feed()
+    }
+
+    fn take(&mut self, shell: usize) -> Result<bool, OutOfMemory>
+        requires { shell < length self.old.line.stages }
+        ensures ok { OnOk result (self.new ≡ act self.old (Actor.Taker shell)) }
+        ensures did { IfOk result (λ did. did ≡ does self.old (Actor.Taker shell)) }
+        ensures err { OnErr result (self.new ≡ self.old) }
+    {
+        self.stages[shell].take()
+    }
+
+    fn send(&mut self, shell: usize) -> bool
+        requires { shell < length self.old.line.stages }
+        ensures after { self.new ≡ act self.old (Actor.Sender shell) }
+        ensures did { result ≡ does self.old (Actor.Sender shell) }
+    {
+        self.stages[shell].send()
+    }
+
+    /// What was collected, and what is true of it: its packets are a front of those that leave the last shell in
+    /// the chain, and no other of them is before its bound. In a world that no step but the source's would
+    /// change, none is before the bound of what the source has sent.
+    pub fn collected(&self) -> &Flow
+        ensures stream { result.now.stream ≡ self.now.line.collected }
+        ensures front { IsFrontUntil self.now.line.collected.bound self.now.line.collected.packets
+            (departed_of self.now) }
+        ensures settled { IsSettled self.now
+            → IsFrontUntil (sent_stream self.now).bound self.now.line.collected.packets (departed_of self.now) }
+    {
+        &self.collected
+    }
+
+    /// Whether the collector has received the end. Then all that leaves the last shell is collected, and every
+    /// log is whole; and no step would change the world, which is so in no other.
+    pub fn finished(&self) -> bool
+        ensures is { IsTrue result ↔ IsFinished self.now }
+        ensures quiet { IsTrue result ↔ IsQuiet self.now }
+        ensures whole { OnTrue result (IsWhole self.now) }
+    {
+        self.collected.end() == FlowEnd::Ended
+    }
+
+    /// Whether no step would change the world. That is so in finished worlds, and in no others, so no shell is asked.
+    pub fn quiet(&self) -> bool
+        ensures is { IsTrue result ↔ IsQuiet self.now }
+        ensures finished { OnTrue result (IsFinished self.now) }
+    {
+        self.finished()
+    }
+
+    /// What is true of every world: each state stands, each shell's log is a front of its whole log over what
+    /// arrives at it in the chain, and what was collected is a front of what leaves the last shell. It does
+    /// nothing.
+    pub fn stands(&self)
+        ensures { Keeps self.now }
+    {
+        let _ = &self.horizon;
+    }
+
+    // The states of the shells of a finished world, in passing order.
+    pub(crate) fn into_states(self, alloc: Global) -> Result<Vec<ShellState>, OutOfMemory>
+        requires { IsFinished self }
+        ensures { IfOk result (λ states. HavePassed self.entry.horizon
+            (specs_of self.entry) (arrivals_of self.entry) states.items) }
+    {
+        self.reached();
+        states_of(alloc, self.stages)
+    }
+}
+
+fn states_of(alloc: Global, stages: Vec<Stage>) -> Result<Vec<ShellState>, OutOfMemory>
+    ensures { IfOk result (λ states. states.items ≡ map (λ s. s.state) stages.items) }
+{
+    let states = stages.into_iter().map(|stage| stage.state).collect(alloc)?;
+    Ok(states)
+}
+
+// The shells of a direction, before anything reached them.
+fn new_stages(
+    alloc: Global,
+    nest: &Nest,
+    direction: Direction,
+    horizon: u64,
+    capacity: usize,
+) -> Result<Vec<Stage>, OutOfMemory>
+    requires { horizon ≡ nest.now.horizon }
+    ensures is { IfOk result (λ stages. stages.items
+        ≡ new_stages horizon capacity (directions_of direction nest.now)) }
+    ensures stand { OnOk result (StandAnew horizon (directions_of direction nest.now)) }
+    ensures few { OnOk result (length (directions_of direction nest.now) ≤ 8) }
+{
+    let mut stages = Vec::with_capacity(alloc, nest.shells() as usize)?;
+    for spec in nest.directions(direction)? {
+        stages.push(Stage::new(alloc, spec, horizon, capacity)?)?;
+    }
+    Ok(stages)
+}

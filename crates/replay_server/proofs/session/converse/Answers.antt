@@ -1,0 +1,17 @@
+use Rattle.std.proofs.Common.{sym, subst}
+use Rattle.mm_base.specs.Link.{LinkView}
+use Rattle.mm_base.proofs.Then.{CountsFaults-none}
+use Rattle.replay_server.specs.Progress.{Progress}
+use Rattle.replay_server.specs.declared.talk.Talk.{Talk}
+use Rattle.replay_server.proofs.StepLemmas.{progress_first}
+use Rattle.replay_server.proofs.session.converse.Goals as goal
+
+pub loop-init : goal.loop-init
+loop-init g c =
+    let told = (g.L.Link.view c.args.link.now).told in
+    record {
+      progress = subst (λ (t : Talk). Progress c.args.source.now.store.now c.args.source.now.index.port told told t)
+          (sym c.new-talk.ensures) (progress_first told);
+      counts = CountsFaults-none (λ (l : LinkView). l.faults) (λ (l : LinkView). l.never_fails) _;
+      room = c.requires;
+    }

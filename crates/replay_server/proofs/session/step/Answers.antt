@@ -1,0 +1,57 @@
+use Rattle.std.proofs.Common.{◌∙◌, Ok, Err, sym, ap, subst}
+use Rattle.http_frame.specs.Frames.{Frames}
+use Rattle.http_frame.specs.Runs.{BeginsWithNone}
+use Rattle.http_frame.specs.declared.messages.RequestHead.{RequestHead}
+use Rattle.replay_server.specs.Answers.{Answer, IsAnswer}
+use Rattle.replay_server.specs.Progress.{Progress}
+use Rattle.replay_server.specs.Sessions.{MayGoOn}
+use Rattle.replay_server.proofs.FrameSteps.{given, waits, fails, is_request, none_there, has_head, lacks_memory}
+use Rattle.replay_server.proofs.FrameSteps.{may_wait, is_hopeless}
+use Rattle.replay_server.proofs.StepLemmas.{still}
+use Rattle.replay_server.proofs.session.step.Goals as goal
+
+pub returns-in-Ok-Message-clause-goes_on : goal.returns-in-Ok-Message-clause-goes_on
+returns-in-Ok-Message-clause-goes_on g c =
+    let talk = c.args.talk.now in
+    let old = talk.frames in
+    let new = c.next_head.new.self in
+    let answer : Answer = record {
+      bytes = c.answer_to-answer.result.bytes.now;
+      closes = c.answer_to-answer.result.closes;
+    } in
+    let m = given old new c.next_head.result c.in-Ok-Message.head c.next_head.ensures.says (c.in-Ok-Message.is
+    ∙ ap Ok c.in-Ok-Message.field-0-is) in
+    λ start p.
+    c.give_answer.ensures.goes_on _ _ start old.unread m.0 (is_request old new m.0 m.2)
+    (subst (λ (h : RequestHead). IsAnswer c.args.source.now.store.now c.args.source.now.index.port h answer) (sym m.1)
+    c.answer_to-answer.ensures)
+    m.2.unread (still p new m.2.is m.2.ended)
+
+pub returns-in-Ok-More-clause-goes_on : goal.returns-in-Ok-More-clause-goes_on
+returns-in-Ok-More-clause-goes_on g c =
+    let talk = c.args.talk.now in
+    let old = talk.frames in
+    let new = c.next_head.new.self in
+    let result = c.next_head.result in
+    let is = c.in-Ok-More.is ∙ ap Ok c.in-Ok-More.field-0-is in
+    let same = (waits old new result c.next_head.ensures.says is).0.same in
+    λ start p.
+    let whole = none_there old new result (ap has_head is) c.next_head.ensures.first (ap lacks_memory is) p.running in
+    let may = may_wait old new result is c.next_head.ensures.says c.next_head.ensures.fails p.running p.not_ended in
+    c.take_more.ensures.goes_on _ _ start
+    (subst (λ (f : Frames). Progress c.args.source.now.store.now c.args.source.now.index.port start
+    (g.L.Link.view c.args.link.now).told (record talk { frames = f })) (sym same) p)
+    (subst (λ (f : Frames). BeginsWithNone f.unread) (sym same) whole)
+    (subst (λ (f : Frames). MayGoOn f.unread) (sym same) may)
+
+pub returns-in-Err-Frame-clause-goes_on : goal.returns-in-Err-Frame-clause-goes_on
+returns-in-Err-Frame-clause-goes_on g c =
+    let talk = c.args.talk.now in
+    let old = talk.frames in
+    let new = c.next_head.new.self in
+    let result = c.next_head.result in
+    let is = c.in-Err-Frame.is ∙ ap Err c.in-Err-Frame.field-0-is in
+    λ start p.
+    let whole = none_there old new result (ap has_head is) c.next_head.ensures.first (ap lacks_memory is) p.running in
+    let hopeless = is_hopeless old new _ (fails old new result _ c.next_head.ensures.says is) p.running p.not_ended in
+    c.refuse.ensures.ends _ _ start p.replies old.unread talk.taken p.stand p.open_ones whole hopeless

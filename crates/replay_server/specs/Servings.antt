@@ -1,0 +1,66 @@
+-- What a serving does to its port.
+use Rattle.std.specs.Prelude.{◌≡◌, ◌≢◌, ◌⊎◌, ◌<◌, ◌≤◌, ℕ, ◌+◌, ◌-◌, ◌^◌, ◌++◌, true, List, [], ◌∷◌, length, All, Option}
+use Rattle.std.specs.Prelude.{Result, Ok, Err, IfSome}
+use Rattle.std.specs.Option.{option_map}
+use Rattle.mm_base.specs.Counts.{Rose}
+use Rattle.mm_base.specs.Link.{LinkView}
+use Rattle.mm_base.specs.Port.{PortView, KeepsPort}
+use Rattle.record_store.specs.declared.record.Record.{Record}
+use Rattle.replay_server.specs.Sessions.{Session}
+use Rattle.replay_server.specs.Links.{IsPrompt}
+use Rattle.replay_server.specs.declared.ends.ConnEnd.{ConnEnd}
+use Rattle.replay_server.specs.declared.ends.ConnEnd.TheVariants.{Closed, BadRequest, LinkFault, Full, OutOfMemory}
+use Rattle.replay_server.specs.declared.ends.Served.{Served}
+use Rattle.replay_server.specs.declared.ends.ServeError.{ServeError}
+use Rattle.replay_server.specs.declared.ends.ServeError.TheVariants as errors
+
+-- A connection of which nothing had been taken was served and ended so. Only at a fault of it is the end a fault.
+pub record IsConnServed (store : List Record) (site : Option ℕ) (link : LinkView) (end : ConnEnd) : Type 0 where
+  pub session : IfSome link.told (λ l. Session store site l.taken (l.rest ≡ []) l.given end)
+  pub prompt : IfSome link.told (λ l. All (IsPrompt store site l.taken l.given) l.reads)
+  pub fault : end ≡ LinkFault → 0 < link.faults
+
+abbrev pub no_ends : Served
+no_ends = record { closed = 0; bad = 0; broken = 0; full = 0 }
+
+-- one end more
+abbrev pub with_end : ConnEnd → Served → Served
+with_end Closed n = record n { closed = n.closed + 1 }
+with_end BadRequest n = record n { bad = n.bad + 1 }
+with_end LinkFault n = record n { broken = n.broken + 1 }
+with_end Full n = record n { full = n.full + 1 }
+with_end OutOfMemory n = n
+
+-- how many of the connections ended in each way
+abbrev pub ends_of : {C : Type 0} → List (C × ConnEnd) → Served
+ends_of [] = no_ends
+ends_of (c ∷ served) = with_end c.1 (ends_of served)
+
+-- these connections are finished, the last of them first
+abbrev pub finished_with : {C : Type 0} → List (C × ConnEnd) → List C → List C
+finished_with [] finished = finished
+finished_with (c ∷ served) finished = finished_with served finished ++ c.0 ∷ []
+
+module _ {C : Type 0} (store : List Record) (site : Option ℕ) (view : C → LinkView) where
+  -- of at most so many connections, what the answer says
+  abbrev pub ServingSays : ℕ → PortView C → PortView C → List (C × ConnEnd) → Result Served ServeError → Type 0
+  ServingSays most old new served (Ok n) =
+      (n ≡ ends_of served) × All (λ (c : C × ConnEnd). c.1 ≢ OutOfMemory) served
+      × (new.accepted ≡ old.accepted + length served)
+      × ((length served ≡ most) ⊎ ((length served < most) × (new.drained ≡ true)))
+  ServingSays most old new served (Err errors.Listen) =
+      (new.finished ≡ old.finished) × (new.accepted ≡ old.accepted) × Rose old.faults new.faults
+  ServingSays most old new served (Err errors.Accept) =
+      Rose old.faults new.faults
+      × (new.faults < 2 ^ 64 - 1 → new.accepted + old.faults ≤ old.accepted + length served + new.faults)
+  ServingSays most old new served (Err errors.OutOfMemory) = Unit {0}
+
+  -- What a serving of at most so many connections did: it served these, in the order in which they were accepted, and
+  -- finished them in the other. At Ok these are all that it accepted: as many as it should, or the port is drained. At
+  -- Accept those that it accepted and didn't finish are no more than the faults that the port counted.
+  pub record IsServing (most : ℕ) (old new : PortView C) (result : Result Served ServeError) : Type 0 where
+    pub served : List (C × ConnEnd)
+    pub each : All (λ (c : C × ConnEnd). IsConnServed store site (view c.0) c.1) served
+    pub finished_is : new.finished ≡ option_map (finished_with served) old.finished
+    pub keeps : KeepsPort old new
+    pub says : ServingSays most old new served result

@@ -1,0 +1,36 @@
+// How connections and servings end.
+
+/// How a connection ended.
+#[derive(Clone, Copy, Debug, PartialEq, Eq)]
+pub enum ConnEnd {
+    /// After the first answer that closes, or at the end of the input.
+    Closed,
+    /// After the text that says that there is no request, and never will be.
+    BadRequest,
+    /// At a fault of the link.
+    LinkFault,
+    /// 67,108,864 bytes were taken, and no answer closed.
+    Full,
+    /// For want of memory.
+    OutOfMemory,
+}
+
+/// How many connections ended in each way, but for want of memory.
+#[derive(Clone, Copy, Debug, PartialEq, Eq)]
+pub struct Served {
+    pub closed: u32,
+    pub bad: u32,
+    pub broken: u32,
+    pub full: u32,
+}
+
+/// Why a serving stopped early.
+#[derive(Clone, Copy, Debug, PartialEq, Eq)]
+pub enum ServeError {
+    /// The port can't be listened at. No connection was accepted.
+    Listen,
+    /// A connection couldn't be accepted, or not be finished. Those accepted before were served to their end.
+    Accept,
+    /// For want of memory, in a connection or in a call of the port. It is answered before `Accept`.
+    OutOfMemory,
+}

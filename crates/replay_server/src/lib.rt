@@ -1,0 +1,17 @@
+//! Serving recorded exchanges to the clients of a port.
+#![tactic(auto)]
+
+mod answers;
+mod ends;
+mod gathered;
+mod serving;
+mod session;
+mod source;
+mod steps;
+mod talk;
+#[cfg(test)]
+mod tests;
+
+pub use ends::{ConnEnd, ServeError, Served};
+pub use serving::serve;
+pub use session::serve_conn;

@@ -1,0 +1,212 @@
+// Serving: connections beside each other.
+ghost use Rattle.std.specs.Prelude.{◌≡◌, ◌<◌, ◌≤◌, ◌+◌, Option};
+ghost use Rattle.std.specs.Thread.{IsSync};
+ghost use Rattle.mm_base.specs.Link.{IsFresh};
+ghost use Rattle.replay_server.specs.Servings.{IsConnServed, IsServing, no_ends, with_end};
+ghost use Rattle.replay_server.specs.Tallies.{IsTally, total, refusal_of, ended, tallied};
+
+use crate::ends::{ConnEnd, ServeError, Served};
+use crate::session::serve_link;
+use crate::source::Source;
+use mm_base::{EndError, Link, Pace, Port};
+use record_store::Store;
+use std::alloc::Global;
+use std::marker::Sync;
+use std::sync::Wait;
+use std::thread::{Threads, join_mut};
+
+/// No connection.
+fn nothing() -> Served
+    ensures { result ≡ no_ends }
+{
+    Served {
+        closed: 0,
+        bad: 0,
+        broken: 0,
+        full: 0,
+    }
+}
+
+/// What a refusal of the port in accepting or finishing is to a serving.
+fn refused(error: EndError) -> ServeError
+    ensures { result ≡ refusal_of error }
+{
+    match error {
+        EndError::Failed => ServeError::Accept,
+        EndError::OutOfMemory => ServeError::OutOfMemory,
+    }
+}
+
+/// One end more.
+fn with_end(end: ConnEnd, n: Served) -> Served
+    requires { total n < 64 }
+    ensures one { result ≡ with_end end n }
+    ensures within { total result ≤ total n + 1 }
+{
+    let mut n = n;
+    match end {
+        ConnEnd::Closed => n.closed += 1,
+        ConnEnd::BadRequest => n.bad += 1,
+        ConnEnd::LinkFault => n.broken += 1,
+        ConnEnd::Full => n.full += 1,
+        ConnEnd::OutOfMemory => {}
+    }
+    n
+}
+
+/// Counts how a connection ended, beside those that were accepted after it.
+fn count_end(
+    end: ConnEnd,
+    rest: Result<Served, ServeError>,
+    most: u32,
+) -> Result<Served, ServeError>
+    requires most { most < 64 }
+    requires within { IsTally most rest }
+    ensures ended { result ≡ ended end rest }
+    ensures within { IsTally (most + 1) result }
+{
+    match end {
+        ConnEnd::OutOfMemory => Err(ServeError::OutOfMemory),
+        counted => match rest {
+            Ok(n) => Ok(with_end(counted, n)),
+            Err(error) => Err(error),
+        },
+    }
+}
+
+/// What a serving answers where a connection was finished so.
+fn tally(done: Result<(), EndError>, rest: Result<Served, ServeError>) -> Result<Served, ServeError>
+    ensures { result ≡ tallied done rest }
+{
+    match done {
+        Ok(()) => rest,
+        Err(EndError::OutOfMemory) => Err(ServeError::OutOfMemory),
+        Err(EndError::Failed) => match rest {
+            Ok(_) => Err(ServeError::Accept),
+            Err(error) => Err(error),
+        },
+    }
+}
+
+/// Serves a connection of which nothing was taken.
+fn serve_fresh<C: Link, Q: Pace, R: Wait>(
+    rt: &R,
+    alloc: Global,
+    source: &Source<'_>,
+    conn: &mut C,
+    number: u32,
+    pace: &Q,
+) -> ConnEnd
+    requires { IsFresh (C.view conn.old) }
+    ensures { IsConnServed source.now.store.now source.now.index.port (C.view conn.new) result }
+{
+    serve_link(rt, alloc, source, conn, number, pace)
+}
+
+/// Accepts up to `most` connections, and serves each beside accepting the next. They are finished in the other order.
+#[cycle(serve)]
+fn serve_from<P: Port, Q: Pace + Sync, R: Threads + Wait + Sync>(
+    rt: &R,
+    alloc: Global,
+    source: &Source<'_>,
+    port: &mut P,
+    number: u32,
+    most: u32,
+    pace: &Q,
+) -> Result<Served, ServeError>
+    requires { most ≤ 64 }
+    ensures serving { IsServing source.now.store.now source.now.index.port P.Conn.view most
+        (P.view port.old) (P.view port.new) result }
+    ensures within { IsTally most result }
+{
+    if most == 0 {
+        return Ok(nothing());
+    }
+    let next = match port.accept() {
+        Ok(next) => next,
+        Err(error) => return Err(refused(error)),
+    };
+    let Some(conn) = next else {
+        return Ok(nothing());
+    };
+    let (conn, end, rest) = serve_beside(rt, alloc, source, port, conn, number, most - 1, pace);
+    let done = port.finish(conn);
+    tally(done, count_end(end, rest, most - 1))
+}
+
+/// Serves a connection beside accepting up to `most` further ones.
+#[cycle(serve)]
+fn serve_beside<P: Port, Q: Pace + Sync, R: Threads + Wait + Sync>(
+    rt: &R,
+    alloc: Global,
+    source: &Source<'_>,
+    port: &mut P,
+    conn: P::Conn,
+    number: u32,
+    most: u32,
+    pace: &Q,
+) -> (P::Conn, ConnEnd, Result<Served, ServeError>)
+    requires most { most < 64 }
+    requires fresh { IsFresh (P.Conn.view conn) }
+    ensures one { IsConnServed source.now.store.now source.now.index.port (P.Conn.view result.0) result.1 }
+    ensures rest { IsServing source.now.store.now source.now.index.port P.Conn.view most
+        (P.view port.old) (P.view port.new) result.2 }
+    ensures within { IsTally most result.2 }
+{
+    let mut conn = conn;
+    let (end, rest) = join_mut(
+        rt,
+        &mut || -> ConnEnd
+            requires { IsFresh (P.Conn.view conn) × IsSync R.row × IsSync Q.row }
+            ensures { IsConnServed source.entry.now.store.now source.entry.now.index.port
+                (P.Conn.view conn.exit) result }
+        { serve_fresh(rt, alloc, source, &mut conn, number, pace) },
+        &mut || -> Result<Served, ServeError>
+            requires { (most < 64) × IsSync R.row × IsSync Q.row }
+            ensures serving { IsServing source.entry.now.store.now source.entry.now.index.port P.Conn.view most
+                (P.view port.entry.now) (P.view port.exit.now) result }
+            ensures within { IsTally most result }
+        {
+            serve_from(
+                rt,
+                alloc,
+                source,
+                port,
+                number.saturating_add(1),
+                most,
+                pace,
+            )
+        },
+    );
+    (conn, end, rest)
+}
+
+/// Listens at the port of this number, and serves up to `connections` connections, each beside accepting the next
+/// (`serve_conn`). It stops after so many, or where the port has no more. The connections are finished in the reverse
+/// order of their acceptance.
+///
+/// `Listen` comes where the port can't be listened at, and `Accept` where a connection can't be accepted or finished,
+/// each only where a fault of the port was counted. Those accepted before are served to their end.
+pub fn serve<P: Port, Q: Pace + Sync, R: Threads + Wait + Sync>(
+    rt: &R,
+    alloc: Global,
+    store: &Store,
+    port: &mut P,
+    number: u16,
+    site: Option<u16>,
+    connections: u32,
+    pace: &Q,
+) -> Result<Served, ServeError>
+    requires some { 1 ≤ connections }
+    requires few { connections ≤ 64 }
+    ensures { IsServing store.now site P.Conn.view connections (P.view port.old) (P.view port.new) result }
+{
+    let Ok(source) = Source::new(alloc, store, site) else {
+        return Err(ServeError::OutOfMemory);
+    };
+    match port.listen(number) {
+        Ok(()) => serve_from(rt, alloc, &source, port, 1, connections, pace),
+        Err(EndError::Failed) => Err(ServeError::Listen),
+        Err(EndError::OutOfMemory) => Err(ServeError::OutOfMemory),
+    }
+}

@@ -1,0 +1,158 @@
+// A session: one connection, from its first byte to its end.
+ghost use Rattle.std.specs.Prelude.{◌≡◌, ◌<◌, ℕ, Option, length, IfSome, IfOk, vec_len};
+ghost use Rattle.mm_base.specs.Link.{LinkBytes, CountsLinkFaults};
+ghost use Rattle.replay_server.specs.Links.{IsServed, HasFaultCause};
+ghost use Rattle.replay_server.specs.Progress.{Progress, GoesOn};
+
+use crate::answers::answer_to;
+use crate::ends::ConnEnd;
+use crate::source::Source;
+use crate::steps::{give_answer, refuse, take_more};
+use crate::talk::Talk;
+use http_frame::{FrameFault, Step};
+use mm_base::{Link, OutOfMemory, Pace, Role};
+use record_store::Store;
+use std::alloc::Global;
+use std::sync::Wait;
+
+/// How many bytes a read asks for at most.
+const PIECE: usize = 65_536;
+
+/// Answers the next request that is there; or ends the session, where there is none and never will be; or takes more
+/// bytes.
+fn step<L: Link, Q: Pace, R: Wait>(
+    rt: &R,
+    source: &Source<'_>,
+    talk: &mut Talk,
+    link: &mut L,
+    buf: &mut [u8],
+    role: Role,
+    pace: &Q,
+) -> Option<ConnEnd>
+    requires { 0 < length buf.old }
+    ensures goes_on { (start : Option LinkBytes)
+        → Progress source.now.store.now source.now.index.port start (L.view link.old).told talk.old
+        → GoesOn source.now.store.now source.now.index.port start (L.view link.new).told talk.new result }
+    ensures counts { CountsLinkFaults (L.view link.old) (L.view link.new) }
+    ensures cause { IfSome result (HasFaultCause (L.view link.old) (L.view link.new)) }
+{
+    match talk.frames.next_head() {
+        Ok(Step::Message(head)) => {
+            let answer = answer_to(source, &head);
+            give_answer(talk, link, answer.bytes, answer.closes)
+        }
+        Ok(Step::More) => take_more(rt, talk, link, buf, role, pace),
+        Err(FrameFault::Frame(_)) => Some(refuse(talk, link)),
+        Err(FrameFault::OutOfMemory) => Some(ConnEnd::OutOfMemory),
+    }
+}
+
+/// Goes on step by step, until the session ends.
+fn converse<L: Link, Q: Pace, R: Wait>(
+    rt: &R,
+    alloc: Global,
+    source: &Source<'_>,
+    link: &mut L,
+    buf: &mut [u8],
+    role: Role,
+    pace: &Q,
+) -> ConnEnd
+    requires { 0 < length buf.old }
+    ensures served { IsServed source.now.store.now source.now.index.port
+        (L.view link.old).told (L.view link.new).told result }
+    ensures counts { CountsLinkFaults (L.view link.old) (L.view link.new) }
+    ensures cause { HasFaultCause (L.view link.old) (L.view link.new) result }
+{
+    let mut talk = Talk::new(alloc);
+    for _ in rt.forever() {
+        if let Some(end) = step(rt, source, &mut talk, link, buf, role, pace) {
+            return end;
+        }
+    }
+    unreachable!()
+}
+
+/// So many bytes of 0.
+fn zeros(alloc: Global, count: usize) -> Result<Vec<u8>, OutOfMemory>
+    ensures { IfOk result (λ v. vec_len v ≡ count) }
+{
+    Ok(vec![in alloc; 0u8; count]?)
+}
+
+/// Holds a session.
+fn hold<L: Link, Q: Pace, R: Wait>(
+    rt: &R,
+    alloc: Global,
+    source: &Source<'_>,
+    link: &mut L,
+    role: Role,
+    pace: &Q,
+) -> ConnEnd
+    ensures served { IsServed source.now.store.now source.now.index.port
+        (L.view link.old).told (L.view link.new).told result }
+    ensures counts { CountsLinkFaults (L.view link.old) (L.view link.new) }
+    ensures cause { HasFaultCause (L.view link.old) (L.view link.new) result }
+{
+    match zeros(alloc, PIECE) {
+        Ok(mut buf) => converse(rt, alloc, source, link, buf.as_mut_slice(), role, pace),
+        Err(_) => ConnEnd::OutOfMemory,
+    }
+}
+
+/// Says that the connection has ended.
+fn leave<L: Link, Q: Pace, R: Wait>(rt: &R, link: &mut L, role: Role, pace: &Q)
+    ensures { L.view link.new ≡ L.view link.old }
+{
+    link.close_output();
+    pace.turn(rt, role, 0);
+}
+
+/// Serves one connection, as `serve_conn` does.
+pub fn serve_link<L: Link, Q: Pace, R: Wait>(
+    rt: &R,
+    alloc: Global,
+    source: &Source<'_>,
+    link: &mut L,
+    number: u32,
+    pace: &Q,
+) -> ConnEnd
+    ensures served { IsServed source.now.store.now source.now.index.port
+        (L.view link.old).told (L.view link.new).told result }
+    ensures counts { CountsLinkFaults (L.view link.old) (L.view link.new) }
+    ensures cause { HasFaultCause (L.view link.old) (L.view link.new) result }
+{
+    let role = Role::Connection { number };
+    let end = hold(rt, alloc, source, link, role, pace);
+    leave(rt, link, role, pace);
+    end
+}
+
+/// Serves one connection, with the number by which the pace knows it. Each whole request that comes is answered in
+/// order, before more bytes are taken: with the recorded response of greatest score among those that agree with it, or
+/// with the text that there is none. The pace is asked before each read, with the read's count, and with 0 when the
+/// connection has ended.
+///
+/// `Closed` comes after the first answer whose request or response closes (RFC 9112, section 9.3), or at the end of the
+/// input. `BadRequest` comes after the text that there is no request, and never will be. `Full` comes where 67,108,864
+/// bytes were taken and no answer closed. `LinkFault` comes only where a fault of the link was counted.
+pub fn serve_conn<L: Link, Q: Pace, R: Wait>(
+    rt: &R,
+    alloc: Global,
+    store: &Store,
+    link: &mut L,
+    site: Option<u16>,
+    number: u32,
+    pace: &Q,
+) -> ConnEnd
+    ensures served { IsServed store.now site (L.view link.old).told (L.view link.new).told result }
+    ensures counts { CountsLinkFaults (L.view link.old) (L.view link.new) }
+    ensures cause { HasFaultCause (L.view link.old) (L.view link.new) result }
+{
+    match Source::new(alloc, store, site) {
+        Ok(source) => serve_link(rt, alloc, &source, link, number, pace),
+        Err(_) => {
+            leave(rt, link, Role::Connection { number }, pace);
+            ConnEnd::OutOfMemory
+        }
+    }
+}

@@ -1,0 +1,132 @@
+// The steps of a session.
+ghost use Rattle.std.specs.Prelude.{◌≡◌, ◌<◌, ◌≤◌, ◌+◌, ◌++◌, ℕ, List, [], Option, length, IfSome};
+ghost use Rattle.http_frame.specs.Runs.{IsRequestOf, BeginsWithNone};
+ghost use Rattle.http_frame.specs.declared.messages.Request.{Request};
+ghost use Rattle.mm_base.specs.Counts.{Rose};
+ghost use Rattle.mm_base.specs.Link.{LinkBytes, CountsLinkFaults};
+ghost use Rattle.record_store.specs.declared.record.Record.{Record};
+ghost use Rattle.replay_server.specs.Answers.{IsAnswer};
+ghost use Rattle.replay_server.specs.Links.{IsServed, HasFaultCause};
+ghost use Rattle.replay_server.specs.Progress.{Stand, Progress, GoesOn, end_of};
+ghost use Rattle.replay_server.specs.Sessions.{Reply, AllOpen, IsHopeless, MayGoOn, full_text, most};
+
+use crate::answers::refusal;
+use crate::ends::ConnEnd;
+use crate::gathered::{flush, gather};
+use crate::talk::Talk;
+use mm_base::{EndError, Link, Pace, Role};
+use std::sync::Wait;
+
+/// How many bytes are taken at most.
+const MOST: usize = 67_108_864;
+
+/// How a session ends at a refusal of its link.
+fn refused(error: EndError) -> ConnEnd
+    ensures { result ≡ end_of error }
+{
+    match error {
+        EndError::Failed => ConnEnd::LinkFault,
+        EndError::OutOfMemory => ConnEnd::OutOfMemory,
+    }
+}
+
+/// Gives the answer to the request that was taken off last, and ends the session where the answer closes.
+pub fn give_answer<L: Link>(
+    talk: &mut Talk,
+    link: &mut L,
+    bytes: &[u8],
+    closes: bool,
+) -> Option<ConnEnd>
+    ensures goes_on { (store : List Record) (site : Option ℕ) (start : Option LinkBytes)
+        (unread : List ℕ) (r : Request)
+        → IsRequestOf r → IsAnswer store site r.head (record { bytes = bytes.now; closes = closes })
+        → unread ≡ r.bytes ++ talk.old.frames.unread
+        → Progress store site start (L.view link.old).told
+        (record talk.old { frames = record talk.old.frames { unread = unread } })
+        → GoesOn store site start (L.view link.new).told talk.new result }
+    ensures counts { CountsLinkFaults (L.view link.old) (L.view link.new) }
+    ensures cause { IfSome result (HasFaultCause (L.view link.old) (L.view link.new)) }
+{
+    if let Err(error) = gather(link, &mut talk.gathered, bytes) {
+        return Some(refused(error));
+    }
+    if !closes {
+        return None;
+    }
+    if let Err(error) = flush(link, &mut talk.gathered) {
+        return Some(refused(error));
+    }
+    Some(ConnEnd::Closed)
+}
+
+/// Says that there is no request, and ends the session.
+pub fn refuse<L: Link>(talk: &mut Talk, link: &mut L) -> ConnEnd
+    ensures ends { (store : List Record) (site : Option ℕ) (start : Option LinkBytes)
+        (replies : List Reply) (rest : List ℕ) (count : ℕ)
+        → Stand store site start (L.view link.old).told replies rest (full_text replies) talk.old.gathered count
+        → AllOpen replies → BeginsWithNone rest → IsHopeless rest
+        → IsServed store site start (L.view link.new).told result }
+    ensures counts { CountsLinkFaults (L.view link.old) (L.view link.new) }
+    ensures cause { HasFaultCause (L.view link.old) (L.view link.new) result }
+{
+    if let Err(error) = gather(link, &mut talk.gathered, refusal()) {
+        return refused(error);
+    }
+    if let Err(error) = flush(link, &mut talk.gathered) {
+        return refused(error);
+    }
+    ConnEnd::BadRequest
+}
+
+/// Takes more bytes into `piece`, where all that is due was given.
+fn read_more<L: Link>(talk: &mut Talk, link: &mut L, piece: &mut [u8]) -> Option<ConnEnd>
+    requires room { 0 < length piece.old }
+    requires few { talk.old.taken + length piece.old ≤ most }
+    ensures goes_on { (store : List Record) (site : Option ℕ) (start : Option LinkBytes)
+        → Progress store site start (L.view link.old).told talk.old → talk.old.gathered ≡ []
+        → BeginsWithNone talk.old.frames.unread → MayGoOn talk.old.frames.unread
+        → GoesOn store site start (L.view link.new).told talk.new result }
+    ensures counts { CountsLinkFaults (L.view link.old) (L.view link.new) }
+    ensures cause { IfSome result (HasFaultCause (L.view link.old) (L.view link.new)) }
+{
+    match link.read(piece) {
+        Ok(0) => Some(ConnEnd::Closed),
+        Ok(count) => match talk.frames.feed(&piece[..count]) {
+            Ok(()) => {
+                talk.taken += count;
+                None
+            }
+            Err(_) => Some(ConnEnd::OutOfMemory),
+        },
+        Err(error) => Some(refused(error)),
+    }
+}
+
+/// Gives all that is due, and then takes more bytes.
+pub fn take_more<L: Link, Q: Pace, R: Wait>(
+    rt: &R,
+    talk: &mut Talk,
+    link: &mut L,
+    buf: &mut [u8],
+    role: Role,
+    pace: &Q,
+) -> Option<ConnEnd>
+    requires { 0 < length buf.old }
+    ensures goes_on { (store : List Record) (site : Option ℕ) (start : Option LinkBytes)
+        → Progress store site start (L.view link.old).told talk.old
+        → BeginsWithNone talk.old.frames.unread → MayGoOn talk.old.frames.unread
+        → GoesOn store site start (L.view link.new).told talk.new result }
+    ensures counts { CountsLinkFaults (L.view link.old) (L.view link.new) }
+    ensures cause { IfSome result (HasFaultCause (L.view link.old) (L.view link.new)) }
+{
+    if let Err(error) = flush(link, &mut talk.gathered) {
+        return Some(refused(error));
+    }
+    if talk.taken >= MOST {
+        return Some(ConnEnd::Full);
+    }
+    talk.reads = talk.reads.saturating_add(1);
+    pace.turn(rt, role, talk.reads);
+    let room = buf.len().min(MOST - talk.taken);
+    read_more(talk, link, &mut buf[..room])
+}

@@ -1,0 +1,38 @@
+// A session, step by step.
+ghost use Rattle.std.specs.Prelude.{◌≡◌, ◌<◌, ◌≤◌, [], false, length, Option, None, Some, IfSome, IsErrOf};
+ghost use Rattle.mm_base.specs.Counts.{Rose};
+ghost use Rattle.mm_base.specs.Link.{LinkBytes, CountsLinkFaults};
+
+use crate::ends::ConnEnd;
+use http_frame::RequestFrames;
+use mm_base::{Bytes, EndError};
+use std::alloc::Global;
+
+/// A session that goes on: the bytes taken that no request has, the answers that are gathered, and how many bytes were
+/// taken and reads begun.
+#[derive(Drop)]
+pub struct Talk {
+    pub frames: RequestFrames,
+    pub gathered: Bytes,
+    pub taken: usize,
+    pub reads: u64,
+}
+
+impl Talk {
+    /// A session that has taken nothing.
+    pub fn new(alloc: Global) -> Self
+        ensures { result ≡ record {
+          frames = record { unread = []; ended = false; failed = None };
+          gathered = [];
+          taken = 0;
+          reads = 0;
+        } }
+    {
+        Talk {
+            frames: RequestFrames::new(alloc),
+            gathered: Bytes::new(alloc),
+            taken: 0,
+            reads: 0,
+        }
+    }
+}
