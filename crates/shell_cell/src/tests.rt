@@ -11,8 +11,9 @@ use shell_state::{DirSpec, ShellState, Taken};
 use std::alloc::Global;
 use std::process::Abort;
 use std::sync::Wait;
+use std::sync::atomic::{AtomicU64, Ordering};
 use std::test::Fail;
-use std::thread::{Threads, join_mut};
+use std::thread::{Threads, join_mut, yield_now};
 use trace_reader::read_trace;
 
 // A cell may be shared and sent, and a seat may be sent.
@@ -212,5 +213,98 @@ fn two_threads_pass_all_through(rt: HostRuntime) -> Result<(), Fail> {
         assert_eq!(rt; departure.moment as usize, index + 2);
     }
     assert_eq!(rt; taken.end(), FlowEnd::Ended);
+    Ok(())
+}
+
+// A feed that came after the last take is there at once.
+#[test]
+fn a_wait_after_a_feed_returns(rt: HostRuntime) -> Result<(), Fail> {
+    let (cell, mut feed, mut drain) = open(rt.alloc(), link(&rt, rt.alloc())?)?;
+    let fresh = [Taken::Item(Item::Mark(5)), Taken::NotYet { bound: 0 }];
+    take_each(&rt, &cell, &mut drain, &fresh)?;
+    cell.feed(&rt, &mut feed, Item::Mark(7))?;
+    cell.wait(&rt, &mut drain);
+    take_each(&rt, &cell, &mut drain, &[Taken::Again { burnt: 1 }])?;
+    cell.feed(&rt, &mut feed, Item::End)?;
+    cell.wait(&rt, &mut drain);
+    let _ = cell.close(feed, drain);
+    Ok(())
+}
+
+// Waits until a number is reached. False at the limit of turns.
+fn reached(number: &AtomicU64, goal: u64) -> bool {
+    for _ in 0..10_000_000 {
+        if number.load(Ordering::SeqCst) >= goal {
+            return true;
+        }
+        yield_now();
+    }
+    false
+}
+
+// Feeds the end long after the other thread has begun to wait. False where it finds no memory, or nobody waits.
+fn feed_late<R: Wait>(rt: &R, cell: &ShellCell, seat: &mut FeedSeat, waits: &AtomicU64) -> bool
+    requires own { seat.old.cell ≡ cell.now }
+    requires empty { seat.old.flow ≡ no_items }
+    ensures same { IsSameSeat seat.old seat.new }
+{
+    let waiting = reached(waits, 1);
+    for _ in 0..10_000 {
+        yield_now();
+    }
+    cell.feed(rt, seat, Item::End).is_ok() && waiting
+}
+
+// Takes until the end, waits where there is nothing yet, and answers how many takes there were.
+fn count_takes<R: Wait>(
+    rt: &R,
+    cell: &ShellCell,
+    seat: &mut DrainSeat,
+    waits: &AtomicU64,
+) -> Option<u64>
+    requires own { seat.old.cell ≡ cell.now }
+    requires open { seat.old.flow.end ≡ Open }
+    ensures same { IsSameSeat seat.old seat.new }
+{
+    let mut takes = 0u64;
+    for _ in rt.forever() {
+        takes = takes.saturating_add(1);
+        match cell.take(rt, seat, 256).ok()? {
+            Taken::Item(item) => match item {
+                Item::End => return Some(takes),
+                Item::Broken => return None,
+                Item::Packet(_) | Item::Mark(_) => {}
+            },
+            Taken::Again { .. } => {}
+            Taken::NotYet { .. } => {
+                waits.fetch_add(1, Ordering::SeqCst);
+                cell.wait(rt, seat);
+            }
+        }
+    }
+    unreachable!()
+}
+
+fn wait_in_turns<R: Threads + Wait + Sync>(rt: &R, alloc: Global) -> Result<Option<u64>, Fail> {
+    let (cell, mut feed, mut drain) = open(alloc, delay(alloc)?)?;
+    let shared = &cell;
+    let waits = AtomicU64::new(0);
+    let (fed, takes) = join_mut(
+        rt,
+        &mut || feed_late(rt, shared, &mut feed, &waits),
+        &mut || count_takes(rt, shared, &mut drain, &waits),
+    );
+    let _ = cell.close(feed, drain);
+    if !fed {
+        return Err(Fail::from("nobody waits"));
+    }
+    Ok(takes)
+}
+
+// The drain takes a mark, nothing and the end. It sleeps while nothing is fed, so its takes are few, and it wakes.
+#[test]
+fn a_wait_sleeps_until_a_feed(rt: HostRuntime) -> Result<(), Fail> {
+    let takes = wait_in_turns(&rt, rt.alloc())?.ok_or("no end")?;
+    assert!(rt; 3 <= takes && takes <= 100, "{takes} takes");
     Ok(())
 }
