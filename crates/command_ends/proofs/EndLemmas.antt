@@ -8,16 +8,19 @@ use Rattle.mm_base.specs.Files.{Files}
 use Rattle.mm_base.specs.Sink.{SinkView, sending}
 use Rattle.command_ends.specs.Answers.{cause_in}
 use Rattle.command_ends.specs.Ends.{Outside, outside, Ends, Finishes, HasOutFault, HasReadFault, HasWriteFault}
-use Rattle.command_ends.specs.Ends.{IsPartlyPrinted, IsPartlyWritten, IsRefused, KeepsFiles, Early, Writing, Printing}
+use Rattle.command_ends.specs.Ends.{IsPartlyPrinted, IsPartlyWritten, IsRefused, IsUnchanged, KeepsFiles, Early}
+use Rattle.command_ends.specs.Ends.{Writing, Printing}
 use Rattle.command_ends.specs.Outputs.{NamedText, Output, HoldsFirst, holding_all, prints, writes}
-use Rattle.command_ends.specs.Readings.{Reading, Refuses, Leads, Stays}
+use Rattle.command_ends.specs.Readings.{Reading, Done, Refuses, Leads, Stays, asked, usage}
 use Rattle.command_ends.proofs.ReadingLemmas.{leads_then}
 use Rattle.command_ends.specs.Stops.{StopsReading, ReadingRefused, ReadingFault, ReadingWants, StopsWriting}
 use Rattle.command_ends.specs.Stops.{StopsPrinting}
+use Rattle.command_ends.specs.Works.{Work, only}
 use Rattle.command_ends.specs.declared.cause.Cause.{Cause}
 use Rattle.command_ends.specs.declared.cause.Cause.TheVariants.{Refused, OutOfMemory}
 use Rattle.command_ends.specs.declared.cause.Refusal.{Refusal}
-use Rattle.command_ends.specs.declared.cause.Refusal.TheVariants.{Absent}
+use Rattle.command_ends.specs.declared.cause.Refusal.TheVariants.{Absent, Words}
+use Rattle.command_ends.specs.declared.cause.WordsRefusal.TheVariants.{Usage}
 
 pub keeps : {old new : DiskView} → OnlyReads old new → KeepsFiles old new
 keeps reads = record { files = reads.same_files; faults = reads.writes }
@@ -25,34 +28,39 @@ keeps reads = record { files = reads.same_files; faults = reads.writes }
 pub keeps_all : (disk : DiskView) → KeepsFiles disk disk
 keeps_all disk = record { files = refl; faults = refl }
 
-module _ {A : Type 0} (Gives : A → Output → Type 0) (reading : Reading A) where
+pub unchanged : {N : Type 0} (old new : DiskView) (out : SinkView) (net : N) → KeepsFiles old new
+    → IsUnchanged (outside old out net) (outside new out net)
+unchanged old new out net keep = record { keeps = keep; silent = refl; net = refl }
+
+module _ {A N : Type 0} (work : A → Work N) (reading : Reading A) where
   -- reading stopped
-  pub ends_stopped : (old new : DiskView) (out : SinkView) (cause : Cause) → KeepsFiles old new
+  pub ends_stopped : (old new : DiskView) (out : SinkView) (net : N) (cause : Cause) → KeepsFiles old new
       → StopsReading reading old new cause
-      → Ends Gives reading (outside old out) (outside new out) (Some cause)
-  ends_stopped old new out cause keep (ReadingRefused refusal is first counts) =
-      let ends : IsRefused reading (outside old out) (outside new out) refusal =
-      record { first = first; absent = counts; keeps = keep; silent = refl } in
-      subst (λ (c : Cause). Ends Gives reading (outside old out) (outside new out) (Some c)) (sym is) ends
-  ends_stopped old new out cause keep (ReadingFault name rest is next rose) =
-      let ends : HasReadFault reading (outside old out) (outside new out) name =
-      record { rest = rest; next = next; rose = rose; keeps = keep; silent = refl } in
-      subst (λ (c : Cause). Ends Gives reading (outside old out) (outside new out) (Some c)) (sym is) ends
-  ends_stopped old new out cause keep (ReadingWants is) =
-      subst (λ (c : Cause). Ends Gives reading (outside old out) (outside new out) (Some c)) (sym is) (Early keep refl)
+      → Ends work reading (outside old out net) (outside new out net) (Some cause)
+  ends_stopped old new out net cause keep (ReadingRefused refusal is first counts) =
+      let ends : IsRefused reading (outside old out net) (outside new out net) refusal =
+      record { first = first; absent = counts; unchanged = unchanged old new out net keep } in
+      subst (λ (c : Cause). Ends work reading (outside old out net) (outside new out net) (Some c)) (sym is) ends
+  ends_stopped old new out net cause keep (ReadingFault name rest is next rose) =
+      let ends : HasReadFault reading (outside old out net) (outside new out net) name =
+      record { rest = rest; next = next; rose = rose; unchanged = unchanged old new out net keep } in
+      subst (λ (c : Cause). Ends work reading (outside old out net) (outside new out net) (Some c)) (sym is) ends
+  ends_stopped old new out net cause keep (ReadingWants is) =
+      subst (λ (c : Cause). Ends work reading (outside old out net) (outside new out net) (Some c)) (sym is)
+      (Early (unchanged old new out net keep))
 
   -- memory was wanting before anything was changed
-  pub ends_early : (old new : DiskView) (out : SinkView) → KeepsFiles old new
-      → Ends Gives reading (outside old out) (outside new out) (Some OutOfMemory)
-  ends_early old new out keep = Early keep refl
+  pub ends_early : (old new : DiskView) (out : SinkView) (net : N) → KeepsFiles old new
+      → Ends work reading (outside old out net) (outside new out net) (Some OutOfMemory)
+  ends_early old new out net keep = Early (unchanged old new out net keep)
 
   -- the files are written, or some of them
-  pub ends_written : {T : Type 0} (old mid new : DiskView) (out : SinkView) (files : List NamedText)
-      (result : Result T Cause) → Finishes Gives reading old.files (writes files)
+  pub ends_written : {T : Type 0} (old mid new : DiskView) (out : SinkView) (net after : N) (files : List NamedText)
+      (result : Result T Cause) → Finishes work reading old.files net after (writes files)
       → OnlyReads old mid → OnOk result (new.files ≡ holding_all files mid.files)
       → IfErr result (λ cause. StopsWriting files mid new cause)
-      → Ends Gives reading (outside old out) (outside new out) (cause_in result)
-  ends_written old mid new out files (Ok value) finishes reads ok stopped = record {
+      → Ends work reading (outside old out net) (outside new out after) (cause_in result)
+  ends_written old mid new out net after files (Ok value) finishes reads ok stopped = record {
     output = writes files;
     finishes = finishes;
     written = ok ∙ ap (holding_all files) reads.same_files;
@@ -62,8 +70,8 @@ module _ {A : Type 0} (Gives : A → Output → Type 0) (reading : Reading A) wh
       nothing_sent : (told : Option (List ℕ)) → told ≡ sending [] told
       nothing_sent None = refl
       nothing_sent (Some bytes) = ap Some (sym (append-nil bytes))
-  ends_written old mid new out files (Err cause) finishes reads ok stopped =
-      let partly : IsPartlyWritten Gives reading (outside old out) (outside new out) stopped.name = record {
+  ends_written old mid new out net after files (Err cause) finishes reads ok stopped =
+      let partly : IsPartlyWritten work reading (outside old out net) (outside new out after) stopped.name = record {
         output = writes files;
         finishes = finishes;
         held = subst (λ (told : Option Files). HoldsFirst files told new.files stopped.name) reads.same_files
@@ -71,20 +79,21 @@ module _ {A : Type 0} (Gives : A → Output → Type 0) (reading : Reading A) wh
         silent = refl;
       } in
       elim stopped.refused [
-        | inl e ↦ subst (λ (c : Cause). Ends Gives reading (outside old out) (outside new out) (Some c)) (sym e)
-            (Writing stopped.name partly)
+        | inl e ↦ subst (λ (c : Cause). Ends work reading (outside old out net) (outside new out after) (Some c))
+            (sym e) (Writing stopped.name partly)
         | inr p ↦
-            let fault : HasWriteFault Gives reading (outside old out) (outside new out) stopped.name =
+            let fault : HasWriteFault work reading (outside old out net) (outside new out after) stopped.name =
             record { partly = partly; rose = subst (λ n. Rose n new.write_faults) reads.writes p.1 } in
-            subst (λ (c : Cause). Ends Gives reading (outside old out) (outside new out) (Some c)) (sym p.0) fault
+            subst (λ (c : Cause). Ends work reading (outside old out net) (outside new out after) (Some c)) (sym p.0)
+            fault
       ]
 
   -- the text is printed, or a front of it
-  pub ends_printed : {T : Type 0} (old new : Outside) (text : List ℕ) (result : Result T Cause)
-      → Finishes Gives reading old.disk.files (prints text)
+  pub ends_printed : {T : Type 0} (old new : Outside N) (text : List ℕ) (result : Result T Cause)
+      → Finishes work reading old.disk.files old.net new.net (prints text)
       → KeepsFiles old.disk new.disk → OnOk result (new.out.written ≡ sending text old.out.written)
       → IfErr result (λ cause. StopsPrinting text old.out new.out cause)
-      → Ends Gives reading old new (cause_in result)
+      → Ends work reading old new (cause_in result)
   ends_printed old new text (Ok value) finishes keep ok stopped = record {
     output = prints text;
     finishes = finishes;
@@ -92,7 +101,7 @@ module _ {A : Type 0} (Gives : A → Output → Type 0) (reading : Reading A) wh
     printed = ok;
   }
   ends_printed old new text (Err cause) finishes keep ok stopped =
-      let partly : IsPartlyPrinted Gives reading old new =
+      let partly : IsPartlyPrinted work reading old new =
       record {
         output = prints text;
         finishes = finishes;
@@ -102,26 +111,58 @@ module _ {A : Type 0} (Gives : A → Output → Type 0) (reading : Reading A) wh
         keeps = keep;
       } in
       elim stopped.refused [
-        | inl e ↦ subst (λ (c : Cause). Ends Gives reading old new (Some c)) (sym e) (Printing partly)
+        | inl e ↦ subst (λ (c : Cause). Ends work reading old new (Some c)) (sym e) (Printing partly)
         | inr p ↦
-            let fault : HasOutFault Gives reading old new = record { partly = partly; rose = p.1 } in
-            subst (λ (c : Cause). Ends Gives reading old new (Some c)) (sym p.0) fault
+            let fault : HasOutFault work reading old new = record { partly = partly; rose = p.1 } in
+            subst (λ (c : Cause). Ends work reading old new (Some c)) (sym p.0) fault
       ]
 
+  -- a task that touches no net is finished
+  pub finishes_only : (Gives : A → Output → Type 0) (task : A) (told : Option Files) (net : N) (output : Output)
+      → Leads told reading (Done task) → Gives task output → Finishes (only Gives) reading told net net output
+  finishes_only Gives task told net output read gives =
+      record { task = task; read = read; gives = record { gives = gives; net = refl } }
+
 -- words that are refused without reading
-pub ends_refused : {A : Type 0} (Gives : A → Output → Type 0) (old : Outside) (refusal : Refusal)
+pub ends_refused : {A N : Type 0} (work : A → Work N) (old : Outside N) (refusal : Refusal)
     → ((name : List ℕ) → refusal ≡ Absent name → ⊥)
-    → Ends Gives (Refuses refusal) old old (Some (Refused refusal))
-ends_refused Gives old refusal there =
+    → Ends work (Refuses refusal) old old (Some (Refused refusal))
+ends_refused work old refusal there =
     record {
       first = Stays (Refuses refusal);
       absent = λ name e. absurd (there name e);
-      keeps = keeps_all old.disk;
-      silent = refl;
+      unchanged = record { keeps = keeps_all old.disk; silent = refl; net = refl };
     }
 
+module _ {A N : Type 0} (work : A → Work N) where
+  pub ends_usage : (old : Outside N) (reading : Reading A) (cause : Cause) → usage ≡ reading
+      → cause ≡ Refused (Words Usage) → Ends work reading old old (Some cause)
+  ends_usage old reading cause e is =
+      subst (λ (r : Reading A). Ends work r old old (Some cause)) e
+      (subst (λ (k : Cause). Ends work usage old old (Some k)) (sym is)
+      (ends_refused work old (Words Usage) (λ name h. cc h)))
+
+  -- words that ask for a job end as the job does
+  pub ends_asked : {J : Type 0} (found : Option J) (job : J) (reading : J → Reading A) (old new : Outside N)
+      (answer : Option Cause) → Some job ≡ found → Ends work (reading job) old new answer
+      → Ends work (asked found reading) old new answer
+  ends_asked {J} found job reading old new answer e ends =
+      subst (λ (o : Option J). Ends work (asked o reading) old new answer) e ends
+
+  -- and words that ask for nothing are refused
+  pub ends_unasked : {J : Type 0} (found : Option J) (reading : J → Reading A) (old : Outside N) (cause : Cause)
+      → None ≡ found → cause ≡ Refused (Words Usage)
+      → Ends work (asked found reading) old old (Some cause)
+  ends_unasked {J} found reading old cause e is =
+      ends_usage old (asked found reading) cause (ap (λ (o : Option J). asked o reading) e) is
+
+  -- the same of two readings that are one
+  pub ends_of : (a b : Reading A) (old new : Outside N) (answer : Option Cause) → a ≡ b → Ends work a old new answer
+      → Ends work b old new answer
+  ends_of a b old new answer e ends = subst (λ (r : Reading A). Ends work r old new answer) e ends
+
 -- what finishes a later reading finishes an earlier one that leads to it
-pub finishes_later : {A : Type 0} {Gives : A → Output → Type 0} {a b : Reading A} {told : Option Files}
-    {output : Output} → Leads told a b → Finishes Gives b told output
-    → Finishes Gives a told output
+pub finishes_later : {A N : Type 0} {work : A → Work N} {a b : Reading A} {told : Option Files} {old new : N}
+    {output : Output} → Leads told a b → Finishes work b told old new output
+    → Finishes work a told old new output
 finishes_later leads f = record { task = f.task; read = leads_then leads f.read; gives = f.gives }

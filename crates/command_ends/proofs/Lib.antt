@@ -1,5 +1,6 @@
 pub mod ReadingLemmas
 pub mod EndLemmas
+pub mod MapLemmas
 pub mod TellLemmas
 pub mod SendLemmas
 pub mod NameLemmas

@@ -7,7 +7,7 @@ use Rattle.mm_base.proofs.Then.{Rose-later}
 use Rattle.mm_base.specs.Files.{Files}
 use Rattle.command_ends.specs.Causes.{Text, status_of_refusal}
 use Rattle.command_ends.specs.Readings.{Reading, Done, Refuses, Reads, Holds, Leads, Stays, Goes, after, input_of}
-use Rattle.command_ends.specs.Readings.{outcome, outcome_after, reading_text, refused_first, unless}
+use Rattle.command_ends.specs.Readings.{asked, outcome, outcome_after, reading_text, refused_first, unless}
 use Rattle.command_ends.specs.Stops.{IsInput, ReadsOn, RefusesText, StopsAtFile, FileRefused, FileFault, FileWants}
 use Rattle.command_ends.specs.Stops.{StopsReading, ReadingRefused, ReadingFault, ReadingWants}
 use Rattle.command_ends.specs.declared.cause.Cause.{Cause}
@@ -119,6 +119,22 @@ pub unless_first : {A : Type 0} (found : Option Refusal) (next : Reading A) → 
     → RefusesWordsFirst (unless found next)
 unless_first None next more = more
 unless_first (Some refusal) next more = tt
+
+-- what refuses no words at all refuses them first
+pub none_first : {A : Type 0} (reading : Reading A) → RefusesNoWords reading → RefusesWordsFirst reading
+none_first (Done task) none = tt
+none_first (Refuses refusal) none = tt
+none_first (Reads name next) none = none
+
+pub asked_first : {A J : Type 0} (found : Option J) (reading : J → Reading A)
+    → ((job : J) → RefusesWordsFirst (reading job)) → RefusesWordsFirst (asked found reading)
+asked_first None reading first = tt
+asked_first (Some job) reading first = first job
+
+pub either_first : {A : Type 0} (b : Bool) (one other : Reading A) → RefusesWordsFirst one → RefusesWordsFirst other
+    → RefusesWordsFirst (cond b one other)
+either_first true one other first second = first
+either_first false one other first second = second
 
 -- nothing is refused, or this is
 pub leads_unless : {A : Type 0} (told : Option Files) (found : Option Refusal) (next : Reading A) → found ≡ None

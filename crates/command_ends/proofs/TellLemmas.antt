@@ -8,9 +8,9 @@ use Rattle.mm_base.specs.Sink.{SinkView}
 use Rattle.mm_base.proofs.Then.{Rose-before}
 use Rattle.command_ends.specs.Causes.{status_by, status_of, status_of_refusal}
 use Rattle.command_ends.specs.Answers.{Answers, Concludes, IsFaultless, StopsShort}
-use Rattle.command_ends.specs.Ends.{Outside, outside, Ends, Finishes, IsDone, KeepsFiles}
-use Rattle.command_ends.specs.Outputs.{Output}
-use Rattle.command_ends.specs.Readings.{Reading, outcome, refused_first}
+use Rattle.command_ends.specs.Ends.{Outside, outside, Ends, IsDone, KeepsFiles}
+use Rattle.command_ends.specs.Readings.{Reading, Done, Leads, outcome, refused_first}
+use Rattle.command_ends.specs.Works.{Work}
 use Rattle.command_ends.specs.declared.cause.Cause.{Cause}
 use Rattle.command_ends.specs.declared.cause.Cause.TheVariants.{Refused, ReadFault, WriteFault, OutFault, NetFault}
 use Rattle.command_ends.specs.declared.cause.Cause.TheVariants.{OutOfMemory}
@@ -43,15 +43,15 @@ pub own_status : (status : ℕ) (answer : Option Cause) (old new : SinkView) →
     → status ≢ 9 → status ≡ status_by answer
 own_status status answer old new c other = elim c.status_is [ inl e ↦ e | inr nine ↦ absurd (other nine) ]
 
-module _ {A : Type 0} (Gives : A → Output → Type 0) (reading : Reading A) (old : Outside) (disk : DiskView)
+module _ {A N : Type 0} (work : A → Work N) (reading : Reading A) (old : Outside N) (disk : DiskView) (net : N)
     (mid out : SinkView) where
   -- an end by its answer, where the answer's status isn't that of want of memory
-  pub tells_done : (answer : Option Cause) (status : ℕ) → Ends Gives reading old (outside disk mid) answer
+  pub tells_done : (answer : Option Cause) (status : ℕ) → Ends work reading old (outside disk mid net) answer
       → Concludes answer mid out status → status ≡ 0
-      → IsDone Gives reading old (outside disk out)
+      → IsDone work reading old (outside disk out net)
   tells_done None status ends c zero =
       let done = ends in
-      subst (λ (o : SinkView). IsDone Gives reading old (outside disk o))
+      subst (λ (o : SinkView). IsDone work reading old (outside disk o net))
       (sym (c.explains (λ nine. let no : 0 ≡ 9 = sym zero ∙ nine in omega arith))) done
   tells_done (Some cause) status ends c zero =
       absurd (not_zero cause (sym (own_status status (Some cause) mid out c (λ nine. let no : 0 ≡ 9 = sym zero ∙ nine
@@ -65,9 +65,9 @@ module _ {A : Type 0} (Gives : A → Output → Type 0) (reading : Reading A) (o
       not_zero NetFault e = omega arith
       not_zero OutOfMemory e = omega arith
 
-  pub tells_answered : (answer : Option Cause) (status : ℕ) → Ends Gives reading old (outside disk mid) answer
+  pub tells_answered : (answer : Option Cause) (status : ℕ) → Ends work reading old (outside disk mid net) answer
       → Concludes answer mid out status → status ≢ 9
-      → Answers Gives reading old (outside disk out) status
+      → Answers work reading old (outside disk out net) status
   tells_answered answer status ends c other =
       record {
         answer = answer;
@@ -77,15 +77,15 @@ module _ {A : Type 0} (Gives : A → Output → Type 0) (reading : Reading A) (o
         explains = c.explains other;
       }
 
-  pub tells_stopped : (answer : Option Cause) (status : ℕ) → Ends Gives reading old (outside disk mid) answer
+  pub tells_stopped : (answer : Option Cause) (status : ℕ) → Ends work reading old (outside disk mid net) answer
       → Concludes answer mid out status → status ≡ 9
-      → StopsShort Gives reading old (outside disk out)
+      → StopsShort work reading old (outside disk out net)
   tells_stopped answer status ends c nine =
       let s = c.stops nine in
       record {
         cause = s.0;
         ended = mid;
-        ends = subst (λ (a : Option Cause). Ends Gives reading old (outside disk mid) a) s.1 ends;
+        ends = subst (λ (a : Option Cause). Ends work reading old (outside disk mid net) a) s.1 ends;
         count = s.2;
         front = s.3;
         cut = s.4;
@@ -97,6 +97,7 @@ module _ {A : Type 0} (Gives : A → Output → Type 0) (reading : Reading A) (o
     pub absent : status ≡ 3 → Rose old.disk.absences disk.absences
     pub read_fault : status ≡ 6 → Rose old.disk.read_faults disk.read_faults
     pub write_fault : status ≡ 7 → Rose old.disk.write_faults disk.write_faults ⊎ Rose old.out.faults out.faults
+    pub net_fault : status ≡ 8 → (task : A) × (work task).faulted old.net net
     pub keeps : status ≢ 0 → status ≢ 7 → status ≢ 9 → KeepsFiles old.disk disk
     pub by_words : (refusal : Refusal) → refused_first reading ≡ Some refusal → (status ≡ status_of_refusal refusal)
         ⊎ (status ≡ 9)
@@ -104,7 +105,7 @@ module _ {A : Type 0} (Gives : A → Output → Type 0) (reading : Reading A) (o
         → ¬ Rose old.disk.read_faults disk.read_faults
         → (status ≡ status_of_refusal refusal) ⊎ (status ≡ 9)
     pub complete : (m : Files) (task : A) → old.disk.files ≡ Some m → outcome m reading ≡ Ok task
-        → IsFaultless Gives task old (outside disk out)
+        → IsFaultless work task old (outside disk out net)
         → (status ≡ 0) ⊎ (status ≡ 9)
 
   status_at : (wanted status : ℕ) (cause : Cause) → status_of cause ≡ wanted → (status ≡ status_of cause)
@@ -112,35 +113,34 @@ module _ {A : Type 0} (Gives : A → Output → Type 0) (reading : Reading A) (o
   status_at wanted status cause e (inl own) = inl (own ∙ e)
   status_at wanted status cause e (inr nine) = inr nine
 
-  finished_task : (m : Files) (task : A) (output : Output) → old.disk.files ≡ Some m → outcome m reading ≡ Ok task
-      → Finishes Gives reading old.disk.files output → Gives task output
-  finished_task m task output told e f =
-      let same : Ok f.task ≡ Ok task = sym (same_outcome m told f.read) ∙ e in
-      let same_task : f.task ≡ task = cc same in
-      subst (λ (t : A). Gives t output) same_task f.gives
+  -- the task to which the files lead is the outcome
+  same_task : (m : Files) (task led : A) → old.disk.files ≡ Some m → outcome m reading ≡ Ok task
+      → Leads old.disk.files reading (Done led) → led ≡ task
+  same_task m task led told e read = let same : Ok led ≡ Ok task = sym (same_outcome m told read) ∙ e in cc same
 
-  finished_first : (refusal : Refusal) (output : Output) → refused_first reading ≡ Some refusal
-      → Finishes Gives reading old.disk.files output → ⊥
-  finished_first refusal output e f = let no : None ≡ Some refusal = first_kept refusal f.read e in cc no
+  -- and nothing is refused
+  led_first : (refusal : Refusal) (led : A) → refused_first reading ≡ Some refusal
+      → Leads old.disk.files reading (Done led) → ⊥
+  led_first refusal led e read = let no : None ≡ Some refusal = first_kept refusal read e in cc no
 
-  finished_told : (m : Files) (refusal : Refusal) (output : Output) → old.disk.files ≡ Some m
-      → outcome m reading ≡ Err refusal → Finishes Gives reading old.disk.files output → ⊥
-  finished_told m refusal output told e f = let no : Ok f.task ≡ Err refusal = sym (same_outcome m told f.read) ∙ e
-      in cc no
+  led_told : (m : Files) (refusal : Refusal) (led : A) → old.disk.files ≡ Some m → outcome m reading ≡ Err refusal
+      → Leads old.disk.files reading (Done led) → ⊥
+  led_told m refusal led told e read = let no : Ok led ≡ Err refusal = sym (same_outcome m told read) ∙ e in cc no
 
-  tells_none : Ends Gives reading old (outside disk mid) None → Tells 0
+  tells_none : Ends work reading old (outside disk mid net) None → Tells 0
   tells_none ends = record {
     usage = λ e _. absurd (omega arith);
     absent = λ e. absurd (omega arith);
     read_fault = λ e. absurd (omega arith);
     write_fault = λ e. absurd (omega arith);
+    net_fault = λ e. absurd (omega arith);
     keeps = λ a _ _. absurd (a refl);
-    by_words = λ refusal e. absurd (finished_first refusal ends.output e ends.finishes);
-    by_files = λ m refusal told e _. absurd (finished_told m refusal ends.output told e ends.finishes);
+    by_words = λ refusal e. absurd (led_first refusal ends.finishes.task e ends.finishes.read);
+    by_files = λ m refusal told e _. absurd (led_told m refusal ends.finishes.task told e ends.finishes.read);
     complete = λ m task told e _. inl refl;
   }
 
-  tells_refused : (refusal : Refusal) → Ends Gives reading old (outside disk mid) (Some (Refused refusal))
+  tells_refused : (refusal : Refusal) → Ends work reading old (outside disk mid net) (Some (Refused refusal))
       → Tells (status_of_refusal refusal)
   tells_refused refusal ends = record {
     usage = λ two first.
@@ -149,7 +149,8 @@ module _ {A : Type 0} (Gives : A → Output → Type 0) (reading : Reading A) (o
     absent = λ three. let n = absent_of refusal three in ends.absent n.0 n.1;
     read_fault = λ e. absurd (omega (arith, (within refusal).1));
     write_fault = λ e. absurd (omega (arith, (within refusal).1));
-    keeps = λ _ _ _. ends.keeps;
+    net_fault = λ e. absurd (omega (arith, (within refusal).1));
+    keeps = λ _ _ _. ends.unchanged.keeps;
     by_words = λ wanted e.
         let same : Some refusal ≡ Some wanted = first_kept wanted ends.first e in
         let same_refusal : refusal ≡ wanted = cc same in
@@ -162,46 +163,68 @@ module _ {A : Type 0} (Gives : A → Output → Type 0) (reading : Reading A) (o
         in cc no);
   }
 
-  tells_read_fault : (name : List ℕ) → Ends Gives reading old (outside disk mid) (Some (ReadFault name)) → Tells 6
+  tells_read_fault : (name : List ℕ) → Ends work reading old (outside disk mid net) (Some (ReadFault name)) → Tells 6
   tells_read_fault name ends = record {
     usage = λ e _. absurd (omega arith);
     absent = λ e. absurd (omega arith);
     read_fault = λ e. ends.rose;
     write_fault = λ e. absurd (omega arith);
-    keeps = λ _ _ _. ends.keeps;
+    net_fault = λ e. absurd (omega arith);
+    keeps = λ _ _ _. ends.unchanged.keeps;
     by_words = λ refusal e. absurd (let no : None ≡ Some refusal = first_kept refusal ends.next e in cc no);
     by_files = λ m refusal told e calm. absurd (calm ends.rose);
     complete = λ m task told e faultless. absurd (faultless.read ends.rose);
   }
 
-  tells_write_fault : (name : List ℕ) → Ends Gives reading old (outside disk mid) (Some (WriteFault name)) → Tells 7
+  tells_write_fault : (name : List ℕ) → Ends work reading old (outside disk mid net) (Some (WriteFault name)) → Tells 7
   tells_write_fault name ends = record {
     usage = λ e _. absurd (omega arith);
     absent = λ e. absurd (omega arith);
     read_fault = λ e. absurd (omega arith);
     write_fault = λ e. inl ends.rose;
+    net_fault = λ e. absurd (omega arith);
     keeps = λ _ b _. absurd (b refl);
-    by_words = λ refusal e. absurd (finished_first refusal ends.partly.output e ends.partly.finishes);
-    by_files = λ m refusal told e calm. absurd (finished_told m refusal ends.partly.output told e ends.partly.finishes);
+    by_words = λ refusal e. absurd (led_first refusal ends.partly.finishes.task e ends.partly.finishes.read);
+    by_files = λ m refusal told e calm. absurd
+        (led_told m refusal ends.partly.finishes.task told e ends.partly.finishes.read);
     complete = λ m task told e faultless. absurd (faultless.write ends.rose);
   }
 
-  tells_out_fault : mid.faults ≤ out.faults → Ends Gives reading old (outside disk mid) (Some OutFault) → Tells 7
+  tells_out_fault : mid.faults ≤ out.faults → Ends work reading old (outside disk mid net) (Some OutFault) → Tells 7
   tells_out_fault more ends =
       let rose : Rose old.out.faults out.faults = Rose-before _ _ _ ends.rose more in record {
         usage = λ e _. absurd (omega arith);
         absent = λ e. absurd (omega arith);
         read_fault = λ e. absurd (omega arith);
         write_fault = λ e. inr rose;
+        net_fault = λ e. absurd (omega arith);
         keeps = λ _ b _. absurd (b refl);
-        by_words = λ refusal e. absurd (finished_first refusal ends.partly.output e ends.partly.finishes);
+        by_words = λ refusal e. absurd (led_first refusal ends.partly.finishes.task e ends.partly.finishes.read);
         by_files = λ m refusal told e calm. absurd
-            (finished_told m refusal ends.partly.output told e ends.partly.finishes);
+            (led_told m refusal ends.partly.finishes.task told e ends.partly.finishes.read);
         complete = λ m task told e faultless.
             let some : 0 < length ends.partly.output.printed = let short = ends.partly.short in omega arith in
-            absurd (faultless.print ends.partly.output
-            (finished_task m task ends.partly.output told e ends.partly.finishes) some rose);
+            let f = ends.partly.finishes in
+            let gives = subst (λ (t : A). (work t).gives old.net net ends.partly.output)
+            (same_task m task f.task told e f.read) f.gives in
+            absurd (faultless.print ends.partly.output gives some rose);
       }
+
+  tells_net_fault : Ends work reading old (outside disk mid net) (Some NetFault) → Tells 8
+  tells_net_fault ends = record {
+    usage = λ e _. absurd (omega arith);
+    absent = λ e. absurd (omega arith);
+    read_fault = λ e. absurd (omega arith);
+    write_fault = λ e. absurd (omega arith);
+    net_fault = λ _. (ends.stopped.task, ends.rose);
+    keeps = λ _ _ _. ends.stopped.keeps;
+    by_words = λ refusal e. absurd (led_first refusal ends.stopped.task e ends.stopped.read);
+    by_files = λ m refusal told e _. absurd (led_told m refusal ends.stopped.task told e ends.stopped.read);
+    complete = λ m task told e faultless.
+        let rose = subst (λ (t : A). (work t).faulted old.net net)
+        (same_task m task ends.stopped.task told e ends.stopped.read) ends.rose in
+        absurd (faultless.net rose);
+  }
 
   pub tells_memory : Tells 9
   tells_memory = record {
@@ -209,23 +232,24 @@ module _ {A : Type 0} (Gives : A → Output → Type 0) (reading : Reading A) (o
     absent = λ e. absurd (omega arith);
     read_fault = λ e. absurd (omega arith);
     write_fault = λ e. absurd (omega arith);
+    net_fault = λ e. absurd (omega arith);
     keeps = λ _ _ c. absurd (c refl);
     by_words = λ refusal e. inr refl;
     by_files = λ m refusal told e calm. inr refl;
     complete = λ m task told e faultless. inr refl;
   }
 
-  tells_own : (answer : Option Cause) → mid.faults ≤ out.faults → Ends Gives reading old (outside disk mid) answer
+  tells_own : (answer : Option Cause) → mid.faults ≤ out.faults → Ends work reading old (outside disk mid net) answer
       → Tells (status_by answer)
   tells_own None more ends = tells_none ends
   tells_own (Some (Refused refusal)) more ends = tells_refused refusal ends
   tells_own (Some (ReadFault name)) more ends = tells_read_fault name ends
   tells_own (Some (WriteFault name)) more ends = tells_write_fault name ends
   tells_own (Some OutFault) more ends = tells_out_fault more ends
-  tells_own (Some NetFault) more ends = absurd ends
+  tells_own (Some NetFault) more ends = tells_net_fault ends
   tells_own (Some OutOfMemory) more ends = tells_memory
 
-  pub tells : (answer : Option Cause) (status : ℕ) → Ends Gives reading old (outside disk mid) answer
+  pub tells : (answer : Option Cause) (status : ℕ) → Ends work reading old (outside disk mid net) answer
       → Concludes answer mid out status → Tells status
   tells answer status ends c = elim c.status_is [
     | inl e ↦ subst (λ n. Tells n) (sym e) (tells_own answer c.counts.grows ends)

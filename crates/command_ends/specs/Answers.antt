@@ -8,6 +8,7 @@ use Rattle.command_ends.specs.Causes.{line_of, status_by}
 use Rattle.command_ends.specs.Ends.{Ends, Outside, outside}
 use Rattle.command_ends.specs.Outputs.{Output}
 use Rattle.command_ends.specs.Readings.{Reading}
+use Rattle.command_ends.specs.Works.{Work}
 use Rattle.command_ends.specs.declared.cause.Cause.{Cause}
 use Rattle.command_ends.specs.declared.cause.Cause.TheVariants.{OutOfMemory}
 
@@ -23,30 +24,32 @@ Explains None old new = new ≡ old
 Explains (Some cause) old new = Writes (line_of cause) old new
 
 -- The command ended by an answer, whose status this is, and then the answer was explained.
-pub record Answers {A : Type 0} (Gives : A → Output → Type 0) (reading : Reading A) (old new : Outside) (status : ℕ) :
+pub record Answers {A N : Type 0} (work : A → Work N) (reading : Reading A) (old new : Outside N) (status : ℕ) :
     Type 0 where
   pub answer : Option Cause
   pub status_is : status ≡ status_by answer
   pub ended : SinkView
-  pub ends : Ends Gives reading old (outside new.disk ended) answer
+  pub ends : Ends work reading old (outside new.disk ended new.net) answer
   pub explains : Explains answer ended new.out
 
 -- The command ended for a cause, and a front of its line was written: not all of it where the cause isn't want of
 -- memory.
-pub record StopsShort {A : Type 0} (Gives : A → Output → Type 0) (reading : Reading A) (old new : Outside) : Type 0
+pub record StopsShort {A N : Type 0} (work : A → Work N) (reading : Reading A) (old new : Outside N) : Type 0
   where
     pub cause : Cause
     pub ended : SinkView
-    pub ends : Ends Gives reading old (outside new.disk ended) (Some cause)
+    pub ends : Ends work reading old (outside new.disk ended new.net) (Some cause)
     pub count : ℕ
     pub front : new.out.written ≡ sending (take count (line_of cause)) ended.written
     pub cut : cause ≢ OutOfMemory → count < length (line_of cause)
 
--- No fault was counted: in reading, in writing, and in printing where the task prints.
-pub record IsFaultless {A : Type 0} (Gives : A → Output → Type 0) (task : A) (old new : Outside) : Type 0 where
+-- No fault was counted: in reading, in writing, in printing where the task prints, and of the net where it serves.
+pub record IsFaultless {A N : Type 0} (work : A → Work N) (task : A) (old new : Outside N) : Type 0 where
   pub read : ¬ Rose old.disk.read_faults new.disk.read_faults
   pub write : ¬ Rose old.disk.write_faults new.disk.write_faults
-  pub print : (output : Output) → Gives task output → 0 < length output.printed → ¬ Rose old.out.faults new.out.faults
+  pub print : (output : Output) → (work task).gives old.net new.net output → 0 < length output.printed
+      → ¬ Rose old.out.faults new.out.faults
+  pub net : ¬ (work task).faulted old.net new.net
 
 -- the cause of a result, if it has one
 abbrev pub cause_in : {T : Type 0} → Result T Cause → Option Cause

@@ -1,5 +1,4 @@
--- How a command ends, by its cause, before the cause is explained. `Gives task output` says that a task gives this
--- output.
+-- How a command ends, by its cause, before the cause is explained. `work task` is what a task does.
 use Rattle.std.specs.Prelude.{◌≡◌, ◌<◌, ℕ, take, List, Option, Some, None, length}
 use Rattle.mm_base.specs.Counts.{Rose}
 use Rattle.mm_base.specs.Disk.{DiskView}
@@ -8,95 +7,119 @@ use Rattle.mm_base.specs.Sink.{SinkView, sending}
 use Rattle.command_ends.specs.Causes.{Text}
 use Rattle.command_ends.specs.Outputs.{Output, holding_all, HoldsFirst}
 use Rattle.command_ends.specs.Readings.{Reading, Done, Refuses, Reads, Leads}
+use Rattle.command_ends.specs.Works.{Work}
 use Rattle.command_ends.specs.declared.cause.Refusal.{Refusal}
 use Rattle.command_ends.specs.declared.cause.Refusal.TheVariants.{Absent}
 use Rattle.command_ends.specs.declared.cause.Cause.{Cause}
 use Rattle.command_ends.specs.declared.cause.Cause.TheVariants.{Refused, ReadFault, WriteFault, OutFault, NetFault}
 use Rattle.command_ends.specs.declared.cause.Cause.TheVariants.{OutOfMemory}
 
--- what a command reads, changes and writes to
-pub record Outside : Type 0 where
+-- what a command reads, changes and writes to, and the net that it serves
+pub record Outside (N : Type 0) : Type 0 where
   pub disk : DiskView
   pub out : SinkView
+  pub net : N
 
-abbrev pub outside : DiskView → SinkView → Outside
-outside disk out = record { disk = disk; out = out }
+abbrev pub outside : {N : Type 0} → DiskView → SinkView → N → Outside N
+outside disk out net = record { disk = disk; out = out; net = net }
+
+-- the outside of a command that touches no net
+abbrev pub offline : DiskView → SinkView → Outside (Unit {0})
+offline disk out = outside disk out tt
 
 -- no file is changed, and no fault of writing is counted
 pub record KeepsFiles (old new : DiskView) : Type 0 where
   pub files : new.files ≡ old.files
   pub faults : new.write_faults ≡ old.write_faults
 
+-- Nothing is changed.
+pub record IsUnchanged {N : Type 0} (old new : Outside N) : Type 0 where
+  pub keeps : KeepsFiles old.disk new.disk
+  pub silent : new.out ≡ old.out
+  pub net : new.net ≡ old.net
+
 -- The files lead to a task, and it gives this output.
-pub record Finishes {A : Type 0} (Gives : A → Output → Type 0) (reading : Reading A) (told : Option Files)
+pub record Finishes {A N : Type 0} (work : A → Work N) (reading : Reading A) (told : Option Files) (old new : N)
     (output : Output) : Type 0 where
   pub task : A
   pub read : Leads told reading (Done task)
-  pub gives : Gives task output
+  pub gives : (work task).gives old new output
 
 -- Each file has its text, no other file is changed, and the text is printed, and nothing else.
-pub record IsDone {A : Type 0} (Gives : A → Output → Type 0) (reading : Reading A) (old new : Outside) : Type 0 where
+pub record IsDone {A N : Type 0} (work : A → Work N) (reading : Reading A) (old new : Outside N) : Type 0 where
   pub output : Output
-  pub finishes : Finishes Gives reading old.disk.files output
+  pub finishes : Finishes work reading old.disk.files old.net new.net output
   pub written : new.disk.files ≡ holding_all output.files old.disk.files
   pub printed : new.out.written ≡ sending output.printed old.out.written
 
 -- Words and files are refused by themselves, and this is the first refusal. Nothing is changed.
-pub record IsRefused {A : Type 0} (reading : Reading A) (old new : Outside) (refusal : Refusal) : Type 0 where
+pub record IsRefused {A N : Type 0} (reading : Reading A) (old new : Outside N) (refusal : Refusal) : Type 0 where
   pub first : Leads old.disk.files reading (Refuses refusal)
   pub absent : (name : Text) → refusal ≡ Absent name → Rose old.disk.absences new.disk.absences
-  pub keeps : KeepsFiles old.disk new.disk
-  pub silent : new.out ≡ old.out
+  pub unchanged : IsUnchanged old new
 
 -- The files lead to the file of this name, and a fault was counted in reading. Nothing is changed.
-pub record HasReadFault {A : Type 0} (reading : Reading A) (old new : Outside) (name : Text) : Type 0 where
+pub record HasReadFault {A N : Type 0} (reading : Reading A) (old new : Outside N) (name : Text) : Type 0 where
   pub rest : List ℕ → Reading A
   pub next : Leads old.disk.files reading (Reads name rest)
   pub rose : Rose old.disk.read_faults new.disk.read_faults
-  pub keeps : KeepsFiles old.disk new.disk
-  pub silent : new.out ≡ old.out
+  pub unchanged : IsUnchanged old new
 
 -- Writing stopped at the file of this name: those before are whole, it is as before or has a front of its text, later
 -- ones are as before.
-pub record IsPartlyWritten {A : Type 0} (Gives : A → Output → Type 0) (reading : Reading A) (old new : Outside)
+pub record IsPartlyWritten {A N : Type 0} (work : A → Work N) (reading : Reading A) (old new : Outside N)
     (name : Text) : Type 0 where
   pub output : Output
-  pub finishes : Finishes Gives reading old.disk.files output
+  pub finishes : Finishes work reading old.disk.files old.net new.net output
   pub held : HoldsFirst output.files old.disk.files new.disk.files name
   pub silent : new.out ≡ old.out
 
-pub record HasWriteFault {A : Type 0} (Gives : A → Output → Type 0) (reading : Reading A) (old new : Outside)
+pub record HasWriteFault {A N : Type 0} (work : A → Work N) (reading : Reading A) (old new : Outside N)
     (name : Text) : Type 0 where
-  pub partly : IsPartlyWritten Gives reading old new name
+  pub partly : IsPartlyWritten work reading old new name
   pub rose : Rose old.disk.write_faults new.disk.write_faults
 
 -- A front of the text was printed, and not all of it. No file is changed.
-pub record IsPartlyPrinted {A : Type 0} (Gives : A → Output → Type 0) (reading : Reading A) (old new : Outside) : Type
-    0 where
-  pub output : Output
-  pub finishes : Finishes Gives reading old.disk.files output
-  pub count : ℕ
-  pub short : count < length output.printed
-  pub front : new.out.written ≡ sending (take count output.printed) old.out.written
-  pub keeps : KeepsFiles old.disk new.disk
-
-pub record HasOutFault {A : Type 0} (Gives : A → Output → Type 0) (reading : Reading A) (old new : Outside) : Type 0
+pub record IsPartlyPrinted {A N : Type 0} (work : A → Work N) (reading : Reading A) (old new : Outside N) : Type 0
   where
-    pub partly : IsPartlyPrinted Gives reading old new
-    pub rose : Rose old.out.faults new.out.faults
+    pub output : Output
+    pub finishes : Finishes work reading old.disk.files old.net new.net output
+    pub count : ℕ
+    pub short : count < length output.printed
+    pub front : new.out.written ≡ sending (take count output.printed) old.out.written
+    pub keeps : KeepsFiles old.disk new.disk
 
--- Memory ran out: before anything was changed, in writing, or in printing.
-pub data WantsMemory {A : Type 0} (Gives : A → Output → Type 0) (reading : Reading A) (old new : Outside) : Type 0 where
-  Early : KeepsFiles old.disk new.disk → new.out ≡ old.out → WantsMemory Gives reading old new
-  Writing : (name : Text) → IsPartlyWritten Gives reading old new name → WantsMemory Gives reading old new
-  Printing : IsPartlyPrinted Gives reading old new → WantsMemory Gives reading old new
+pub record HasOutFault {A N : Type 0} (work : A → Work N) (reading : Reading A) (old new : Outside N) : Type 0 where
+  pub partly : IsPartlyPrinted work reading old new
+  pub rose : Rose old.out.faults new.out.faults
+
+-- The files lead to a task, and it stopped by itself for this cause. No file is changed, and nothing is printed.
+pub record IsStopped {A N : Type 0} (work : A → Work N) (reading : Reading A) (old new : Outside N) (cause : Cause) :
+    Type 0 where
+  pub task : A
+  pub read : Leads old.disk.files reading (Done task)
+  pub stops : (work task).stops old.net new.net cause
+  pub keeps : KeepsFiles old.disk new.disk
+  pub silent : new.out ≡ old.out
+
+-- A fault of the net stopped it, which was counted.
+pub record HasNetFault {A N : Type 0} (work : A → Work N) (reading : Reading A) (old new : Outside N) : Type 0 where
+  pub stopped : IsStopped work reading old new NetFault
+  pub rose : (work stopped.task).faulted old.net new.net
+
+-- Memory ran out: before anything was changed, while a task served, in writing, or in printing.
+pub data WantsMemory {A N : Type 0} (work : A → Work N) (reading : Reading A) (old new : Outside N) : Type 0 where
+  Early : IsUnchanged old new → WantsMemory work reading old new
+  Serving : IsStopped work reading old new OutOfMemory → WantsMemory work reading old new
+  Writing : (name : Text) → IsPartlyWritten work reading old new name → WantsMemory work reading old new
+  Printing : IsPartlyPrinted work reading old new → WantsMemory work reading old new
 
 -- How a command ended that was done, or for this cause wasn't.
-abbrev pub Ends : {A : Type 0} → (A → Output → Type 0) → Reading A → Outside → Outside → Option Cause → Type 0
-Ends Gives reading old new None = IsDone Gives reading old new
-Ends Gives reading old new (Some (Refused refusal)) = IsRefused reading old new refusal
-Ends Gives reading old new (Some (ReadFault name)) = HasReadFault reading old new name
-Ends Gives reading old new (Some (WriteFault name)) = HasWriteFault Gives reading old new name
-Ends Gives reading old new (Some OutFault) = HasOutFault Gives reading old new
-Ends Gives reading old new (Some NetFault) = ⊥
-Ends Gives reading old new (Some OutOfMemory) = WantsMemory Gives reading old new
+abbrev pub Ends : {A N : Type 0} → (A → Work N) → Reading A → Outside N → Outside N → Option Cause → Type 0
+Ends work reading old new None = IsDone work reading old new
+Ends work reading old new (Some (Refused refusal)) = IsRefused reading old new refusal
+Ends work reading old new (Some (ReadFault name)) = HasReadFault reading old new name
+Ends work reading old new (Some (WriteFault name)) = HasWriteFault work reading old new name
+Ends work reading old new (Some OutFault) = HasOutFault work reading old new
+Ends work reading old new (Some NetFault) = HasNetFault work reading old new
+Ends work reading old new (Some OutOfMemory) = WantsMemory work reading old new

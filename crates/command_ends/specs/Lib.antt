@@ -3,6 +3,7 @@ pub mod Loads
 pub mod Names
 pub mod Readings
 pub mod Outputs
+pub mod Works
 pub mod Ends
 pub mod Answers
 pub mod Stops

@@ -4,7 +4,8 @@ use Rattle.mm_base.specs.Files.{Files, file}
 use Rattle.command_ends.specs.Causes.{Text}
 use Rattle.command_ends.specs.declared.cause.Limit.TheVariants.{File}
 use Rattle.command_ends.specs.declared.cause.Refusal.{Refusal}
-use Rattle.command_ends.specs.declared.cause.Refusal.TheVariants.{Absent, Limit}
+use Rattle.command_ends.specs.declared.cause.Refusal.TheVariants.{Absent, Limit, Words}
+use Rattle.command_ends.specs.declared.cause.WordsRefusal.TheVariants.{Usage}
 
 pub data Reading (A : Type 0) : Type 0 where
   -- all is read, and this is to be done
@@ -13,6 +14,21 @@ pub data Reading (A : Type 0) : Type 0 where
   Refuses : Refusal → Reading A
   -- the file of this name is read, and its bytes say what comes next
   Reads : Text → (List ℕ → Reading A) → Reading A
+
+-- words that ask for nothing
+abbrev pub usage : {A : Type 0} → Reading A
+usage = Refuses (Words Usage)
+
+-- the reading of a job, if the words have one
+abbrev pub asked : {A J : Type 0} → Option J → (J → Reading A) → Reading A
+asked None reading = usage
+asked (Some job) reading = reading job
+
+-- The same files are read and the same is refused, and this is to be done in place of that.
+abbrev pub map_reading : {A B : Type 0} → (A → B) → Reading A → Reading B
+map_reading f (Done task) = Done (f task)
+map_reading f (Refuses refusal) = Refuses refusal
+map_reading f (Reads name next) = Reads name (λ bytes. map_reading f (next bytes))
 
 -- the refusal, if there is one, and else what comes next
 abbrev pub unless : {A : Type 0} → Option Refusal → Reading A → Reading A
