@@ -1,2 +1,4 @@
 pub mod MatchLemmas
 pub mod IndexLemmas
+pub mod LineLemmas
+pub mod DecideLemmas

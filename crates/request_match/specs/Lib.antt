@@ -1,3 +1,4 @@
 pub mod Match
 pub mod Indexed
 pub mod Index
+pub mod Compared

@@ -4,7 +4,7 @@ ghost use Rattle.request_match.specs.Match.{BestCause};
 ghost use Rattle.request_match.specs.Index.{Entry, IsEntry, HasAllTo, IsIndex as IsIndexOf};
 
 use crate::keys::key;
-use crate::matching::{fits_port, place_of, with_record};
+use crate::matching::{Asked, fits_port, place_of, with_record};
 use http_frame::RequestHead;
 use mm_base::OutOfMemory;
 use record_store::{Record, Store};
@@ -82,6 +82,7 @@ fn best_of(
     requires { IsIndexOf records.now port entries.now }
     ensures { BestCause request.now port records.now result }
 {
+    let asked = Asked::new(request, port);
     let wanted = key(request);
     let mut i = first_from(entries, wanted);
     let mut found = None;
@@ -90,7 +91,7 @@ fn best_of(
         if found_key != wanted {
             return place_of(found);
         }
-        found = with_record(found, place, &records[place], request, port);
+        found = with_record(found, place, &records[place], &asked);
         i += 1;
     }
     place_of(found)

@@ -1,6 +1,7 @@
 // The first agreeing record of greatest score.
-ghost use Rattle.std.specs.Prelude.{◌≡◌, ◌==◌, ◌≤◌, List, ℕ, Option, Decides, length, drop, option_map};
+ghost use Rattle.std.specs.Prelude.{◌≡◌, ◌==◌, ◌≤◌, ◌+◌, List, ℕ, Option, Decides, false, length, drop, option_map};
 ghost use Rattle.std.specs.List.{before_first};
+ghost use Rattle.request_match.specs.Compared.{FitsFields, IsAtMost};
 ghost use Rattle.request_match.specs.Index.{WithRecord};
 ghost use Rattle.request_match.specs.Match.{stripped, common, score, FitsPort, Agrees, BestCause, better_of};
 
@@ -20,11 +21,28 @@ pub(crate) fn without_query(line: &[u8]) -> &[u8]
     line
 }
 
+// So many bytes are compared at once.
+const BLOCK: usize = 32;
+
+// How many bytes the blocks have that two texts have in common at their front.
+fn common_blocks(a: &[u8], b: &[u8]) -> usize
+    ensures left { result ≤ length a.now }
+    ensures right { result ≤ length b.now }
+    ensures same { common a.now b.now ≡ result + common (drop result a.now) (drop result b.now) }
+{
+    let most = a.len().min(b.len());
+    let mut i = 0;
+    'blocks: while most - i >= BLOCK && a[i..i + BLOCK] == b[i..i + BLOCK] {
+        i += BLOCK;
+    }
+    i
+}
+
 /// How many bytes two texts have in common at their front.
 pub(crate) fn common_front(a: &[u8], b: &[u8]) -> usize
     ensures { result ≡ common a.now b.now }
 {
-    let mut i = 0;
+    let mut i = common_blocks(a, b);
     while i < a.len() && i < b.len() && a[i] == b[i] {
         i += 1;
     }
@@ -53,9 +71,9 @@ pub(crate) fn fits_port(recorded: u16, asked: Option<u16>) -> bool
     }
 }
 
-/// Whether the record agrees with the request, its cheap parts first.
-pub(crate) fn agrees(exchange: &Record, request: &RequestHead, port: Option<u16>) -> bool
-    ensures { Decides result (Agrees request.now port exchange.now) }
+// Whether the record agrees with the request in all but its line.
+fn fits_fields(exchange: &Record, request: &RequestHead, port: Option<u16>) -> bool
+    ensures { Decides result (FitsFields request.now port exchange.now) }
 {
     if !fits_port(exchange.port, port) {
         return false;
@@ -64,10 +82,17 @@ pub(crate) fn agrees(exchange: &Record, request: &RequestHead, port: Option<u16>
     if !same_value(&head.host, &request.host) {
         return false;
     }
-    if !same_value(&head.agent, &request.agent) {
+    same_value(&head.agent, &request.agent)
+}
+
+/// Whether the record agrees with the request, its cheap parts first.
+pub(crate) fn agrees(exchange: &Record, request: &RequestHead, port: Option<u16>) -> bool
+    ensures { Decides result (Agrees request.now port exchange.now) }
+{
+    if !fits_fields(exchange, request, port) {
         return false;
     }
-    without_query(head.line.as_slice()) == without_query(request.line.as_slice())
+    without_query(exchange.request.head.line.as_slice()) == without_query(request.line.as_slice())
 }
 
 /// The better one of what was found before and a record at a place that agrees.
@@ -100,24 +125,92 @@ pub(crate) fn place_of(found: Option<(usize, usize)>) -> Option<usize>
     }
 }
 
-/// The better one of what was found before and the record at a place.
+/// A request as records are compared with it: how many bytes of its line stand before its query is found once.
+#[derive(Drop)]
+pub(crate) struct Asked<'a> {
+    request: &'a RequestHead,
+    port: Option<u16>,
+    bare: usize,
+    ghost before_query: { bare ≡ length (stripped request.now.line) },
+}
+
+impl<'a> Asked<'a> {
+    /// This request, at a port or at none.
+    pub(crate) fn new(request: &'a RequestHead, port: Option<u16>) -> Self
+        ensures request { result.request.now ≡ request.now }
+        ensures port { result.port ≡ port }
+    {
+        let bare = without_query(request.line.as_slice()).len();
+        Asked {
+            request,
+            port,
+            bare,
+        }
+    }
+}
+
+// Whether a line's first bytes are those before the asked line's query, and its own query or its end follows. So many
+// bytes are common to both.
+fn has_path(line: &[u8], asked: &[u8], bare: usize, shared: usize) -> bool
+    requires bare { bare ≡ length (stripped asked.now) }
+    requires shared { shared ≡ common line.now asked.now }
+    ensures { Decides result (stripped line.now ≡ stripped asked.now) }
+{
+    if shared < bare {
+        return false;
+    }
+    if line.len() == bare {
+        return true;
+    }
+    line[bare] == b'?'
+}
+
+// Whether two lines have the byte of this place in common.
+fn shares(line: &[u8], asked: &[u8], place: usize) -> bool
+    ensures { result ≡ false → common line.now asked.now ≤ place }
+{
+    if line.len() <= place {
+        return false;
+    }
+    if asked.len() <= place {
+        return false;
+    }
+    line[place] == asked[place]
+}
+
+// Whether a line may have more bytes in common with the asked one than what was found.
+fn may_beat(found: Option<(usize, usize)>, line: &[u8], asked: &[u8]) -> bool
+    ensures { result ≡ false → IsAtMost found (common line.now asked.now) }
+{
+    match found {
+        Some((_, most)) => shares(line, asked, most),
+        None => true,
+    }
+}
+
+/// The better one of what was found before and the record at a place. A record that can't beat what was found is left
+/// at once.
 pub(crate) fn with_record(
     found: Option<(usize, usize)>,
     place: usize,
     exchange: &Record,
-    request: &RequestHead,
-    port: Option<u16>,
+    asked: &Asked<'_>,
 ) -> Option<(usize, usize)>
-    ensures { WithRecord request.now port exchange.now place found result }
+    ensures { WithRecord asked.now.request.now asked.now.port exchange.now place found result }
 {
-    if !agrees(exchange, request, port) {
+    let line = exchange.request.head.line.as_slice();
+    let wanted = asked.request.line.as_slice();
+    if !may_beat(found, line, wanted) {
         return found;
     }
-    let most = common_front(
-        exchange.request.head.line.as_slice(),
-        request.line.as_slice(),
-    );
-    better(found, place, most)
+    if !fits_fields(exchange, asked.request, asked.port) {
+        return found;
+    }
+    let shared = common_front(line, wanted);
+    if !has_path(line, wanted, asked.bare, shared) {
+        return found;
+    }
+    better(found, place, shared)
 }
 
 /// The index of the first agreeing record of greatest score, at the port that the request is asked
@@ -127,10 +220,11 @@ pub(crate) fn with_record(
 pub fn best(store: &Store, request: &RequestHead, port: Option<u16>) -> Option<usize>
     ensures { BestCause request.now port store.now result }
 {
+    let asked = Asked::new(request, port);
     let mut found = None;
     let records = store.records();
     for (i, exchange) in records.iter().enumerate() {
-        found = with_record(found, i, exchange, request, port);
+        found = with_record(found, i, exchange, &asked);
     }
     place_of(found)
 }

@@ -2,6 +2,7 @@ use Rattle.std.proofs.Common.{◌≡◌, ◌∙◌, ◌<◌, ◌≤◌, ◌+◌,
 use Rattle.std.proofs.lemmas.Option.{slice_get_read}
 use Rattle.request_match.specs.Match.{BestCause}
 use Rattle.request_match.specs.Index.{Entry, entry_at, Scanned, key_of}
+use Rattle.request_match.proofs.DecideLemmas.{of_request}
 use Rattle.request_match.proofs.IndexLemmas.{by_key, in_order, none_below, other_entry, agreeing_entry, scanned_all}
 use Rattle.request_match.proofs.index.best_of.Goals as goal
 
@@ -39,15 +40,17 @@ entries-preserved c =
     record {
       started = omega (arith, c.entries.invariant.started);
       inside = omega (arith, c.entries-test.true);
-      scanned = elim c.with_record-found.ensures [
-        | inl x ↦
-            subst (Scanned q c.args.port rs es (i + 1)) (sym x.1)
-            (agreeing_entry q c.args.port rs es i r there c.entries.found c.entries.invariant.scanned x.0
-            c.entries-test.true (c.if-found_key-wanted.false ∙ c.key-wanted.ensures)
-            (λ k up small. in_order es c.requires.ordered i k up small))
-        | inr x ↦ subst (Scanned q c.args.port rs es (i + 1)) (sym x.1)
-            (other_entry q c.args.port rs es i r there c.entries.found c.entries.invariant.scanned x.0)
-      ];
+      scanned = elim (of_request q c.new-asked.result.request.now c.args.port c.new-asked.result.port r
+          (entry_at es i).1 c.entries.found c.with_record-found.result c.new-asked.ensures.request
+          c.new-asked.ensures.port c.with_record-found.ensures) [
+            | inl x ↦
+                subst (Scanned q c.args.port rs es (i + 1)) (sym x.1)
+                (agreeing_entry q c.args.port rs es i r there c.entries.found c.entries.invariant.scanned x.0
+                c.entries-test.true (c.if-found_key-wanted.false ∙ c.key-wanted.ensures)
+                (λ k up small. in_order es c.requires.ordered i k up small))
+            | inr x ↦ subst (Scanned q c.args.port rs es (i + 1)) (sym x.1)
+                (other_entry q c.args.port rs es i r there c.entries.found c.entries.invariant.scanned x.0)
+          ];
     }
 
 pub returns-then-found_key-wanted : goal.returns-then-found_key-wanted

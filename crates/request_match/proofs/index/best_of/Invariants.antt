@@ -6,7 +6,7 @@ abbrev pub invariant-entries : goal.invariant-entries
 invariant-entries l = record {
   started : l.initial.i ≤ l.i;
   inside : l.i ≤ length l.entries;
-  scanned : Scanned l.request l.port l.records l.entries l.i l.found;
+  scanned : Scanned l.request l.fn.port l.records l.entries l.i l.found;
 }
 
 abbrev pub decreases-entries : goal.decreases-entries

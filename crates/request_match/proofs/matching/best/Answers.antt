@@ -1,5 +1,6 @@
 use Rattle.std.proofs.Common.{◌≡◌, inl, inr, refl, sym, subst, arith}
 use Rattle.request_match.specs.Match.{score, BestCause}
+use Rattle.request_match.proofs.DecideLemmas.{of_request}
 use Rattle.request_match.proofs.MatchLemmas.{step_agrees, step_other, best_found}
 use Rattle.request_match.proofs.matching.best.Goals as goal
 
@@ -8,7 +9,8 @@ loop-i-preserved c =
     let q = c.args.request.now in
     let records = c.records-records.result.now in
     let r = c.index-records-i.result in
-    elim c.with_record-found.ensures [
+    elim (of_request q c.new-asked.result.request.now c.args.port c.new-asked.result.port r c.loop-i.i c.loop-i.found
+    c.with_record-found.result c.new-asked.ensures.request c.new-asked.ensures.port c.with_record-found.ensures) [
       | inl x ↦
           step_agrees q c.args.port records c.loop-i.i (score q r) r c.loop-i.found c.with_record-found.result
           c.loop-i-test.true c.index-records-i.is

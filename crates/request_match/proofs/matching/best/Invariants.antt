@@ -3,4 +3,4 @@ use Rattle.request_match.specs.Match.{BestSoFar}
 use Rattle.request_match.proofs.matching.best.Given as goal
 
 abbrev pub invariant-loop-i : goal.invariant-loop-i
-invariant-loop-i l = BestSoFar l.request l.port (take l.i l.records) l.found
+invariant-loop-i l = BestSoFar l.request l.fn.port (take l.i l.records) l.found
