@@ -174,6 +174,43 @@ module _ {C : Type 0} (store : List Record) (site : Option ℕ) (view : C → Li
     says = tt;
   }
 
+  -- the port can't be listened at
+  pub serving_unheard : (most : ℕ) (old new : PortView C) → KeepsPort old new → new.finished ≡ old.finished
+      → new.accepted ≡ old.accepted → Rose old.faults new.faults
+      → IsServing store site view most old new (Err errors.Listen)
+  serving_unheard most old new keeps finished accepted rose = record {
+    served = [];
+    each = none_each;
+    finished_is = finished ∙ map_same old.finished;
+    keeps = keeps;
+    says = (finished, accepted, rose);
+  }
+
+  serves_listened : (most : ℕ) (p₀ p₁ p₂ : PortView C) → KeepsPort p₀ p₁ → p₁.accepted ≡ p₀.accepted
+      → (served : List (C × ConnEnd)) (answer : Result Served ServeError) → IsTally most answer
+      → ServingSays store site view most p₁ p₂ served answer → ServingSays store site view most p₀ p₂ served answer
+  serves_listened most p₀ p₁ p₂ keeps accepted served (Ok n) tally says =
+      (says.0, says.1, says.2 ∙ ap (λ k. k + length served) accepted, says.3)
+  serves_listened most p₀ p₁ p₂ keeps accepted served (Err errors.Listen) tally says = absurd tally
+  serves_listened most p₀ p₁ p₂ keeps accepted served (Err errors.Accept) tally says = (
+    (let grows = keeps.counts.grows in let rose = says.0 in omega (arith, grows, rose)),
+    λ few. (let grows = keeps.counts.grows in let left = says.1 few in omega (arith, grows, left, accepted)),
+  )
+  serves_listened most p₀ p₁ p₂ keeps accepted served (Err errors.OutOfMemory) tally says = tt
+
+  -- what a serving does after listening, counted from before it
+  pub serving_listened : (most : ℕ) (p₀ p₁ p₂ : PortView C) → KeepsPort p₀ p₁ → p₁.finished ≡ p₀.finished
+      → p₁.accepted ≡ p₀.accepted
+      → (answer : Result Served ServeError) → IsTally most answer → IsServing store site view most p₁ p₂ answer
+      → IsServing store site view most p₀ p₂ answer
+  serving_listened most p₀ p₁ p₂ keeps finished accepted answer tally x = record {
+    served = x.served;
+    each = x.each;
+    finished_is = x.finished_is ∙ ap (option_map (finished_with x.served)) finished;
+    keeps = keeps_then keeps x.keeps;
+    says = serves_listened most p₀ p₁ p₂ keeps accepted x.served answer tally x.says;
+  }
+
   module _ (most : ℕ) (some : 0 < most) (p₀ p₁ p₂ p₃ : PortView C) (conn : C) (end : ConnEnd)
       (one : IsConnServed store site (view conn) end)
       (accepted : p₁.accepted ≡ p₀.accepted + 1) (first : p₁.finished ≡ p₀.finished) (before : KeepsPort p₀ p₁)
