@@ -1,25 +1,21 @@
 -- From an index to the best record.
-use Rattle.std.proofs.Common.{zero, suc, true, false, Bool, None, Some, ◌≡◌, ◌∙◌, ◌⊎◌, inl, inr, ℕ, ◌+◌, ◌-◌, ◌<◌, ◌≤◌}
+use Rattle.std.proofs.Common.{suc, true, false, Bool, None, Some, ◌≡◌, ◌∙◌, ◌⊎◌, inl, inr, ℕ, ◌+◌, ◌-◌, ◌<◌, ◌≤◌}
 use Rattle.std.proofs.Common.{List, [], ◌∷◌, ◌++◌, length, take, drop, get_or, cond, refl, sym, ap, subst, arith}
-use Rattle.std.specs.Prelude.{Option, nat_lt, All, Contains, option_map, slice_get, unwrap_or}
-use Rattle.std.specs.List.Sorted.{IsSorted, IsPermutation}
-use Rattle.std.specs.Ordering.{nat_cmp, ordering_then, is_lt, MatchOrdering}
-use Rattle.std.specs.declared.cmp.Ordering.{Ordering}
-use Rattle.std.specs.declared.cmp.Ordering.TheVariants.{Less, Equal, Greater}
-use Rattle.std.proofs.lemmas.Cmp.{ranked}
-use Rattle.std.proofs.lemmas.Map.Keys.{ge_from_not_lt}
+use Rattle.std.specs.Prelude.{Option, nat_lt, All, Contains, option_map, slice_get, unwrap_or, ◌||◌, ◌&&◌, ◌==◌}
+use Rattle.std.specs.Prelude.{IsPermutation}
 use Rattle.std.proofs.Math.Bool.{true≢false}
 use Rattle.std.proofs.Math.Seq.{drop-cons}
 use Rattle.std.proofs.lemmas.Bool.{cases_lt}
+use Rattle.std.proofs.lemmas.Bool.Decides.{Decides-eqb}
 use Rattle.std.proofs.lemmas.List.{take-append-drop, length-take-le, get_or-take, get_or_default}
 use Rattle.std.proofs.lemmas.List.Elements.{All-push, Contains-push, Contains-append_left}
-use Rattle.std.proofs.lemmas.List.Sorted.{All-permutation, Contains-permutation}
+use Rattle.std.proofs.lemmas.List.Sorted.{Contains-permutation}
 use Rattle.std.proofs.lemmas.Option.{slice_get-get_or, get_or_from_slice_get, slice_get_within, slice_get_read}
 use Rattle.http_frame.specs.declared.messages.RequestHead.{RequestHead}
 use Rattle.record_store.specs.declared.record.Record.{Record}
-use Rattle.request_match.specs.Match.{FitsPort, Agrees, score, IsBest, NoneAgrees, BestCause, better_of, stripped}
-use Rattle.request_match.specs.Index.{Entry, IsEntry, HasAllTo, IsIndex, key_of, hash_of_bytes, WithRecord, entry_at}
-use Rattle.request_match.specs.Index.{NoneBefore, BestBefore, Scanned}
+use Rattle.request_match.specs.Match.{FitsPort, Agrees, common, score, BestCause, stripped}
+use Rattle.request_match.specs.Index.{Entry, IsEntry, HasAllTo, IsIndex, key_of, hash_of_bytes, entry_at, offered}
+use Rattle.request_match.specs.Index.{IsShared, HasFront, HasScore, HasNear, NoneBefore, BestBefore, Scanned}
 
 -- ---- keys
 
@@ -33,54 +29,53 @@ same_key q asked r a =
     ∙ ap (λ g. hash_of_bytes (hash_of_bytes (hash_of_bytes 0 (stripped q.line)) (unwrap_or q.host []))
     (unwrap_or g [])) a.agent
 
--- ---- order
-
-abbrev pub InOrder : Entry → Entry → Type 0
-InOrder x y = (x.0 ≤ y.0) × (x.0 ≡ y.0 → x.1 ≤ y.1)
-
-next_in_order : (a b m n : ℕ) → is_lt (ordering_then (nat_cmp m a) (nat_cmp n b)) ≡ false → (a ≤ m) × (a ≡ m → b ≤ n)
-next_in_order a b m n e = go (nat_cmp m a) (ranked m a (nat_cmp m a) refl) e
-  where
-    go : (r : Ordering) → MatchOrdering r (m < a) (m ≡ a) (a < m) → is_lt (ordering_then r (nat_cmp n b)) ≡ false
-        → (a ≤ m) × (a ≡ m → b ≤ n)
-    go Less x f = absurd (true≢false f)
-    go Equal x f = (omega (arith, x), λ same. ge_from_not_lt n b f)
-    go Greater x f = (omega (arith, x), λ same. absurd (omega (arith, x, same)))
-
-pub far : (es : List Entry) → IsSorted (λ (x y : Entry). ordering_then (nat_cmp x.0 y.0) (nat_cmp x.1 y.1)) es
-    → (i n : ℕ) → i + n < length es → InOrder (entry_at es i) (entry_at es (i + n))
-far es sorted i zero small =
-    let same : i ≡ i + 0 = omega arith in
-    subst (λ k. InOrder (entry_at es i) (entry_at es k)) same (omega arith, λ e. omega arith)
-far es sorted i (suc n) small =
-    let before = far es sorted i n (omega (arith, small)) in
-    let next : InOrder (entry_at es (i + n)) (entry_at es (i + n + 1)) =
-    next_in_order _ _ _ _ (sorted (i + n) (0, 0) (omega arith) (omega (arith, small))) in
-    let same : i + n + 1 ≡ i + suc n = omega arith in
-    subst (λ k. InOrder (entry_at es i) (entry_at es k)) same (
-      omega (arith, before.0, next.0),
-      λ e. omega (arith, e, before.0, before.1, next.0, next.1),
-    )
-
-pub in_order : (es : List Entry) → IsSorted (λ (x y : Entry). ordering_then (nat_cmp x.0 y.0) (nat_cmp x.1 y.1)) es
-    → (i j : ℕ) → i ≤ j → j < length es → InOrder (entry_at es i) (entry_at es j)
-in_order es sorted i j up small =
-    let same : i + (j - i) ≡ j = omega (arith, up) in
-    subst (λ k. InOrder (entry_at es i) (entry_at es k)) same (far es sorted i (j - i) (omega (arith, same, small)))
-
-pub by_key : (es : List Entry) → IsSorted (λ (x y : Entry). ordering_then (nat_cmp x.0 y.0) (nat_cmp x.1 y.1)) es
-    → (i j : ℕ) (d : Entry) → i ≤ j → j < length es
-    → (get_or es i d).0 ≤ (get_or es j d).0
-by_key es sorted i j d up small =
-    let o = in_order es sorted i j up small in
-    let first = ap (λ (e : Entry). e.0) (get_or_default es i d (0, 0) (omega (arith, up, small))) in
-    let second = ap (λ (e : Entry). e.0) (get_or_default es j d (0, 0) small) in
-    omega (arith, o.0, first, second)
-
 -- ---- one more entry
 
 some_same : (o : Option Record) (r s : Record) → o ≡ Some r → o ≡ Some s → s ≡ r
 some_same o r s e f = ap (λ v. unwrap_or v r) (sym f ∙ e)
+
+lt_true : (m n : ℕ) → nat_lt m n ≡ true → m < n
+lt_true m n e = grind (arith, e)
+
+lt_false : (m n : ℕ) → nat_lt m n ≡ false → n ≤ m
+lt_false m n e = grind (arith, e)
+
+strictly : (most n : ℕ) → n ≤ most → (most ≡ n → ⊥) → n < most
+strictly most n low differ = elim (cases_lt n most) [
+  | inl less ↦ less
+  | inr past ↦ absurd (differ (omega (arith, low, past)))
+]
+
+better_true : (most n place before : ℕ) → (nat_lt most n || (most == n && nat_lt place before)) ≡ true
+    → (most ≤ n) × ((most < n) ⊎ (place < before))
+better_true most n place before e = go (nat_lt most n) (most == n) (nat_lt place before) refl refl refl e
+  where
+    go : (s t u : Bool) → nat_lt most n ≡ s → (most == n) ≡ t → nat_lt place before ≡ u
+        → (s || (t && u)) ≡ true → (most ≤ n) × ((most < n) ⊎ (place < before))
+    go true t u a b d f = (let h = lt_true most n a in omega (arith, h), inl (lt_true most n a))
+    go false true true a b d f = (let h = (Decides-eqb most n).0 b in omega (arith, h), inr (lt_true place before d))
+    go false true false a b d f = absurd (true≢false (sym f))
+    go false false u a b d f = absurd (true≢false (sym f))
+
+better_false : (most n place before : ℕ) → (nat_lt most n || (most == n && nat_lt place before)) ≡ false
+    → (n ≤ most) × (place < before → n < most)
+better_false most n place before e = go (nat_lt most n) (most == n) (nat_lt place before) refl refl refl e
+  where
+    go : (s t u : Bool) → nat_lt most n ≡ s → (most == n) ≡ t → nat_lt place before ≡ u
+        → (s || (t && u)) ≡ false → (n ≤ most) × (place < before → n < most)
+    go true t u a b d f = absurd (true≢false f)
+    go false true true a b d f = absurd (true≢false f)
+    go false true false a b d f =
+        (lt_false most n a, λ h. absurd (let l = lt_false place before d in omega (arith, h, l)))
+    go false false u a b d f =
+        let l = lt_false most n a in
+        (l, λ h. strictly most n l (λ same. true≢false (sym ((Decides-eqb most n).1 same) ∙ b)))
+
+before_best : (most n place before score other : ℕ) → (most < n) ⊎ (place < before) → score ≤ most → other < place
+    → (other < before → score < most) → (most ≤ n) → score < n
+before_best most n place before score other (inl up) g low first least = omega (arith, up, g)
+before_best most n place before score other (inr down) g low first least =
+    let h = first (omega (arith, down, low)) in omega (arith, h, least)
 
 module _ (q : RequestHead) (asked : Option ℕ) (rs : List Record) (es : List Entry) where
   module _ (i : ℕ) (r : Record) (is : slice_get rs (entry_at es i).1 ≡ Some r) where
@@ -112,85 +107,95 @@ module _ (q : RequestHead) (asked : Option ℕ) (rs : List Record) (es : List En
         | inl less ↦ x.first k s less there a low
         | inr past ↦ absurd (out (subst (Agrees q asked) (at_last k s small (λ l. omega (arith, l, past)) there).1 a))
       ];
-      later = λ k up small e. x.later k (omega (arith, up)) small e;
     }
 
-    new_entry : (good : Agrees q asked r)
-        → (later : (k : ℕ) → i + 1 ≤ k → k < length es → (entry_at es k).0 ≡ key_of q
-        → (entry_at es i).1 ≤ (entry_at es k).1)
-        → ((k : ℕ) (s : Record) → k < i → slice_get rs (entry_at es k).1 ≡ Some s → Agrees q asked s
-        → score q s < score q r)
-        → BestBefore q asked rs es (i + 1) (entry_at es i).1 (score q r)
-    new_entry good later below = record {
-      best = r;
-      is = is;
-      agrees = good;
-      most_is = refl;
-      greatest = λ k s small there a. elim (cases_lt k i) [
-        | inl less ↦ (let b = below k s less there a in omega (arith, b))
-        | inr past ↦ (let e = ap (score q) (at_last k s small (λ l. omega (arith, l, past)) there).1
-            in omega (arith, e))
-      ];
-      first = λ k s small there a low. elim (cases_lt k i) [
-        | inl less ↦ below k s less there a
-        | inr past ↦ absurd (let e = ap (λ n. (entry_at es n).1)
-            (at_last k s small (λ l. omega (arith, l, past)) there).0 in omega (arith, e, low))
-      ];
-      later = later;
-    }
+    module _ (n : ℕ) (good : Agrees q asked r) (most : n ≡ score q r) where
+      -- the new record is better than all before
+      new_entry : ((k : ℕ) (s : Record) → k < i → slice_get rs (entry_at es k).1 ≡ Some s → Agrees q asked s
+          → score q s ≤ n)
+          → ((k : ℕ) (s : Record) → k < i → slice_get rs (entry_at es k).1 ≡ Some s → Agrees q asked s
+          → (entry_at es k).1 < (entry_at es i).1 → score q s < n)
+          → BestBefore q asked rs es (i + 1) (entry_at es i).1 n
+      new_entry all before = record {
+        best = r;
+        is = is;
+        agrees = good;
+        most_is = most;
+        greatest = λ k s small there a. elim (cases_lt k i) [
+          | inl less ↦ all k s less there a
+          | inr past ↦ (let e = ap (score q) (at_last k s small (λ l. omega (arith, l, past)) there).1
+              in omega (arith, e, most))
+        ];
+        first = λ k s small there a low. elim (cases_lt k i) [
+          | inl less ↦ before k s less there a low
+          | inr past ↦ absurd (let e = ap (λ n. (entry_at es n).1)
+              (at_last k s small (λ l. omega (arith, l, past)) there).0 in omega (arith, e, low))
+        ];
+      }
 
-    pub agreeing_entry : (found : Option (ℕ × ℕ)) → Scanned q asked rs es i found → Agrees q asked r → i < length es
-        → (entry_at es i).0 ≡ key_of q
-        → ((k : ℕ) → i ≤ k → k < length es → InOrder (entry_at es i) (entry_at es k))
-        → Scanned q asked rs es (i + 1) (better_of found (entry_at es i).1 (score q r))
-    unfolding new_entry
-    agreeing_entry None x good inside key order =
-        new_entry good (λ k up small e. (order k (omega (arith, up)) small).1 (key ∙ sym e))
-        (λ k s less there a. absurd (x k s less there a))
-    agreeing_entry (Some f) x good inside key order = go (nat_lt f.1 (score q r)) refl
-      where
-        later_here : (k : ℕ) → i + 1 ≤ k → k < length es → (entry_at es k).0 ≡ key_of q
-            → (entry_at es i).1 ≤ (entry_at es k).1
-        later_here k up small e = (order k (omega (arith, up)) small).1 (key ∙ sym e)
+      -- the one found before is still the best
+      old_entry : (f : ℕ × ℕ) → BestBefore q asked rs es i f.0 f.1 → n ≤ f.1 → ((entry_at es i).1 < f.0 → n < f.1)
+          → BestBefore q asked rs es (i + 1) f.0 f.1
+      old_entry f x low earlier = record {
+        best = x.best;
+        is = x.is;
+        agrees = x.agrees;
+        most_is = x.most_is;
+        greatest = λ k s small there a. elim (cases_lt k i) [
+          | inl less ↦ x.greatest k s less there a
+          | inr past ↦ (let e = ap (score q) (at_last k s small (λ l. omega (arith, l, past)) there).1
+              in omega (arith, e, low, most))
+        ];
+        first = λ k s small there a below. elim (cases_lt k i) [
+          | inl less ↦ x.first k s less there a below
+          | inr past ↦ (
+              let at = at_last k s small (λ l. omega (arith, l, past)) there in
+              let e = ap (λ n. (entry_at es n).1) at.0 in
+              let h = earlier (omega (arith, e, below)) in
+              let m = ap (score q) at.1 in
+              omega (arith, h, m, most)
+              )
+        ];
+      }
 
-        keep : score q r ≤ f.1 → BestBefore q asked rs es (i + 1) f.0 f.1
-        keep low = record {
-          best = x.best;
-          is = x.is;
-          agrees = x.agrees;
-          most_is = x.most_is;
-          greatest = λ k s small there a. elim (cases_lt k i) [
-            | inl less ↦ x.greatest k s less there a
-            | inr past ↦ (let e = ap (score q) (at_last k s small (λ l. omega (arith, l, past)) there).1
-                in omega (arith, e, low))
-          ];
-          first = λ k s small there a below. elim (cases_lt k i) [
-            | inl less ↦ x.first k s less there a below
-            | inr past ↦ absurd (let e = ap (λ n. (entry_at es n).1)
-                (at_last k s small (λ l. omega (arith, l, past)) there).0 in
-                let h = x.later i (omega arith) inside key in omega (arith, e, below, h))
-          ];
-          later = λ k up small e. x.later k (omega (arith, up)) small e;
-        }
+      pub agreeing_entry : (found : Option (ℕ × ℕ)) → Scanned q asked rs es i found
+          → Scanned q asked rs es (i + 1) (offered found (entry_at es i).1 (Some n))
+      unfolding new_entry old_entry
+      agreeing_entry None x = new_entry (λ k s less there a. absurd (x k s less there a))
+          (λ k s less there a low. absurd (x k s less there a))
+      agreeing_entry (Some f) x = go (nat_lt f.1 n || (f.1 == n && nat_lt (entry_at es i).1 f.0)) refl
+        where
+          go : (t : Bool) → (nat_lt f.1 n || (f.1 == n && nat_lt (entry_at es i).1 f.0)) ≡ t
+              → Scanned q asked rs es (i + 1) (cond t (Some ((entry_at es i).1, n)) (Some (f.0, f.1)))
+          go true e = new_entry
+              (λ k s less there a. let g = x.greatest k s less there a in
+              let h = better_true f.1 n (entry_at es i).1 f.0 e in omega (arith, g, h.0))
+              (λ k s less there a low. let g = x.greatest k s less there a in
+              let h = better_true f.1 n (entry_at es i).1 f.0 e in
+              before_best f.1 n (entry_at es i).1 f.0 (score q s) (entry_at es k).1 h.1 g low
+              (λ down. x.first k s less there a down) h.0)
+          go false e = old_entry f x (better_false f.1 n (entry_at es i).1 f.0 e).0
+              (better_false f.1 n (entry_at es i).1 f.0 e).1
 
-        take_new : f.1 < score q r → BestBefore q asked rs es (i + 1) (entry_at es i).1 (score q r)
-        take_new high = new_entry good later_here (λ k s less there a. let g = x.greatest k s less there a
-            in omega (arith, g, high))
+    pub next_scanned : (found : Option (ℕ × ℕ)) (score : Option ℕ) → Scanned q asked rs es i found
+        → HasScore q asked r score
+        → Scanned q asked rs es (i + 1) (offered found (entry_at es i).1 score)
+    next_scanned None None x out = other_entry None x out
+    next_scanned (Some f) None x out = other_entry (Some f) x out
+    next_scanned None (Some n) x a = agreeing_entry n a.0 a.1 None x
+    next_scanned (Some f) (Some n) x a = agreeing_entry n a.0 a.1 (Some f) x
 
-        go : (t : Bool) → nat_lt f.1 (score q r) ≡ t
-            → Scanned q asked rs es (i + 1) (cond t (Some ((entry_at es i).1, score q r)) (Some (f.0, f.1)))
-        go true e = take_new (above f.1 (score q r) e)
-          where
-            above : (m n : ℕ) → nat_lt m n ≡ true → m < n
-            above m n e = grind (arith, e)
-        go false e = keep (below f.1 (score q r) e)
-          where
-            below : (m n : ℕ) → nat_lt m n ≡ false → n ≤ m
-            below m n e = grind (arith, e)
+    -- the next record is the one before the next entry
+    pub next_near : (score : Option ℕ) → HasScore q asked r score → HasNear q asked rs es (i + 1) score
+    next_near score x s pos there =
+        let same : i + 1 - 1 ≡ i = omega arith in
+        subst (λ (t : Record). HasScore q asked t score)
+        (sym (some_same (slice_get rs (entry_at es i).1) r s is
+        (subst (λ n. slice_get rs (entry_at es n).1 ≡ Some s) same there))) x
 
   -- ---- from the entries to the records
 
-  module _ (index : IsIndex rs asked es) where
+  module _ (fs : List (Option ℕ)) (index : IsIndex rs asked es fs) where
     -- before the first entry of a key nothing agrees
     pub none_below : (start : ℕ) → start ≤ length es
         → ((k : ℕ) (d : Entry) → k < start → (get_or es k d).0 < key_of q) → NoneBefore q asked rs es start
@@ -247,16 +252,70 @@ module _ (q : RequestHead) (asked : Option ℕ) (rs : List Record) (es : List En
               omega (arith, g, x.most_is);
         }
 
+-- ---- scores that are carried on
+
+-- a record that another one shares all with agrees where that one does
+shared_agrees : (q : RequestHead) (asked : Option ℕ) (a b : Record) (n : ℕ) → IsShared a b n → FitsPort b.port asked
+    → Agrees q asked a → Agrees q asked b
+shared_agrees q asked a b n s fits x = record {
+  port = fits;
+  host = s.same.host ∙ x.host;
+  agent = s.same.agent ∙ x.agent;
+  line = s.same.line ∙ x.line;
+}
+
+shared_back : (q : RequestHead) (asked : Option ℕ) (a b : Record) (n : ℕ) → IsShared a b n → FitsPort a.port asked
+    → Agrees q asked b → Agrees q asked a
+shared_back q asked a b n s fits x = record {
+  port = fits;
+  host = sym s.same.host ∙ x.host;
+  agent = sym s.same.agent ∙ x.agent;
+  line = sym s.same.line ∙ x.line;
+}
+
+pub carried_none : (q : RequestHead) (asked : Option ℕ) (a b : Record) (n : ℕ) (before : Option ℕ) → before ≡ None
+    → IsShared a b n → FitsPort a.port asked → HasScore q asked a before → HasScore q asked b None
+carried_none q asked a b n None e s fits x y = x (shared_back q asked a b n s fits y)
+carried_none q asked a b n (Some m) e s fits x y = absurd (cc e)
+
+pub carried_some : (q : RequestHead) (asked : Option ℕ) (a b : Record) (n m : ℕ) (before : Option ℕ) → before ≡ Some m
+    → IsShared a b n → FitsPort b.port asked → HasScore q asked a before
+    → (next : ℕ) → ((line : List ℕ) → n ≡ common line b.request.head.line → m ≡ common line q.line
+    → next ≡ common b.request.head.line q.line)
+    → HasScore q asked b (Some next)
+carried_some q asked a b n m before e s fits x next carry =
+    let y : HasScore q asked a (Some m) = subst (HasScore q asked a) e x in (
+      shared_agrees q asked a b n s fits y.0,
+      carry a.request.head.line s.front_is y.1,
+    )
+
+pub next_has_score : (q : RequestHead) (asked : Option ℕ) (rs : List Record) (es : List Entry)
+    → All (IsEntry rs asked) es → (i : ℕ) → i < length es
+    → (r : Record) → slice_get rs (entry_at es i).1 ≡ Some r → (front near result : Option ℕ) → HasFront rs es i front
+    → HasNear q asked rs es i near
+    → (front ≡ None → HasScore q asked r result)
+    → ((a : Record) (n : ℕ) → front ≡ Some n → IsShared a r n → FitsPort a.port asked → HasScore q asked a near
+    → HasScore q asked r result)
+    → HasScore q asked r result
+next_has_score q asked rs es entries i inside r there None near result shares x anew onward = anew refl
+next_has_score q asked rs es entries i inside r there (Some n) near result shares x anew onward =
+    let entry = entries (i - 1) (0, 0) (omega (arith, inside, shares.0)) in
+    let a = get_or rs (entry_at es (i - 1)).1 r in
+    let at = slice_get-get_or rs (entry_at es (i - 1)).1 r entry.place in
+    onward a n refl (shares.1 a r at there) (entry.fits a at) (x a shares.0 at)
+
 -- ---- the list of entries
 
-pub entry_more : (rs : List Record) (es : List Entry) (place : ℕ) (r : Record) → place < length rs
-    → r ≡ get_or rs place r → All (IsEntry rs) es
-    → All (IsEntry rs) (es ++ (key_of r.request.head, place) ∷ [])
-entry_more rs es place r inside is all =
-    All-push (IsEntry rs) es (key_of r.request.head, place) all (record {
+pub entry_more : (rs : List Record) (port : Option ℕ) (es : List Entry) (place : ℕ) (r : Record) → place < length rs
+    → r ≡ get_or rs place r → FitsPort r.port port → All (IsEntry rs port) es
+    → All (IsEntry rs port) (es ++ (key_of r.request.head, place) ∷ [])
+entry_more rs port es place r inside is fit all =
+    All-push (IsEntry rs port) es (key_of r.request.head, place) all (record {
       place = inside;
       key = λ s there. ap (λ (t : Record). key_of t.request.head)
           (some_same (slice_get rs place) s r there (slice_get_read rs (length rs) place r refl inside is));
+      fits = λ s there. subst (λ (t : Record). FitsPort t.port port)
+          (some_same (slice_get rs place) s r there (slice_get_read rs (length rs) place r refl inside is)) fit;
     })
 
 pub whole_more : (rs : List Record) (port : Option ℕ) (es : List Entry) (place : ℕ) (r : Record) → place < length rs
@@ -287,12 +346,11 @@ whole_other rs port es place r inside is all out k s small there fits = elim (ca
       absurd (out (subst (λ (t : Record). FitsPort t.port port) same fits))
 ]
 
-pub index_of : (rs : List Record) (port : Option ℕ) (es sorted : List Entry) → All (IsEntry rs) es
-    → HasAllTo rs port (length rs) es → IsPermutation es sorted
-    → IsSorted (λ (x y : Entry). ordering_then (nat_cmp x.0 y.0) (nat_cmp x.1 y.1)) sorted → IsIndex rs port sorted
-index_of rs port es sorted entries whole moved order = record {
-  entries = All-permutation (IsEntry rs) es sorted moved entries;
-  whole = λ k r small there fits. Contains-permutation es sorted (key_of r.request.head, k) moved
-      (whole k r small there fits);
-  ordered = order;
-}
+pub whole_moved : (rs : List Record) (port : Option ℕ) (count : ℕ) (es moved : List Entry) → HasAllTo rs port count es
+    → IsPermutation es moved → HasAllTo rs port count moved
+whole_moved rs port count es moved whole move k r small there fits =
+    Contains-permutation es moved (key_of r.request.head, k) move (whole k r small there fits)
+
+pub places_of : (rs : List Record) (port : Option ℕ) (es : List Entry) → All (IsEntry rs port) es
+    → All (λ (e : Entry). e.1 < length rs) es
+places_of rs port es all k d small = (all k d small).place

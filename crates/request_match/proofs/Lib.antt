@@ -1,4 +1,5 @@
 pub mod MatchLemmas
+pub mod FrontLemmas
 pub mod IndexLemmas
 pub mod LineLemmas
 pub mod DecideLemmas

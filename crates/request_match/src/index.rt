@@ -1,10 +1,12 @@
 // Records by what must agree with a request.
 ghost use Rattle.std.specs.Prelude.{◌≡◌, ◌<◌, ◌≤◌, ℕ, List, Option, IfOk, All, length, slice_index_or};
 ghost use Rattle.request_match.specs.Match.{BestCause};
-ghost use Rattle.request_match.specs.Index.{Entry, IsEntry, HasAllTo, IsIndex as IsIndexOf};
+ghost use Rattle.request_match.specs.Index.{Entry, IsIndex as IsIndexOf};
 
+use crate::index_entries::{fronts_of, ordered_entries};
+use crate::index_scores::{better_place, next_score};
 use crate::keys::key;
-use crate::matching::{Asked, fits_port, place_of, with_record};
+use crate::matching::place_of;
 use http_frame::RequestHead;
 use mm_base::OutOfMemory;
 use record_store::{Record, Store};
@@ -17,8 +19,10 @@ use std::marker::Model;
 pub struct Index<'a> {
     records: &'a [Record],
     port: Option<u16>,
-    /// The key and the place of each record that fits the port, in order.
+    /// The key and the place of each record that fits the port, in the order of keys and lines.
     entries: Vec<(u64, usize)>,
+    /// What the record of each entry shares with that of the entry before.
+    fronts: Vec<Option<usize>>,
 }
 
 impl<'a> Model for Index<'a> {
@@ -29,25 +33,7 @@ impl<'a> Model for Index<'a> {
 
     ghost view = { λ s. record { records = s.records.now; port = s.port } };
 
-    ghost invariant = { λ s. IsIndex s.records.now s.port s.entries.items };
-}
-
-/// The entries of the records that fit the port, in the records' order.
-fn entries_of(
-    alloc: Global,
-    records: &[Record],
-    port: Option<u16>,
-) -> Result<Vec<(u64, usize)>, OutOfMemory>
-    ensures entries { IfOk result (λ v. All (IsEntry records.now) v.items) }
-    ensures whole { IfOk result (λ v. HasAllTo records.now port (length records.now) v.items) }
-{
-    let mut entries = Vec::new(alloc);
-    for (place, exchange) in records.iter().enumerate() {
-        if fits_port(exchange.port, port) {
-            entries.push((key(&exchange.request.head), place))?;
-        }
-    }
-    Ok(entries)
+    ghost invariant = { λ s. IsIndex s.records.now s.port s.entries.items s.fronts.items };
 }
 
 /// The place of the first entry whose key isn't below that one.
@@ -75,23 +61,25 @@ fn first_from(entries: &[(u64, usize)], key: u64) -> usize
 /// The place of the best record, by the entries of those that fit the port.
 fn best_of(
     entries: &[(u64, usize)],
+    fronts: &[Option<usize>],
     records: &[Record],
     port: Option<u16>,
     request: &RequestHead,
 ) -> Option<usize>
-    requires { IsIndexOf records.now port entries.now }
+    requires { IsIndexOf records.now port entries.now fronts.now }
     ensures { BestCause request.now port records.now result }
 {
-    let asked = Asked::new(request, port);
     let wanted = key(request);
     let mut i = first_from(entries, wanted);
     let mut found = None;
+    let mut score = None;
     'entries: while i < entries.len() {
         let (found_key, place) = entries[i];
         if found_key != wanted {
             return place_of(found);
         }
-        found = with_record(found, place, &records[place], &asked);
+        score = next_score(fronts[i], score, &records[place], request, port);
+        found = better_place(found, place, score);
         i += 1;
     }
     place_of(found)
@@ -103,12 +91,13 @@ impl<'a> Index<'a> {
         ensures { IfOk result (λ index. index ≡ record { records = store.now; port = port }) }
     {
         let records = store.records();
-        let mut entries = entries_of(alloc, records, port)?;
-        entries.sort_unstable();
+        let entries = ordered_entries(alloc, records, port)?;
+        let fronts = fronts_of(alloc, records, entries.as_slice())?;
         Ok(Index {
             records,
             port,
             entries,
+            fronts,
         })
     }
 
@@ -116,6 +105,12 @@ impl<'a> Index<'a> {
     pub fn best(&self, request: &RequestHead) -> Option<usize>
         ensures { BestCause request.now self.now.port self.now.records result }
     {
-        best_of(self.entries.as_slice(), self.records, self.port, request)
+        best_of(
+            self.entries.as_slice(),
+            self.fronts.as_slice(),
+            self.records,
+            self.port,
+            request,
+        )
     }
 }

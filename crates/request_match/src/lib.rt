@@ -2,6 +2,8 @@
 #![tactic(auto)]
 
 mod index;
+mod index_entries;
+mod index_scores;
 mod keys;
 mod matching;
 #[cfg(test)]

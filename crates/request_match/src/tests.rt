@@ -111,3 +111,25 @@ fn a_long_query_among_many(rt: HostRuntime) -> Result<(), Fail> {
     assert_eq!(rt; chosen(alloc, &records, &other, None)?, None);
     Ok(())
 }
+
+/// A request of `/a` with that number as its query.
+fn numbered(alloc: Global, number: u32) -> Result<String, Fail> {
+    Ok(format!(in alloc; "GET /a?{number} HTTP/1.1\r\nHost: a\r\n\r\n")?)
+}
+
+// Two thousand records of one path, in an order of their own.
+#[test]
+fn an_index_of_many_records(rt: HostRuntime) -> Result<(), Fail> {
+    let alloc = rt.alloc();
+    let mut client = Vec::new(alloc);
+    for i in 0..2_000u32 {
+        client.extend_from_slice(numbered(alloc, i * 7 % 2_000)?.as_bytes())?;
+    }
+    let server = copies(alloc, ANSWERS, 1_000)?;
+    let records = store(alloc, client.as_slice(), server.as_slice(), 0)?;
+    for (number, place) in [(0u32, 0usize), (7, 1), (1_999, 857), (2_000, 600)] {
+        let asked = request(alloc, numbered(alloc, number)?.as_bytes())?;
+        assert_eq!(rt; chosen(alloc, &records, &asked, None)?, Some(place));
+    }
+    Ok(())
+}

@@ -1,31 +1,32 @@
-use Rattle.std.proofs.Common.{◌≡◌, ◌∙◌, ◌<◌, ◌≤◌, ◌+◌, inl, inr, refl, length, get_or, sym, ap, subst, arith}
+use Rattle.std.proofs.Common.{◌<◌, ◌≤◌, ◌+◌, ◌-◌, refl, length, get_or, None, sym, subst, arith}
 use Rattle.std.proofs.lemmas.Option.{slice_get_read}
 use Rattle.request_match.specs.Match.{BestCause}
-use Rattle.request_match.specs.Index.{Entry, entry_at, Scanned, key_of}
-use Rattle.request_match.proofs.DecideLemmas.{of_request}
-use Rattle.request_match.proofs.IndexLemmas.{by_key, in_order, none_below, other_entry, agreeing_entry, scanned_all}
+use Rattle.request_match.specs.Index.{entry_at, Scanned}
+use Rattle.request_match.proofs.IndexLemmas.{none_below, next_scanned, next_near, next_has_score, scanned_all}
 use Rattle.request_match.proofs.index.best_of.Goals as goal
 
 pub first_from-i-requires : goal.first_from-i-requires
-first_from-i-requires c = by_key c.args.entries.now c.requires.ordered
+first_from-i-requires c = c.requires.ordered
 
 pub entries-init : goal.entries-init
 entries-init c =
     let es = c.args.entries.now in
+    let none = none_below c.args.request.now c.args.port c.args.records.now es c.args.fronts.now c.requires
+    c.first_from-i.result c.first_from-i.ensures.bound
+    (λ k d small. subst (λ n. (get_or es k d).0 < n) c.key-wanted.ensures
+    (c.first_from-i.ensures.below k d small)) in
     record {
       started = omega arith;
       inside = c.first_from-i.ensures.bound;
-      scanned = none_below c.args.request.now c.args.port c.args.records.now es c.requires c.first_from-i.result
-          c.first_from-i.ensures.bound
-          (λ k d small. subst (λ n. (get_or es k d).0 < n) c.key-wanted.ensures
-          (c.first_from-i.ensures.below k d small));
+      scanned = none;
+      near = λ r pos there. none (c.first_from-i.result - 1) r (omega (arith, pos)) there;
     }
 
 pub returns : goal.returns
 returns c =
     subst (BestCause c.args.request.now c.args.port c.args.records.now) (sym c.place_of-2.ensures)
-    (scanned_all c.args.request.now c.args.port c.args.records.now c.args.entries.now c.requires c.entries.i
-    c.entries.found c.entries.invariant.scanned
+    (scanned_all c.args.request.now c.args.port c.args.records.now c.args.entries.now c.args.fronts.now c.requires
+    c.entries.i c.entries.found c.entries.invariant.scanned
     (λ j up small e. omega (arith, up, small, c.entries-test.false)))
 
 pub entries-preserved : goal.entries-preserved
@@ -37,20 +38,17 @@ entries-preserved c =
     let r = c.index-records-place.result in
     let inside = (c.requires.entries i (0, 0) c.entries-test.true).place in
     let there = slice_get_read rs (length rs) (entry_at es i).1 r refl inside c.index-records-place.is in
+    let score = next_has_score q c.args.port rs es c.requires.entries i c.entries-test.true r there
+    (get_or c.args.fronts.now i None) c.entries.score c.next_score-score.result
+    (c.requires.fronts.each i None c.entries-test.true) c.entries.invariant.near c.next_score-score.ensures.anew
+    c.next_score-score.ensures.onward in
     record {
       started = omega (arith, c.entries.invariant.started);
       inside = omega (arith, c.entries-test.true);
-      scanned = elim (of_request q c.new-asked.result.request.now c.args.port c.new-asked.result.port r
-          (entry_at es i).1 c.entries.found c.with_record-found.result c.new-asked.ensures.request
-          c.new-asked.ensures.port c.with_record-found.ensures) [
-            | inl x ↦
-                subst (Scanned q c.args.port rs es (i + 1)) (sym x.1)
-                (agreeing_entry q c.args.port rs es i r there c.entries.found c.entries.invariant.scanned x.0
-                c.entries-test.true (c.if-found_key-wanted.false ∙ c.key-wanted.ensures)
-                (λ k up small. in_order es c.requires.ordered i k up small))
-            | inr x ↦ subst (Scanned q c.args.port rs es (i + 1)) (sym x.1)
-                (other_entry q c.args.port rs es i r there c.entries.found c.entries.invariant.scanned x.0)
-          ];
+      scanned = subst (Scanned q c.args.port rs es (i + 1)) (sym c.better_place-found.ensures)
+          (next_scanned q c.args.port rs es i r there c.entries.found c.next_score-score.result
+          c.entries.invariant.scanned score);
+      near = next_near q c.args.port rs es i r there c.next_score-score.result score;
     }
 
 pub returns-then-found_key-wanted : goal.returns-then-found_key-wanted
@@ -60,7 +58,7 @@ returns-then-found_key-wanted c =
     let least : c.key-wanted.result ≤ (entry_at es i).0 = c.first_from-i.ensures.from i (0, 0)
     c.entries.invariant.started c.entries-test.true in
     subst (BestCause c.args.request.now c.args.port c.args.records.now) (sym c.place_of.ensures)
-    (scanned_all c.args.request.now c.args.port c.args.records.now es c.requires i c.entries.found
+    (scanned_all c.args.request.now c.args.port c.args.records.now es c.args.fronts.now c.requires i c.entries.found
     c.entries.invariant.scanned
-    (λ j up small e. let o = in_order es c.requires.ordered i j up small
-    in c.if-found_key-wanted.true (omega (arith, least, o.0, e, c.key-wanted.ensures))))
+    (λ j up small e. let o = c.requires.ordered i j (0, 0) up small
+    in c.if-found_key-wanted.true (omega (arith, least, o, e, c.key-wanted.ensures))))

@@ -1,12 +1,13 @@
 use Rattle.std.proofs.Common.{◌≤◌, ◌-◌, length}
-use Rattle.request_match.specs.Index.{Scanned}
+use Rattle.request_match.specs.Index.{HasNear, Scanned}
 use Rattle.request_match.proofs.index.best_of.Given as goal
 
 abbrev pub invariant-entries : goal.invariant-entries
 invariant-entries l = record {
   started : l.initial.i ≤ l.i;
   inside : l.i ≤ length l.entries;
-  scanned : Scanned l.request l.fn.port l.records l.entries l.i l.found;
+  scanned : Scanned l.request l.port l.records l.entries l.i l.found;
+  near : HasNear l.request l.port l.records l.entries l.i l.score;
 }
 
 abbrev pub decreases-entries : goal.decreases-entries

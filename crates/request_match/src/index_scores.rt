@@ -1,0 +1,99 @@
+// The score of an entry's record, by that of the entry before.
+ghost use Rattle.std.specs.Prelude.{◌≡◌, ◌<◌, ℕ, List, Option, None, Some, drop};
+ghost use Rattle.record_store.specs.declared.record.Record.{Record as RecordValue};
+ghost use Rattle.request_match.specs.Index.{IsShared, HasScore, offered};
+ghost use Rattle.request_match.specs.Match.{FitsPort, common};
+
+use crate::matching::{agrees, common_front};
+use http_frame::RequestHead;
+use record_store::Record;
+
+/// The bytes from a place on.
+fn tail(bytes: &[u8], start: usize) -> &[u8]
+    ensures { result.now ≡ drop start bytes.now }
+{
+    if start < bytes.len() {
+        &bytes[start..]
+    } else {
+        &[]
+    }
+}
+
+/// How much a line has in common with the one that is asked for, by how much it shares with a line before, and how much
+/// that one has: bytes that are known aren't compared again.
+fn carried(front: usize, score: usize, line: &[u8], asked: &[u8]) -> usize
+    ensures { (before : List ℕ) → front ≡ common before line.now → score ≡ common before asked.now
+        → result ≡ common line.now asked.now }
+{
+    if front < score {
+        return front;
+    }
+    if score < front {
+        return score;
+    }
+    front + common_front(tail(line, front), tail(asked, front))
+}
+
+/// The score of a record, if it agrees.
+fn own_score(exchange: &Record, request: &RequestHead, port: Option<u16>) -> Option<usize>
+    ensures { HasScore request.now port exchange.now result }
+{
+    if !agrees(exchange, request, port) {
+        return None;
+    }
+    Some(common_front(
+        exchange.request.head.line.as_slice(),
+        request.line.as_slice(),
+    ))
+}
+
+/// The score of an entry's record, if it agrees, by that of the entry before and by what both share.
+pub(crate) fn next_score(
+    front: Option<usize>,
+    before: Option<usize>,
+    exchange: &Record,
+    request: &RequestHead,
+    port: Option<u16>,
+) -> Option<usize>
+    requires { FitsPort exchange.now.port port }
+    ensures anew { front ≡ None → HasScore request.now port exchange.now result }
+    ensures onward { (a : RecordValue) (n : ℕ) → front ≡ Some n → IsShared a exchange.now n → FitsPort a.port port
+        → HasScore request.now port a before → HasScore request.now port exchange.now result }
+{
+    match front {
+        None => own_score(exchange, request, port),
+        Some(front) => match before {
+            Some(score) => Some(carried(
+                front,
+                score,
+                exchange.request.head.line.as_slice(),
+                request.line.as_slice(),
+            )),
+            None => None,
+        },
+    }
+}
+
+/// The better one of what was found before and a record at a place, where it has a score: the one of greater score, and
+/// of equal ones the first in the store.
+pub(crate) fn better_place(
+    found: Option<(usize, usize)>,
+    place: usize,
+    score: Option<usize>,
+) -> Option<(usize, usize)>
+    ensures { result ≡ offered found place score }
+{
+    let Some(score) = score else {
+        return found;
+    };
+    match found {
+        Some((before, most)) => {
+            if most < score || (most == score && place < before) {
+                Some((place, score))
+            } else {
+                Some((before, most))
+            }
+        }
+        None => Some((place, score)),
+    }
+}
