@@ -1,5 +1,5 @@
 -- That a record agrees can be decided, also where it is left before it was looked at.
-use Rattle.std.proofs.Common.{true, false, Bool, ◌≡◌, ◌∙◌, ◌⊎◌, inl, inr, ℕ, ◌<◌, ◌≤◌, List, cond, refl, sym, ap, subst}
+use Rattle.std.proofs.Common.{true, false, Bool, ◌≡◌, ◌⊎◌, inl, inr, ℕ, ◌<◌, List, cond, refl, sym, ap, subst}
 use Rattle.std.proofs.Common.{arith}
 use Rattle.std.specs.Prelude.{◌==◌, Decides, Option, Some, None, nat_lt}
 use Rattle.std.specs.Str.{bytes_eq}
@@ -8,9 +8,9 @@ use Rattle.std.proofs.lemmas.Bool.Decides.{Decides-eqb}
 use Rattle.std.proofs.lemmas.Slice.Eq.{bytes_eq-Decides}
 use Rattle.http_frame.specs.declared.messages.RequestHead.{RequestHead}
 use Rattle.record_store.specs.declared.record.Record.{Record}
-use Rattle.request_match.specs.Compared.{FitsFields, IsAtMost}
+use Rattle.request_match.specs.Compared.{IsAtMost}
 use Rattle.request_match.specs.Index.{WithRecord}
-use Rattle.request_match.specs.Match.{stripped, common, score, FitsPort, Agrees, better_of}
+use Rattle.request_match.specs.Match.{stripped, score, FitsPort, Agrees, better_of}
 
 by_test : {P : Type 0} (t : Bool) → Decides t P → P ⊎ (P → ⊥)
 by_test true d = inl (d.0 refl)

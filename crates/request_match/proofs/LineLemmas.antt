@@ -2,7 +2,7 @@
 use Rattle.std.proofs.Common.{suc, zero, true, false, Bool, ◌≡◌, ◌∙◌, ◌⊎◌, inl, inr, ℕ, ◌+◌, ◌<◌, ◌≤◌, List, [], ◌∷◌}
 use Rattle.std.proofs.Common.{◌++◌}
 use Rattle.std.proofs.Common.{length-drop, length, take, drop, get_or, cond, refl, sym, ap, subst, arith}
-use Rattle.std.specs.Prelude.{◌==◌, Decides, not, Option, Some, None}
+use Rattle.std.specs.Prelude.{◌==◌, not}
 use Rattle.std.specs.List.{position_or_len}
 use Rattle.std.proofs.lemmas.Bool.{cases_lt}
 use Rattle.std.proofs.lemmas.Bool.Decides.{Decides-eqb}

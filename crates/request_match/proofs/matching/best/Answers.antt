@@ -1,4 +1,4 @@
-use Rattle.std.proofs.Common.{◌≡◌, inl, inr, refl, sym, subst, arith}
+use Rattle.std.proofs.Common.{inl, inr, refl, sym, subst, arith}
 use Rattle.request_match.specs.Match.{score, BestCause}
 use Rattle.request_match.proofs.DecideLemmas.{of_request}
 use Rattle.request_match.proofs.MatchLemmas.{step_agrees, step_other, best_found}

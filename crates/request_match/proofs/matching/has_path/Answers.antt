@@ -1,4 +1,4 @@
-use Rattle.std.proofs.Common.{◌≡◌, ◌∙◌, ◌≤◌, ◌<◌, true, inl, inr, length, refl, sym, subst, arith}
+use Rattle.std.proofs.Common.{◌≤◌, ◌<◌, inl, inr, length, refl, arith}
 use Rattle.request_match.specs.Match.{common}
 use Rattle.request_match.proofs.LineLemmas.{common_fits, path_needed, path_there}
 use Rattle.request_match.proofs.MatchLemmas.{refuse}

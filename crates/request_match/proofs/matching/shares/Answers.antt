@@ -1,7 +1,6 @@
-use Rattle.std.proofs.Common.{◌≡◌, ◌∙◌, ◌≤◌, ◌<◌, sym, arith}
+use Rattle.std.proofs.Common.{◌∙◌, sym, arith}
 use Rattle.std.proofs.Math.Bool.{true≢false}
 use Rattle.std.proofs.lemmas.Bool.Decides.{Decides-eqb}
-use Rattle.request_match.specs.Match.{common}
 use Rattle.request_match.proofs.LineLemmas.{common_fits, common_differs}
 use Rattle.request_match.proofs.matching.shares.Goals as goal
 

@@ -1,4 +1,4 @@
-use Rattle.std.proofs.Common.{◌≡◌, ◌∙◌, ◌≤◌, ◌<◌, false, sym, ap, subst, rules}
+use Rattle.std.proofs.Common.{◌≡◌, ◌∙◌, false, ap, subst, rules}
 use Rattle.request_match.specs.Compared.{IsAtMost}
 use Rattle.request_match.specs.Match.{common}
 use Rattle.request_match.proofs.DecideLemmas.{left_early}
