@@ -12,3 +12,4 @@ pub mod Laps
 pub mod Written
 pub mod Play
 pub mod Pieces
+pub mod Same

@@ -9,6 +9,7 @@ ghost use Rattle.trace_reader.specs.Orders.{Each};
 ghost use Rattle.packet_record.specs.Moments.{AreUpTo};
 ghost use Rattle.link_core.specs.View.{Span, span_opps};
 ghost use Rattle.link_core.specs.Sound.{Gone, IsSoundAfter, IsSound};
+ghost use Rattle.link_core.specs.Same.{IsSameLink};
 
 use crate::arrivals::Arrivals;
 use crate::journal::Journal;
@@ -126,12 +127,10 @@ impl Parts {
         requires next { self.old.arrived.coming ≡ t ∷ drop 1 self.old.arrived.coming }
         requires spare { 2 ≤ self.old.log.spare }
         ensures sound { IsSoundAfter gone self.new }
-        ensures opportunities { self.new.opportunities ≡ self.old.opportunities }
-        ensures logged { self.new.log.kept ≡ self.old.log.kept }
+        ensures link { IsSameLink self.old self.new }
         ensures burnt { self.new.burnt ≡ self.old.burnt }
         ensures come { self.new.arrived.come ≡ self.old.arrived.come ++ t ∷ [] }
         ensures coming { self.new.arrived.coming ≡ drop 1 self.old.arrived.coming }
-        ensures spec { self.new.line.queue.spec ≡ self.old.line.queue.spec }
     {
         self.arrived.enter();
         let dropped = self.line.queue.enqueue(t);
@@ -144,12 +143,10 @@ impl Parts {
         requires sound { IsSoundAfter gone self.old }
         requires few { more ≤ 16000000 }
         ensures sound { IsSoundAfter gone self.new }
-        ensures opportunities { self.new.opportunities ≡ self.old.opportunities }
-        ensures logged { self.new.log.kept ≡ self.old.log.kept }
+        ensures link { IsSameLink self.old self.new }
         ensures burnt { self.new.burnt ≡ self.old.burnt }
         ensures line { inside_line self.new.line ≡ inside_line self.old.line }
         ensures arrived { self.new.arrived ≡ self.old.arrived }
-        ensures spec { self.new.line.queue.spec ≡ self.old.line.queue.spec }
         ensures queue { OnOk result (1 ≤ self.new.line.queue.spare) }
         ensures room { OnOk result (length (inside_line self.new.line) + vec_len self.new.left ≤ vec_capacity
             self.new.left) }
@@ -171,9 +168,7 @@ impl Parts {
         requires burnt { self.old.burnt ≤ length (up_to t.moment (span_opps self.old.opportunities)) }
         ensures sound { IsSound self.new }
         ensures none { self.new.arrived.coming ≡ [] }
-        ensures opportunities { self.new.opportunities ≡ self.old.opportunities }
-        ensures logged { self.new.log.kept ≡ self.old.log.kept }
-        ensures spec { self.new.line.queue.spec ≡ self.old.line.queue.spec }
+        ensures link { IsSameLink self.old self.new }
         ensures burnt { OnOk result (self.new.burnt ≡ length (up_to t.moment (span_opps self.old.opportunities))) }
         ensures arrived { OnOk result (self.new.arrived.come ≡ self.old.arrived.come ++ t ∷ []) }
         ensures err { OnErr result ((self.new.burnt ≡ self.old.burnt)
@@ -194,9 +189,7 @@ impl Parts {
         ghost gone: { Gone }
         requires sound { IsSoundAfter gone self.old }
         ensures sound { IsSoundAfter gone self.new }
-        ensures opportunities { self.new.opportunities ≡ self.old.opportunities }
-        ensures logged { self.new.log.kept ≡ self.old.log.kept }
-        ensures spec { self.new.line.queue.spec ≡ self.old.line.queue.spec }
+        ensures link { IsSameLink self.old self.new }
         ensures arrived { self.new.arrived ≡ self.old.arrived }
         ensures count { IfOk result (λ n. n ≡ min most
             (length (up_to bound (span_opps self.old.opportunities)) - self.old.burnt)) }

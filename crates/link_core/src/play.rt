@@ -1,6 +1,7 @@
 // A link over arrivals that are all in a list: step by step, up to the end or to so many entries of its log.
 ghost use Rattle.std.specs.Prelude.{◌≡◌, ◌<◌, ◌≤◌, ◌++◌, ◌∷◌, [], IsTrue, true, length, drop, IfOk, OnOk, OnErr};
 ghost use Rattle.link_core.specs.Sound.{Gone, IsSoundAfter};
+ghost use Rattle.link_core.specs.Same.{IsSameLink};
 ghost use Rattle.link_core.specs.Play.{CanPlay, IsPlayed, all_arrivals, work, rest_of, gone_with};
 
 use crate::parts::Parts;
@@ -22,9 +23,7 @@ impl Parts {
         requires next { self.old.arrived.coming ≡ t ∷ drop 1 self.old.arrived.coming }
         ensures sound { IsSoundAfter gone self.new }
         ensures playable { CanPlay self.new }
-        ensures opportunities { self.new.opportunities ≡ self.old.opportunities }
-        ensures logged { self.new.log.kept ≡ self.old.log.kept }
-        ensures spec { self.new.line.queue.spec ≡ self.old.line.queue.spec }
+        ensures link { IsSameLink self.old self.new }
         ensures arrivals { all_arrivals self.new ≡ all_arrivals self.old }
         ensures less { OnOk result (work self.new < work self.old) }
         ensures err { OnErr result (0 < work self.new) }
@@ -47,9 +46,7 @@ impl Parts {
         requires sound { IsSoundAfter gone self.old }
         requires none { self.old.arrived.coming ≡ [] }
         ensures sound { IsSoundAfter gone self.new }
-        ensures opportunities { self.new.opportunities ≡ self.old.opportunities }
-        ensures logged { self.new.log.kept ≡ self.old.log.kept }
-        ensures spec { self.new.line.queue.spec ≡ self.old.line.queue.spec }
+        ensures link { IsSameLink self.old self.new }
         ensures arrived { self.new.arrived ≡ self.old.arrived }
         ensures done { IfOk result (λ more. ¬ IsTrue more → IsPlayed self.new) }
         ensures less { IfOk result (λ more. IsTrue more → work self.new < work self.old) }
@@ -69,9 +66,7 @@ impl Parts {
         requires playable { CanPlay self.old }
         ensures sound { IsSoundAfter gone self.new }
         ensures playable { CanPlay self.new }
-        ensures opportunities { self.new.opportunities ≡ self.old.opportunities }
-        ensures logged { self.new.log.kept ≡ self.old.log.kept }
-        ensures spec { self.new.line.queue.spec ≡ self.old.line.queue.spec }
+        ensures link { IsSameLink self.old self.new }
         ensures arrivals { all_arrivals self.new ≡ all_arrivals self.old }
         ensures done { IfOk result (λ more. ¬ IsTrue more → IsPlayed self.new) }
         ensures less { IfOk result (λ more. IsTrue more → work self.new < work self.old) }
@@ -92,9 +87,7 @@ impl Parts {
         requires sound { IsSoundAfter gone self.old }
         requires playable { CanPlay self.old }
         ensures sound { IsSoundAfter gone self.new }
-        ensures opportunities { self.new.opportunities ≡ self.old.opportunities }
-        ensures logged { self.new.log.kept ≡ self.old.log.kept }
-        ensures spec { self.new.line.queue.spec ≡ self.old.line.queue.spec }
+        ensures link { IsSameLink self.old self.new }
         ensures arrivals { all_arrivals self.new ≡ all_arrivals self.old }
         ensures played { OnOk result (IsPlayed self.new) }
     {

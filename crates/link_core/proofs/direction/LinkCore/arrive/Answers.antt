@@ -16,5 +16,5 @@ returns-clause-goes_on c =
     c.self.view_is
     (only_arrive old.line.queue.spec new.line.queue.spec old.opportunities new.opportunities old.burnt new.burnt
     old.arrived.come new.arrived.come t
-    c.arrive.result (ready _ _ _ _ _ _ _ _ _ _ _ c.self.invariant.0) c.arrive.ensures.spec
-    c.arrive.ensures.opportunities up le c.arrive.ensures.burnt c.arrive.ensures.arrived c.arrive.ensures.err)
+    c.arrive.result (ready _ _ _ _ _ _ _ _ _ _ _ c.self.invariant.0) c.arrive.ensures.link.spec
+    c.arrive.ensures.link.opportunities up le c.arrive.ensures.burnt c.arrive.ensures.arrived c.arrive.ensures.err)

@@ -13,7 +13,7 @@ enter-requires c =
     let m = t.moment in
     let os = span_opps c.args.self.now.opportunities in
     let same : span_opps c.burn_to.new.self.opportunities ≡ os = ap span_opps (c.burn_to.ensures.opportunities
-    ∙ c.reserve-2.ensures.opportunities ∙ c.count_from-end.ensures.same) in
+    ∙ c.reserve-2.ensures.link.opportunities ∙ c.count_from-end.ensures.same) in
     let end : c.burn_to.new.self.burnt ≡ length (up_to m os) = c.burn_to.ensures.burnt
     ∙ c.count_from-end.ensures.count in
     let arrived = c.burn_to.ensures.arrived ∙ c.reserve-2.ensures.arrived in

@@ -1,4 +1,5 @@
 use Rattle.std.proofs.Common.{◌≡◌}
+use Rattle.link_core.specs.Same.{IsSameLink}
 use Rattle.link_core.specs.Sound.{IsSoundAfter}
 use Rattle.link_core.specs.Play.{CanPlay, all_arrivals, work}
 use Rattle.link_core.proofs.parts.Parts.finish.Given as goal
@@ -7,9 +8,7 @@ abbrev pub invariant-finishing : goal.invariant-finishing
 invariant-finishing g l = record {
   well : IsSoundAfter g.gone l.self;
   playable : CanPlay l.self;
-  same : l.self.opportunities ≡ l.fn.self.opportunities;
-  logged : l.self.log.kept ≡ l.fn.self.log.kept;
-  spec : l.self.line.queue.spec ≡ l.fn.self.line.queue.spec;
+  link : IsSameLink l.fn.self l.self;
   arrivals : all_arrivals l.self ≡ all_arrivals l.fn.self;
 }
 

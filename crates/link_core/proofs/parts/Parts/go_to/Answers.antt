@@ -16,7 +16,7 @@ enter-requires g c =
     let os = span_opps now.opportunities in
     let due = c.count_from-due.ensures.count in
     let same : span_opps c.burn_to.new.self.opportunities ≡ os = ap span_opps (c.burn_to.ensures.opportunities
-    ∙ c.reserve.ensures.opportunities ∙ c.count_from-due.ensures.same) in
+    ∙ c.reserve.ensures.link.opportunities ∙ c.count_from-due.ensures.same) in
     let end : c.burn_to.new.self.burnt ≡ length (up_to m os) = omega arith in
     let arrived : c.burn_to.new.self.arrived ≡ now.arrived = c.burn_to.ensures.arrived ∙ c.reserve.ensures.arrived in
     let order = next_order os now.opportunities.horizon now.burnt now.arrived.come now.arrived.coming c.requires.1.0 t
@@ -54,7 +54,7 @@ returns-clause-playable g c =
     let os = span_opps now.opportunities in
     let due = c.count_from-due.ensures.count in
     let opps_e : c.enter.new.self.opportunities ≡ now.opportunities =
-    c.enter.ensures.opportunities ∙ c.burn_to.ensures.opportunities ∙ c.reserve.ensures.opportunities
+    c.enter.ensures.link.opportunities ∙ c.burn_to.ensures.opportunities ∙ c.reserve.ensures.link.opportunities
     ∙ c.count_from-due.ensures.same
     in
     let burnt_e : c.enter.new.self.burnt ≡ count_to os m = omega arith in
