@@ -8,20 +8,21 @@ ghost use Rattle.trace_reader.specs.Opps.{opps};
 ghost use Rattle.link_core.specs.Links.{link_log};
 ghost use Rattle.link_core.specs.Promises.{count_to};
 ghost use Rattle.link_core.specs.Sound.{IsSound};
-ghost use Rattle.link_core.specs.View.{Link, opps_of, out_of, lost_of, log_of, inside_of, OnlyGoesOn};
+ghost use Rattle.link_core.specs.View.{Link, opps_of, out_of, lost_of, inside_of, OnlyGoesOn};
 
+use crate::link_log::LinkLog;
 use crate::opportunities::Opportunities;
 use crate::parts::Parts;
 use crate::passage::Passage;
 use mm_base::OutOfMemory;
 use packet_queue::QueueSpec;
 use packet_record::Timed;
-use shell_log::Log;
 use std::alloc::Global;
 use std::marker::Model;
 use trace_reader::Trace;
 
-/// One direction of a link: delivery opportunities, a queue in front of them, and the packet in transit.
+/// One direction of a link: delivery opportunities, a queue in front of them, and the packet in transit. It keeps no
+/// log while it runs: its log is made of its arrivals.
 ///
 /// Contracts see its trace, whether it is played once, its queue, its horizon, how many opportunities are burnt, and
 /// the packets that arrived. Everything else that it answers is a function of these.
@@ -32,7 +33,7 @@ pub struct LinkCore {
 }
 
 impl Model for LinkCore {
-    ghost use Rattle.std.specs.Prelude.{◌≡◌, [], true};
+    ghost use Rattle.std.specs.Prelude.{◌≡◌, []};
     ghost use Rattle.link_core.specs.Sound.{IsSound};
     ghost use Rattle.link_core.specs.View.{Link};
 
@@ -47,7 +48,7 @@ impl Model for LinkCore {
       arrivals = c.parts.arrived.come;
     } };
 
-    ghost invariant = { λ c. IsSound c.parts × (c.parts.arrived.coming ≡ []) × (c.parts.log.kept ≡ true) };
+    ghost invariant = { λ c. IsSound c.parts × (c.parts.arrived.coming ≡ []) };
 }
 
 impl LinkCore {
@@ -74,7 +75,7 @@ impl LinkCore {
         let opportunities = Opportunities::new(trace, once, horizon);
         Ok(LinkCore {
             alloc,
-            parts: Parts::new(alloc, opportunities, queue, true, Vec::new(alloc)),
+            parts: Parts::new(alloc, opportunities, queue, false, Vec::new(alloc)),
         })
     }
 
@@ -119,11 +120,17 @@ impl LinkCore {
         self.parts.line.queue.lost()
     }
 
-    /// What happened here, in order.
-    pub fn log(&self) -> &Log
-        ensures { result.now.entries ≡ log_of self.now }
+    /// The log of all that arrived, with every opportunity up to the horizon. It isn't written out: it keeps a copy of
+    /// the arrivals. `OutOfMemory` is want of memory for these.
+    pub fn log(&self) -> Result<LinkLog, OutOfMemory>
+        requires rises { Rise self.now.arrivals }
+        requires within { AreUpTo self.now.horizon self.now.arrivals }
+        ensures { IfOk result (λ log. log ≡ link_log self.now.queue (opps_of self.now) self.now.arrivals) }
     {
-        self.parts.log.log()
+        let arrivals = Vec::from_slice(self.alloc, self.parts.arrived.come())?;
+        let opportunities = self.parts.opportunities.copy()?;
+        let queue = self.parts.line.queue.spec();
+        Ok(LinkLog::of(self.alloc, opportunities, queue, arrivals))
     }
 
     /// The numbers of the packets inside, the one in transit first.

@@ -3,8 +3,6 @@
 
 mod arrivals;
 mod direction;
-#[cfg(test)]
-mod generated;
 mod journal;
 mod lap;
 mod line;
@@ -15,13 +13,7 @@ mod passage;
 mod pieces;
 mod play;
 mod serving;
-#[cfg(test)]
-mod slow;
-#[cfg(test)]
-mod tests;
 mod whole;
-#[cfg(test)]
-mod whole_tests;
 
 pub use direction::LinkCore;
 pub use link_log::LinkLog;

@@ -1,10 +1,11 @@
 // The opportunities of a trace up to a horizon. They are counted and looked up, and never listed.
-ghost use Rattle.std.specs.Prelude.{◌≡◌, ◌≤◌, ◌<◌, ◌↔◌, Some, IsTrue, length, slice_get, IfSome};
+ghost use Rattle.std.specs.Prelude.{◌≡◌, ◌≤◌, ◌<◌, ◌↔◌, Some, IsTrue, length, slice_get, IfOk, IfSome};
 ghost use Rattle.trace_reader.specs.Orders.{AreRising};
 ghost use Rattle.trace_reader.specs.Opps.{up_to, opps};
 ghost use Rattle.link_core.specs.View.{span_opps};
 
 use crate::lap::Lap;
+use mm_base::OutOfMemory;
 use std::marker::Model;
 use trace_reader::{Opportunity, Trace};
 
@@ -49,6 +50,19 @@ impl Opportunities {
             number,
             lap: Lap { first: 0, start: 0 },
         }
+    }
+
+    /// The same opportunities, whose trace is shared and not copied.
+    pub fn copy(&self) -> Result<Self, OutOfMemory>
+        ensures { IfOk result (λ o. o ≡ self.now) }
+    {
+        Ok(Opportunities {
+            trace: self.trace.copy()?,
+            once: self.once,
+            horizon: self.horizon,
+            number: self.number,
+            lap: self.lap,
+        })
     }
 
     /// Opportunity number `j`, counted from 0, which is up to the horizon. It divides only where another lap begins.

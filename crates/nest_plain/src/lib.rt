@@ -4,8 +4,6 @@
 mod nest_run;
 mod plain;
 mod shell;
-#[cfg(test)]
-mod tests;
 
 pub use nest_run::{NestRun, UnwrittenLog};
 pub use plain::{run_nest, run_plain};

@@ -1,7 +1,6 @@
 pub mod Rates
 pub mod PlanLemmas
 pub mod CountLemmas
-pub mod LogLemmas
 pub mod Indexing
 pub mod MarkLemmas
 pub mod NumberLemmas
@@ -13,5 +12,4 @@ pub mod PassedLemmas
 pub mod NestLemmas
 pub mod BuildLemmas
 pub mod OrderLemmas
-pub mod FeedingLemmas
 pub mod Scheduled

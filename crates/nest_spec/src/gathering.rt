@@ -1,11 +1,14 @@
 // The result of a run, from the states of the shells.
-ghost use Rattle.std.specs.Prelude.{◌≡◌, ◌++◌, map, option_map, IfOk, OnOk};
+ghost use Rattle.std.specs.Prelude.{◌≡◌, ◌++◌, IsSome, map, option_map, IfOk, OnOk};
+ghost use Rattle.packet_record.specs.declared.item.FlowEnd.TheVariants.{Ended};
 ghost use Rattle.packet_record.specs.declared.packet.Row.{Row as RowValue};
 ghost use Rattle.packet_record.specs.declared.packet.Direction.TheVariants.{Up, Down};
 ghost use Rattle.packet_record.specs.Rows.{entering};
 ghost use Rattle.nest_spec.specs.declared.fate.Fate.{Fate as FateValue};
 ghost use Rattle.nest_spec.specs.Fates.{fated};
-ghost use Rattle.nest_spec.specs.Links.{AreBuilt, specs_in};
+ghost use Rattle.shell_core.specs.Shells.{whole_log};
+ghost use Rattle.shell_core.specs.Wholes.{IsLink};
+ghost use Rattle.nest_spec.specs.Links.{AreBuilt, NamedAreLinks, specs_in};
 ghost use Rattle.nest_spec.specs.Marks.{marked_through};
 ghost use Rattle.nest_spec.specs.Nests.{directions_of, shells_in, walk_of, result_of};
 ghost use Rattle.nest_spec.specs.Once.{HaveOneFate};
@@ -13,13 +16,11 @@ ghost use Rattle.nest_spec.specs.Passed.{AreApart, HavePassed};
 ghost use Rattle.nest_spec.specs.RunViews.{entries_in, named_by};
 ghost use Rattle.nest_spec.specs.Walk.{walk, named_entries, named_log};
 
-use crate::copying::copy_log;
 use crate::marking::Marking;
 use crate::naming::in_nest_order;
 use crate::{Named, NamedLog, Nest, RunResult, ShellDirection};
 use mm_base::{OutOfMemory, Text};
 use packet_record::{Direction, Row, Timed};
-use shell_log::Log;
 use shell_state::ShellState;
 use std::alloc::Global;
 
@@ -34,6 +35,7 @@ fn gather_shells(
     states: &[ShellState],
 ) -> Result<(), OutOfMemory>
     requires passed { HavePassed horizon (specs_in shells.now) arrived.now states.now }
+    requires links { NamedAreLinks shells.now }
     ensures rows { marking.new.rows ≡ marking.old.rows }
     ensures fates { OnOk result ((f : RowValue → FateValue) → marking.old.fates ≡ fated f marking.old.rows
         → marking.new.fates ≡ fated (marked_through horizon shells.now arrived.now f) marking.old.rows) }
@@ -47,11 +49,11 @@ fn gather_shells(
         return Ok(());
     };
     let (state, states) = states.split_first().unwrap();
-    // What holds of every state that stands: what was lost, held and logged is the whole shell's.
+    // What holds of every state that stands: what was lost and held is the whole shell's.
     state.stands();
     let held = state.inside()?;
     marking.pass(shell.number, state.lost(), held.as_slice());
-    logs.push(copy_named(*logs.allocator(), &shell.log, state.log())?)?;
+    logs.push(named_log(*logs.allocator(), &shell.log, state)?)?;
     gather_shells(
         marking,
         logs,
@@ -62,21 +64,24 @@ fn gather_shells(
     )
 }
 
-// A copy of the log, where it has a name.
-fn copy_named(
+// The log of a link, written out, where it has a name.
+fn named_log(
     alloc: Global,
     name: &Option<Text>,
-    log: &Log,
+    state: &ShellState,
 ) -> Result<Option<NamedLog>, OutOfMemory>
-    ensures { IfOk result (λ named. option_map (named_by entries_in) named
-        ≡ option_map (λ n. named_entries n log.now.entries) name.now) }
+    requires ended { state.now.taken.end ≡ Ended }
+    requires link { IsSome name.now → IsLink state.now.spec }
+    ensures { IfOk result (λ named. option_map (named_by entries_in) named ≡ option_map
+        (λ n. named_entries n (whole_log state.now.spec state.now.horizon state.now.fed.packets)) name.now) }
 {
     let Some(name) = name else {
         return Ok(None);
     };
+    let log = state.log()?.unwrap();
     Ok(Some(Named {
         name: Text::from_text(alloc, name.as_str())?,
-        log: copy_log(alloc, log)?,
+        log: log.into_log()?,
     }))
 }
 

@@ -2,7 +2,6 @@
 #![tactic(auto)]
 
 mod build_shells;
-mod copying;
 mod error;
 mod fate;
 mod fates_text;
@@ -18,12 +17,6 @@ mod run_result;
 mod shell;
 mod shell_reading;
 mod shell_words;
-#[cfg(test)]
-mod states_tests;
-#[cfg(test)]
-mod tests;
-#[cfg(test)]
-mod words_tests;
 
 pub use error::NestError;
 pub use fate::{Fate, FateRow};

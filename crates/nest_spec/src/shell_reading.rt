@@ -13,6 +13,7 @@ use crate::link_words::{LinkRest, LinkWords, SideWords, read_link_words};
 use crate::shell_words::next;
 use crate::{LinkSide, NestError, ShellKind, ShellWords};
 use loss_core::{Rate, read_rate};
+use mm_base::limits::HOUR;
 use mm_base::read_decimal;
 use packet_queue::{QueueSpec, read_queue};
 use packet_record::Direction;
@@ -48,7 +49,7 @@ fn read_ms(shell: u32, word: &str) -> Result<u64, NestError>
     ensures { result ≡ delay_ms shell (decimal_of word.now) }
 {
     match read_decimal(word.as_bytes()) {
-        Some(ms) if ms <= 3_600_000 => Ok(ms),
+        Some(ms) if ms <= HOUR => Ok(ms),
         _ => Err(NestError::BadNumber { shell }),
     }
 }

@@ -45,4 +45,4 @@ IsInner h (Loss core seed stream) = Stands cha_words core (cha_word seed stream)
 IsInner h (Link core) = core.horizon ≡ h
 
 abbrev pub IsCore : Inside → Type 0
-IsCore c = IsInner c.until c.inner × (c.until ≤ 3600000) × (c.no_log.entries ≡ [])
+IsCore c = IsInner c.until c.inner × (c.until ≤ 3600000)

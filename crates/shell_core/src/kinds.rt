@@ -1,18 +1,18 @@
 // One direction of a shell of any kind.
 ghost use Rattle.std.specs.Prelude.{◌≡◌, ◌≤◌, ◌<◌, ◌+◌, ◌++◌, ◌∷◌, [], length, nat_le, map, OnOk, OnErr, IfOk};
-ghost use Rattle.packet_record.specs.Moments.{AreUpTo};
+ghost use Rattle.packet_record.specs.Moments.{AreUpTo, Rise};
 ghost use Rattle.link_core.specs.Promises.{count_to};
 ghost use Rattle.link_core.specs.View.{opps_of};
-ghost use Rattle.shell_core.specs.Shells.{IsInRange, IsBuilt, opportunities, out, lost, inside, shell_log, floor};
+ghost use Rattle.shell_core.specs.Shells.{IsInRange, IsBuilt, opportunities, out, lost, inside, whole_log, floor};
+ghost use Rattle.shell_core.specs.Wholes.{if_link};
 ghost use Rattle.shell_core.specs.CoreParts.{CorePart, with_arrival, with_burnt, is_spent, burns, new_part};
 
 use crate::spec::DirSpec;
 use delay_core::DelayCore;
-use link_core::LinkCore;
+use link_core::{LinkCore, LinkLog};
 use loss_core::{ChaWords, LossCore};
 use mm_base::OutOfMemory;
 use packet_record::Timed;
-use shell_log::Log;
 use std::alloc::Global;
 use std::marker::Model;
 
@@ -40,7 +40,6 @@ pub struct Core {
     pub(crate) alloc: Global,
     pub(crate) until: u64,
     pub(crate) inner: Inner,
-    pub(crate) no_log: Log,
 }
 
 impl Model for Core {
@@ -70,7 +69,17 @@ fn has_none_left(core: &LinkCore) -> bool
     core.next_opportunity().is_none()
 }
 
-#[tactic(auto, unfolding(crate::specs::Shells::opportunities, crate::specs::Shells::out, crate::specs::Shells::lost, crate::specs::Shells::inside, crate::specs::Shells::shell_log, crate::specs::Shells::floor))]
+#[tactic(
+    auto,
+    unfolding(
+        crate::specs::Shells::opportunities,
+        crate::specs::Shells::out,
+        crate::specs::Shells::lost,
+        crate::specs::Shells::inside,
+        crate::specs::Shells::shell_log,
+        crate::specs::Shells::floor
+    )
+)]
 impl Core {
     /// The direction before any arrival.
     pub fn new(alloc: Global, spec: DirSpec, horizon: u64) -> Result<Core, OutOfMemory>
@@ -100,7 +109,6 @@ impl Core {
             alloc,
             until: horizon,
             inner,
-            no_log: Log::new(alloc),
         })
     }
 
@@ -173,13 +181,17 @@ impl Core {
         }
     }
 
-    /// What happened at a link, in order; empty for the other kinds.
-    pub fn log(&self) -> &Log
-        ensures { result.now.entries ≡ shell_log self.now.spec self.now.horizon self.now.burnt self.now.arrivals }
+    /// The log of a link over all that arrived, with every opportunity up to the horizon; None for the other kinds. It
+    /// isn't written out: it keeps a copy of the arrivals. `OutOfMemory` is want of memory for these.
+    pub fn log(&self) -> Result<Option<LinkLog>, OutOfMemory>
+        requires rises { Rise self.now.arrivals }
+        requires within { AreUpTo self.now.horizon self.now.arrivals }
+        ensures { IfOk result (λ log. log ≡ if_link self.now.spec
+            (whole_log self.now.spec self.now.horizon self.now.arrivals)) }
     {
         match &self.inner {
-            Inner::Pass(_) | Inner::Delay { .. } | Inner::Loss { .. } => &self.no_log,
-            Inner::Link(core) => core.log(),
+            Inner::Pass(_) | Inner::Delay { .. } | Inner::Loss { .. } => Ok(None),
+            Inner::Link(core) => Ok(Some(core.log()?)),
         }
     }
 

@@ -3,11 +3,9 @@
 
 mod kinds;
 mod spec;
-#[cfg(test)]
-mod tests;
 mod whole;
 
 pub use kinds::Core;
-pub use link_core::Passage;
+pub use link_core::{LinkLog, Passage};
 pub use spec::DirSpec;
 pub use whole::run_whole;

@@ -27,7 +27,8 @@ ready_more s n st =
     st.honest_fed.rises st.covered in (
       ext.more,
       ready_is (departures (with_burnt s n)) s.taken.packets (ready s ++ ext.more)
-          (more_departs s.taken.packets (departures s) (ready s) ext.more (departures (with_burnt s n)) st.taken ext.is),
+          (more_departs s.taken.packets (departures s) (ready s) ext.more (departures (with_burnt s n)) st.taken
+          ext.is),
     )
 
 -- what was taken and what is ready are no more than all that departs

@@ -6,8 +6,6 @@ mod parts;
 mod state;
 mod stream;
 mod taken;
-#[cfg(test)]
-mod tests;
 
 pub use shell_core::DirSpec;
 pub use state::ShellState;

@@ -3,7 +3,7 @@ ghost use Rattle.std.specs.Prelude.{◌≡◌, ◌⊎◌, ◌≤◌, ◌<◌, le
 ghost use Rattle.packet_record.specs.Streams.{MayFollow, IsUpTo};
 ghost use Rattle.packet_record.specs.declared.item.FlowEnd.TheVariants.{Open, Ended};
 ghost use Rattle.packet_record.specs.Takes.{IsPacket};
-ghost use Rattle.shell_core.specs.Shells.{IsInRange, opportunities, lost, inside, shell_log, whole_out, whole_lost};
+ghost use Rattle.shell_core.specs.Shells.{IsInRange, opportunities, lost, inside, whole_out, whole_lost};
 ghost use Rattle.shell_core.specs.Shells.{whole_inside, whole_log};
 ghost use Rattle.shell_core.specs.Wholes.{if_link};
 ghost use Rattle.shell_state.specs.States.{new_state};
@@ -18,8 +18,7 @@ use crate::stream::StreamView;
 use crate::taken::Taken;
 use mm_base::OutOfMemory;
 use packet_record::{Item, Reach, Timed};
-use shell_core::{Core, DirSpec, Passage};
-use shell_log::Log;
+use shell_core::{Core, DirSpec, LinkLog, Passage};
 use std::alloc::Global;
 use std::marker::Model;
 
@@ -51,7 +50,15 @@ impl Model for ShellState {
     ghost invariant = { IsShellState };
 }
 
-#[tactic(auto, unfolding(crate::specs::Steps::after_feed, crate::specs::Steps::after_take, crate::specs::Steps::after_break, crate::specs::Steps::answer_of))]
+#[tactic(
+    auto,
+    unfolding(
+        crate::specs::Steps::after_feed,
+        crate::specs::Steps::after_take,
+        crate::specs::Steps::after_break,
+        crate::specs::Steps::answer_of
+    )
+)]
 impl ShellState {
     /// The direction before anything was fed or taken. A delay is at most 3,600,000 milliseconds, the
     /// horizon too, and a link has at most 16,000,000 opportunities up to it.
@@ -147,9 +154,13 @@ impl ShellState {
         StreamView::new(&departed[..self.taken.count], self.taken.reach)
     }
 
-    /// The log of a link; empty for shells that aren't links.
-    pub fn log(&self) -> &Log
-        ensures { result.now.entries ≡ shell_log self.now.spec self.now.horizon self.now.burnt self.now.fed.packets }
+    /// The log of a link whose state was taken to its end; None for shells that aren't links. No log is kept while
+    /// packets pass: it is made of the packets that were fed, of which it keeps a copy, and isn't written out.
+    /// `OutOfMemory` is want of memory for these.
+    pub fn log(&self) -> Result<Option<LinkLog>, OutOfMemory>
+        requires { self.now.taken.end ≡ Ended }
+        ensures { IfOk result (λ log. log ≡ if_link self.now.spec
+            (whole_log self.now.spec self.now.horizon self.now.fed.packets)) }
     {
         self.core.log()
     }

@@ -2,7 +2,7 @@ use Rattle.std.proofs.Common.{◌∙◌, ◌++◌, List, map, option_map, ap, su
 use Rattle.packet_record.specs.Rows.{entering}
 use Rattle.nest_spec.specs.declared.shell.ShellDirection.{ShellDirection}
 use Rattle.nest_spec.specs.Fates.{fated}
-use Rattle.nest_spec.specs.Links.{specs_in}
+use Rattle.nest_spec.specs.Links.{NamedAreLinks, specs_in}
 use Rattle.nest_spec.specs.Nests.{shells_in}
 use Rattle.nest_spec.specs.Passed.{HavePassed}
 use Rattle.nest_spec.specs.RunViews.{entries_in, named_by}
@@ -35,6 +35,7 @@ gather_shells-requires c =
           (subst (λ (l : List ShellDirection). HavePassed h (specs_in l) c.packets-arrived.result.now a.states.now)
           (sym (c.as_slice.ensures.value ∙ c.in_ok-shells.ensures.list))
           (subst (λ l. HavePassed h (specs_in shells) l a.states.now) (sym arrived) c.requires.passed));
+      links = subst NamedAreLinks (sym c.as_slice.ensures.value) c.in_ok-shells.ensures.links;
     }
 
 pub returns-clause-fates : goal.returns-clause-fates

@@ -1,0 +1,5 @@
+use Rattle.std.proofs.Common.{length}
+use Rattle.nest_tests.proofs.link_runs.put_together.Given as goal
+
+abbrev pub decreases-pieces : goal.decreases-pieces
+decreases-pieces l = length l.pieces.rest

@@ -1,0 +1,50 @@
+// The text of each kind of fate, and the types that may cross threads.
+use nest_spec::{Fate, FateRow, Nest, NestWords, RunResult, print_fates};
+use packet_record::Direction;
+use std::marker::{Send, Sync};
+use std::test::Fail;
+
+fn is_shared<T: Send + Sync>(_: &T) {}
+
+// The words of a nest, the nest and what its run gives may be sent to other threads and shared between them.
+fn cross(words: &NestWords, nest: &Nest, run: &RunResult) {
+    is_shared(words);
+    is_shared(nest);
+    is_shared(run);
+}
+
+#[test]
+fn each_fate_has_its_line(rt: HostRuntime) -> Result<(), Fail> {
+    let rows = [
+        FateRow {
+            id: 1,
+            direction: Direction::Up,
+            fate: Fate::Departed { moment: 25 },
+        },
+        FateRow {
+            id: 2,
+            direction: Direction::Down,
+            fate: Fate::Dropped {
+                shell: 1,
+                moment: 0,
+            },
+        },
+        FateRow {
+            id: 3,
+            direction: Direction::Up,
+            fate: Fate::Inside { shell: 8 },
+        },
+        FateRow {
+            id: 1_000_000,
+            direction: Direction::Down,
+            fate: Fate::Unsent,
+        },
+    ];
+    let text = print_fates(rt.alloc(), rows.as_slice())?;
+    assert_eq!(rt;
+        text.as_slice(),
+        b"1 up departed 25\n2 down dropped 1 0\n3 up inside 8\n1000000 down unsent\n".as_slice()
+    );
+    assert_eq!(rt; print_fates(rt.alloc(), &[])?.len(), 0);
+    Ok(())
+}

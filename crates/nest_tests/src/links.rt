@@ -1,0 +1,271 @@
+// Worked cases of a link, and generated ones beside a plain slow program: one by one and over whole lists.
+use crate::generated::{
+    Numbers, opportunities_to, packets_of, some_packets, some_queue, some_trace,
+};
+use crate::link_runs::{Setting, put_together, run_over, run_singly};
+use crate::packets::listed;
+use crate::slow::{Slow, slow_link};
+use link_core::LinkLog;
+use mm_base::Bytes;
+use packet_queue::read_queue;
+use packet_record::Timed;
+use shell_log::{Entry, print_log};
+use std::alloc::Global;
+use std::process::Abort;
+use std::test::Fail;
+use trace_reader::read_trace;
+
+#[derive(Clone, Copy)]
+struct Case {
+    trace: &'static [u8],
+    once: bool,
+    queue: (&'static str, &'static str),
+    horizon: u64,
+    schedule: &'static [u8],
+    departed: &'static [u8],
+    lost: &'static [u8],
+    inside: &'static [u32],
+    log: &'static [u8],
+}
+
+fn setting(alloc: Global, case: Case) -> Result<Setting, Fail> {
+    Ok(Setting {
+        trace: read_trace(alloc, case.trace)?,
+        once: case.once,
+        queue: read_queue(case.queue.0, case.queue.1)?,
+        horizon: case.horizon,
+    })
+}
+
+// The text of a log that isn't written out yet.
+fn text_of(alloc: Global, log: Option<LinkLog>) -> Result<Bytes, Fail> {
+    let log = log.ok_or("no log")?.into_log()?;
+    Ok(print_log(alloc, &log)?)
+}
+
+// What the whole list gives.
+fn is_as_said(rt: &impl Abort, alloc: Global, case: Case) -> Result<(), Fail> {
+    let packets = packets_of(alloc, case.schedule)?;
+    let whole = run_over(alloc, &setting(alloc, case)?, &packets)?;
+    assert_eq!(rt; listed(alloc, &whole.departed)?.as_slice(), case.departed);
+    assert_eq!(rt; listed(alloc, &whole.lost)?.as_slice(), case.lost);
+    assert_eq!(rt; whole.held.as_slice(), case.inside);
+    assert_eq!(rt; text_of(alloc, whole.log)?.as_slice(), case.log);
+    Ok(())
+}
+
+// What the packets give one by one.
+fn is_as_said_singly(rt: &impl Abort, alloc: Global, case: Case) -> Result<(), Fail> {
+    let packets = packets_of(alloc, case.schedule)?;
+    let link = run_singly(alloc, &setting(alloc, case)?, &packets)?;
+    assert_eq!(rt; listed(alloc, link.departed())?.as_slice(), case.departed);
+    assert_eq!(rt; listed(alloc, link.lost())?.as_slice(), case.lost);
+    assert_eq!(rt; link.inside()?.as_slice(), case.inside);
+    assert_eq!(rt; link.next_opportunity(), None);
+    Ok(())
+}
+
+static CASES: [Case; 8] = [
+    Case {
+        trace: b"0\n5\n",
+        once: false,
+        queue: ("infinite", ""),
+        horizon: 15,
+        schedule: b"",
+        departed: b"",
+        lost: b"",
+        inside: &[],
+        log: b"# base timestamp: 0\n0 # 1504\n5 # 1504\n5 # 1504\n10 # 1504\n10 # 1504\n15 # 1504\n15 # 1504\n",
+    },
+    Case {
+        trace: b"1\n",
+        once: false,
+        queue: ("infinite", ""),
+        horizon: 2,
+        schedule: b"1 up 1504\n",
+        departed: b"1 2\n",
+        lost: b"",
+        inside: &[],
+        log: b"# base timestamp: 0\n1 # 1504\n1 + 1504\n2 # 1504\n2 - 1504 1\n",
+    },
+    Case {
+        trace: b"1\n",
+        once: false,
+        queue: ("infinite", ""),
+        horizon: 2,
+        schedule: b"0 up 500\n0 up 500\n0 up 500\n0 up 500\n",
+        departed: b"1 1\n2 1\n3 1\n4 2\n",
+        lost: b"",
+        inside: &[],
+        log: b"# base timestamp: 0\n0 + 500\n0 + 500\n0 + 500\n0 + 500\n1 # 1504\n1 - 500 1\n1 - 500 1\n\
+            1 - 500 1\n2 # 1504\n2 - 500 2\n",
+    },
+    Case {
+        trace: b"3\n3\n",
+        once: true,
+        queue: ("infinite", ""),
+        horizon: 50,
+        schedule: b"0 up 1504\n0 up 1504\n0 up 1504\n",
+        departed: b"1 3\n2 3\n",
+        lost: b"",
+        inside: &[3],
+        log: b"# base timestamp: 0\n0 + 1504\n0 + 1504\n0 + 1504\n3 # 1504\n3 - 1504 3\n3 # 1504\n3 - 1504 3\n",
+    },
+    Case {
+        trace: b"10\n",
+        once: false,
+        queue: ("droptail", "bytes=250"),
+        horizon: 10,
+        schedule: b"0 up 100\n0 up 200\n0 up 150\n",
+        departed: b"1 10\n3 10\n",
+        lost: b"2 0\n",
+        inside: &[],
+        log: b"# base timestamp: 0\n0 + 100\n0 + 200\n0 d 1 200\n0 + 150\n10 # 1504\n10 - 100 10\n10 - 150 10\n",
+    },
+    Case {
+        trace: b"1\n",
+        once: false,
+        queue: ("drophead", "packets=2"),
+        horizon: 3,
+        schedule: b"0 up 1000\n0 up 1000\n1 up 800\n1 up 800\n1 up 700\n",
+        departed: b"1 1\n2 2\n4 2\n5 3\n",
+        lost: b"3 1\n",
+        inside: &[],
+        log: b"# base timestamp: 0\n0 + 1000\n0 + 1000\n1 # 1504\n1 - 1000 1\n1 + 800\n1 + 800\n1 + 700\n\
+            1 d 1 800\n2 # 1504\n2 - 1000 2\n2 - 800 1\n3 # 1504\n3 - 700 2\n",
+    },
+    Case {
+        trace: b"10\n",
+        once: false,
+        queue: ("drophead", "bytes=250"),
+        horizon: 10,
+        schedule: b"0 up 100\n0 up 200\n0 up 300\n",
+        departed: b"",
+        lost: b"1 0\n2 0\n3 0\n",
+        inside: &[],
+        log: b"# base timestamp: 0\n0 + 100\n0 + 200\n0 d 1 100\n0 + 300\n0 d 2 500\n10 # 1504\n",
+    },
+    Case {
+        trace: b"# mm-trace 2\n1 500\n2 3000\n",
+        once: false,
+        queue: ("infinite", ""),
+        horizon: 4,
+        schedule: b"0 up 1504\n0 up 1504\n",
+        departed: b"1 2\n2 2\n",
+        lost: b"",
+        inside: &[],
+        log: b"# base timestamp: 0\n0 + 1504\n0 + 1504\n1 # 500\n2 # 3000\n2 - 1504 2\n2 - 1504 2\n3 # 500\n\
+            4 # 3000\n",
+    },
+];
+
+#[test]
+fn worked_cases(rt: HostRuntime) -> Result<(), Fail> {
+    for case in &CASES {
+        is_as_said(&rt, rt.alloc(), *case)?;
+        is_as_said_singly(&rt, rt.alloc(), *case)?;
+    }
+    Ok(())
+}
+
+// A generated link, its packets, and what the slow program says of them.
+#[derive(Drop)]
+struct Generated {
+    setting: Setting,
+    packets: Vec<Timed>,
+    slow: Slow,
+}
+
+fn draw_case(alloc: Global, numbers: &mut Numbers) -> Result<Generated, Fail> {
+    let setting = Setting {
+        trace: some_trace(alloc, numbers)?,
+        once: numbers.below(4) == 0,
+        queue: some_queue(numbers),
+        horizon: 20,
+    };
+    let packets = some_packets(alloc, numbers)?;
+    let opps = opportunities_to(alloc, &setting.trace, setting.once, 20)?;
+    let slow = slow_link(alloc, &setting.queue, &opps, &packets, 20)?;
+    Ok(Generated {
+        setting,
+        packets,
+        slow,
+    })
+}
+
+fn agrees_singly(rt: &impl Abort, alloc: Global, case: &Generated) -> Result<(), Fail> {
+    let link = run_singly(alloc, &case.setting, &case.packets)?;
+    assert!(rt; link.departed() == case.slow.departed.as_slice());
+    assert!(rt; link.lost() == case.slow.lost.as_slice());
+    Ok(())
+}
+
+fn agrees_over_all(rt: &impl Abort, alloc: Global, case: &Generated) -> Result<(), Fail> {
+    let whole = run_over(alloc, &case.setting, &case.packets)?;
+    assert!(rt; whole.departed.as_slice() == case.slow.departed.as_slice());
+    assert!(rt; whole.lost.as_slice() == case.slow.lost.as_slice());
+    let gone = case.slow.departed.len().saturating_add(case.slow.lost.len());
+    assert_eq!(rt; whole.held.len().saturating_add(gone), case.packets.len());
+    let pieces = put_together(alloc, whole.log.ok_or("no log")?)?;
+    assert!(rt; pieces.entries.as_slice() == case.slow.log.as_slice());
+    Ok(())
+}
+
+#[test]
+fn generated_cases_are_as_the_slow_program_says(rt: HostRuntime) -> Result<(), Fail> {
+    let mut numbers = Numbers::new(7);
+    for _ in 0..120 {
+        let case = draw_case(rt.alloc(), &mut numbers)?;
+        agrees_singly(&rt, rt.alloc(), &case)?;
+        agrees_over_all(&rt, rt.alloc(), &case)?;
+    }
+    Ok(())
+}
+
+// An opportunity of 1504 bytes each millisecond up to the horizon.
+fn each_millisecond(alloc: Global, horizon: u64) -> Result<Setting, Fail> {
+    Ok(Setting {
+        trace: read_trace(alloc, b"1\n")?,
+        once: false,
+        queue: read_queue("infinite", "")?,
+        horizon,
+    })
+}
+
+fn is_opportunity(entry: &Entry) -> bool {
+    matches!(entry, Entry::Opportunity { .. })
+}
+
+// Four packets, two of them at first, with many thousand opportunities between them; the last one stays inside.
+const GAP: &[u8] = b"0 up 1504\n0 up 1504\n15000 up 700\n30000 up 1504\n";
+
+#[test]
+fn a_log_in_pieces_is_the_whole_log(rt: HostRuntime) -> Result<(), Fail> {
+    let alloc = rt.alloc();
+    let packets = packets_of(alloc, GAP)?;
+    let setting = each_millisecond(alloc, 30_000)?;
+    let whole = run_over(alloc, &setting, &packets)?;
+    assert_eq!(rt; listed(alloc, &whole.departed)?.as_slice(), b"1 1\n2 2\n3 15001\n".as_slice());
+    assert_eq!(rt; whole.held.as_slice(), [4].as_slice());
+    let pieces = put_together(alloc, whole.log.ok_or("no log")?)?;
+    let again = run_over(alloc, &setting, &packets)?;
+    let written = again.log.ok_or("no log")?.into_log()?;
+    assert!(rt; pieces.entries.as_slice() == written.entries());
+    assert_eq!(rt; written.entries().iter().filter(|e| is_opportunity(e)).count(), 30_000);
+    assert!(rt; pieces.number > 10);
+    assert!(rt; pieces.longest < 5_000);
+    Ok(())
+}
+
+#[test]
+fn a_link_without_arrivals_has_its_opportunities(rt: HostRuntime) -> Result<(), Fail> {
+    let alloc = rt.alloc();
+    for (horizon, count) in [(3_000, 3_000), (0, 0)] {
+        let whole = run_over(alloc, &each_millisecond(alloc, horizon)?, &[])?;
+        let pieces = put_together(alloc, whole.log.ok_or("no log")?)?;
+        assert_eq!(rt; pieces.entries.len(), count);
+        assert!(rt; pieces.entries.iter().all(is_opportunity));
+        assert_eq!(rt; pieces.number == 0, count == 0);
+    }
+    Ok(())
+}

@@ -1,0 +1,234 @@
+// One run of eight shells of all kinds in both directions, and a count of it that knows no shell's rule.
+use crate::gathered::run_schedule;
+use crate::nests::nest_of;
+use nest_plain::run_plain;
+use nest_spec::{Fate, FateRow, NamedLog};
+use packet_record::{Direction, Row, make_load};
+use shell_log::{Entry, Log};
+use std::alloc::Global;
+use std::process::Abort;
+use std::test::Fail;
+
+const ROWS: u32 = 10_000;
+
+// The load's last row is at about 15,000 ms.
+const HORIZON: u64 = 14_000;
+
+// 1504 bytes every second millisecond on the average, in a lap of 60 ms with a gap.
+const TRACE: &[u8] = b"# mm-trace 2\n0 700\n4 3000\n9 1504\n10 6000\n22 4000\n23 9000\n35 1504\n50 20000\n60 800\n";
+
+// Delays, losses both ways, and links with all three queues, each of which logs both sides.
+const WORDS: &str = "mm-delay 7 \
+    mm-loss uplink 0.02 \
+    mm-link t t --uplink-log 3u --downlink-log 3d --uplink-queue=droptail --uplink-queue-args=packets=12 \
+    --downlink-queue=drophead --downlink-queue-args=bytes=9000 -- \
+    mm-delay 40 \
+    mm-link t t --uplink-log 5u --downlink-log 5d --uplink-queue=drophead --uplink-queue-args=packets=9 \
+    --downlink-queue=droptail --downlink-queue-args=bytes=7000 -- \
+    mm-loss downlink 0.03 \
+    mm-link t t --uplink-log 7u --downlink-log 7d \
+    mm-delay 11";
+
+const DELAYS: u64 = 58;
+
+// What the fates of a direction come to, from a shell on.
+#[derive(Clone, Copy, PartialEq, Eq, Debug)]
+struct Counts {
+    departed: u64,
+    dropped: u64,
+    inside: u64,
+    unsent: u64,
+}
+
+const NONE: Counts = Counts {
+    departed: 0,
+    dropped: 0,
+    inside: 0,
+    unsent: 0,
+};
+
+fn more(count: u64, counts: bool) -> u64 {
+    if counts { count.saturating_add(1) } else { count }
+}
+
+// One fate more, where it is past these shells or in one of them.
+fn with(counts: Counts, fate: Fate, shells: &[u32]) -> Counts {
+    match fate {
+        Fate::Departed { .. } => Counts {
+            departed: more(counts.departed, true),
+            ..counts
+        },
+        Fate::Dropped { shell, .. } => Counts {
+            dropped: more(counts.dropped, shells.contains(&shell)),
+            ..counts
+        },
+        Fate::Inside { shell } => Counts {
+            inside: more(counts.inside, shells.contains(&shell)),
+            ..counts
+        },
+        Fate::Unsent => Counts {
+            unsent: more(counts.unsent, true),
+            ..counts
+        },
+    }
+}
+
+fn counted(fates: &[FateRow], direction: Direction, shells: &[u32]) -> Counts {
+    let mut counts = NONE;
+    for row in fates {
+        if row.direction == direction {
+            counts = with(counts, row.fate, shells);
+        }
+    }
+    counts
+}
+
+// A row has its own fate: its number and direction, unsent exactly past the horizon, departed neither before its way
+// takes nor before the last of its direction.
+fn is_its_own(row: &Row, fate: &FateRow, last: u64) -> bool {
+    let late = row.timed.moment > HORIZON;
+    let moment = match fate.fate {
+        Fate::Departed { moment } => moment,
+        Fate::Dropped { moment, .. } => return !late && row.timed.moment <= moment && moment <= HORIZON,
+        Fate::Inside { shell } => return !late && 1 <= shell && shell <= 8,
+        Fate::Unsent => return late,
+    };
+    !late && moment >= row.timed.moment.saturating_add(DELAYS) && moment >= last && moment <= HORIZON
+}
+
+fn moment_of(fate: Fate) -> u64 {
+    match fate {
+        Fate::Departed { moment } => moment,
+        Fate::Dropped { .. } | Fate::Inside { .. } | Fate::Unsent => 0,
+    }
+}
+
+// Each row of a direction has its own fate, and the departures of the direction are in order.
+fn are_their_own(rows: &[Row], fates: &[FateRow], direction: Direction) -> bool {
+    let mut last = 0;
+    for (row, fate) in rows.iter().zip(fates.iter()) {
+        if row.timed.packet.id != fate.id || row.direction != fate.direction {
+            return false;
+        }
+        if row.direction == direction {
+            if !is_its_own(row, fate, last) {
+                return false;
+            }
+            last = moment_of(fate.fate).max(last);
+        }
+    }
+    rows.len() == fates.len()
+}
+
+// Each packet of the direction has departed, or was dropped, or is inside, or is unsent, and some of each.
+fn add_up(rows: &[Row], fates: &[FateRow], direction: Direction) -> bool {
+    let counts = counted(fates, direction, &[1, 2, 3, 4, 5, 6, 7, 8]);
+    let all = counts
+        .departed
+        .saturating_add(counts.dropped)
+        .saturating_add(counts.inside)
+        .saturating_add(counts.unsent);
+    let of_direction = rows.iter().filter(|row| row.direction == direction).count();
+    let some = counts.departed.min(counts.dropped).min(counts.inside).min(counts.unsent);
+    all == of_direction as u64 && some > 0
+}
+
+// How many packets a log says arrived, departed and were dropped.
+fn lines(log: &Log) -> (u64, u64, u64) {
+    let (mut arrived, mut departed, mut dropped) = (0, 0, 0u64);
+    for entry in log.entries() {
+        match *entry {
+            Entry::Arrival { .. } => arrived = more(arrived, true),
+            Entry::Departure { .. } => departed = more(departed, true),
+            Entry::Drop { packets, .. } => dropped = dropped.saturating_add(packets),
+            Entry::Opportunity { .. } => {}
+        }
+    }
+    (arrived, departed, dropped)
+}
+
+// One side of a link, and the shells that its packets pass after it.
+#[derive(Clone, Copy)]
+struct Side {
+    number: u32,
+    direction: Direction,
+    later: &'static [u32],
+}
+
+// In the order of the logs.
+static SIDES: [Side; 6] = [
+    Side {
+        number: 3,
+        direction: Direction::Up,
+        later: &[1, 2],
+    },
+    Side {
+        number: 3,
+        direction: Direction::Down,
+        later: &[4, 5, 6, 7, 8],
+    },
+    Side {
+        number: 5,
+        direction: Direction::Up,
+        later: &[1, 2, 3, 4],
+    },
+    Side {
+        number: 5,
+        direction: Direction::Down,
+        later: &[6, 7, 8],
+    },
+    Side {
+        number: 7,
+        direction: Direction::Up,
+        later: &[1, 2, 3, 4, 5, 6],
+    },
+    Side {
+        number: 7,
+        direction: Direction::Down,
+        later: &[8],
+    },
+];
+
+// The fates say of a side what its log says.
+fn is_as_logged(side: Side, log: &Log, fates: &[FateRow]) -> bool {
+    let here = counted(fates, side.direction, &[side.number]);
+    let later = counted(fates, side.direction, side.later);
+    let passed = later
+        .departed
+        .saturating_add(later.dropped)
+        .saturating_add(later.inside);
+    let arrived = passed.saturating_add(here.dropped).saturating_add(here.inside);
+    lines(log) == (arrived, passed, here.dropped)
+}
+
+fn are_as_logged(rt: &impl Abort, logs: &[NamedLog], fates: &[FateRow]) {
+    assert_eq!(rt; logs.len(), SIDES.len());
+    for (side, named) in SIDES.iter().zip(logs.iter()) {
+        assert!(rt; is_as_logged(*side, &named.log, fates), "at {}", named.name.as_str());
+    }
+}
+
+fn are_same(rt: &impl Abort, these: &[NamedLog], those: &[NamedLog]) {
+    assert_eq!(rt; these.len(), those.len());
+    for (this, that) in these.iter().zip(those.iter()) {
+        assert!(rt; this.name.as_str() == that.name.as_str());
+        assert!(rt; this.log.entries() == that.log.entries());
+    }
+}
+
+#[test]
+fn each_packet_of_a_long_run_has_one_fate(rt: HostRuntime) -> Result<(), Fail> {
+    let alloc = rt.alloc();
+    let nest = nest_of(&rt, alloc, WORDS, TRACE, HORIZON)?;
+    let schedule = make_load(alloc, 9, ROWS)?;
+    let run = run_plain(alloc, &nest, &schedule)?;
+    for direction in [Direction::Up, Direction::Down] {
+        assert!(rt; are_their_own(schedule.rows(), run.fates(), direction));
+        assert!(rt; add_up(schedule.rows(), run.fates(), direction));
+    }
+    are_as_logged(&rt, run.logs(), run.fates());
+    let gathered = run_schedule(alloc, &nest, &schedule)?;
+    assert!(rt; gathered.fates() == run.fates());
+    are_same(&rt, gathered.logs(), run.logs());
+    Ok(())
+}

@@ -1,0 +1,133 @@
+// Runs of small nests, each at once over whole lists and by states: their fates and logs.
+use crate::gathered::run_schedule;
+use crate::nests::nest_of;
+use mm_base::Bytes;
+use nest_plain::{run_nest, run_plain};
+use nest_spec::{Named, NamedLog, RunResult, print_fates};
+use packet_record::read_schedule;
+use shell_log::print_log;
+use std::alloc::Global;
+use std::process::Abort;
+use std::test::Fail;
+
+// A nest, each of whose traces is the same, and what its run must give: the text of the fates, and of each log after
+// its name.
+#[derive(Clone, Copy)]
+struct Case {
+    words: &'static str,
+    trace: &'static [u8],
+    schedule: &'static [u8],
+    horizon: u64,
+    fates: &'static [u8],
+    logs: &'static [u8],
+}
+
+// The text of each log after its name.
+fn logs_text(alloc: Global, logs: &[NamedLog]) -> Result<Bytes, Fail> {
+    let mut text = Bytes::new(alloc);
+    for named in logs {
+        text.append(named.name.as_str().as_bytes())?;
+        text.append(b"\n")?;
+        text.append(print_log(alloc, &named.log)?.as_slice())?;
+    }
+    Ok(text)
+}
+
+fn is_as_said(rt: &impl Abort, alloc: Global, case: Case, run: &RunResult) -> Result<(), Fail> {
+    let fates = print_fates(alloc, run.fates())?;
+    assert_eq!(rt; fates.as_slice(), case.fates, "of {}", case.words);
+    let logs = logs_text(alloc, run.logs())?;
+    assert_eq!(rt; logs.as_slice(), case.logs, "of {}", case.words);
+    Ok(())
+}
+
+fn play(rt: &impl Abort, alloc: Global, case: Case) -> Result<(), Fail> {
+    let nest = nest_of(rt, alloc, case.words, case.trace, case.horizon)?;
+    let schedule = read_schedule(alloc, case.schedule)?;
+    is_as_said(rt, alloc, case, &run_plain(alloc, &nest, &schedule)?)?;
+    is_as_said(rt, alloc, case, &run_schedule(alloc, &nest, &schedule)?)
+}
+
+static CASES: [Case; 6] = [
+    Case {
+        words: "mm-delay 20",
+        trace: b"",
+        schedule: b"4 up 100\n90 down 100\n101 up 100\n",
+        horizon: 100,
+        fates: b"1 up departed 24\n2 down inside 1\n3 up unsent\n",
+        logs: b"",
+    },
+    Case {
+        words: "mm-delay 10 mm-link t t --uplink-log=u",
+        trace: b"4\n",
+        schedule: b"0 up 100\n0 down 100\n5 up 100\n",
+        horizon: 15,
+        fates: b"1 up departed 14\n2 down departed 12\n3 up inside 1\n",
+        logs: b"u\n# base timestamp: 0\n0 + 100\n4 # 1504\n4 - 100 4\n5 + 100\n8 # 1504\n8 - 100 3\n12 # 1504\n",
+    },
+    Case {
+        words: "mm-delay 10 mm-link t t",
+        trace: b"4\n",
+        schedule: b"0 up 100\n0 down 100\n",
+        horizon: 100,
+        fates: b"1 up departed 14\n2 down departed 12\n",
+        logs: b"",
+    },
+    Case {
+        words: "mm-link t t --uplink-log=u --uplink-queue=drophead --uplink-queue-args=packets=2",
+        trace: b"1\n",
+        schedule: b"0 up 1000\n0 up 1000\n1 up 800\n1 up 800\n1 up 700\n",
+        horizon: 3,
+        fates: b"1 up departed 1\n2 up departed 2\n3 up dropped 1 1\n4 up departed 2\n5 up departed 3\n",
+        logs: b"u\n# base timestamp: 0\n0 + 1000\n0 + 1000\n1 # 1504\n1 - 1000 1\n1 + 800\n1 + 800\n1 + 700\n\
+            1 d 1 800\n2 # 1504\n2 - 1000 2\n2 - 800 1\n3 # 1504\n3 - 700 2\n",
+    },
+    Case {
+        words: "mm-loss uplink 1",
+        trace: b"",
+        schedule: b"4 up 60\n4 down 60\n10 up 60\n",
+        horizon: 9,
+        fates: b"1 up dropped 1 4\n2 down departed 4\n3 up unsent\n",
+        logs: b"",
+    },
+    Case {
+        words: "mm-link t t --downlink-log d --uplink-log u mm-link t t --downlink-log e",
+        trace: b"1\n",
+        schedule: b"0 up 1504\n",
+        horizon: 2,
+        fates: b"1 up departed 2\n",
+        logs: b"u\n# base timestamp: 0\n1 # 1504\n1 + 1504\n2 # 1504\n2 - 1504 1\n\
+            d\n# base timestamp: 0\n1 # 1504\n2 # 1504\n\
+            e\n# base timestamp: 0\n1 # 1504\n2 # 1504\n",
+    },
+];
+
+#[test]
+fn small_nests_give_what_is_said(rt: HostRuntime) -> Result<(), Fail> {
+    for case in &CASES {
+        play(&rt, rt.alloc(), *case)?;
+    }
+    Ok(())
+}
+
+#[test]
+fn makes_the_logs_that_are_written_out(rt: HostRuntime) -> Result<(), Fail> {
+    let alloc = rt.alloc();
+    let words = "mm-link t t --uplink-log u --downlink-log d";
+    let nest = nest_of(&rt, alloc, words, b"2\n", 4)?;
+    let schedule = read_schedule(alloc, b"0 up 1000\n1 down 700\n")?;
+    let whole = run_plain(alloc, &nest, &schedule)?;
+    let (fates, logs) = run_nest(alloc, &nest, &schedule)?.into_parts();
+    assert!(rt; fates.as_slice() == whole.fates());
+    assert_eq!(rt; logs.len(), 2);
+    let mut written = whole.logs().iter();
+    for Named { name, log } in logs {
+        let same = written.next().ok_or("no log")?;
+        assert_eq!(rt; name.as_str(), same.name.as_str());
+        let mut pieces = log.pieces();
+        assert!(rt; pieces.next()?);
+        assert!(rt; pieces.piece() == same.log.entries());
+        assert!(rt; !pieces.next()?);
+    }
+    Ok(())
+}

@@ -1,5 +1,0 @@
-use Rattle.std.proofs.Common.{◌≡◌}
-use Rattle.shell_state.proofs.tests.drain.Given as goal
-
-abbrev pub invariant-takes : goal.invariant-takes
-invariant-takes l = l.state.horizon ≡ 1000

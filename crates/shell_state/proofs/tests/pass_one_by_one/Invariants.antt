@@ -1,5 +1,0 @@
-use Rattle.std.proofs.Common.{◌≡◌}
-use Rattle.shell_state.proofs.tests.pass_one_by_one.Given as goal
-
-abbrev pub invariant-packets : goal.invariant-packets
-invariant-packets l = l.state.horizon ≡ 1000
