@@ -150,7 +150,11 @@ fn run_direction(
 }
 
 // Runs the schedule through the nest by states, each over its whole run, and gathers what they give.
-pub fn run_schedule(alloc: Global, nest: &Nest, schedule: &Schedule) -> Result<RunResult, OutOfMemory> {
+pub fn run_schedule(
+    alloc: Global,
+    nest: &Nest,
+    schedule: &Schedule,
+) -> Result<RunResult, OutOfMemory> {
     let rows = schedule.rows();
     let up = run_direction(alloc, nest, Direction::Up, rows)?;
     let down = run_direction(alloc, nest, Direction::Down, rows)?;

@@ -18,14 +18,7 @@ use std::test::Fail;
 use trace_reader::Trace;
 
 // Lets one packet in, not before the last.
-#[tactic(
-    auto,
-    using(
-        link_core::proofs::FeedLemmas::up_to_push,
-        link_core::proofs::FeedLemmas::up_to_later,
-        link_core::proofs::FeedLemmas::count_more
-    )
-)]
+#[tactic(auto, using(link_core::proofs::FeedLemmas::up_to_push, link_core::proofs::FeedLemmas::up_to_later, link_core::proofs::FeedLemmas::count_more))]
 fn feed_one(link: &mut LinkCore, last: u64, t: Timed) -> Result<(), OutOfMemory>
     requires within { t.moment ≤ link.old.horizon }
     requires later { last ≤ t.moment }

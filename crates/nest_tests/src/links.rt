@@ -204,7 +204,11 @@ fn agrees_over_all(rt: &impl Abort, alloc: Global, case: &Generated) -> Result<(
     let whole = run_over(alloc, &case.setting, &case.packets)?;
     assert!(rt; whole.departed.as_slice() == case.slow.departed.as_slice());
     assert!(rt; whole.lost.as_slice() == case.slow.lost.as_slice());
-    let gone = case.slow.departed.len().saturating_add(case.slow.lost.len());
+    let gone = case
+        .slow
+        .departed
+        .len()
+        .saturating_add(case.slow.lost.len());
     assert_eq!(rt; whole.held.len().saturating_add(gone), case.packets.len());
     let pieces = put_together(alloc, whole.log.ok_or("no log")?)?;
     assert!(rt; pieces.entries.as_slice() == case.slow.log.as_slice());
@@ -245,13 +249,23 @@ fn a_log_in_pieces_is_the_whole_log(rt: HostRuntime) -> Result<(), Fail> {
     let packets = packets_of(alloc, GAP)?;
     let setting = each_millisecond(alloc, 30_000)?;
     let whole = run_over(alloc, &setting, &packets)?;
-    assert_eq!(rt; listed(alloc, &whole.departed)?.as_slice(), b"1 1\n2 2\n3 15001\n".as_slice());
+    assert_eq!(rt;
+        listed(alloc, &whole.departed)?.as_slice(),
+        b"1 1\n2 2\n3 15001\n".as_slice()
+    );
     assert_eq!(rt; whole.held.as_slice(), [4].as_slice());
     let pieces = put_together(alloc, whole.log.ok_or("no log")?)?;
     let again = run_over(alloc, &setting, &packets)?;
     let written = again.log.ok_or("no log")?.into_log()?;
     assert!(rt; pieces.entries.as_slice() == written.entries());
-    assert_eq!(rt; written.entries().iter().filter(|e| is_opportunity(e)).count(), 30_000);
+    assert_eq!(rt;
+        written
+            .entries()
+            .iter()
+            .filter(|e| is_opportunity(e))
+            .count(),
+        30_000
+    );
     assert!(rt; pieces.number > 10);
     assert!(rt; pieces.longest < 5_000);
     Ok(())

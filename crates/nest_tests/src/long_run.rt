@@ -15,7 +15,8 @@ const ROWS: u32 = 10_000;
 const HORIZON: u64 = 14_000;
 
 // 1504 bytes every second millisecond on the average, in a lap of 60 ms with a gap.
-const TRACE: &[u8] = b"# mm-trace 2\n0 700\n4 3000\n9 1504\n10 6000\n22 4000\n23 9000\n35 1504\n50 20000\n60 800\n";
+const TRACE: &[u8] =
+    b"# mm-trace 2\n0 700\n4 3000\n9 1504\n10 6000\n22 4000\n23 9000\n35 1504\n50 20000\n60 800\n";
 
 // Delays, losses both ways, and links with all three queues, each of which logs both sides.
 const WORDS: &str = "mm-delay 7 \
@@ -48,7 +49,11 @@ const NONE: Counts = Counts {
 };
 
 fn more(count: u64, counts: bool) -> u64 {
-    if counts { count.saturating_add(1) } else { count }
+    if counts {
+        count.saturating_add(1)
+    } else {
+        count
+    }
 }
 
 // One fate more, where it is past these shells or in one of them.
@@ -89,11 +94,16 @@ fn is_its_own(row: &Row, fate: &FateRow, last: u64) -> bool {
     let late = row.timed.moment > HORIZON;
     let moment = match fate.fate {
         Fate::Departed { moment } => moment,
-        Fate::Dropped { moment, .. } => return !late && row.timed.moment <= moment && moment <= HORIZON,
+        Fate::Dropped { moment, .. } => return !late
+            && row.timed.moment <= moment
+            && moment <= HORIZON,
         Fate::Inside { shell } => return !late && 1 <= shell && shell <= 8,
         Fate::Unsent => return late,
     };
-    !late && moment >= row.timed.moment.saturating_add(DELAYS) && moment >= last && moment <= HORIZON
+    !late
+        && moment >= row.timed.moment.saturating_add(DELAYS)
+        && moment >= last
+        && moment <= HORIZON
 }
 
 fn moment_of(fate: Fate) -> u64 {
@@ -129,7 +139,11 @@ fn add_up(rows: &[Row], fates: &[FateRow], direction: Direction) -> bool {
         .saturating_add(counts.inside)
         .saturating_add(counts.unsent);
     let of_direction = rows.iter().filter(|row| row.direction == direction).count();
-    let some = counts.departed.min(counts.dropped).min(counts.inside).min(counts.unsent);
+    let some = counts
+        .departed
+        .min(counts.dropped)
+        .min(counts.inside)
+        .min(counts.unsent);
     all == of_direction as u64 && some > 0
 }
 
@@ -197,14 +211,20 @@ fn is_as_logged(side: Side, log: &Log, fates: &[FateRow]) -> bool {
         .departed
         .saturating_add(later.dropped)
         .saturating_add(later.inside);
-    let arrived = passed.saturating_add(here.dropped).saturating_add(here.inside);
+    let arrived = passed
+        .saturating_add(here.dropped)
+        .saturating_add(here.inside);
     lines(log) == (arrived, passed, here.dropped)
 }
 
 fn are_as_logged(rt: &impl Abort, logs: &[NamedLog], fates: &[FateRow]) {
     assert_eq!(rt; logs.len(), SIDES.len());
     for (side, named) in SIDES.iter().zip(logs.iter()) {
-        assert!(rt; is_as_logged(*side, &named.log, fates), "at {}", named.name.as_str());
+        assert!(rt;
+            is_as_logged(*side, &named.log, fates),
+            "at {}",
+            named.name.as_str()
+        );
     }
 }
 

@@ -18,14 +18,7 @@ pub fn timed(moment: u64, id: u32) -> Timed
 }
 
 // Ten thousand packets, ten at each millisecond.
-#[tactic(
-    auto,
-    using(
-        link_core::proofs::FeedLemmas::up_to_push,
-        link_core::proofs::FeedLemmas::up_to_later,
-        link_core::proofs::FeedLemmas::rise_push
-    )
-)]
+#[tactic(auto, using(link_core::proofs::FeedLemmas::up_to_push, link_core::proofs::FeedLemmas::up_to_later, link_core::proofs::FeedLemmas::rise_push))]
 pub fn many_packets(alloc: Global) -> Result<Vec<Timed>, Fail>
     ensures rises { IfOk result (λ v. Rise v.items) }
     ensures within { IfOk result (λ v. AreUpTo 1000 v.items) }
@@ -42,14 +35,7 @@ pub fn many_packets(alloc: Global) -> Result<Vec<Timed>, Fail>
 }
 
 // These packets, if they are in order and up to the horizon.
-#[tactic(
-    auto,
-    using(
-        link_core::proofs::FeedLemmas::up_to_push,
-        link_core::proofs::FeedLemmas::up_to_later,
-        link_core::proofs::FeedLemmas::rise_push
-    )
-)]
+#[tactic(auto, using(link_core::proofs::FeedLemmas::up_to_push, link_core::proofs::FeedLemmas::up_to_later, link_core::proofs::FeedLemmas::rise_push))]
 pub fn in_order(alloc: Global, horizon: u64, packets: &[Timed]) -> Result<Vec<Timed>, Fail>
     ensures rises { IfOk result (λ v. Rise v.items) }
     ensures within { IfOk result (λ v. AreUpTo horizon v.items) }

@@ -372,7 +372,10 @@ fn ten_thousand_packets_go_through_a_link(rt: HostRuntime) -> Result<(), Fail> {
         ("droptail", "packets=20", (1_504, 8_477, 19)),
         ("drophead", "bytes=20000", (1_504, 8_477, 19)),
     ] {
-        assert!(rt; link_totals(&rt, rt.alloc(), kind, args)? == counts, "at {kind} {args}");
+        assert!(rt;
+            link_totals(&rt, rt.alloc(), kind, args)? == counts,
+            "at {kind} {args}"
+        );
     }
     Ok(())
 }

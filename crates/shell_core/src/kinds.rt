@@ -69,17 +69,7 @@ fn has_none_left(core: &LinkCore) -> bool
     core.next_opportunity().is_none()
 }
 
-#[tactic(
-    auto,
-    unfolding(
-        crate::specs::Shells::opportunities,
-        crate::specs::Shells::out,
-        crate::specs::Shells::lost,
-        crate::specs::Shells::inside,
-        crate::specs::Shells::shell_log,
-        crate::specs::Shells::floor
-    )
-)]
+#[tactic(auto, unfolding(crate::specs::Shells::opportunities, crate::specs::Shells::out, crate::specs::Shells::lost, crate::specs::Shells::inside, crate::specs::Shells::shell_log, crate::specs::Shells::floor))]
 impl Core {
     /// The direction before any arrival.
     pub fn new(alloc: Global, spec: DirSpec, horizon: u64) -> Result<Core, OutOfMemory>

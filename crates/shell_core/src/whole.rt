@@ -49,17 +49,7 @@ fn late_passage(alloc: Global, departed: Vec<Timed>, held: Vec<u32>) -> Passage
 }
 
 // A link keeps its arrivals and its trace for the log.
-#[tactic(
-    auto,
-    using(crate::proofs::WholeLemmas::all_taken),
-    unfolding(
-        crate::specs::Shells::opportunities,
-        crate::specs::Shells::out,
-        crate::specs::Shells::lost,
-        crate::specs::Shells::inside,
-        crate::specs::Shells::shell_log
-    )
-)]
+#[tactic(auto, using(crate::proofs::WholeLemmas::all_taken), unfolding(crate::specs::Shells::opportunities, crate::specs::Shells::out, crate::specs::Shells::lost, crate::specs::Shells::inside, crate::specs::Shells::shell_log))]
 fn link(
     alloc: Global,
     trace: Trace,
@@ -87,16 +77,7 @@ fn link(
 
 /// Runs the direction over all packets up to the horizon. A link's log isn't written out: it keeps the packets from
 /// which it is made. `OutOfMemory` is want of memory.
-#[tactic(
-    auto,
-    unfolding(
-        crate::specs::Shells::opportunities,
-        crate::specs::Shells::out,
-        crate::specs::Shells::lost,
-        crate::specs::Shells::inside,
-        crate::specs::Shells::shell_log
-    )
-)]
+#[tactic(auto, unfolding(crate::specs::Shells::opportunities, crate::specs::Shells::out, crate::specs::Shells::lost, crate::specs::Shells::inside, crate::specs::Shells::shell_log))]
 pub fn run_whole(
     alloc: Global,
     spec: DirSpec,
@@ -131,16 +112,7 @@ pub fn run_whole(
     }
 }
 
-#[tactic(
-    auto,
-    unfolding(
-        crate::specs::Shells::opportunities,
-        crate::specs::Shells::out,
-        crate::specs::Shells::lost,
-        crate::specs::Shells::inside,
-        crate::specs::Shells::shell_log
-    )
-)]
+#[tactic(auto, unfolding(crate::specs::Shells::opportunities, crate::specs::Shells::out, crate::specs::Shells::lost, crate::specs::Shells::inside, crate::specs::Shells::shell_log))]
 impl Core {
     /// Gives the direction up for its lists, none of which is copied. A link's log isn't written out: it keeps the
     /// packets from which it is made, and is that of all of them with every opportunity. `OutOfMemory` is want of

@@ -50,15 +50,7 @@ impl Model for ShellState {
     ghost invariant = { IsShellState };
 }
 
-#[tactic(
-    auto,
-    unfolding(
-        crate::specs::Steps::after_feed,
-        crate::specs::Steps::after_take,
-        crate::specs::Steps::after_break,
-        crate::specs::Steps::answer_of
-    )
-)]
+#[tactic(auto, unfolding(crate::specs::Steps::after_feed, crate::specs::Steps::after_take, crate::specs::Steps::after_break, crate::specs::Steps::answer_of))]
 impl ShellState {
     /// The direction before anything was fed or taken. A delay is at most 3,600,000 milliseconds, the
     /// horizon too, and a link has at most 16,000,000 opportunities up to it.
