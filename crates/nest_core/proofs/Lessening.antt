@@ -1,28 +1,23 @@
 -- A step that changes a world lowers what is left for it to do, and one that changes nothing leaves it as it was.
-use Rattle.std.proofs.Common.{◌≡◌, inl, inr, ℕ, zero, suc, ◌+◌, ◌*◌, ◌-◌, ◌≤◌, ◌<◌, ◌==◌, ◌&&◌, Bool, true, false, cond}
-use Rattle.std.proofs.Common.{nat_le, nat_lt, List, [], ◌∷◌, ◌++◌, Option, Some, None, option_to_list, is_some, length}
-use Rattle.std.proofs.Common.{ap, sym, subst, ◌∙◌, refl, arith, rules, tests}
+use Rattle.std.proofs.Common.{◌≡◌, inl, inr, ℕ, zero, suc, ◌+◌, ◌*◌, ◌≤◌, ◌<◌, ◌&&◌, Bool, true, false, cond}
+use Rattle.std.proofs.Common.{List, [], ◌∷◌, ◌++◌, Option, Some, None, option_to_list, is_some, length}
+use Rattle.std.proofs.Common.{ap, sym, subst, ◌∙◌, refl, arith}
 use Rattle.std.proofs.lemmas.List.{length-append}
 use Rattle.packet_record.specs.declared.packet.Timed.{Timed}
 use Rattle.packet_record.specs.declared.item.Stream.{Stream}
 use Rattle.packet_record.specs.declared.item.Item.{Item}
-use Rattle.packet_record.specs.declared.item.Item.TheVariants.{Packet, Mark, End, Broken}
 use Rattle.packet_record.specs.declared.item.FlowEnd.{FlowEnd}
 use Rattle.packet_record.specs.declared.item.FlowEnd.TheVariants.{Open, Ended, Broken as Cut}
-use Rattle.shell_core.specs.Shells.{whole_out, opportunities}
+use Rattle.shell_core.specs.Shells.{whole_out}
 use Rattle.shell_state.specs.declared.taken.Taken.{Taken}
 use Rattle.shell_state.specs.declared.taken.Taken.TheVariants.{Item as Gives, Again, NotYet}
-use Rattle.shell_state.specs.States.{State, opps_of, ready, floor_of}
-use Rattle.shell_state.specs.Steps.{is_ended, burnt_by, fed_more, after_feed, after_take, answer_of, answer_where}
-use Rattle.shell_state.specs.Steps.{answer_after, burns, with_burnt, stream_after}
+use Rattle.shell_state.specs.States.{State}
+use Rattle.shell_state.specs.Steps.{after_take, answer_of}
 use Rattle.shell_state.specs.Standing.{Stands}
-use Rattle.shell_state.specs.Inside.{AnswerFollows}
-use Rattle.shell_state.specs.Promises.{takes_left, MayCome}
+use Rattle.shell_state.specs.Promises.{takes_left}
 use Rattle.shell_state.proofs.Causing.{has_causes}
 use Rattle.shell_state.proofs.GoingOn.{take_leaves_fewer, feed_leaves_no_more}
-use Rattle.shell_state.proofs.Keeping.{licensed-le, take_keeps}
-use Rattle.shell_state.proofs.Equations.{feed_spec, feed_horizon, take_spec, take_horizon, take_fed, take_taken}
-use Rattle.shell_state.proofs.Equations.{take_broken}
+use Rattle.shell_state.proofs.Equations.{feed_spec, feed_horizon, take_spec, take_horizon}
 use Rattle.nest_core.specs.declared.stage.Stage.{Stage}
 use Rattle.nest_core.specs.declared.actor.Actor.{Actor}
 use Rattle.nest_core.specs.declared.actor.Actor.TheVariants.{Source, Receiver, Feeder, Taker, Sender}
@@ -35,8 +30,8 @@ use Rattle.nest_core.specs.Promises.{source_stream, arrivals_of}
 use Rattle.nest_core.specs.Left.{count_held, left_at, left_in, left_of}
 use Rattle.nest_core.specs.Standing.{Arrives, StageStands, LineStands, WorldStands}
 use Rattle.nest_core.specs.Does.{feeds, takes, sends, at_stage, receives_at, does}
-use Rattle.nest_core.proofs.Meeting.{take_follows, act_source}
-use Rattle.nest_core.proofs.Leading.{Leads, fed_leads, next_leads, taken_leads, source_leads}
+use Rattle.nest_core.proofs.Meeting.{act_source}
+use Rattle.nest_core.proofs.Leading.{Leads, fed_leads, next_leads, source_leads}
 use Rattle.nest_core.proofs.Settling.{waits_same}
 
 -- one more item in a line's first channel

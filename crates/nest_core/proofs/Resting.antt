@@ -1,29 +1,14 @@
 -- Worlds in which nothing but the source can step, and worlds that are finished.
-use Rattle.std.proofs.Common.{◌≡◌, ◌⊎◌, inl, inr, ℕ, ◌+◌, ◌≤◌, ◌<◌, Bool, true, false, cond, nat_le, List, [], ◌∷◌}
-use Rattle.std.proofs.Common.{◌++◌, Option, Some, None, option_to_list, length, ap, sym, ◌∙◌, refl, arith, rules, tests}
+use Rattle.std.proofs.Common.{◌≡◌, ◌⊎◌, inl, inr, ℕ, ◌≤◌, List, [], ◌∷◌}
+use Rattle.std.proofs.Common.{◌++◌, Option, None, option_to_list, ap, sym, ◌∙◌, refl, arith}
 use Rattle.std.proofs.lemmas.List.{append-nil}
-use Rattle.std.specs.List.{slice_get}
 use Rattle.packet_record.specs.declared.item.Stream.{Stream}
 use Rattle.packet_record.specs.declared.item.Item.{Item}
 use Rattle.packet_record.specs.declared.item.FlowEnd.{FlowEnd}
 use Rattle.packet_record.specs.declared.item.FlowEnd.TheVariants.{Open, Ended, Broken as Cut}
 use Rattle.packet_record.specs.Streams.{after_all}
 use Rattle.packet_record.proofs.MomentsLemmas.{from_lower}
-use Rattle.trace_reader.specs.declared.opportunity.Opportunity.{Opportunity}
-use Rattle.trace_reader.specs.Orders.{AreRising}
-use Rattle.trace_reader.proofs.CountLaws.{counted_place}
-use Rattle.trace_reader.proofs.OppsLaws.{opps_rising}
-use Rattle.trace_reader.specs.Opps.{opps}
-use Rattle.link_core.specs.Promises.{count_to, floor_of}
-use Rattle.link_core.proofs.LinkLaws.{floor_at, floor_past}
-use Rattle.shell_core.specs.declared.spec.DirSpec.{DirSpec}
-use Rattle.shell_core.specs.declared.spec.DirSpec.TheVariants.{Pass, Delay, Loss, Link}
-use Rattle.shell_core.specs.Shells.{IsBuilt, opportunities, floor}
-use Rattle.shell_core.proofs.Counting.{count_to-le}
 use Rattle.shell_state.proofs.GoingOn.{keeps_up}
-use Rattle.shell_state.specs.States.{State, opps_of, floor_of as state_floor}
-use Rattle.shell_state.specs.Steps.{is_ended, licensed}
-use Rattle.shell_state.specs.Standing.{Stands}
 use Rattle.shell_state.specs.Causes.{Waits}
 use Rattle.nest_core.specs.declared.stage.Stage.{Stage}
 use Rattle.nest_core.specs.Channels.{ChannelParts}

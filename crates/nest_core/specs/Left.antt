@@ -1,7 +1,7 @@
 -- How much is left for a world to do: each step that changes it lowers this. An item that is unsent counts 3, one
 -- in a channel 2, and one that a feeder holds 1; one that a drain holds counts 3, and each take that may still
 -- answer something 4.
-use Rattle.std.specs.Prelude.{ℕ, ◌+◌, ◌*◌, ◌-◌, List, [], ◌∷◌, Option, length, option_to_list}
+use Rattle.std.specs.Prelude.{ℕ, ◌+◌, ◌*◌, List, [], ◌∷◌, Option, length, option_to_list}
 use Rattle.packet_record.specs.declared.packet.Timed.{Timed}
 use Rattle.packet_record.specs.declared.item.Item.{Item}
 use Rattle.shell_core.specs.Shells.{whole_out}

@@ -1,4 +1,4 @@
-use Rattle.std.proofs.Common.{length, map, arith}
+use Rattle.std.proofs.Common.{arith}
 use Rattle.std.proofs.lemmas.List.{length-map}
 use Rattle.nest_spec.specs.declared.shell.ShellDirection.{ShellDirection}
 use Rattle.nest_spec.specs.Nests.{shells_in}
