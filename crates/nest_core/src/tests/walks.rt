@@ -19,6 +19,9 @@ struct Walk {
     down: &'static [(u32, u64)],
 }
 
+const EIGHT_SHELLS: &str =
+    "mm-delay 1 mm-link t t mm-loss uplink .2 mm-delay 0 mm-link t t mm-delay 3 mm-loss downlink .25 mm-delay 2";
+
 const WALKS: [Walk; 3] = [
     Walk {
         nest: "mm-link t t --uplink-queue=drophead --uplink-queue-args=packets=2",
@@ -58,7 +61,7 @@ const WALKS: [Walk; 3] = [
         down: &[(7, 23), (16, 32)],
     },
     Walk {
-        nest: "mm-delay 1 mm-link t t mm-loss uplink .2 mm-delay 0 mm-link t t mm-delay 3 mm-loss downlink .25 mm-delay 2",
+        nest: EIGHT_SHELLS,
         trace: b"# mm-trace 2\n3 900\n4 2000\n",
         horizon: 50,
         load: 5,
