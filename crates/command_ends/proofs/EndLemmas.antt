@@ -7,7 +7,7 @@ use Rattle.mm_base.specs.Disk.{DiskView, OnlyReads}
 use Rattle.mm_base.specs.Files.{Files}
 use Rattle.mm_base.specs.Sink.{SinkView, sending}
 use Rattle.command_ends.specs.Answers.{cause_in}
-use Rattle.command_ends.specs.Ends.{Outside, outside, Ends, Finishes, HasOutFault, HasReadFault, HasWriteFault}
+use Rattle.command_ends.specs.Ends.{Outside, outside, Ends, Finishes, FinishesOnly, HasOutFault, HasReadFault, HasWriteFault}
 use Rattle.command_ends.specs.Ends.{IsPartlyPrinted, IsPartlyWritten, IsRefused, IsUnchanged, KeepsFiles, Early}
 use Rattle.command_ends.specs.Ends.{Writing, Printing}
 use Rattle.command_ends.specs.Outputs.{NamedText, Output, HoldsFirst, holding_all, prints, writes}
@@ -15,7 +15,7 @@ use Rattle.command_ends.specs.Readings.{Reading, Done, Refuses, Leads, Stays, as
 use Rattle.command_ends.proofs.ReadingLemmas.{leads_then}
 use Rattle.command_ends.specs.Stops.{StopsReading, ReadingRefused, ReadingFault, ReadingWants, StopsWriting}
 use Rattle.command_ends.specs.Stops.{StopsPrinting}
-use Rattle.command_ends.specs.Works.{Work, only}
+use Rattle.command_ends.specs.Works.{Work}
 use Rattle.command_ends.specs.declared.cause.Cause.{Cause}
 use Rattle.command_ends.specs.declared.cause.Cause.TheVariants.{Refused, OutOfMemory}
 use Rattle.command_ends.specs.declared.cause.Refusal.{Refusal}
@@ -117,11 +117,11 @@ module _ {A N : Type 0} (work : A → Work N) (reading : Reading A) where
             subst (λ (c : Cause). Ends work reading old new (Some c)) (sym p.0) fault
       ]
 
-  -- a task that touches no net is finished
-  pub finishes_only : (Gives : A → Output → Type 0) (task : A) (told : Option Files) (net : N) (output : Output)
-      → Leads told reading (Done task) → Gives task output → Finishes (only Gives) reading told net net output
-  finishes_only Gives task told net output read gives =
-      record { task = task; read = read; gives = record { gives = gives; net = refl } }
+-- a task that touches no net is finished
+pub finishes_only : {A : Type 0} (reading : Reading A) (Gives : A → Output → Type 0) (task : A) (told : Option Files)
+    (output : Output) → Leads told reading (Done task) → Gives task output → FinishesOnly Gives reading told output
+finishes_only reading Gives task told output read gives =
+    record { task = task; read = read; gives = record { gives = gives; net = refl } }
 
 -- words that are refused without reading
 pub ends_refused : {A N : Type 0} (work : A → Work N) (old : Outside N) (refusal : Refusal)

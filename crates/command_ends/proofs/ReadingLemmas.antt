@@ -14,7 +14,7 @@ use Rattle.command_ends.specs.declared.cause.Cause.{Cause}
 use Rattle.command_ends.specs.declared.cause.Cause.TheVariants.{Refused}
 use Rattle.command_ends.specs.declared.cause.Limit.TheVariants.{File}
 use Rattle.command_ends.specs.declared.cause.Refusal.{Refusal}
-use Rattle.command_ends.specs.declared.cause.Refusal.TheVariants.{Absent, Limit}
+use Rattle.command_ends.specs.declared.cause.Refusal.TheVariants.{Absent, BadInput, Limit}
 
 pub leads_then : {A : Type 0} {told : Option Files} {a b c : Reading A} → Leads told a b → Leads told b c
     → Leads told a c
@@ -233,3 +233,14 @@ found_stop found next old new cause there (inl is) = ReadingWants is
 found_stop found next old new cause there (inr p) =
     ReadingRefused p.0 p.1 (leads_to_refusal old.files found next p.0 p.2)
     (λ missing e. absurd (there p.0 p.2 (ap status_of_refusal e)))
+
+-- a refusal that isn't that of words, and not that a file is absent
+pub record IsOfText (refusal : Refusal) : Type 0 where
+  pub not_words : status_of_refusal refusal ≢ 2
+  pub not_absent : status_of_refusal refusal ≢ 3
+
+pub bad_input : (name : Text) (number place : ℕ) (refusal : Refusal)
+    → Some (BadInput name number place) ≡ Some refusal → IsOfText refusal
+bad_input name number place refusal e =
+    let same : BadInput name number place ≡ refusal = cc e in
+    subst (λ (r : Refusal). IsOfText r) same (record { not_words = λ h. omega arith; not_absent = λ h. omega arith })

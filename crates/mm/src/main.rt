@@ -1,10 +1,11 @@
-//! The program `mm`: its words, the files of the machine and the standard output, given to the top call.
+//! The program `mm`: its words, the files of the machine, the standard output and a port of this machine, given to the
+//! top call.
 #![tactic(auto)]
 
 ghost use Rattle.std.specs.Prelude.{◌≡◌, IfOk, OnErr};
 ghost use Rattle.std.specs.Process.{exit_status};
 
-use mm_base::{FileDisk, StdSink};
+use mm_base::{FileDisk, NoPace, StdSink, TcpPort};
 use mm_program::mm_main;
 use std::process::ExitCode;
 use std::{env, io};
@@ -21,12 +22,21 @@ fn read_words(rt: &HostRuntime) -> io::Result<Vec<String>> {
     }
 }
 
-// What the words make of the machine's files. An error is want of memory before the top call.
+// What the words make of the machine's files and of its port. An error is want of memory before the top call.
 fn run(rt: &HostRuntime) -> io::Result<u8> {
     let words = read_words(rt)?;
     let mut out = StdSink::new(rt.stdout());
     let mut disk = FileDisk::new(rt.clone()?);
-    Ok(mm_main(rt, rt.alloc(), &words, &mut disk, &mut out))
+    let mut port = TcpPort::new(rt.clone()?);
+    Ok(mm_main(
+        rt,
+        rt.alloc(),
+        &words,
+        &mut disk,
+        &mut out,
+        &mut port,
+        &NoPace,
+    ))
 }
 
 // Ends the program with the status of the top call, or with that of want of memory before it.

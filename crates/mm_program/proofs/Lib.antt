@@ -1,9 +1,1 @@
-pub mod WordLemmas
-pub mod TraceLemmas
-pub mod InputLemmas
-pub mod NestLemmas
-pub mod LogFileLemmas
-pub mod OutputLemmas
-pub mod RunLemmas
-pub mod ReportLemmas
 pub mod TopLemmas

@@ -1,11 +1,3 @@
-pub mod Traces
-pub mod Inputs
-pub mod Run
-pub mod Report
-pub mod Make
 pub mod Tasks
-pub mod ReportReading
-pub mod RunReading
 pub mod Commands
-pub mod Loaded
 pub mod View

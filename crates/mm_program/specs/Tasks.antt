@@ -1,9 +1,10 @@
--- What the commands do once their inputs are read, and what that gives.
+-- What the commands do once their inputs are read: a task for each, and its work.
 use Rattle.std.specs.Prelude.{ℕ, List}
-use Rattle.command_ends.specs.Outputs.{Output}
-use Rattle.mm_program.specs.Make.{MakeJob, GivesMake}
-use Rattle.mm_program.specs.Report.{GivesReport}
-use Rattle.mm_program.specs.Run.{RunTask, GivesRun}
+use Rattle.mm_base.specs.Port.{PortView}
+use Rattle.command_ends.specs.Works.{Work, only}
+use Rattle.command_make.specs.Make.{MakeJob, GivesMake}
+use Rattle.command_report.specs.Report.{GivesReport}
+use Rattle.command_run.specs.Run.{RunTask, GivesRun}
 
 pub data Task : Type 0 where
   Run : RunTask → Task
@@ -11,7 +12,8 @@ pub data Task : Type 0 where
   Report : List ℕ → Task
   Make : MakeJob → Task
 
-abbrev pub Gives : Task → Output → Type 0
-Gives (Run task) output = GivesRun task output
-Gives (Report text) output = GivesReport text output
-Gives (Make job) output = GivesMake job output
+-- the net is a port, whose connections are of this type
+abbrev pub work : {C : Type 0} → Task → Work (PortView C)
+work (Run task) = only GivesRun task
+work (Report text) = only GivesReport text
+work (Make job) = only GivesMake job

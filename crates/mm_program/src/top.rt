@@ -11,25 +11,33 @@ ghost use Rattle.command_ends.specs.declared.cause.Refusal.{Refusal};
 ghost use Rattle.command_ends.specs.declared.cause.Refusal.TheVariants.{Words};
 ghost use Rattle.command_ends.specs.declared.cause.WordsRefusal.{WordsRefusal};
 ghost use Rattle.mm_program.specs.Commands.{reading_of};
-ghost use Rattle.mm_program.specs.Tasks.{Gives, Task};
+ghost use Rattle.mm_program.specs.Tasks.{Task, work};
 
 use crate::command::{Command, read_command};
-use crate::make::answer_make;
-use crate::report::answer_report;
-use crate::run::answer_run;
 use command_ends::{Cause, conclude};
-use mm_base::{Disk, Sink};
+use command_make::answer_make;
+use command_report::answer_report;
+use command_run::answer_run;
+use mm_base::{Disk, Pace, Port, Sink};
 use std::alloc::Global;
+use std::marker::{Send, Sync};
+use std::sync::Wait;
+use std::thread::Threads;
 
 // Does what the words say.
-fn answer<D: Disk, O: Sink>(
+fn answer<R: Threads + Wait + Sync, D: Disk, O: Sink, P: Port, Q: Pace + Sync>(
+    _rt: &R,
     alloc: Global,
     words: &[String],
     disk: &mut D,
     out: &mut O,
+    port: &mut P,
+    _pace: &Q,
 ) -> Result<(), Cause>
-    ensures ends { Ends Gives (reading_of (map string_bytes words.now))
-        (outside (D.view disk.old) (O.view out.old)) (outside (D.view disk.new) (O.view out.new)) (cause_in result) }
+    ensures ends { Ends work (reading_of (map string_bytes words.now))
+        (outside (D.view disk.old) (O.view out.old) (P.view port.old))
+        (outside (D.view disk.new) (O.view out.new) (P.view port.new)) (cause_in result) }
+    ensures port { P.view port.new ≡ P.view port.old }
     ensures counts { CountsDisk (D.view disk.old) (D.view disk.new) }
     ensures out_counts { CountsSinkFaults (O.view out.old) (O.view out.new) }
 {
@@ -51,36 +59,46 @@ fn answer<D: Disk, O: Sink>(
 ///
 /// 0: it is done. 2: the words have no job, the shells' words are no nest, or an output has the name of an input or of
 /// an earlier output. 3: an input isn't there. 4: an input doesn't meet its grammar. 5: a limit is passed. 6: reading
-/// failed. 7: writing a file, or printing on `out`, failed. 9: memory was wanting. A status other than 0 is explained
-/// by one line on `out`, but for a fault of `out` itself.
-pub fn mm_main<R, D: Disk, O: Sink>(
-    _rt: &R,
+/// failed. 7: writing a file, or printing on `out`, failed. 8: the port failed. 9: memory was wanting. A status other
+/// than 0 is explained by one line on `out`, but for a fault of `out` itself.
+///
+/// `port` is where connections come in, and `pace` is asked before each turn of a thread. No command uses them yet.
+pub fn mm_main<R: Threads + Wait + Sync, D: Disk + Send, O: Sink, P: Port + Send, Q: Pace + Sync>(
+    rt: &R,
     alloc: Global,
     words: &[String],
     disk: &mut D,
     out: &mut O,
+    port: &mut P,
+    pace: &Q,
 ) -> u8
     // 0: the output is written and printed whole, and nothing else is changed.
-    ensures done { result ≡ 0 → IsDone Gives (reading_of (map string_bytes words.now))
-        (outside (D.view disk.old) (O.view out.old)) (outside (D.view disk.new) (O.view out.new)) }
+    ensures done { result ≡ 0 → IsDone work (reading_of (map string_bytes words.now))
+        (outside (D.view disk.old) (O.view out.old) (P.view port.old))
+        (outside (D.view disk.new) (O.view out.new) (P.view port.new)) }
 
-    // Each status has its cause, what it leaves of the files, and its line.
-    ensures answered { result ≢ 9 → Answers Gives (reading_of (map string_bytes words.now))
-        (outside (D.view disk.old) (O.view out.old)) (outside (D.view disk.new) (O.view out.new)) result }
-    ensures stopped { result ≡ 9 → StopsShort Gives (reading_of (map string_bytes words.now))
-        (outside (D.view disk.old) (O.view out.old)) (outside (D.view disk.new) (O.view out.new)) }
+    // Each status has its cause, what it leaves of the files and of the port, and its line.
+    ensures answered { result ≢ 9 → Answers work (reading_of (map string_bytes words.now))
+        (outside (D.view disk.old) (O.view out.old) (P.view port.old))
+        (outside (D.view disk.new) (O.view out.new) (P.view port.new)) result }
+    ensures stopped { result ≡ 9 → StopsShort work (reading_of (map string_bytes words.now))
+        (outside (D.view disk.old) (O.view out.old) (P.view port.old))
+        (outside (D.view disk.new) (O.view out.new) (P.view port.new)) }
 
-    // 2 comes by the words alone, 3, 6 and 7 only where the disk or `out` counted it. At 2 to 6 no file is changed.
+    // 2 comes by the words alone, 3, 6, 7 and 8 only where the disk, `out` or the port counted it. At 2 to 6 and at 8
+    // no file is changed. No command touches the port.
     ensures usage { result ≡ 2 → ((w : WordsRefusal)
         × (refused_first (reading_of (map string_bytes words.now)) ≡ Some (Words w))) }
     ensures absent { result ≡ 3 → Rose (D.view disk.old).absences (D.view disk.new).absences }
     ensures read_fault { result ≡ 6 → Rose (D.view disk.old).read_faults (D.view disk.new).read_faults }
     ensures write_fault { result ≡ 7 → Rose (D.view disk.old).write_faults (D.view disk.new).write_faults
         ⊎ Rose (O.view out.old).faults (O.view out.new).faults }
+    ensures net_fault { result ≡ 8 → Rose (P.view port.old).faults (P.view port.new).faults }
     ensures keeps { result ≢ 0 → result ≢ 7 → result ≢ 9 → KeepsFiles (D.view disk.old) (D.view disk.new) }
+    ensures port { P.view port.new ≡ P.view port.old }
 
     // Words that refuse give their status, and so do files that are told, unless reading fails. Nothing refused gives
-    // 0.
+    // 0, unless a fault is counted: of `out` where the task prints, of the port where it serves.
     ensures by_words { (refusal : Refusal) → refused_first (reading_of (map string_bytes words.now)) ≡ Some refusal
         → (result ≡ status_of_refusal refusal) ⊎ (result ≡ 9) }
     ensures by_files { (m : Files) (refusal : Refusal) → (D.view disk.old).files ≡ Some m
@@ -89,13 +107,13 @@ pub fn mm_main<R, D: Disk, O: Sink>(
         ⊎ (result ≡ 9) }
     ensures complete { (m : Files) (task : Task) → (D.view disk.old).files ≡ Some m
         → outcome m (reading_of (map string_bytes words.now)) ≡ Ok task
-        → IsFaultless Gives task (outside (D.view disk.old) (O.view out.old))
-        (outside (D.view disk.new) (O.view out.new))
+        → IsFaultless work task (outside (D.view disk.old) (O.view out.old) (P.view port.old))
+        (outside (D.view disk.new) (O.view out.new) (P.view port.new))
         → (result ≡ 0) ⊎ (result ≡ 9) }
 
     ensures counts { CountsDisk (D.view disk.old) (D.view disk.new) }
     ensures out_counts { CountsSinkFaults (O.view out.old) (O.view out.new) }
 {
-    let answer = answer(alloc, words, disk, out);
+    let answer = answer(rt, alloc, words, disk, out, port, pace);
     conclude(answer, out)
 }

@@ -1,0 +1,9 @@
+//! The command `make`: what its words ask for, and the summary that it prints.
+#![tactic(auto)]
+
+mod make;
+mod make_job;
+#[cfg(test)]
+mod tests;
+
+pub use make::answer_make;

@@ -1,0 +1,72 @@
+// The command `make`: its words, and the summary that it prints.
+ghost use Rattle.std.specs.Prelude.{◌≡◌, IfOk, map, string_bytes};
+ghost use Rattle.std.specs.Option.{option_map};
+ghost use Rattle.mm_base.specs.Disk.{DiskView};
+ghost use Rattle.mm_base.specs.Sink.{CountsSinkFaults};
+ghost use Rattle.option_words.specs.View.{make_texts_of};
+ghost use Rattle.command_ends.specs.Answers.{cause_in};
+ghost use Rattle.command_ends.specs.Ends.{Ends, offline};
+ghost use Rattle.command_ends.specs.Works.{only};
+ghost use Rattle.command_make.specs.Make.{GivesMake, make_job_of, make_reading, make_with, make_words};
+ghost use Rattle.command_make.specs.View.{make_values};
+
+use crate::make_job::MakeJob;
+use command_ends::{Cause, print};
+use made_run::make_summary;
+use mm_base::{OutOfMemory, Sink, read_decimal};
+use option_words::{MakeWords, parse_make};
+use std::alloc::Global;
+
+// The job of the words after `make`, if they have one. `OutOfMemory` is want of memory.
+#[tactic(auto, unfolding(crate::specs::Make::make_job_of))]
+fn read_make(alloc: Global, words: &[String]) -> Result<Option<MakeJob>, OutOfMemory>
+    ensures { IfOk result (λ found. option_map make_values found ≡ make_job_of (map string_bytes words.now)) }
+{
+    match parse_make(alloc, words)? {
+        Some(texts) => Ok(with_numbers(texts)),
+        None => Ok(None),
+    }
+}
+
+// The job of the options' values, where the numbers are decimals within their ranges.
+#[tactic(auto, unfolding(crate::specs::Make::make_with))]
+fn with_numbers(texts: MakeWords<'_>) -> Option<MakeJob>
+    ensures { option_map make_values result ≡ make_with (make_texts_of texts.entry) }
+{
+    let number = read_decimal(texts.number.as_bytes())?;
+    let packets = read_decimal(texts.packets.as_bytes())?;
+    if 1 <= packets && packets <= 1_000_000 {
+        return Some(MakeJob {
+            number,
+            packets: packets as u32,
+        });
+    }
+    None
+}
+
+// Does the job: nothing is read, and the summary of the run is printed.
+fn make<O: Sink>(alloc: Global, job: &MakeJob, out: &mut O) -> Result<(), Cause>
+    ensures ends { (disk : DiskView) → Ends (only GivesMake) (make_reading (make_values job.now))
+        (offline disk (O.view out.old)) (offline disk (O.view out.new)) (cause_in result) }
+    ensures out_counts { CountsSinkFaults (O.view out.old) (O.view out.new) }
+{
+    let summary = make_summary(alloc, job.number, job.packets)?;
+    print(out, summary.as_slice())
+}
+
+/// Does what the words after `make` say: prints the summary of a run that is made of a number. No file is read or
+/// written, and no net is touched.
+pub fn answer_make<O: Sink>(
+    alloc: Global,
+    words: &[String],
+    out: &mut O,
+) -> Result<(), Cause>
+    ensures ends { (disk : DiskView) → Ends (only GivesMake) (make_words (map string_bytes words.now))
+        (offline disk (O.view out.old)) (offline disk (O.view out.new)) (cause_in result) }
+    ensures out_counts { CountsSinkFaults (O.view out.old) (O.view out.new) }
+{
+    match read_make(alloc, words)? {
+        Some(job) => make(alloc, &job, out),
+        None => Err(Cause::usage()),
+    }
+}

@@ -1,0 +1,41 @@
+use Rattle.std.proofs.Common.{List, ℕ, Some, subst, sym, ◌∙◌}
+use Rattle.std.proofs.lemmas.Result.{err_from_is_err_and}
+use Rattle.command_ends.specs.Ends.{Ends, FinishesOnly, offline}
+use Rattle.command_ends.specs.Works.{only}
+use Rattle.command_ends.specs.Outputs.{prints}
+use Rattle.command_ends.specs.declared.cause.Cause.{Cause}
+use Rattle.command_ends.proofs.EndLemmas.{ends_early, ends_printed, ends_stopped, keeps}
+use Rattle.command_report.specs.Report.{GivesReport}
+use Rattle.command_report.specs.ReportReading.{report_reading}
+use Rattle.command_report.specs.View.{report_values}
+use Rattle.command_report.proofs.report.report.Goals as goal
+
+pub returns-in_err-report-clause-ends : goal.returns-in_err-report-clause-ends
+returns-in_err-report-clause-ends g c =
+    let p = err_from_is_err_and c.from_residual.result c.from_residual.ensures.1 in
+    let reading = report_reading (report_values c.args.job.now) in
+    let out = g.O.Sink.view c.args.out.now in
+    let old = g.D.Disk.view c.args.disk.now in
+    let new = g.D.Disk.view c.load_report.new.disk in
+    rw p.1 (subst (λ (k : Cause). Ends (only GivesReport) reading (offline old out) (offline new out) (Some k)) (sym p.2)
+    (ends_stopped (only GivesReport) reading old new out tt _ (keeps c.load_report.ensures.only_reads) c.in_err-report.ensures.stopped))
+
+pub returns-in_err-text-clause-ends : goal.returns-in_err-text-clause-ends
+returns-in_err-text-clause-ends g c =
+    let p = err_from_is_err_and c.from_residual-in_err-text.result c.from_residual-in_err-text.ensures.1 in
+    let reading = report_reading (report_values c.args.job.now) in
+    let out = g.O.Sink.view c.args.out.now in
+    let old = g.D.Disk.view c.args.disk.now in
+    let new = g.D.Disk.view c.load_report.new.disk in
+    rw p.1 (subst (λ (k : Cause). Ends (only GivesReport) reading (offline old out) (offline new out) (Some k)) (sym p.2)
+    (ends_early (only GivesReport) reading old new out tt (keeps c.load_report.ensures.only_reads)))
+
+pub returns-clause-ends : goal.returns-clause-ends
+returns-clause-ends g c =
+    let reading = report_reading (report_values c.args.job.now) in
+    let old = offline (g.D.Disk.view c.args.disk.now) (g.O.Sink.view c.args.out.now) in
+    let new = offline (g.D.Disk.view c.load_report.new.disk) (g.O.Sink.view c.print.new.out) in
+    let same = sym (c.as_slice.ensures ∙ c.in_ok-text.ensures) in
+    ends_printed (only GivesReport) reading old new c.as_slice.result.now c.print.result
+    (subst (λ (text : List ℕ). FinishesOnly GivesReport reading old.disk.files (prints text)) same c.in_ok-report.ensures.found)
+    (keeps c.load_report.ensures.only_reads) c.print.ensures.ok c.print.ensures.stopped

@@ -1,0 +1,27 @@
+-- What `report` reads and refuses, in order.
+use Rattle.std.specs.Prelude.{ℕ, List, Option, Some, None}
+use Rattle.shell_log.specs.Reading.{line_named, log_fault, number_of}
+use Rattle.shell_log.specs.declared.reading.LogError.{LogError}
+use Rattle.shell_log.specs.declared.reading.LogError.TheVariants.{OutOfMemory}
+use Rattle.command_ends.specs.Causes.{Text}
+use Rattle.command_ends.specs.Readings.{Reading, Done, asked, reading_text}
+use Rattle.command_ends.specs.declared.cause.Refusal.{Refusal}
+use Rattle.command_ends.specs.declared.cause.Refusal.TheVariants.{BadInput}
+use Rattle.command_report.specs.Report.{ReportJob, report_job_of}
+
+-- The refusal of a log's text. Want of memory is none of a text's.
+abbrev pub log_refused : Text → Option LogError → Option Refusal
+log_refused name None = None
+log_refused name (Some OutOfMemory) = None
+log_refused name (Some error) = Some (BadInput name (number_of error) (line_named error))
+
+unfoldable pub log_refusal : Text → List ℕ → Option Refusal
+log_refusal name text = log_refused name (log_fault text)
+
+-- The task is the log's text.
+abbrev pub report_reading : ReportJob → Reading (List ℕ)
+report_reading job = reading_text (log_refusal job.log) job.log (λ text. Done text)
+
+-- the words after `report`
+abbrev pub report_words : List Text → Reading (List ℕ)
+report_words words = asked (report_job_of words) report_reading

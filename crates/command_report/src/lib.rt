@@ -1,0 +1,8 @@
+//! The command `report`: what its words ask for, the log that it reads, and the report that it prints.
+#![tactic(auto)]
+
+mod report;
+#[cfg(test)]
+mod tests;
+
+pub use report::answer_report;

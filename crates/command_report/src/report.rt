@@ -1,0 +1,143 @@
+// The command `report`: its words, its log, and the report that it prints.
+ghost use Rattle.std.specs.Prelude.{◌≡◌, ◌≢◌, ℕ, List, Some, None, IfOk, IfErr, MatchResult, map, string_bytes};
+ghost use Rattle.std.specs.Option.{option_map};
+ghost use Rattle.mm_base.specs.Disk.{OnlyReads};
+ghost use Rattle.mm_base.specs.Sink.{CountsSinkFaults};
+ghost use Rattle.shell_log.specs.Reading.{log_fault};
+ghost use Rattle.log_report.specs.ReportText.{report_text};
+ghost use Rattle.log_report.specs.ReportTexts.{HasRead};
+ghost use Rattle.command_ends.specs.Answers.{CountsDisk, cause_in};
+ghost use Rattle.command_ends.specs.Ends.{Ends, FinishesOnly, offline};
+ghost use Rattle.command_ends.specs.Outputs.{prints};
+ghost use Rattle.command_ends.specs.Stops.{IsInput, RefusesText, StopsAtFile, StopsReading};
+ghost use Rattle.command_ends.specs.Works.{only};
+ghost use Rattle.command_report.specs.Report.{GivesReport, IsReport, report_job_of};
+ghost use Rattle.command_report.specs.ReportReading.{log_refusal, report_reading, report_words};
+ghost use Rattle.command_report.specs.View.{report_values};
+
+use command_ends::{Cause, Refusal, input_size, print, read_pieces};
+use log_report::{EMPTY, Report, ReportText, print_report};
+use mm_base::{Bytes, Disk, OutOfMemory, Sink, Text};
+use option_words::parse_report;
+use shell_log::LogError;
+use std::alloc::Global;
+
+// The name of the file of a log.
+#[derive(Drop)]
+pub(crate) struct ReportJob<'a> {
+    pub log: &'a str,
+}
+
+// The job of the words after `report`, if they have one. `OutOfMemory` is want of memory.
+#[tactic(auto, unfolding(crate::specs::Report::report_job_of))]
+fn read_report<'a>(alloc: Global, words: &'a [String]) -> Result<Option<ReportJob<'a>>, OutOfMemory>
+    ensures { IfOk result (λ found. option_map report_values found ≡ report_job_of (map string_bytes words.now)) }
+{
+    match parse_report(alloc, words)? {
+        Some(texts) => Ok(Some(ReportJob { log: texts.log })),
+        None => Ok(None),
+    }
+}
+
+// Why the text of the log of this name isn't accepted.
+fn log_cause(name: Text, error: LogError) -> Cause
+    ensures { (text : List ℕ) → (error ≢ LogError.OutOfMemory → log_fault text ≡ Some error)
+        → RefusesText (log_refusal name text) result }
+{
+    match error {
+        LogError::OutOfMemory => Cause::OutOfMemory,
+        _ => Cause::Refused(Refusal::BadInput {
+            name,
+            number: error.number(),
+            place: error.line(),
+        }),
+    }
+}
+
+// The text of the log of this name, read in pieces.
+fn read_log_file<D: Disk>(alloc: Global, disk: &mut D, name: &str) -> Result<ReportText, Cause>
+    ensures read { IfOk result (λ text. ((bytes : List ℕ) × IsInput (D.view disk.old).files name.now bytes
+        × HasRead bytes text)) }
+    ensures stopped { IfErr result (λ cause. StopsAtFile name.now (D.view disk.old) (D.view disk.new) cause) }
+    ensures only_reads { OnlyReads (D.view disk.old) (D.view disk.new) }
+{
+    let size = input_size(alloc, disk, name)?;
+    let mut text = ReportText::new(alloc)?;
+    read_pieces(alloc, disk, name, size, &mut text)?;
+    Ok(text)
+}
+
+// The report of a log's text that was read, or none, where the log has no entry.
+fn report_of(alloc: Global, name: &str, text: ReportText) -> Result<Option<Report>, Cause>
+    ensures report { (bytes : List ℕ) → HasRead bytes text → IfOk result (λ report. IsReport bytes report) }
+    ensures refused { (bytes : List ℕ) → HasRead bytes text
+        → MatchResult result (λ _. log_refusal name.now bytes ≡ None)
+        (λ cause. RefusesText (log_refusal name.now bytes) cause) }
+{
+    match text.finish() {
+        Ok(report) => Ok(report),
+        Err(error) => Err(log_cause(Text::from_text(alloc, name)?, error)),
+    }
+}
+
+// The report of the log of a job.
+fn load_report<D: Disk>(
+    alloc: Global,
+    disk: &mut D,
+    job: &ReportJob<'_>,
+) -> Result<Option<Report>, Cause>
+    ensures found { IfOk result (λ report. FinishesOnly GivesReport (report_reading (report_values job.now))
+        (D.view disk.old).files (prints (report_text report))) }
+    ensures stopped { IfErr result (λ cause. StopsReading (report_reading (report_values job.now)) (D.view disk.old)
+        (D.view disk.new) cause) }
+    ensures only_reads { OnlyReads (D.view disk.old) (D.view disk.new) }
+{
+    let text = read_log_file(alloc, disk, job.log)?;
+    report_of(alloc, job.log, text)
+}
+
+// The text of a report.
+fn text_of(alloc: Global, report: Option<Report>) -> Result<Bytes, OutOfMemory>
+    ensures { IfOk result (λ text. text ≡ report_text report) }
+{
+    match report {
+        Some(report) => print_report(alloc, &report),
+        None => Bytes::from_slice(alloc, EMPTY),
+    }
+}
+
+// Does the job: its log is read, and then its report is printed.
+fn report<D: Disk, O: Sink>(
+    alloc: Global,
+    job: &ReportJob<'_>,
+    disk: &mut D,
+    out: &mut O,
+) -> Result<(), Cause>
+    ensures ends { Ends (only GivesReport) (report_reading (report_values job.now))
+        (offline (D.view disk.old) (O.view out.old)) (offline (D.view disk.new) (O.view out.new)) (cause_in result) }
+    ensures counts { CountsDisk (D.view disk.old) (D.view disk.new) }
+    ensures out_counts { CountsSinkFaults (O.view out.old) (O.view out.new) }
+{
+    let report = load_report(alloc, disk, job)?;
+    let text = text_of(alloc, report)?;
+    print(out, text.as_slice())
+}
+
+/// Does what the words after `report` say: prints the report of a log, or `empty` where the log has no entry. No file
+/// is written, and no net is touched.
+pub fn answer_report<D: Disk, O: Sink>(
+    alloc: Global,
+    words: &[String],
+    disk: &mut D,
+    out: &mut O,
+) -> Result<(), Cause>
+    ensures ends { Ends (only GivesReport) (report_words (map string_bytes words.now))
+        (offline (D.view disk.old) (O.view out.old)) (offline (D.view disk.new) (O.view out.new)) (cause_in result) }
+    ensures counts { CountsDisk (D.view disk.old) (D.view disk.new) }
+    ensures out_counts { CountsSinkFaults (O.view out.old) (O.view out.new) }
+{
+    match read_report(alloc, words)? {
+        Some(job) => report(alloc, &job, disk, out),
+        None => Err(Cause::usage()),
+    }
+}

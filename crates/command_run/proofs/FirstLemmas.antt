@@ -1,0 +1,50 @@
+-- Words of a run are refused before any file is read.
+use Rattle.std.proofs.Common.{ℕ, List, [], ◌∷◌, Result, Ok, Err, map}
+use Rattle.nest_spec.specs.Words.{NestPlan, nest_of}
+use Rattle.nest_spec.specs.declared.error.NestError.{NestError}
+use Rattle.command_ends.specs.Causes.{Text}
+use Rattle.command_ends.specs.Readings.{Reading, Done, unless}
+use Rattle.command_ends.proofs.ReadingLemmas.{RefusesNoWords, RefusesWordsFirst, asked_first, none_first, unless_first}
+use Rattle.command_ends.proofs.ReadingLemmas.{unless_no_words}
+use Rattle.command_run.specs.Inputs.{reading_schedule, reading_traces, schedule_refusal, trace_refusal}
+use Rattle.command_run.specs.Run.{RunJob, RunTask, run_of}
+use Rattle.command_run.specs.RunReading.{refused_count, refused_horizon, refused_outputs, run_inputs, run_reading}
+use Rattle.command_run.specs.RunReading.{run_words, with_nest}
+use Rattle.command_run.specs.Traces.{trace_in}
+use Rattle.command_run.proofs.InputLemmas.{schedule_text, trace_text}
+use Rattle.command_run.proofs.NestLemmas.{count_text}
+
+-- after a trace is read no words are refused
+traces_no_words : (names : List Text) (next : List (List ℕ) → Reading RunTask)
+    → ((texts : List (List ℕ)) → RefusesNoWords (next texts)) → RefusesNoWords (reading_traces names next)
+traces_no_words [] next none = none []
+traces_no_words (name ∷ names) next none = λ text.
+    unless_no_words (trace_refusal name text) (reading_traces names (λ texts. next (text ∷ texts)))
+    (λ refusal e. (trace_text name text refusal e).not_words)
+    (traces_no_words names (λ texts. next (text ∷ texts)) (λ texts. none (text ∷ texts)))
+
+schedule_no_words : (name : Text) (next : List ℕ → Reading RunTask) → ((text : List ℕ) → RefusesNoWords (next text))
+    → RefusesNoWords (reading_schedule name next)
+schedule_no_words name next none = λ text.
+    unless_no_words (schedule_refusal name text) (next text)
+    (λ refusal e. (schedule_text name text refusal e).not_words) (none text)
+
+inputs_no_words : (job : RunJob) (plan : NestPlan) → RefusesNoWords (run_inputs job plan)
+inputs_no_words job plan =
+    traces_no_words plan.traces _ (λ texts.
+    unless_no_words (refused_count job.until plan.shells (map trace_in texts)) _
+    (λ refusal e. (count_text job.until plan.shells (map trace_in texts) refusal e).not_words)
+    (schedule_no_words job.schedule
+    (λ schedule. Done (record { job = job; plan = plan; traces = texts; schedule = schedule })) (λ text. tt)))
+
+run_first : (job : RunJob) (nest : Result NestPlan NestError)
+    → RefusesWordsFirst (with_nest nest
+    (λ plan. unless (refused_outputs job plan) (unless (refused_horizon job.until) (run_inputs job plan))))
+run_first job (Err error) = tt
+run_first job (Ok plan) =
+    unless_first (refused_outputs job plan) (unless (refused_horizon job.until) (run_inputs job plan))
+    (unless_first (refused_horizon job.until) (run_inputs job plan)
+    (none_first (run_inputs job plan) (inputs_no_words job plan)))
+
+pub run_words_first : (words : List Text) → RefusesWordsFirst (run_words words)
+run_words_first words = asked_first (run_of words) run_reading (λ job. run_first job (nest_of job.shells))

@@ -1,0 +1,37 @@
+-- Words as texts.
+use Rattle.std.proofs.Common.{◌≡◌, ℕ, ◌+◌, Bool, not, cond, List, [], ◌∷◌, Some, None, length, map, take, drop, nat_lt}
+use Rattle.std.proofs.Common.{refl, ap, ◌∙◌}
+use Rattle.std.specs.List.{position, prefix_len}
+use Rattle.std.specs.Prelude.{option_and_then}
+use Rattle.std.specs.List.{drop-map, take-map}
+use Rattle.std.proofs.lemmas.List.{length-map}
+use Rattle.command_ends.specs.Causes.{Text}
+use Rattle.option_words.specs.RunApp.{run_texts}
+use Rattle.command_run.specs.Run.{ends_options, run_at, run_of, run_with}
+
+prefix_len-map : {X Y : Type 0} (f : X → Y) (p : Y → Bool) (xs : List X)
+    → prefix_len p (map f xs) ≡ prefix_len (λ x. p (f x)) xs
+prefix_len-map f p [] = refl
+prefix_len-map f p (x ∷ xs) = ap (λ n. cond (p (f x)) (1 + n) 0) (prefix_len-map f p xs)
+
+pub position-map : {X Y : Type 0} (f : X → Y) (p : Y → Bool) (xs : List X)
+    → position p (map f xs) ≡ position (λ x. p (f x)) xs
+position-map f p xs =
+    ap (λ n. cond (nat_lt n (length (map f xs))) (Some n) None) (prefix_len-map f (λ y. not (p y)) xs)
+    ∙ ap (λ n. cond (nat_lt (prefix_len (λ x. not (p (f x))) xs) n) (Some (prefix_len (λ x. not (p (f x))) xs)) None)
+    (length-map xs f)
+
+-- the job of words that have an end of options
+pub run_parts : {S : Type 0} (f : S → Text) (words : List S) (place : ℕ)
+    → position (λ w. ends_options (f w)) words ≡ Some place
+    → run_of (map f words) ≡ option_and_then (run_with (map f (drop (place + 1) words)))
+    (run_texts (map f (take place words)))
+unfolding run_of
+run_parts f words place e =
+    ap (λ o. run_at o (map f words)) (position-map f ends_options words ∙ e)
+    ∙ (λ j. option_and_then (run_with (drop-map f (place + 1) words j)) (run_texts (take-map f place words j)))
+
+pub no_parts : {S : Type 0} (f : S → Text) (words : List S) → position (λ w. ends_options (f w)) words ≡ None
+    → run_of (map f words) ≡ None
+unfolding run_of
+no_parts f words e = ap (λ o. run_at o (map f words)) (position-map f ends_options words ∙ e)

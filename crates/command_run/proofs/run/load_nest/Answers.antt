@@ -1,0 +1,39 @@
+use Rattle.std.proofs.Common.{List, ℕ, ap, subst, sym}
+use Rattle.std.proofs.lemmas.Result.{err_from_is_err_and}
+use Rattle.trace_reader.specs.Traces.{TraceView}
+use Rattle.command_ends.specs.Causes.{Text}
+use Rattle.command_ends.specs.Stops.{RefusesText, StopsReading}
+use Rattle.command_ends.specs.declared.cause.Cause.{Cause}
+use Rattle.command_run.specs.Inputs.{reading_traces}
+use Rattle.command_run.specs.Loaded.{HaveTraces}
+use Rattle.command_run.specs.RunReading.{refused_count, run_inputs}
+use Rattle.command_run.specs.View.{run_values}
+use Rattle.command_run.proofs.RunLemmas.{after_traces, count_stop}
+use Rattle.command_run.proofs.run.load_nest.Goals as goal
+
+pub returns-in_err-traces-clause-stopped : goal.returns-in_err-traces-clause-stopped
+returns-in_err-traces-clause-stopped g c =
+    let p = err_from_is_err_and c.from_residual.result c.from_residual.ensures.1 in
+    let job = run_values c.args.job.now in
+    let old = g.D.Disk.view c.args.disk.now in
+    let new = g.D.Disk.view c.load_traces.new.disk in
+    rw p.1 (subst (λ (k : Cause). StopsReading (run_inputs job c.args.words) old new k) (sym p.2)
+    (subst (λ (names : List Text). StopsReading (reading_traces names (after_traces job c.args.words)) old new
+    c.in_err-traces.field-0.0) c.traces.ensures.traces
+    (c.in_err-traces.ensures.stopped (after_traces job c.args.words))))
+
+pub returns-in_err-check_count-clause-stopped : goal.returns-in_err-check_count-clause-stopped
+returns-in_err-check_count-clause-stopped g c =
+    let p = err_from_is_err_and c.from_residual-in_err-check_count.result c.from_residual-in_err-check_count.ensures.1
+    in
+    let job = run_values c.args.job.now in
+    let old = g.D.Disk.view c.args.disk.now in
+    let new = g.D.Disk.view c.load_traces.new.disk in
+    let found = c.in_ok-traces.ensures.found in
+    let traces = c.in_ok-traces.traces.items in
+    let have = subst (λ (names : List Text). HaveTraces old.files names found.0 traces) c.traces.ensures.traces
+    found.1 in
+    let refused = subst (λ (l : List TraceView). RefusesText (refused_count job.until c.args.words.shells l)
+    c.in_err-check_count.field-0.0) c.as_slice.ensures.value c.in_err-check_count.ensures.refused in
+    rw p.1 (subst (λ (k : Cause). StopsReading (run_inputs job c.args.words) old new k) (sym p.2)
+    (count_stop job c.args.words old new found.0 traces c.in_err-check_count.field-0.0 have refused))

@@ -1,0 +1,28 @@
+use Rattle.std.proofs.Common.{subst, sym}
+use Rattle.std.proofs.lemmas.Result.{err_from_is_err_and}
+use Rattle.command_ends.specs.Stops.{StopsReading}
+use Rattle.command_ends.specs.declared.cause.Cause.{Cause}
+use Rattle.command_run.specs.RunReading.{run_inputs}
+use Rattle.command_run.specs.View.{run_values}
+use Rattle.command_run.proofs.RunLemmas.{run_finishes, schedule_stop}
+use Rattle.command_run.proofs.run.run_packets.Goals as goal
+
+pub returns-in_err-schedule-clause-stopped : goal.returns-in_err-schedule-clause-stopped
+returns-in_err-schedule-clause-stopped g c =
+    let p = err_from_is_err_and c.from_residual-in_err-schedule.result c.from_residual-in_err-schedule.ensures.1 in
+    let job = run_values c.args.job.now in
+    let old = g.D.Disk.view c.args.disk.now in
+    let mid = g.D.Disk.view c.load_nest.new.disk in
+    let new = g.D.Disk.view c.load_schedule.new.disk in
+    rw p.1 (subst (λ (k : Cause). StopsReading (run_inputs job c.args.words) old new k) (sym p.2)
+    (schedule_stop job c.args.words c.in_ok-nest.nest old mid new _ c.in_ok-nest.ensures.found
+    c.load_nest.ensures.only_reads c.in_err-schedule.ensures.stopped))
+
+pub returns-clause-found : goal.returns-clause-found
+returns-clause-found g c =
+    let job = run_values c.args.job.now in
+    let old = g.D.Disk.view c.args.disk.now in
+    let mid = g.D.Disk.view c.load_nest.new.disk in
+    run_finishes job c.args.words c.in_ok-nest.nest old mid c.in_ok-schedule.schedule _ c.in_ok-nest.ensures.found
+    c.load_nest.ensures.only_reads c.in_ok-schedule.ensures.found
+    c.in_ok-run_nest.ensures.value c.in_ok-run_nest.ensures.once

@@ -1,0 +1,12 @@
+use Rattle.std.proofs.Common.{◌≡◌, ◌++◌}
+use Rattle.mm_base.specs.Disk.{OnlyWrites}
+use Rattle.command_ends.specs.Outputs.{holding_all}
+use Rattle.command_run.proofs.OutputLemmas.{log_files}
+use Rattle.command_run.proofs.run_files.write_logs.Given as goal
+
+abbrev pub invariant-loop-log : goal.invariant-loop-log
+invariant-loop-log g l = record {
+  all : l.fn.logs.items ≡ l.yielded ++ l.log-iterator.rest.items;
+  whole : (g.D.Disk.view l.disk).files ≡ holding_all (log_files l.yielded) (g.D.Disk.view l.fn.disk).files;
+  only_writes : OnlyWrites (g.D.Disk.view l.fn.disk) (g.D.Disk.view l.disk);
+}

@@ -1,0 +1,6 @@
+pub mod Traces
+pub mod Inputs
+pub mod Run
+pub mod RunReading
+pub mod Loaded
+pub mod View

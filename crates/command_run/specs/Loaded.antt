@@ -1,0 +1,41 @@
+-- What reading the inputs of a run leaves, for the bodies that read them.
+use Rattle.std.specs.Prelude.{◌≡◌, ◌≤◌, ℕ, List, [], ◌∷◌, Option, None}
+use Rattle.mm_base.specs.Files.{Files}
+use Rattle.packet_record.specs.Schedules.{IsScheduleText}
+use Rattle.packet_record.specs.declared.packet.Row.{Row}
+use Rattle.trace_reader.specs.TraceText.{IsTraceText}
+use Rattle.trace_reader.specs.Traces.{TraceView}
+use Rattle.nest_spec.specs.Nests.{NestParts, opportunities_of}
+use Rattle.nest_spec.specs.Words.{NestPlan}
+use Rattle.command_ends.specs.Causes.{Text}
+use Rattle.command_ends.specs.Stops.{IsInput}
+use Rattle.command_run.specs.Inputs.{schedule_refusal, trace_refusal}
+use Rattle.command_run.specs.Run.{RunJob, nest_with}
+
+-- the file of this name has this text, which is that of this trace
+pub record HasTrace (told : Option Files) (name : Text) (text : List ℕ) (trace : TraceView) : Type 0 where
+  pub input : IsInput told name text
+  pub accepted : trace_refusal name text ≡ None
+  pub trace_is : IsTraceText text trace
+
+-- it has this text, which is that of these rows
+pub record HasSchedule (told : Option Files) (name : Text) (text : List ℕ) (rows : List Row) : Type 0 where
+  pub input : IsInput told name text
+  pub accepted : schedule_refusal name text ≡ None
+  pub rows_are : IsScheduleText text rows
+
+-- the files of these names have these texts, which are those of these traces
+pub data HaveTraces (told : Option Files) : List Text → List (List ℕ) → List TraceView → Type 0 where
+  NoTraces : HaveTraces told [] [] []
+  MoreTraces : (name : Text) (names : List Text) (text : List ℕ) (texts : List (List ℕ)) (trace : TraceView)
+      (traces : List TraceView)
+      → HasTrace told name text trace → HaveTraces told names texts traces
+      → HaveTraces told (name ∷ names) (text ∷ texts) (trace ∷ traces)
+
+-- the traces of a run are read, and few enough opportunities are theirs
+pub record HasNest (told : Option Files) (job : RunJob) (plan : NestPlan) (nest : NestParts) : Type 0 where
+  pub texts : List (List ℕ)
+  pub traces : List TraceView
+  pub have : HaveTraces told plan.traces texts traces
+  pub few : opportunities_of job.until plan.shells traces ≤ 16000000
+  pub nest_is : nest ≡ nest_with job plan traces

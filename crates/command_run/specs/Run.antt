@@ -1,0 +1,97 @@
+-- What `run` is asked for, and what it gives.
+use Rattle.std.specs.Prelude.{◌≡◌, ℕ, ◌+◌, Bool, List, [], ◌∷◌, ◌++◌, Option, Some, None, codes, map, position, take}
+use Rattle.std.specs.Prelude.{drop, option_and_then}
+use Rattle.std.specs.Str.{bytes_eq}
+use Rattle.mm_base.specs.Numbers.{decimal_of}
+use Rattle.packet_record.specs.Schedules.{IsScheduleText}
+use Rattle.packet_record.specs.declared.packet.Row.{Row}
+use Rattle.shell_log.specs.LogText.{log_text}
+use Rattle.trace_reader.specs.Traces.{TraceView}
+use Rattle.nest_spec.specs.FateTexts.{fates_text}
+use Rattle.nest_spec.specs.Nests.{NestParts, RunLists, built, result_of}
+use Rattle.nest_spec.specs.Once.{HaveOneFate}
+use Rattle.nest_spec.specs.Walk.{NamedEntries}
+use Rattle.nest_spec.specs.Words.{NestPlan}
+use Rattle.option_words.specs.RunApp.{RunTexts, run_texts}
+use Rattle.command_ends.specs.Causes.{Text}
+use Rattle.command_ends.specs.Outputs.{NamedText, Output, named_text, writes}
+use Rattle.command_run.specs.Inputs.{AreTraceTexts}
+
+infixl 10 ◌>>=◌
+abbrev pub ◌>>=◌ : {A B : Type 0} → Option A → (A → Option B) → Option B
+o >>= f = option_and_then f o
+
+-- its horizon in milliseconds, the names of its files, its seed, and the words of its shells
+pub record RunJob : Type 0 where
+  pub until : ℕ
+  pub schedule : Text
+  pub out : Text
+  pub seed : ℕ
+  pub plain : Bool
+  pub shells : List Text
+
+-- the seed is 0 where none is given
+abbrev pub seed_of : Option Text → Option ℕ
+seed_of None = Some 0
+seed_of (Some text) = decimal_of text
+
+-- the numbers are decimals
+unfoldable pub run_numbers : List Text → RunTexts → Option RunJob
+run_numbers shells texts = do
+  until ← decimal_of texts.until
+  seed ← seed_of texts.seed
+  Some (record {
+    until = until;
+    schedule = texts.schedule;
+    out = texts.out;
+    seed = seed;
+    plain = texts.plain;
+    shells = shells;
+  })
+
+-- `--order` asks for nothing yet
+abbrev pub run_unordered : Option Text → Option RunJob → Option RunJob
+run_unordered None job = job
+run_unordered (Some order) job = None
+
+abbrev pub run_with : List Text → RunTexts → Option RunJob
+run_with shells texts = run_unordered texts.order (run_numbers shells texts)
+
+abbrev pub ends_options : Text → Bool
+ends_options word = bytes_eq word (codes "--")
+
+-- the words before the one at this place are options, and those after it are the shells'
+abbrev pub run_at : Option ℕ → List Text → Option RunJob
+run_at None words = None
+run_at (Some place) words = option_and_then (run_with (drop (place + 1) words)) (run_texts (take place words))
+
+-- The job of `run`'s words: the first `--` ends the options and must be there.
+unfoldable pub run_of : List Text → Option RunJob
+run_of words = run_at (position ends_options words) words
+
+-- a run whose words ask for this nest, and the texts of its traces and of its schedule
+pub record RunTask : Type 0 where
+  pub job : RunJob
+  pub plan : NestPlan
+  pub traces : List (List ℕ)
+  pub schedule : List ℕ
+
+-- the nest of the shells' words with these traces
+abbrev pub nest_with : RunJob → NestPlan → List TraceView → NestParts
+nest_with job plan traces = built plan traces job.seed job.until
+
+abbrev pub log_file : NamedEntries → NamedText
+log_file log = named_text log.name (log_text log.entries)
+
+-- the text of each log that has a name, in the order of the shells, up before down, and then the text of the fates
+abbrev pub run_files : Text → RunLists → List NamedText
+run_files out run = map log_file run.logs ++ named_text out (fates_text run.fates) ∷ []
+
+-- A run gives the files of its result, over the traces and the rows that the texts state. Each row has one fate.
+pub record GivesRun (task : RunTask) (output : Output) : Type 0 where
+  pub traces : List TraceView
+  pub traces_are : AreTraceTexts task.traces traces
+  pub rows : List Row
+  pub rows_are : IsScheduleText task.schedule rows
+  pub once : HaveOneFate (nest_with task.job task.plan traces) rows
+  pub output_is : output ≡ writes (run_files task.job.out (result_of (nest_with task.job task.plan traces) rows))

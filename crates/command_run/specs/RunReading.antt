@@ -1,0 +1,59 @@
+-- What `run` reads and refuses, in order.
+use Rattle.std.specs.Prelude.{ℕ, List, [], ◌∷◌, ◌++◌, Option, Some, None, Result, Ok, Err, map, nat_lt, if◌then◌else◌}
+use Rattle.trace_reader.specs.Traces.{TraceView}
+use Rattle.nest_spec.specs.NestFaults.{number_of, place_of, inner_of}
+use Rattle.nest_spec.specs.Nests.{opportunities_of}
+use Rattle.nest_spec.specs.Words.{NestPlan, nest_of}
+use Rattle.nest_spec.specs.declared.error.NestError.{NestError}
+use Rattle.nest_spec.specs.declared.shell_words.ShellWords.{ShellWords}
+use Rattle.command_ends.specs.Causes.{Text}
+use Rattle.command_ends.specs.Names.{refused_names}
+use Rattle.command_ends.specs.Readings.{Reading, Done, Refuses, asked, unless}
+use Rattle.command_ends.specs.declared.cause.Limit.TheVariants.{Horizon, Opportunities}
+use Rattle.command_ends.specs.declared.cause.Refusal.{Refusal}
+use Rattle.command_ends.specs.declared.cause.Refusal.TheVariants.{Words, Limit}
+use Rattle.command_ends.specs.declared.cause.WordsRefusal.TheVariants.{Nest}
+use Rattle.command_run.specs.Inputs.{reading_schedule, reading_traces}
+use Rattle.command_run.specs.Run.{RunJob, RunTask, run_of}
+use Rattle.command_run.specs.Traces.{trace_in}
+
+abbrev pub nest_refusal : NestError → Refusal
+nest_refusal error = Words (Nest (number_of error) (place_of error) (inner_of error))
+
+-- the words of a nest come first
+abbrev pub with_nest : {A : Type 0} → Result NestPlan NestError → (NestPlan → Reading A) → Reading A
+with_nest (Err error) next = Refuses (nest_refusal error)
+with_nest (Ok plan) next = next plan
+
+-- The inputs are the traces and the schedule. The outputs are the logs, in the order of the shells, up before down,
+-- and the fates.
+abbrev pub refused_outputs : RunJob → NestPlan → Option Refusal
+refused_outputs job plan = refused_names (plan.traces ++ job.schedule ∷ []) (plan.logs ++ job.out ∷ [])
+
+-- the horizon is at most an hour
+unfoldable pub refused_horizon : ℕ → Option Refusal
+refused_horizon until = if nat_lt 3600000 until then Some (Limit Horizon) else None
+
+-- the links of the shells have at most 16,000,000 opportunities up to the horizon, both directions together
+unfoldable pub refused_count : ℕ → List ShellWords → List TraceView → Option Refusal
+refused_count until shells traces = if nat_lt 16000000 (opportunities_of until shells traces)
+    then Some (Limit Opportunities) else None
+
+-- the traces, in the order of the shells, up before down, and the schedule
+abbrev pub run_inputs : RunJob → NestPlan → Reading RunTask
+run_inputs job plan =
+    reading_traces plan.traces (λ traces.
+    unless (refused_count job.until plan.shells (map trace_in traces)) (
+    reading_schedule job.schedule (λ schedule.
+    Done (record { job = job; plan = plan; traces = traces; schedule = schedule }))))
+
+abbrev pub run_reading : RunJob → Reading RunTask
+run_reading job =
+    with_nest (nest_of job.shells) (λ plan.
+    unless (refused_outputs job plan) (
+    unless (refused_horizon job.until) (
+    run_inputs job plan)))
+
+-- the words after `run`
+abbrev pub run_words : List Text → Reading RunTask
+run_words words = asked (run_of words) run_reading

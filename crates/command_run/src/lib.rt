@@ -1,0 +1,11 @@
+//! The command `run`: what its words ask for, what it reads and refuses, in order, and the files that it writes.
+#![tactic(auto)]
+
+mod inputs;
+mod run;
+mod run_files;
+mod run_job;
+#[cfg(test)]
+mod tests;
+
+pub use run::answer_run;

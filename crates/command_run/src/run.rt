@@ -1,0 +1,179 @@
+// The command `run`: its words, its inputs, its packets, and the files that it writes.
+ghost use Rattle.std.specs.Prelude.{◌≡◌, ◌≢◌, ◌⊎◌, ◌≤◌, ◌∷◌, ◌++◌, [], None, IfErr, IfOk, MatchResult, OnOk, length};
+ghost use Rattle.std.specs.Prelude.{map, string_bytes};
+ghost use Rattle.mm_base.specs.Disk.{DiskView, OnlyReads};
+ghost use Rattle.mm_base.specs.Sink.{SinkView};
+ghost use Rattle.command_ends.specs.Answers.{CountsDisk, cause_in};
+ghost use Rattle.command_ends.specs.Ends.{Ends, FinishesOnly, offline};
+ghost use Rattle.command_ends.specs.Outputs.{writes};
+ghost use Rattle.command_ends.specs.Stops.{ReadsOn, RefusesText, StopsReading};
+ghost use Rattle.command_ends.specs.Works.{only};
+ghost use Rattle.command_ends.specs.declared.cause.Cause.TheVariants as causes;
+ghost use Rattle.nest_spec.specs.Nests.{opportunities_of};
+ghost use Rattle.command_run.specs.Loaded.{HasNest};
+ghost use Rattle.command_run.specs.Run.{GivesRun, run_files};
+ghost use Rattle.command_run.specs.RunReading.{nest_refusal, refused_count, refused_horizon, refused_outputs};
+ghost use Rattle.command_run.specs.RunReading.{run_inputs, run_reading, run_words};
+ghost use Rattle.command_run.specs.View.{run_values};
+
+use crate::inputs::{load_schedule, load_traces};
+use crate::run_files::write_files;
+use crate::run_job::{RunJob, read_run};
+use command_ends::{Cause, Limit, Refusal, WordsRefusal, first_taken};
+use mm_base::limits::{HOUR, MOST_OPPORTUNITIES};
+use mm_base::{Disk, OutOfMemory, Text};
+use nest_plain::{NestRun, run_nest};
+use nest_spec::{Nest, NestError, NestWords, build, read_nest};
+use std::alloc::Global;
+use trace_reader::Trace;
+
+// Why the words of the shells are no nest.
+fn nest_cause(error: NestError) -> Cause
+    ensures { (result ≡ causes.OutOfMemory)
+        ⊎ ((error ≢ NestError.OutOfMemory) × (result ≡ causes.Refused (nest_refusal error))) }
+{
+    match error {
+        NestError::OutOfMemory => Cause::OutOfMemory,
+        _ => Cause::Refused(Refusal::Words(WordsRefusal::Nest {
+            number: error.number(),
+            place: u64::from(error.place()),
+            inner: error.inner(),
+        })),
+    }
+}
+
+// The names of these texts.
+fn names_of<'a>(
+    alloc: Global,
+    first: &'a [Text],
+    last: &'a str,
+) -> Result<Vec<&'a str>, OutOfMemory>
+    ensures { IfOk result (λ names. map (λ name. name.now) names.items ≡ first.now ++ last.now ∷ []) }
+{
+    let mut names = Vec::new(alloc);
+    for name in first {
+        names.push(name.as_str())?;
+    }
+    names.push(last)?;
+    Ok(names)
+}
+
+// Refuses the first output that has the name of an input or of an output before it.
+fn check_names(alloc: Global, job: &RunJob<'_>, nest: &NestWords) -> Result<(), Cause>
+    ensures { MatchResult result (λ _. refused_outputs (run_values job.now) nest.now ≡ None)
+        (λ cause. RefusesText (refused_outputs (run_values job.now) nest.now) cause) }
+{
+    let inputs = names_of(alloc, nest.traces(), job.schedule)?;
+    let outputs = names_of(alloc, nest.logs(), job.out)?;
+    match first_taken(inputs.as_slice(), outputs.as_slice()) {
+        Some(name) => Err(Cause::taken(Text::from_text(alloc, name)?)),
+        None => Ok(()),
+    }
+}
+
+// Refuses a horizon past an hour.
+fn check_horizon(until: u64) -> Result<(), Cause>
+    ensures refused { MatchResult result (λ _. refused_horizon until ≡ None)
+        (λ cause. RefusesText (refused_horizon until) cause) }
+    ensures small { OnOk result (until ≤ 3600000) }
+{
+    if until > HOUR {
+        return Err(Cause::limit(Limit::Horizon));
+    }
+    Ok(())
+}
+
+// The nest of a run's words, where these refuse nothing.
+fn read_words(alloc: Global, job: &RunJob<'_>) -> Result<NestWords, Cause>
+    ensures read { (disk : DiskView) → ReadsOn (run_reading (run_values job.now)) (run_inputs (run_values job.now))
+        disk disk result }
+    ensures small { OnOk result (job.now.until ≤ 3600000) }
+{
+    let nest = match read_nest(alloc, job.shells) {
+        Ok(nest) => nest,
+        Err(error) => return Err(nest_cause(error)),
+    };
+    check_names(alloc, job, &nest)?;
+    check_horizon(job.until)?;
+    Ok(nest)
+}
+
+// Refuses traces with too many opportunities.
+fn check_count(job: &RunJob<'_>, words: &NestWords, traces: &[Trace]) -> Result<(), Cause>
+    requires horizon { job.now.until ≤ 3600000 }
+    requires count { length traces.now ≡ length words.now.traces }
+    ensures few { OnOk result (opportunities_of job.now.until words.now.shells traces.now ≤ 16000000) }
+    ensures refused { IfErr result (λ cause. RefusesText (refused_count job.now.until words.now.shells traces.now)
+        cause) }
+{
+    if words.opportunities(traces, job.until) > MOST_OPPORTUNITIES {
+        return Err(Cause::limit(Limit::Opportunities));
+    }
+    Ok(())
+}
+
+// The nest of these words with its traces.
+fn load_nest<D: Disk>(
+    alloc: Global,
+    job: &RunJob<'_>,
+    words: NestWords,
+    disk: &mut D,
+) -> Result<Nest, Cause>
+    requires { job.now.until ≤ 3600000 }
+    ensures found { IfOk result (λ nest. HasNest (D.view disk.old).files (run_values job.now) words nest) }
+    ensures stopped { IfErr result (λ cause. StopsReading (run_inputs (run_values job.now) words) (D.view disk.old)
+        (D.view disk.new) cause) }
+    ensures only_reads { OnlyReads (D.view disk.old) (D.view disk.new) }
+{
+    let traces = load_traces(alloc, disk, words.traces())?;
+    check_count(job, &words, traces.as_slice())?;
+    Ok(build(alloc, words, traces, job.seed, job.until)?)
+}
+
+// The run of a job's inputs. Its nest and its schedule are let go before any file is written, but for the traces of
+// links whose logs have a name.
+fn run_packets<D: Disk>(
+    alloc: Global,
+    job: &RunJob<'_>,
+    words: NestWords,
+    disk: &mut D,
+) -> Result<NestRun, Cause>
+    requires { job.now.until ≤ 3600000 }
+    ensures found { IfOk result (λ run. FinishesOnly GivesRun (run_inputs (run_values job.now) words)
+        (D.view disk.old).files (writes (run_files job.now.out.now run))) }
+    ensures stopped { IfErr result (λ cause. StopsReading (run_inputs (run_values job.now) words) (D.view disk.old)
+        (D.view disk.new) cause) }
+    ensures only_reads { OnlyReads (D.view disk.old) (D.view disk.new) }
+{
+    let nest = load_nest(alloc, job, words, disk)?;
+    let schedule = load_schedule(alloc, disk, job.schedule)?;
+    Ok(run_nest(alloc, &nest, &schedule)?)
+}
+
+// Runs the job: its inputs are read, its packets pass the nest, and then its logs and its fates are written.
+fn run<D: Disk>(alloc: Global, job: &RunJob<'_>, disk: &mut D) -> Result<(), Cause>
+    ensures ends { (out : SinkView) → Ends (only GivesRun) (run_reading (run_values job.now))
+        (offline (D.view disk.old) out) (offline (D.view disk.new) out) (cause_in result) }
+    ensures counts { CountsDisk (D.view disk.old) (D.view disk.new) }
+{
+    let words = read_words(alloc, job)?;
+    let run = run_packets(alloc, job, words, disk)?;
+    write_files(alloc, disk, job.out, run)
+}
+
+/// Does what the words after `run` say: passes the packets of a schedule through a nest of shells, and writes the logs
+/// that the shells' words name and then the fates of the packets. Nothing is printed, and no net is touched.
+pub fn answer_run<D: Disk>(
+    alloc: Global,
+    words: &[String],
+    disk: &mut D,
+) -> Result<(), Cause>
+    ensures ends { (out : SinkView) → Ends (only GivesRun) (run_words (map string_bytes words.now))
+        (offline (D.view disk.old) out) (offline (D.view disk.new) out) (cause_in result) }
+    ensures counts { CountsDisk (D.view disk.old) (D.view disk.new) }
+{
+    match read_run(alloc, words)? {
+        Some(job) => run(alloc, &job, disk),
+        None => Err(Cause::usage()),
+    }
+}

@@ -1,0 +1,98 @@
+// The files that a run writes: its logs, in order, and then its fates.
+ghost use Rattle.std.specs.Prelude.{◌≡◌, ◌⊎◌, ◌≤◌, ◌-◌, ℕ, length, take, map, IfErr, OnOk, OnErr};
+ghost use Rattle.mm_base.specs.Disk.{OnlyWrites, HasWriteCause};
+ghost use Rattle.mm_base.specs.Files.{holding};
+ghost use Rattle.shell_log.specs.LogText.{log_text};
+ghost use Rattle.nest_spec.specs.FateTexts.{fates_text};
+ghost use Rattle.nest_plain.specs.Unwritten.{unwritten};
+ghost use Rattle.command_ends.specs.Outputs.{HoldsSome, holding_all, named_text};
+ghost use Rattle.command_ends.specs.Stops.{StopsAtOutput, StopsWriting};
+ghost use Rattle.command_run.specs.Run.{log_file, run_files};
+
+use command_ends::{Cause, file_written};
+use link_core::LinkLog;
+use mm_base::{Disk, DiskError, LineBuffer, append_lines, save, save_lines};
+use nest_plain::{NestRun, UnwrittenLog};
+use nest_spec::{FateRow, Named};
+use shell_log::HEADER;
+use std::alloc::Global;
+
+// Makes the file hold a log's text: its first line, and then a line for each entry, written piece by piece as the log
+// is made. After a refusal the file is as before, or it holds a front of the text: none, or not all.
+fn save_log<D: Disk>(alloc: Global, disk: &mut D, name: &str, log: LinkLog) -> Result<(), DiskError>
+    ensures ok { OnOk result ((D.view disk.new).files ≡ holding name.now (log_text log) (D.view disk.old).files) }
+    ensures err { OnErr result (HoldsSome (named_text name.now (log_text log)) (D.view disk.old).files
+        (D.view disk.new).files) }
+    ensures only_writes { OnlyWrites (D.view disk.old) (D.view disk.new) }
+    ensures cause { HasWriteCause (D.view disk.old) (D.view disk.new) result }
+{
+    let mut lines = LineBuffer::new(alloc)?;
+    let mut pieces = log.pieces();
+    save(disk, name, HEADER)?;
+    'pieces: while pieces.next()? {
+        append_lines(disk, name, &mut lines, pieces.piece())?;
+    }
+    Ok(())
+}
+
+// Writes the file of a log, and lets the log go.
+fn write_log<D: Disk>(alloc: Global, disk: &mut D, log: UnwrittenLog) -> Result<(), Cause>
+    ensures ok { OnOk result ((D.view disk.new).files ≡ holding log.name (log_text log.log) (D.view disk.old).files) }
+    ensures partly { OnErr result (HoldsSome (named_text log.name (log_text log.log)) (D.view disk.old).files
+        (D.view disk.new).files) }
+    ensures stopped { IfErr result (λ cause. StopsAtOutput log.name (D.view disk.old) (D.view disk.new) cause) }
+    ensures only_writes { OnlyWrites (D.view disk.old) (D.view disk.new) }
+{
+    let Named { name, log } = log;
+    let written = save_log(alloc, disk, name.as_str(), log);
+    file_written(alloc, name.as_str(), written)
+}
+
+// Writes the files of the logs in order, and lets each log go when its file is written.
+fn write_logs<D: Disk>(alloc: Global, disk: &mut D, logs: Vec<UnwrittenLog>) -> Result<(), Cause>
+    ensures ok { OnOk result ((D.view disk.new).files ≡ holding_all (map log_file (unwritten logs.items))
+        (D.view disk.old).files) }
+    ensures stopped { IfErr result (λ cause. StopsWriting (map log_file (unwritten logs.items)) (D.view disk.old)
+        (D.view disk.new) cause) }
+    ensures only_writes { OnlyWrites (D.view disk.old) (D.view disk.new) }
+{
+    for log in logs {
+        write_log(alloc, disk, log)?;
+    }
+    Ok(())
+}
+
+// Writes the file of the fates.
+fn write_fates<D: Disk>(
+    alloc: Global,
+    disk: &mut D,
+    name: &str,
+    fates: &[FateRow],
+) -> Result<(), Cause>
+    ensures ok { OnOk result ((D.view disk.new).files ≡ holding name.now (fates_text fates.now)
+        (D.view disk.old).files) }
+    ensures partly { OnErr result (HoldsSome (named_text name.now (fates_text fates.now)) (D.view disk.old).files
+        (D.view disk.new).files) }
+    ensures stopped { IfErr result (λ cause. StopsAtOutput name.now (D.view disk.old) (D.view disk.new) cause) }
+    ensures only_writes { OnlyWrites (D.view disk.old) (D.view disk.new) }
+{
+    let written = save_lines(alloc, disk, name, b"", fates);
+    file_written(alloc, name, written)
+}
+
+// Writes the files of a run in order.
+pub(crate) fn write_files<D: Disk>(
+    alloc: Global,
+    disk: &mut D,
+    out: &str,
+    run: NestRun,
+) -> Result<(), Cause>
+    ensures ok { OnOk result ((D.view disk.new).files ≡ holding_all (run_files out.now run) (D.view disk.old).files) }
+    ensures stopped { IfErr result (λ cause. StopsWriting (run_files out.now run) (D.view disk.old) (D.view disk.new)
+        cause) }
+    ensures only_writes { OnlyWrites (D.view disk.old) (D.view disk.new) }
+{
+    let (fates, logs) = run.into_parts();
+    write_logs(alloc, disk, logs)?;
+    write_fates(alloc, disk, out, fates.as_slice())
+}

@@ -1,0 +1,76 @@
+// What `run` is asked for, by its words.
+ghost use Rattle.std.specs.Prelude.{◌≡◌, ◌<◌, IfOk, IfSome, map, string_bytes, position, length};
+ghost use Rattle.std.specs.Option.{option_map};
+ghost use Rattle.option_words.specs.View.{texts_of};
+ghost use Rattle.command_run.specs.Run.{ends_options, run_numbers, run_with, run_of};
+ghost use Rattle.command_run.specs.View.{run_values};
+
+use mm_base::{OutOfMemory, read_decimal};
+use option_words::{RunWords, parse_run};
+use std::alloc::Global;
+
+// The horizon in milliseconds, the names of the files, the seed, and the words of the shells.
+#[derive(Drop)]
+pub(crate) struct RunJob<'a> {
+    pub until: u64,
+    pub schedule: &'a str,
+    pub out: &'a str,
+    pub seed: u64,
+    pub plain: bool,
+    pub shells: &'a [String],
+}
+
+// The job of the words after `run`, if they have one. `OutOfMemory` is want of memory.
+#[tactic(auto, unfolding(crate::specs::Run::run_of))]
+pub(crate) fn read_run<'a>(
+    alloc: Global,
+    words: &'a [String],
+) -> Result<Option<RunJob<'a>>, OutOfMemory>
+    ensures { IfOk result (λ found. option_map run_values found ≡ run_of (map string_bytes words.now)) }
+{
+    let Some(end) = end_of_options(words) else {
+        return Ok(None);
+    };
+    match parse_run(alloc, &words[..end])? {
+        Some(texts) => Ok(run_job(texts, &words[end + 1..])),
+        None => Ok(None),
+    }
+}
+
+// Where the first `--` stands.
+fn end_of_options(words: &[String]) -> Option<usize>
+    ensures place { result ≡ position (λ word. ends_options (string_bytes word)) words.now }
+    ensures within { IfSome result (λ place. place < length words.now) }
+{
+    words.iter().position(|word| word.as_str() == "--")
+}
+
+// The job of the options' values. There is none for an order yet.
+fn run_job<'a>(texts: RunWords<'a>, shells: &'a [String]) -> Option<RunJob<'a>>
+    ensures { option_map run_values result ≡ run_with (map string_bytes shells.now) (texts_of texts.entry) }
+{
+    match texts.order {
+        Some(_) => None,
+        None => with_numbers(texts, shells),
+    }
+}
+
+// The job of the options' values, where the numbers are decimals.
+#[tactic(auto, unfolding(crate::specs::Run::run_numbers))]
+fn with_numbers<'a>(texts: RunWords<'a>, shells: &'a [String]) -> Option<RunJob<'a>>
+    ensures { option_map run_values result ≡ run_numbers (map string_bytes shells.now) (texts_of texts.entry) }
+{
+    let until = read_decimal(texts.until.as_bytes())?;
+    let seed = match texts.seed {
+        Some(seed) => read_decimal(seed.as_bytes())?,
+        None => 0,
+    };
+    Some(RunJob {
+        until,
+        schedule: texts.schedule,
+        out: texts.out,
+        seed,
+        plain: texts.plain,
+        shells,
+    })
+}

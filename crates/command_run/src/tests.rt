@@ -1,0 +1,31 @@
+// `run` over files in memory.
+use crate::answer_run;
+use std::alloc::Global;
+use std::test::Fail;
+use test_outside::{TestOutside, words_of};
+
+mod failing;
+mod large;
+mod refused;
+mod written;
+
+// What the words after `run` are to leave: a status, a line on `out`, and files.
+struct Left<'a> {
+    status: u8,
+    line: &'a str,
+    files: &'a [(&'a str, &'a str)],
+}
+
+// Whether the words, over a disk with these files, whose call of this number fails, leave this.
+fn leaves(
+    alloc: Global,
+    words: &str,
+    files: &[(&str, &str)],
+    fails: &[u64],
+    left: &Left<'_>,
+) -> Result<bool, Fail> {
+    let words = words_of(alloc, words)?;
+    let mut outside = TestOutside::new(alloc, files, fails, &[])?;
+    let answer = answer_run(alloc, &words, &mut outside.disk);
+    Ok(outside.ends_with(answer, left.status, left.line, left.files))
+}

@@ -1,5 +1,0 @@
-use Rattle.mm_program.proofs.InputLemmas.{trace_accepted}
-use Rattle.mm_program.proofs.inputs.trace_of.Goals as goal
-
-pub returns-in-Ok-clause-refused : goal.returns-in-Ok-clause-refused
-returns-in-Ok-clause-refused c = trace_accepted c.args.name.now c.args.text.now c.in-Ok.ensures.exact

@@ -1,0 +1,14 @@
+// The words of a line.
+use mm_base::OutOfMemory;
+use std::alloc::Global;
+
+/// The words between the spaces of a line. `OutOfMemory` is want of memory.
+pub fn words_of(alloc: Global, line: &str) -> Result<Vec<String>, OutOfMemory> {
+    let mut words = Vec::new(alloc);
+    for word in line.split(' ') {
+        if !word.is_empty() {
+            words.push(String::from_str(alloc, word)?)?;
+        }
+    }
+    Ok(words)
+}
