@@ -11,8 +11,7 @@ use Rattle.command_ends.specs.Ends.{Outside, outside, Ends, Finishes, FinishesOn
 use Rattle.command_ends.specs.Ends.{IsPartlyPrinted, IsPartlyWritten, IsRefused, IsUnchanged, KeepsFiles, Early}
 use Rattle.command_ends.specs.Ends.{Writing, Printing}
 use Rattle.command_ends.specs.Outputs.{NamedText, Output, HoldsFirst, holding_all, prints, writes}
-use Rattle.command_ends.specs.Readings.{Reading, Done, Refuses, Leads, Stays, asked, usage}
-use Rattle.command_ends.proofs.ReadingLemmas.{leads_then}
+use Rattle.command_ends.specs.Readings.{Reading, Done, Refuses, Leads, AtTask, asked, usage}
 use Rattle.command_ends.specs.Stops.{StopsReading, ReadingRefused, ReadingFault, ReadingWants, StopsWriting}
 use Rattle.command_ends.specs.Stops.{StopsPrinting}
 use Rattle.command_ends.specs.Works.{Work}
@@ -41,9 +40,9 @@ module _ {A N : Type 0} (work : A → Work N) (reading : Reading A) where
       let ends : IsRefused reading (outside old out net) (outside new out net) refusal =
       record { first = first; absent = counts; unchanged = unchanged old new out net keep } in
       subst (λ (c : Cause). Ends work reading (outside old out net) (outside new out net) (Some c)) (sym is) ends
-  ends_stopped old new out net cause keep (ReadingFault name rest is next rose) =
+  ends_stopped old new out net cause keep (ReadingFault name is next rose) =
       let ends : HasReadFault reading (outside old out net) (outside new out net) name =
-      record { rest = rest; next = next; rose = rose; unchanged = unchanged old new out net keep } in
+      record { next = next; rose = rose; unchanged = unchanged old new out net keep } in
       subst (λ (c : Cause). Ends work reading (outside old out net) (outside new out net) (Some c)) (sym is) ends
   ends_stopped old new out net cause keep (ReadingWants is) =
       subst (λ (c : Cause). Ends work reading (outside old out net) (outside new out net) (Some c)) (sym is)
@@ -121,7 +120,7 @@ module _ {A N : Type 0} (work : A → Work N) (reading : Reading A) where
 pub finishes_only : {A : Type 0} (reading : Reading A) (Gives : A → Output → Type 0) (task : A) (told : Option Files)
     (output : Output) → Leads told reading (Done task) → Gives task output → FinishesOnly Gives reading told output
 finishes_only reading Gives task told output read gives =
-    record { task = task; read = read; gives = record { gives = gives; net = refl } }
+    record { task = task; read = read.on (AtTask task) refl; gives = record { gives = gives; net = refl } }
 
 -- words that are refused without reading
 pub ends_refused : {A N : Type 0} (work : A → Work N) (old : Outside N) (refusal : Refusal)
@@ -129,7 +128,7 @@ pub ends_refused : {A N : Type 0} (work : A → Work N) (old : Outside N) (refus
     → Ends work (Refuses refusal) old old (Some (Refused refusal))
 ends_refused work old refusal there =
     record {
-      first = Stays (Refuses refusal);
+      first = refl;
       absent = λ name e. absurd (there name e);
       unchanged = record { keeps = keeps_all old.disk; silent = refl; net = refl };
     }
@@ -165,4 +164,4 @@ module _ {A N : Type 0} (work : A → Work N) where
 pub finishes_later : {A N : Type 0} {work : A → Work N} {a b : Reading A} {told : Option Files} {old new : N}
     {output : Output} → Leads told a b → Finishes work b told old new output
     → Finishes work a told old new output
-finishes_later leads f = record { task = f.task; read = leads_then leads f.read; gives = f.gives }
+finishes_later leads f = record { task = f.task; read = leads.on (AtTask f.task) f.read; gives = f.gives }

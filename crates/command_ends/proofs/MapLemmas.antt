@@ -1,13 +1,13 @@
 -- How a command's own end is the end of a program that has the command among others.
-use Rattle.std.proofs.Common.{◌≡◌, ℕ, List, Option, Some, None, Result, Ok, Err, refl, subst}
+use Rattle.std.proofs.Common.{◌≡◌, inl, inr, ℕ, List, Option, Some, None, Result, Ok, Err, refl, ap, subst}
 use Rattle.mm_base.specs.Disk.{DiskView}
 use Rattle.mm_base.specs.Files.{Files}
 use Rattle.mm_base.specs.Sink.{SinkView}
 use Rattle.command_ends.specs.Ends.{Outside, outside, offline, Ends, Finishes, IsPartlyPrinted, IsPartlyWritten}
 use Rattle.command_ends.specs.Ends.{IsStopped, IsUnchanged, Early, Serving, Writing, Printing}
 use Rattle.command_ends.specs.Outputs.{Output}
-use Rattle.command_ends.specs.Readings.{Reading, Done, Refuses, Reads, Leads, Stays, Goes, after, input_of}
-use Rattle.command_ends.specs.Readings.{map_reading}
+use Rattle.command_ends.specs.Readings.{Reading, Done, Refuses, Reads, Judges, Reaches, ReachesPast, input_of}
+use Rattle.command_ends.specs.Readings.{Stop, AtTask, AtRefusal, AtFile, map_reading}
 use Rattle.command_ends.specs.Works.{Work, only}
 use Rattle.command_ends.proofs.ReadingLemmas.{RefusesNoWords, RefusesWordsFirst}
 use Rattle.command_ends.specs.declared.cause.Refusal.{Refusal}
@@ -15,25 +15,40 @@ use Rattle.command_ends.specs.declared.cause.Cause.{Cause}
 use Rattle.command_ends.specs.declared.cause.Cause.TheVariants.{Refused, ReadFault, WriteFault, OutFault, NetFault}
 use Rattle.command_ends.specs.declared.cause.Cause.TheVariants.{OutOfMemory}
 
-after_mapped : {A B : Type 0} (f : A → B) (next : List ℕ → Reading A) (given : Result (List ℕ) Refusal)
-    → map_reading f (after next given) ≡ after (λ bytes. map_reading f (next bytes)) given
-after_mapped f next (Ok bytes) = refl
-after_mapped f next (Err refusal) = refl
+-- the same end, where this is done in place of that
+abbrev map_stop : {A B : Type 0} → (A → B) → Stop A → Stop B
+map_stop f (AtTask task) = AtTask (f task)
+map_stop f (AtRefusal refusal) = AtRefusal refusal
+map_stop f (AtFile name) = AtFile name
 
--- files lead as they did
-pub leads_mapped : {A B : Type 0} {told : Option Files} {a b : Reading A} (f : A → B) → Leads told a b
-    → Leads told (map_reading f a) (map_reading f b)
-leads_mapped f (Stays reading) = Stays (map_reading f reading)
-leads_mapped {A} {B} {told} f (Goes name next given to holds rest) =
-    Goes name (λ bytes. map_reading f (next bytes)) given (map_reading f to) holds
-    (subst (λ (r : Reading B). Leads told r (map_reading f to)) (after_mapped f next (input_of name given))
-    (leads_mapped f rest))
+past_mapped : {A B : Type 0} (f : A → B) (told : Option Files) (next : List ℕ → Reading A) (stop : Stop A)
+    (found : Result (List ℕ) Refusal)
+    → ((bytes : List ℕ) → Reaches told (next bytes) stop → Reaches told (map_reading f (next bytes)) (map_stop f stop))
+    → ReachesPast (λ b. Reaches told (next b) stop) found stop
+    → ReachesPast (λ b. Reaches told (map_reading f (next b)) (map_stop f stop)) found (map_stop f stop)
+past_mapped f told next stop (Ok bytes) mapped r = mapped bytes r
+past_mapped f told next stop (Err refusal) mapped r = ap (map_stop f) r
+
+-- files lead where they did
+pub reaches_mapped : {A B : Type 0} (f : A → B) (told : Option Files) (reading : Reading A) (stop : Stop A)
+    → Reaches told reading stop → Reaches told (map_reading f reading) (map_stop f stop)
+reaches_mapped f told (Done task) stop r = ap (map_stop f) r
+reaches_mapped f told (Refuses refusal) stop r = ap (map_stop f) r
+reaches_mapped f told (Reads name next) stop (inl e) = inl (ap (map_stop f) e)
+reaches_mapped f told (Reads name next) stop (inr p) = inr (
+  p.0,
+  p.1,
+  past_mapped f told next stop (input_of name p.0) (λ bytes r. reaches_mapped f told (next bytes) stop r) p.2,
+)
+reaches_mapped f told (Judges Says next) stop (inl p) = inl (p.0, reaches_mapped f told next stop p.1)
+reaches_mapped f told (Judges Says next) stop (inr p) = inr (p.0, p.1, ap (map_stop f) p.2)
 
 no_words_mapped : {A B : Type 0} (f : A → B) (reading : Reading A) → RefusesNoWords reading
     → RefusesNoWords (map_reading f reading)
 no_words_mapped f (Done task) none = tt
 no_words_mapped f (Refuses refusal) none = none
 no_words_mapped f (Reads name next) none = λ bytes. no_words_mapped f (next bytes) (none bytes)
+no_words_mapped f (Judges Says next) none = (none.0, no_words_mapped f next none.1)
 
 -- words are refused first as they were
 pub first_mapped : {A B : Type 0} (f : A → B) (reading : Reading A) → RefusesWordsFirst reading
@@ -41,6 +56,7 @@ pub first_mapped : {A B : Type 0} (f : A → B) (reading : Reading A) → Refuse
 first_mapped f (Done task) first = tt
 first_mapped f (Refuses refusal) first = tt
 first_mapped f (Reads name next) first = λ bytes. no_words_mapped f (next bytes) (first bytes)
+first_mapped f (Judges Says next) first = (first.0, no_words_mapped f next first.1)
 
 -- What a task does between these two views of its net, another does between those two of its own.
 pub record Widens {A B N M : Type 0} (f : A → B) (work : A → Work N) (whole : B → Work M) (old new : N)
@@ -57,7 +73,7 @@ module _ {A B N M : Type 0} (f : A → B) (work : A → Work N) (whole : B → W
       → Finishes whole (map_reading f reading) old.files m m' output
   finishes output e = record {
     task = f e.task;
-    read = leads_mapped f e.read;
+    read = reaches_mapped f old.files reading (AtTask e.task) e.read;
     gives = w.gives e.task output e.gives;
   }
 
@@ -69,7 +85,7 @@ module _ {A B N M : Type 0} (f : A → B) (work : A → Work N) (whole : B → W
       → IsStopped whole (map_reading f reading) (outside old out m) (outside disk written m') cause
   stopped cause e = record {
     task = f e.task;
-    read = leads_mapped f e.read;
+    read = reaches_mapped f old.files reading (AtTask e.task) e.read;
     stops = w.stops e.task cause e.stops;
     keeps = e.keeps;
     silent = e.silent;
@@ -108,13 +124,12 @@ module _ {A B N M : Type 0} (f : A → B) (work : A → Work N) (whole : B → W
     printed = e.printed;
   }
   ends_widened (Some (Refused refusal)) e = record {
-    first = leads_mapped f e.first;
+    first = reaches_mapped f old.files reading (AtRefusal refusal) e.first;
     absent = e.absent;
     unchanged = unchanged e.unchanged;
   }
   ends_widened (Some (ReadFault name)) e = record {
-    rest = λ bytes. map_reading f (e.rest bytes);
-    next = leads_mapped f e.next;
+    next = reaches_mapped f old.files reading (AtFile name) e.next;
     rose = e.rose;
     unchanged = unchanged e.unchanged;
   }

@@ -6,9 +6,11 @@ use Rattle.mm_base.specs.Disk.{DiskView, OnlyReads}
 use Rattle.mm_base.proofs.Then.{Rose-later}
 use Rattle.mm_base.specs.Files.{Files}
 use Rattle.command_ends.specs.Causes.{Text, status_of_refusal}
-use Rattle.command_ends.specs.Readings.{Reading, Done, Refuses, Reads, Holds, Leads, Stays, Goes, after, input_of}
-use Rattle.command_ends.specs.Readings.{asked, outcome, outcome_after, reading_text, refused_first, unless}
-use Rattle.command_ends.specs.Stops.{IsInput, ReadsOn, RefusesText, StopsAtFile, FileRefused, FileFault, FileWants}
+use Rattle.command_ends.specs.Readings.{Reading, Done, Refuses, Reads, Judges, Holds, Leads, Reaches, ReachesPast}
+use Rattle.command_ends.specs.Readings.{Stop, AtTask, AtRefusal, AtFile, input_of}
+use Rattle.command_ends.specs.Readings.{asked, reading_text, refused_first, unless}
+use Rattle.command_ends.specs.Stops.{IsInput, ReadsOn, RefusesBy, RefusesText, StopsAtFile, FileRefused, FileFault}
+use Rattle.command_ends.specs.Stops.{FileWants}
 use Rattle.command_ends.specs.Stops.{StopsReading, ReadingRefused, ReadingFault, ReadingWants}
 use Rattle.command_ends.specs.declared.cause.Cause.{Cause}
 use Rattle.command_ends.specs.declared.cause.Cause.TheVariants.{Refused}
@@ -16,10 +18,12 @@ use Rattle.command_ends.specs.declared.cause.Limit.TheVariants.{File}
 use Rattle.command_ends.specs.declared.cause.Refusal.{Refusal}
 use Rattle.command_ends.specs.declared.cause.Refusal.TheVariants.{Absent, BadInput, Limit}
 
+pub stays : {A : Type 0} {told : Option Files} (reading : Reading A) → Leads told reading reading
+stays reading = record { on = λ stop r. r }
+
 pub leads_then : {A : Type 0} {told : Option Files} {a b c : Reading A} → Leads told a b → Leads told b c
     → Leads told a c
-leads_then (Stays reading) more = more
-leads_then (Goes name next given to holds rest) more = Goes name next given _ holds (leads_then rest more)
+leads_then first second = record { on = λ stop r. first.on stop (second.on stop r) }
 
 input_within : (name : Text) (bytes : List ℕ) → length bytes ≤ 67108864 → input_of name (Some bytes) ≡ Ok bytes
 unfolding input_of
@@ -31,45 +35,47 @@ input_within name bytes few =
 pub leads_past : {A : Type 0} (told : Option Files) (name : Text) (next : List ℕ → Reading A) (bytes : List ℕ)
     → IsInput told name bytes
     → Leads told (Reads name next) (next bytes)
-leads_past told name next bytes is =
-    Goes name next (Some bytes) (next bytes) is.held
-    (subst (λ (r : Result (List ℕ) Refusal). Leads told (after next r) (next bytes))
-    (sym (input_within name bytes is.few)) (Stays (next bytes)))
+leads_past told name next bytes is = record {
+  on = λ stop r. inr (
+    Some bytes,
+    is.held,
+    subst (λ (given : Result (List ℕ) Refusal). ReachesPast (λ b. Reaches told (next b) stop) given stop)
+        (sym (input_within name bytes is.few)) r,
+  );
+}
 
 -- to the refusal of an input
 pub leads_refused : {A : Type 0} (told : Option Files) (name : Text) (next : List ℕ → Reading A)
     (given : Option (List ℕ)) (refusal : Refusal) → Holds told name given
     → input_of name given ≡ Err refusal → Leads told (Reads name next) (Refuses refusal)
-leads_refused told name next given refusal holds e =
-    Goes name next given (Refuses refusal) holds
-    (subst (λ (r : Result (List ℕ) Refusal). Leads told (after next r) (Refuses refusal)) (sym e)
-    (Stays (Refuses refusal)))
+leads_refused told name next given refusal holds e = record {
+  on = λ stop r. inr (
+    given,
+    holds,
+    subst (λ (found : Result (List ℕ) Refusal). ReachesPast (λ b. Reaches told (next b) stop) found stop) (sym e) r,
+  );
+}
 
-after_outcome : {A : Type 0} (m : Files) (next : List ℕ → Reading A) (given : Result (List ℕ) Refusal)
-    → outcome_after (λ bytes. outcome m (next bytes)) given ≡ outcome m (after next given)
-after_outcome m next (Ok bytes) = refl
-after_outcome m next (Err refusal) = refl
+-- what is refused first is the end of all files
+pub first_kept : {A : Type 0} (told : Option Files) (reading : Reading A) (stop : Stop A) (refusal : Refusal)
+    → refused_first reading ≡ Some refusal → Reaches told reading stop → stop ≡ AtRefusal refusal
+first_kept told (Done task) stop refusal e r = absurd (let no : None ≡ Some refusal = e in cc no)
+first_kept told (Refuses other) stop refusal e r =
+    let same : other ≡ refusal = cc e in r ∙ ap AtRefusal same
+first_kept told (Reads name next) stop refusal e r = absurd (let no : None ≡ Some refusal = e in cc no)
+first_kept told (Judges Says next) stop refusal e r = absurd (let no : None ≡ Some refusal = e in cc no)
 
--- files that are told have the outcome of where they lead
-pub same_outcome : {A : Type 0} {told : Option Files} {a b : Reading A} (m : Files) → told ≡ Some m → Leads told a b
-    → outcome m a ≡ outcome m b
-same_outcome m e (Stays reading) = refl
-same_outcome m e (Goes name next given to holds rest) =
-    ap (λ (g : Option (List ℕ)). outcome_after (λ bytes. outcome m (next bytes)) (input_of name g)) (holds m e)
-    ∙ after_outcome m next (input_of name given)
-    ∙ same_outcome m e rest
+-- A judgement has one answer, and refuses no words.
+pub record IsJudgement (Says : Option Refusal → Type 0) : Type 0 where
+  pub no_words : (refusal : Refusal) → Says (Some refusal) → status_of_refusal refusal ≢ 2
+  pub single : (a b : Option Refusal) → Says a → Says b → a ≡ b
 
--- what is refused first is refused wherever files lead
-pub first_kept : {A : Type 0} {told : Option Files} {a b : Reading A} (refusal : Refusal) → Leads told a b
-    → refused_first a ≡ Some refusal → refused_first b ≡ Some refusal
-first_kept refusal (Stays reading) e = e
-first_kept refusal (Goes name next given to holds rest) e = absurd (let no : None ≡ Some refusal = e in cc no)
-
--- after these bytes are read no words are refused
+-- after these bytes are read no words are refused, and judgements have one answer
 abbrev pub RefusesNoWords : {A : Type 0} → Reading A → Type 0
 RefusesNoWords (Done task) = Unit {0}
 RefusesNoWords (Refuses refusal) = status_of_refusal refusal ≢ 2
 RefusesNoWords (Reads name next) = (bytes : List ℕ) → RefusesNoWords (next bytes)
+RefusesNoWords (Judges Says next) = IsJudgement Says × RefusesNoWords next
 
 input_refusal : (name : Text) (given : Option (List ℕ)) (refusal : Refusal) → input_of name given ≡ Err refusal
     → status_of_refusal refusal ≢ 2
@@ -83,31 +89,95 @@ input_refusal name (Some bytes) refusal e two = by_test (nat_lt 67108864 (length
         in omega (arith, ap status_of_refusal same))
     by_test false h = absurd (cc h)
 
-after_no_words : {A : Type 0} (name : Text) (next : List ℕ → Reading A) (given : Option (List ℕ))
-    (r : Result (List ℕ) Refusal) → input_of name given ≡ r
-    → ((bytes : List ℕ) → RefusesNoWords (next bytes)) → RefusesNoWords (after next r)
-after_no_words name next given (Ok bytes) e none = none bytes
-after_no_words name next given (Err refusal) e none = input_refusal name given refusal e
+no_words_past : {A : Type 0} (told : Option Files) (name : Text) (next : List ℕ → Reading A) (given : Option (List ℕ))
+    (stop : Stop A) (refusal : Refusal) (found : Result (List ℕ) Refusal) → input_of name given ≡ found
+    → ((bytes : List ℕ) → Reaches told (next bytes) stop → status_of_refusal refusal ≢ 2)
+    → ReachesPast (λ b. Reaches told (next b) stop) found stop → stop ≡ AtRefusal refusal
+    → status_of_refusal refusal ≢ 2
+no_words_past told name next given stop refusal (Ok bytes) e none r is = none bytes r
+no_words_past told name next given stop refusal (Err other) e none r is =
+    let both : AtRefusal other ≡ AtRefusal refusal = sym r ∙ is in
+    let same : other ≡ refusal = cc both in
+    subst (λ (k : Refusal). status_of_refusal k ≢ 2) same (input_refusal name given other e)
 
-pub no_words : {A : Type 0} {told : Option Files} {a b : Reading A} → Leads told a b → RefusesNoWords a
-    → RefusesNoWords b
-no_words (Stays reading) none = none
-no_words (Goes name next given to holds rest) none =
-    no_words rest (after_no_words name next given (input_of name given) refl none)
+pub no_words : {A : Type 0} (told : Option Files) (reading : Reading A) (stop : Stop A) (refusal : Refusal)
+    → RefusesNoWords reading → Reaches told reading stop → stop ≡ AtRefusal refusal → status_of_refusal refusal ≢ 2
+no_words told (Done task) stop refusal none r is =
+    absurd (let no : AtTask task ≡ AtRefusal refusal = sym r ∙ is in cc no)
+no_words told (Refuses other) stop refusal none r is =
+    let both : AtRefusal other ≡ AtRefusal refusal = sym r ∙ is in
+    let same : other ≡ refusal = cc both in
+    subst (λ (k : Refusal). status_of_refusal k ≢ 2) same none
+no_words told (Reads name next) stop refusal none (inl e) is =
+    absurd (let no : AtFile name ≡ AtRefusal refusal = sym e ∙ is in cc no)
+no_words told (Reads name next) stop refusal none (inr p) is =
+    no_words_past told name next p.0 stop refusal (input_of name p.0) refl
+    (λ bytes r. no_words told (next bytes) stop refusal (none bytes) r is) p.2 is
+no_words told (Judges Says next) stop refusal none (inl p) is = no_words told next stop refusal none.1 p.1 is
+no_words told (Judges Says next) stop refusal none (inr p) is =
+    let both : AtRefusal p.0 ≡ AtRefusal refusal = sym p.2 ∙ is in
+    let same : p.0 ≡ refusal = cc both in
+    subst (λ (k : Refusal). status_of_refusal k ≢ 2) same (none.0.no_words p.0 p.1)
 
--- Words are refused only before any file is read.
+-- Words are refused only before any file is read, and judgements have one answer.
 abbrev pub RefusesWordsFirst : {A : Type 0} → Reading A → Type 0
 RefusesWordsFirst (Done task) = Unit {0}
 RefusesWordsFirst (Refuses refusal) = Unit {0}
 RefusesWordsFirst (Reads name next) = (bytes : List ℕ) → RefusesNoWords (next bytes)
+RefusesWordsFirst (Judges Says next) = IsJudgement Says × RefusesNoWords next
 
-pub words_first : {A : Type 0} {told : Option Files} {a b : Reading A} (refusal : Refusal) → RefusesWordsFirst a
-    → Leads told a b → b ≡ Refuses refusal
-    → status_of_refusal refusal ≡ 2 → refused_first a ≡ Some refusal
-words_first refusal first (Stays reading) e two = ap refused_first e
-words_first {A} refusal first (Goes name next given to holds rest) e two =
-    let none = no_words rest (after_no_words name next given (input_of name given) refl first) in
-    absurd ((subst (λ (r : Reading A). RefusesNoWords r) e none) two)
+pub words_first : {A : Type 0} (told : Option Files) (reading : Reading A) (refusal : Refusal)
+    → RefusesWordsFirst reading → Reaches told reading (AtRefusal refusal) → status_of_refusal refusal ≡ 2
+    → refused_first reading ≡ Some refusal
+words_first told (Done task) refusal first r two = absurd (let no : AtRefusal refusal ≡ AtTask task = r in cc no)
+words_first told (Refuses other) refusal first r two =
+    let same : other ≡ refusal = let both : AtRefusal refusal ≡ AtRefusal other = r in cc both in ap Some same
+words_first told (Reads name next) refusal first r two =
+    absurd (no_words told (Reads name next) (AtRefusal refusal) refusal first r refl two)
+words_first told (Judges Says next) refusal first r two =
+    absurd (no_words told (Judges Says next) (AtRefusal refusal) refusal first r refl two)
+
+-- an end that isn't at a file
+abbrev pub IsLast : {A : Type 0} → Stop A → Type 0
+IsLast (AtTask task) = Unit {0}
+IsLast (AtRefusal refusal) = Unit {0}
+IsLast (AtFile name) = ⊥
+
+one_past : {A : Type 0} (m : Files) (next : List ℕ → Reading A) (s t : Stop A) (found : Result (List ℕ) Refusal)
+    → ((bytes : List ℕ) → Reaches (Some m) (next bytes) s → Reaches (Some m) (next bytes) t → s ≡ t)
+    → ReachesPast (λ b. Reaches (Some m) (next b) s) found s → ReachesPast (λ b. Reaches (Some m) (next b) t) found t
+    → s ≡ t
+one_past m next s t (Ok bytes) one a b = one bytes a b
+one_past m next s t (Err refusal) one a b = a ∙ sym b
+
+-- files that are told have one end
+pub one_end : {A : Type 0} (m : Files) (reading : Reading A) (s t : Stop A) → RefusesNoWords reading
+    → Reaches (Some m) reading s → Reaches (Some m) reading t → IsLast s → IsLast t → s ≡ t
+one_end m (Done task) s t none a b x y = a ∙ sym b
+one_end m (Refuses refusal) s t none a b x y = a ∙ sym b
+one_end {A} m (Reads name next) s t none (inl e) b x y = absurd (subst (λ (k : Stop A). IsLast k) e x)
+one_end {A} m (Reads name next) s t none (inr p) (inl e) x y = absurd (subst (λ (k : Stop A). IsLast k) e y)
+one_end m (Reads name next) s t none (inr p) (inr q) x y =
+    let same : p.0 ≡ q.0 = sym (p.1 m refl) ∙ q.1 m refl in
+    one_past m next s t (input_of name q.0) (λ bytes a b. one_end m (next bytes) s t (none bytes) a b x y)
+    (subst (λ (given : Option (List ℕ)). ReachesPast (λ b. Reaches (Some m) (next b) s) (input_of name given) s)
+    same p.2) q.2
+one_end m (Judges Says next) s t none (inl p) (inl q) x y = one_end m next s t none.1 p.1 q.1 x y
+one_end m (Judges Says next) s t none (inl p) (inr q) x y =
+    absurd (let no : None ≡ Some q.0 = none.0.single None (Some q.0) p.0 q.1 in cc no)
+one_end m (Judges Says next) s t none (inr p) (inl q) x y =
+    absurd (let no : None ≡ Some p.0 = none.0.single None (Some p.0) q.0 p.1 in cc no)
+one_end m (Judges Says next) s t none (inr p) (inr q) x y =
+    let both : Some p.0 ≡ Some q.0 = none.0.single (Some p.0) (Some q.0) p.1 q.1 in
+    let same : p.0 ≡ q.0 = cc both in
+    p.2 ∙ ap AtRefusal same ∙ sym q.2
+
+pub one_end_first : {A : Type 0} (m : Files) (reading : Reading A) (s t : Stop A) → RefusesWordsFirst reading
+    → Reaches (Some m) reading s → Reaches (Some m) reading t → IsLast s → IsLast t → s ≡ t
+one_end_first m (Done task) s t first a b x y = a ∙ sym b
+one_end_first m (Refuses refusal) s t first a b x y = a ∙ sym b
+one_end_first m (Reads name next) s t first a b x y = one_end m (Reads name next) s t first a b x y
+one_end_first m (Judges Says next) s t first a b x y = one_end m (Judges Says next) s t first a b x y
 
 pub unless_no_words : {A : Type 0} (found : Option Refusal) (next : Reading A)
     → ((refusal : Refusal) → found ≡ Some refusal → status_of_refusal refusal ≢ 2) → RefusesNoWords next
@@ -125,6 +195,7 @@ pub none_first : {A : Type 0} (reading : Reading A) → RefusesNoWords reading �
 none_first (Done task) none = tt
 none_first (Refuses refusal) none = tt
 none_first (Reads name next) none = none
+none_first (Judges Says next) none = none
 
 pub asked_first : {A J : Type 0} (found : Option J) (reading : J → Reading A)
     → ((job : J) → RefusesWordsFirst (reading job)) → RefusesWordsFirst (asked found reading)
@@ -140,20 +211,21 @@ either_first false one other first second = second
 pub leads_unless : {A : Type 0} (told : Option Files) (found : Option Refusal) (next : Reading A) → found ≡ None
     → Leads told (unless found next) next
 leads_unless {A} told found next e = subst (λ (o : Option Refusal). Leads told (unless o next) next) (sym e)
-    (Stays next)
+    (stays next)
 
 pub leads_to_refusal : {A : Type 0} (told : Option Files) (found : Option Refusal) (next : Reading A)
     (refusal : Refusal) → found ≡ Some refusal
     → Leads told (unless found next) (Refuses refusal)
 leads_to_refusal {A} told found next refusal e =
-    subst (λ (o : Option Refusal). Leads told (unless o next) (Refuses refusal)) (sym e) (Stays (Refuses refusal))
+    subst (λ (o : Option Refusal). Leads told (unless o next) (Refuses refusal)) (sym e) (stays (Refuses refusal))
 
 pub stops_at : {A : Type 0} (name : Text) (next : List ℕ → Reading A) (old new : DiskView) (cause : Cause)
     → StopsAtFile name old new cause
     → StopsReading (Reads name next) old new cause
 stops_at name next old new cause (FileRefused refusal is given holds e counts) =
-    ReadingRefused refusal is (leads_refused old.files name next given refusal holds e) counts
-stops_at name next old new cause (FileFault is rose) = ReadingFault name next is (Stays (Reads name next)) rose
+    ReadingRefused refusal is ((leads_refused old.files name next given refusal holds e).on (AtRefusal refusal) refl)
+    counts
+stops_at name next old new cause (FileFault is rose) = ReadingFault name is (inl refl) rose
 stops_at name next old new cause (FileWants is) = ReadingWants is
 
 -- what stops a later reading stops an earlier one that leads to it
@@ -161,12 +233,12 @@ pub stops_later : {A : Type 0} (a b : Reading A) (old mid new : DiskView) (cause
     → OnlyReads old mid → StopsReading b mid new cause
     → StopsReading a old new cause
 stops_later {A} a b old mid new cause leads reads (ReadingRefused refusal is first counts) =
-    ReadingRefused refusal is (leads_then leads
-    (subst (λ (told : Option Files). Leads told b (Refuses refusal)) reads.same_files first))
+    ReadingRefused refusal is (leads.on (AtRefusal refusal)
+    (subst (λ (told : Option Files). Reaches told b (AtRefusal refusal)) reads.same_files first))
     (λ name e. Rose-later _ _ _ reads.lacks (counts name e))
-stops_later {A} a b old mid new cause leads reads (ReadingFault name rest is next rose) =
-    ReadingFault name rest is (leads_then leads
-    (subst (λ (told : Option Files). Leads told b (Reads name rest)) reads.same_files next))
+stops_later {A} a b old mid new cause leads reads (ReadingFault name is next rose) =
+    ReadingFault name is (leads.on (AtFile name)
+    (subst (λ (told : Option Files). Reaches told b (AtFile name)) reads.same_files next))
     (Rose-later _ _ _ reads.reads rose)
 stops_later a b old mid new cause leads reads (ReadingWants is) = ReadingWants is
 
@@ -174,7 +246,7 @@ stops_later a b old mid new cause leads reads (ReadingWants is) = ReadingWants i
 pub stops_here : {A : Type 0} (a : Reading A) (old new : DiskView) (refusal : Refusal) → status_of_refusal refusal ≢ 3
     → Leads old.files a (Refuses refusal)
     → StopsReading a old new (Refused refusal)
-stops_here a old new refusal there leads = ReadingRefused refusal refl leads
+stops_here a old new refusal there leads = ReadingRefused refusal refl (leads.on (AtRefusal refusal) refl)
     (λ name e. absurd (there (ap status_of_refusal e)))
 
 -- the same of where reading goes on to
@@ -202,19 +274,68 @@ pub text_stops : {A : Type 0} (old new : DiskView) (grammar : List ℕ → Optio
 text_stops old new grammar name next text cause input there (inl is) = ReadingWants is
 text_stops old new grammar name next text cause input there (inr p) =
     ReadingRefused p.0 p.1
-    (leads_then (leads_past old.files name (λ t. unless (grammar t) (next t)) text input)
-    (leads_to_refusal old.files (grammar text) (next text) p.0 p.2))
+    ((leads_then (leads_past old.files name (λ t. unless (grammar t) (next t)) text input)
+    (leads_to_refusal old.files (grammar text) (next text) p.0 p.2)).on (AtRefusal p.0) refl)
     (λ missing e. absurd (there p.0 p.2 (ap status_of_refusal e)))
 
 -- the answer of a text's reader
-pub text_stopped : (A : Type 0) {T : Type 0} (old new : DiskView) (grammar : List ℕ → Option Refusal) (name : Text)
+pub text_stopped : {T : Type 0} (old new : DiskView) (grammar : List ℕ → Option Refusal) (name : Text)
     (text : List ℕ) (result : Result T Cause)
     → IsInput old.files name text → ((refusal : Refusal) → grammar text ≡ Some refusal → status_of_refusal refusal ≢ 3)
     → MatchResult result (λ _. grammar text ≡ None) (λ cause. RefusesText (grammar text) cause)
-    → IfErr result (λ cause. (next : List ℕ → Reading A) → StopsReading (reading_text grammar name next) old new cause)
-text_stopped A old new grammar name text (Ok value) input there answer = tt
-text_stopped A old new grammar name text (Err cause) input there answer = λ next. text_stops old new grammar name next
-    text cause input there answer
+    → IfErr result (λ cause. StopsReading (reading_text grammar name Done) old new cause)
+text_stopped old new grammar name text (Ok value) input there answer = tt
+text_stopped old new grammar name text (Err cause) input there answer =
+    text_stops old new grammar name Done text cause input there answer
+
+-- a refusal of a text, whatever would have come next
+refused_next : {A B : Type 0} (found : Option Refusal) (last : A) (next : Reading B) (told : Option Files)
+    (refusal : Refusal) → Reaches told (unless found (Done last)) (AtRefusal refusal)
+    → Reaches told (unless found next) (AtRefusal refusal)
+refused_next None last next told refusal r = absurd (let no : AtRefusal refusal ≡ AtTask last = r in cc no)
+refused_next (Some other) last next told refusal r =
+    let both : AtRefusal refusal ≡ AtRefusal other = r in
+    let same : refusal ≡ other = cc both in
+    ap AtRefusal same
+
+refused_past : {A : Type 0} (told : Option Files) (grammar : List ℕ → Option Refusal) (next : List ℕ → Reading A)
+    (refusal : Refusal) (found : Result (List ℕ) Refusal)
+    → ReachesPast {A = List ℕ} (λ t. Reaches told (unless (grammar t) (Done t)) (AtRefusal refusal)) found
+    (AtRefusal refusal)
+    → ReachesPast {A = A} (λ t. Reaches told (unless (grammar t) (next t)) (AtRefusal refusal)) found
+    (AtRefusal refusal)
+refused_past told grammar next refusal (Ok bytes) r =
+    refused_next (grammar bytes) bytes (next bytes) told refusal r
+refused_past told grammar next refusal (Err other) r =
+    let both : AtRefusal refusal ≡ AtRefusal other = r in
+    let same : refusal ≡ other = cc both in
+    ap AtRefusal same
+
+fault_next : {A : Type 0} (found : Option Refusal) (last : A) (told : Option Files) (name : Text)
+    → Reaches told (unless found (Done last)) (AtFile name) → ⊥
+fault_next None last told name r = let no : AtFile name ≡ AtTask last = r in cc no
+fault_next (Some other) last told name r = let no : AtFile name ≡ AtRefusal other = r in cc no
+
+fault_past : (told : Option Files) (grammar : List ℕ → Option Refusal) (name : Text) (found : Result (List ℕ) Refusal)
+    → ReachesPast {A = List ℕ} (λ t. Reaches told (unless (grammar t) (Done t)) (AtFile name)) found (AtFile name) → ⊥
+fault_past told grammar name (Ok bytes) r = fault_next (grammar bytes) bytes told name r
+fault_past told grammar name (Err other) r = let no : AtFile name ≡ AtRefusal other = r in cc no
+
+-- what stops the reading of a text stops it whatever would have come next
+pub text_stops_before : {A : Type 0} (old new : DiskView) (grammar : List ℕ → Option Refusal) (name : Text)
+    (cause : Cause) (next : List ℕ → Reading A) → StopsReading (reading_text grammar name Done) old new cause
+    → StopsReading (reading_text grammar name next) old new cause
+text_stops_before old new grammar name cause next (ReadingRefused refusal is (inl e) counts) =
+    absurd (cc e)
+text_stops_before old new grammar name cause next (ReadingRefused refusal is (inr p) counts) =
+    ReadingRefused refusal is
+    (inr (p.0, p.1, refused_past old.files grammar next refusal (input_of name p.0) p.2)) counts
+text_stops_before old new grammar name cause next (ReadingFault file is (inl e) rose) =
+    let same : file ≡ name = cc e in
+    ReadingFault file is (inl (ap AtFile same)) rose
+text_stops_before old new grammar name cause next (ReadingFault file is (inr p) rose) =
+    absurd (fault_past old.files grammar file (input_of name p.0) p.2)
+text_stops_before old new grammar name cause next (ReadingWants is) = ReadingWants is
 
 -- what stops at a file after others were read
 pub file_later : (name : Text) (old mid new : DiskView) (cause : Cause) → OnlyReads old mid
@@ -231,8 +352,21 @@ pub found_stop : {A : Type 0} (found : Option Refusal) (next : Reading A) (old n
     → RefusesText found cause → StopsReading (unless found next) old new cause
 found_stop found next old new cause there (inl is) = ReadingWants is
 found_stop found next old new cause there (inr p) =
-    ReadingRefused p.0 p.1 (leads_to_refusal old.files found next p.0 p.2)
+    ReadingRefused p.0 p.1 ((leads_to_refusal old.files found next p.0 p.2).on (AtRefusal p.0) refl)
     (λ missing e. absurd (there p.0 p.2 (ap status_of_refusal e)))
+
+-- past a judgement that accepts
+pub leads_judged : {A : Type 0} (told : Option Files) (Says : Option Refusal → Type 0) (next : Reading A) → Says None
+    → Leads told (Judges Says next) next
+leads_judged told Says next says = record { on = λ stop r. inl (says, r) }
+
+-- and one that refuses
+pub judged_stop : {A : Type 0} (Says : Option Refusal → Type 0) (next : Reading A) (old new : DiskView) (cause : Cause)
+    → ((refusal : Refusal) → Says (Some refusal) → status_of_refusal refusal ≢ 3) → RefusesBy Says cause
+    → StopsReading (Judges Says next) old new cause
+judged_stop Says next old new cause there (inl is) = ReadingWants is
+judged_stop Says next old new cause there (inr p) =
+    ReadingRefused p.0 p.1 (inr (p.0, p.2, refl)) (λ missing e. absurd (there p.0 p.2 (ap status_of_refusal e)))
 
 -- a refusal that isn't that of words, and not that a file is absent
 pub record IsOfText (refusal : Refusal) : Type 0 where

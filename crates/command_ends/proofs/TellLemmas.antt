@@ -9,7 +9,7 @@ use Rattle.mm_base.proofs.Then.{Rose-before}
 use Rattle.command_ends.specs.Causes.{status_by, status_of, status_of_refusal}
 use Rattle.command_ends.specs.Answers.{Answers, Concludes, IsFaultless, StopsShort}
 use Rattle.command_ends.specs.Ends.{Outside, outside, Ends, IsDone, KeepsFiles}
-use Rattle.command_ends.specs.Readings.{Reading, Done, Leads, outcome, refused_first}
+use Rattle.command_ends.specs.Readings.{Reading, Reaches, Stop, AtTask, AtRefusal, AtFile, refused_first}
 use Rattle.command_ends.specs.Works.{Work}
 use Rattle.command_ends.specs.declared.cause.Cause.{Cause}
 use Rattle.command_ends.specs.declared.cause.Cause.TheVariants.{Refused, ReadFault, WriteFault, OutFault, NetFault}
@@ -17,7 +17,7 @@ use Rattle.command_ends.specs.declared.cause.Cause.TheVariants.{OutOfMemory}
 use Rattle.command_ends.specs.declared.cause.Refusal.{Refusal}
 use Rattle.command_ends.specs.declared.cause.Refusal.TheVariants.{Words, Absent, BadInput, Limit}
 use Rattle.command_ends.specs.declared.cause.WordsRefusal.{WordsRefusal}
-use Rattle.command_ends.proofs.ReadingLemmas.{RefusesWordsFirst, first_kept, same_outcome, words_first}
+use Rattle.command_ends.proofs.ReadingLemmas.{RefusesWordsFirst, IsLast, first_kept, one_end_first, words_first}
 
 -- the words' refusal, where the status is 2
 pub words_of : (refusal : Refusal) → status_of_refusal refusal ≡ 2 → (w : WordsRefusal) × (refusal ≡ Words w)
@@ -101,11 +101,11 @@ module _ {A N : Type 0} (work : A → Work N) (reading : Reading A) (old : Outsi
     pub keeps : status ≢ 0 → status ≢ 7 → status ≢ 9 → KeepsFiles old.disk disk
     pub by_words : (refusal : Refusal) → refused_first reading ≡ Some refusal → (status ≡ status_of_refusal refusal)
         ⊎ (status ≡ 9)
-    pub by_files : (m : Files) (refusal : Refusal) → old.disk.files ≡ Some m → outcome m reading ≡ Err refusal
-        → ¬ Rose old.disk.read_faults disk.read_faults
+    pub by_files : (m : Files) (refusal : Refusal) → RefusesWordsFirst reading → old.disk.files ≡ Some m
+        → Reaches (Some m) reading (AtRefusal refusal) → ¬ Rose old.disk.read_faults disk.read_faults
         → (status ≡ status_of_refusal refusal) ⊎ (status ≡ 9)
-    pub complete : (m : Files) (task : A) → old.disk.files ≡ Some m → outcome m reading ≡ Ok task
-        → IsFaultless work task old (outside disk out net)
+    pub complete : (m : Files) (task : A) → RefusesWordsFirst reading → old.disk.files ≡ Some m
+        → Reaches (Some m) reading (AtTask task) → IsFaultless work task old (outside disk out net)
         → (status ≡ 0) ⊎ (status ≡ 9)
 
   status_at : (wanted status : ℕ) (cause : Cause) → status_of cause ≡ wanted → (status ≡ status_of cause)
@@ -113,19 +113,28 @@ module _ {A N : Type 0} (work : A → Work N) (reading : Reading A) (old : Outsi
   status_at wanted status cause e (inl own) = inl (own ∙ e)
   status_at wanted status cause e (inr nine) = inr nine
 
-  -- the task to which the files lead is the outcome
-  same_task : (m : Files) (task led : A) → old.disk.files ≡ Some m → outcome m reading ≡ Ok task
-      → Leads old.disk.files reading (Done led) → led ≡ task
-  same_task m task led told e read = let same : Ok led ≡ Ok task = sym (same_outcome m told read) ∙ e in cc same
+  -- where the files lead is where they are told to
+  one : (m : Files) (stop wanted : Stop A) → RefusesWordsFirst reading → old.disk.files ≡ Some m
+      → Reaches old.disk.files reading stop → Reaches (Some m) reading wanted → IsLast stop → IsLast wanted
+      → stop ≡ wanted
+  one m stop wanted first told r w x y =
+      one_end_first m reading stop wanted first (subst (λ (f : Option Files). Reaches f reading stop) told r) w x y
+
+  same_task : (m : Files) (task led : A) → RefusesWordsFirst reading → old.disk.files ≡ Some m
+      → Reaches (Some m) reading (AtTask task) → Reaches old.disk.files reading (AtTask led) → led ≡ task
+  same_task m task led first told w r =
+      let same : AtTask led ≡ AtTask task = one m (AtTask led) (AtTask task) first told r w tt tt in cc same
 
   -- and nothing is refused
   led_first : (refusal : Refusal) (led : A) → refused_first reading ≡ Some refusal
-      → Leads old.disk.files reading (Done led) → ⊥
-  led_first refusal led e read = let no : None ≡ Some refusal = first_kept refusal read e in cc no
+      → Reaches old.disk.files reading (AtTask led) → ⊥
+  led_first refusal led e read =
+      let no : AtTask led ≡ AtRefusal refusal = first_kept old.disk.files reading (AtTask led) refusal e read in cc no
 
-  led_told : (m : Files) (refusal : Refusal) (led : A) → old.disk.files ≡ Some m → outcome m reading ≡ Err refusal
-      → Leads old.disk.files reading (Done led) → ⊥
-  led_told m refusal led told e read = let no : Ok led ≡ Err refusal = sym (same_outcome m told read) ∙ e in cc no
+  led_told : (m : Files) (refusal : Refusal) (led : A) → RefusesWordsFirst reading → old.disk.files ≡ Some m
+      → Reaches (Some m) reading (AtRefusal refusal) → Reaches old.disk.files reading (AtTask led) → ⊥
+  led_told m refusal led first told w r =
+      let no : AtTask led ≡ AtRefusal refusal = one m (AtTask led) (AtRefusal refusal) first told r w tt tt in cc no
 
   tells_none : Ends work reading old (outside disk mid net) None → Tells 0
   tells_none ends = record {
@@ -136,8 +145,9 @@ module _ {A N : Type 0} (work : A → Work N) (reading : Reading A) (old : Outsi
     net_fault = λ e. absurd (omega arith);
     keeps = λ a _ _. absurd (a refl);
     by_words = λ refusal e. absurd (led_first refusal ends.finishes.task e ends.finishes.read);
-    by_files = λ m refusal told e _. absurd (led_told m refusal ends.finishes.task told e ends.finishes.read);
-    complete = λ m task told e _. inl refl;
+    by_files = λ m refusal first told e _. absurd
+        (led_told m refusal ends.finishes.task first told e ends.finishes.read);
+    complete = λ m task first told e _. inl refl;
   }
 
   tells_refused : (refusal : Refusal) → Ends work reading old (outside disk mid net) (Some (Refused refusal))
@@ -145,22 +155,24 @@ module _ {A N : Type 0} (work : A → Work N) (reading : Reading A) (old : Outsi
   tells_refused refusal ends = record {
     usage = λ two first.
         let w = words_of refusal two in
-        (w.0, words_first refusal first ends.first refl two ∙ ap Some w.1);
+        (w.0, words_first old.disk.files reading refusal first ends.first two ∙ ap Some w.1);
     absent = λ three. let n = absent_of refusal three in ends.absent n.0 n.1;
     read_fault = λ e. absurd (omega (arith, (within refusal).1));
     write_fault = λ e. absurd (omega (arith, (within refusal).1));
     net_fault = λ e. absurd (omega (arith, (within refusal).1));
     keeps = λ _ _ _. ends.unchanged.keeps;
     by_words = λ wanted e.
-        let same : Some refusal ≡ Some wanted = first_kept wanted ends.first e in
+        let same : AtRefusal refusal ≡ AtRefusal wanted =
+        first_kept old.disk.files reading (AtRefusal refusal) wanted e ends.first in
         let same_refusal : refusal ≡ wanted = cc same in
         inl (ap status_of_refusal same_refusal);
-    by_files = λ m wanted told e _.
-        let same : Err refusal ≡ Err wanted = sym (same_outcome m told ends.first) ∙ e in
+    by_files = λ m wanted first told e _.
+        let same : AtRefusal refusal ≡ AtRefusal wanted =
+        one m (AtRefusal refusal) (AtRefusal wanted) first told ends.first e tt tt in
         let same_refusal : refusal ≡ wanted = cc same in
         inl (ap status_of_refusal same_refusal);
-    complete = λ m task told e _. absurd (let no : Err refusal ≡ Ok task = sym (same_outcome m told ends.first) ∙ e
-        in cc no);
+    complete = λ m task first told e _. absurd (let no : AtRefusal refusal ≡ AtTask task =
+        one m (AtRefusal refusal) (AtTask task) first told ends.first e tt tt in cc no);
   }
 
   tells_read_fault : (name : List ℕ) → Ends work reading old (outside disk mid net) (Some (ReadFault name)) → Tells 6
@@ -171,9 +183,10 @@ module _ {A N : Type 0} (work : A → Work N) (reading : Reading A) (old : Outsi
     write_fault = λ e. absurd (omega arith);
     net_fault = λ e. absurd (omega arith);
     keeps = λ _ _ _. ends.unchanged.keeps;
-    by_words = λ refusal e. absurd (let no : None ≡ Some refusal = first_kept refusal ends.next e in cc no);
-    by_files = λ m refusal told e calm. absurd (calm ends.rose);
-    complete = λ m task told e faultless. absurd (faultless.read ends.rose);
+    by_words = λ refusal e. absurd (let no : AtFile name ≡ AtRefusal refusal =
+        first_kept old.disk.files reading (AtFile name) refusal e ends.next in cc no);
+    by_files = λ m refusal first told e calm. absurd (calm ends.rose);
+    complete = λ m task first told e faultless. absurd (faultless.read ends.rose);
   }
 
   tells_write_fault : (name : List ℕ) → Ends work reading old (outside disk mid net) (Some (WriteFault name)) → Tells 7
@@ -185,9 +198,9 @@ module _ {A N : Type 0} (work : A → Work N) (reading : Reading A) (old : Outsi
     net_fault = λ e. absurd (omega arith);
     keeps = λ _ b _. absurd (b refl);
     by_words = λ refusal e. absurd (led_first refusal ends.partly.finishes.task e ends.partly.finishes.read);
-    by_files = λ m refusal told e calm. absurd
-        (led_told m refusal ends.partly.finishes.task told e ends.partly.finishes.read);
-    complete = λ m task told e faultless. absurd (faultless.write ends.rose);
+    by_files = λ m refusal first told e calm. absurd
+        (led_told m refusal ends.partly.finishes.task first told e ends.partly.finishes.read);
+    complete = λ m task first told e faultless. absurd (faultless.write ends.rose);
   }
 
   tells_out_fault : mid.faults ≤ out.faults → Ends work reading old (outside disk mid net) (Some OutFault) → Tells 7
@@ -200,13 +213,13 @@ module _ {A N : Type 0} (work : A → Work N) (reading : Reading A) (old : Outsi
         net_fault = λ e. absurd (omega arith);
         keeps = λ _ b _. absurd (b refl);
         by_words = λ refusal e. absurd (led_first refusal ends.partly.finishes.task e ends.partly.finishes.read);
-        by_files = λ m refusal told e calm. absurd
-            (led_told m refusal ends.partly.finishes.task told e ends.partly.finishes.read);
-        complete = λ m task told e faultless.
+        by_files = λ m refusal first told e calm. absurd
+            (led_told m refusal ends.partly.finishes.task first told e ends.partly.finishes.read);
+        complete = λ m task first told e faultless.
             let some : 0 < length ends.partly.output.printed = let short = ends.partly.short in omega arith in
             let f = ends.partly.finishes in
             let gives = subst (λ (t : A). (work t).gives old.net net ends.partly.output)
-            (same_task m task f.task told e f.read) f.gives in
+            (same_task m task f.task first told e f.read) f.gives in
             absurd (faultless.print ends.partly.output gives some rose);
       }
 
@@ -219,10 +232,11 @@ module _ {A N : Type 0} (work : A → Work N) (reading : Reading A) (old : Outsi
     net_fault = λ _. (ends.stopped.task, ends.rose);
     keeps = λ _ _ _. ends.stopped.keeps;
     by_words = λ refusal e. absurd (led_first refusal ends.stopped.task e ends.stopped.read);
-    by_files = λ m refusal told e _. absurd (led_told m refusal ends.stopped.task told e ends.stopped.read);
-    complete = λ m task told e faultless.
+    by_files = λ m refusal first told e _. absurd
+        (led_told m refusal ends.stopped.task first told e ends.stopped.read);
+    complete = λ m task first told e faultless.
         let rose = subst (λ (t : A). (work t).faulted old.net net)
-        (same_task m task ends.stopped.task told e ends.stopped.read) ends.rose in
+        (same_task m task ends.stopped.task first told e ends.stopped.read) ends.rose in
         absurd (faultless.net rose);
   }
 
@@ -235,8 +249,8 @@ module _ {A N : Type 0} (work : A → Work N) (reading : Reading A) (old : Outsi
     net_fault = λ e. absurd (omega arith);
     keeps = λ _ _ c. absurd (c refl);
     by_words = λ refusal e. inr refl;
-    by_files = λ m refusal told e calm. inr refl;
-    complete = λ m task told e faultless. inr refl;
+    by_files = λ m refusal first told e calm. inr refl;
+    complete = λ m task first told e faultless. inr refl;
   }
 
   tells_own : (answer : Option Cause) → mid.faults ≤ out.faults → Ends work reading old (outside disk mid net) answer

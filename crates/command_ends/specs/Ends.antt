@@ -6,7 +6,7 @@ use Rattle.mm_base.specs.Files.{Files}
 use Rattle.mm_base.specs.Sink.{SinkView, sending}
 use Rattle.command_ends.specs.Causes.{Text}
 use Rattle.command_ends.specs.Outputs.{Output, holding_all, HoldsFirst}
-use Rattle.command_ends.specs.Readings.{Reading, Done, Refuses, Reads, Leads}
+use Rattle.command_ends.specs.Readings.{Reading, Reaches, AtTask, AtRefusal, AtFile}
 use Rattle.command_ends.specs.Works.{Work, only}
 use Rattle.command_ends.specs.declared.cause.Refusal.{Refusal}
 use Rattle.command_ends.specs.declared.cause.Refusal.TheVariants.{Absent}
@@ -42,7 +42,7 @@ pub record IsUnchanged {N : Type 0} (old new : Outside N) : Type 0 where
 pub record Finishes {A N : Type 0} (work : A → Work N) (reading : Reading A) (told : Option Files) (old new : N)
     (output : Output) : Type 0 where
   pub task : A
-  pub read : Leads told reading (Done task)
+  pub read : Reaches told reading (AtTask task)
   pub gives : (work task).gives old new output
 
 -- the same of a command that touches no net
@@ -58,14 +58,13 @@ pub record IsDone {A N : Type 0} (work : A → Work N) (reading : Reading A) (ol
 
 -- Words and files are refused by themselves, and this is the first refusal. Nothing is changed.
 pub record IsRefused {A N : Type 0} (reading : Reading A) (old new : Outside N) (refusal : Refusal) : Type 0 where
-  pub first : Leads old.disk.files reading (Refuses refusal)
+  pub first : Reaches old.disk.files reading (AtRefusal refusal)
   pub absent : (name : Text) → refusal ≡ Absent name → Rose old.disk.absences new.disk.absences
   pub unchanged : IsUnchanged old new
 
 -- The files lead to the file of this name, and a fault was counted in reading. Nothing is changed.
 pub record HasReadFault {A N : Type 0} (reading : Reading A) (old new : Outside N) (name : Text) : Type 0 where
-  pub rest : List ℕ → Reading A
-  pub next : Leads old.disk.files reading (Reads name rest)
+  pub next : Reaches old.disk.files reading (AtFile name)
   pub rose : Rose old.disk.read_faults new.disk.read_faults
   pub unchanged : IsUnchanged old new
 
@@ -101,7 +100,7 @@ pub record HasOutFault {A N : Type 0} (work : A → Work N) (reading : Reading A
 pub record IsStopped {A N : Type 0} (work : A → Work N) (reading : Reading A) (old new : Outside N) (cause : Cause) :
     Type 0 where
   pub task : A
-  pub read : Leads old.disk.files reading (Done task)
+  pub read : Reaches old.disk.files reading (AtTask task)
   pub stops : (work task).stops old.net new.net cause
   pub keeps : KeepsFiles old.disk new.disk
   pub silent : new.out ≡ old.out

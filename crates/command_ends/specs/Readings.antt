@@ -1,5 +1,5 @@
 -- What a command reads and refuses, in order, and where files lead.
-use Rattle.std.specs.Prelude.{◌≡◌, ℕ, List, Option, Some, None, Result, Ok, Err, length, nat_lt, if◌then◌else◌}
+use Rattle.std.specs.Prelude.{◌≡◌, ◌⊎◌, ℕ, List, Option, Some, None, Result, Ok, Err, length, nat_lt, if◌then◌else◌}
 use Rattle.mm_base.specs.Files.{Files, file}
 use Rattle.command_ends.specs.Causes.{Text}
 use Rattle.command_ends.specs.declared.cause.Limit.TheVariants.{File}
@@ -7,13 +7,15 @@ use Rattle.command_ends.specs.declared.cause.Refusal.{Refusal}
 use Rattle.command_ends.specs.declared.cause.Refusal.TheVariants.{Absent, Limit, Words}
 use Rattle.command_ends.specs.declared.cause.WordsRefusal.TheVariants.{Usage}
 
-pub data Reading (A : Type 0) : Type 0 where
+pub data Reading (A : Type 0) : Type 1 where
   -- all is read, and this is to be done
   Done : A → Reading A
   -- nothing more is read
   Refuses : Refusal → Reading A
   -- the file of this name is read, and its bytes say what comes next
   Reads : Text → (List ℕ → Reading A) → Reading A
+  -- what was read is judged: it is accepted, or this is its refusal
+  Judges : (Option Refusal → Type 0) → Reading A → Reading A
 
 -- words that ask for nothing
 abbrev pub usage : {A : Type 0} → Reading A
@@ -29,6 +31,7 @@ abbrev pub map_reading : {A B : Type 0} → (A → B) → Reading A → Reading 
 map_reading f (Done task) = Done (f task)
 map_reading f (Refuses refusal) = Refuses refusal
 map_reading f (Reads name next) = Reads name (λ bytes. map_reading f (next bytes))
+map_reading f (Judges Says next) = Judges Says (map_reading f next)
 
 -- the refusal, if there is one, and else what comes next
 abbrev pub unless : {A : Type 0} → Option Refusal → Reading A → Reading A
@@ -45,33 +48,39 @@ unfoldable pub input_of : Text → Option (List ℕ) → Result (List ℕ) Refus
 input_of name None = Err (Absent name)
 input_of name (Some bytes) = if nat_lt 67108864 (length bytes) then Err (Limit (File name)) else Ok bytes
 
--- what comes after an input
-abbrev pub after : {A : Type 0} → (List ℕ → Reading A) → Result (List ℕ) Refusal → Reading A
-after next (Ok bytes) = next bytes
-after next (Err refusal) = Refuses refusal
-
-abbrev pub outcome_after : {A : Type 0} → (List ℕ → Result A Refusal) → Result (List ℕ) Refusal → Result A Refusal
-outcome_after next (Ok bytes) = next bytes
-outcome_after next (Err refusal) = Err refusal
-
--- What is to be done over these files, or the first refusal.
-abbrev pub outcome : {A : Type 0} → Files → Reading A → Result A Refusal
-outcome files (Done task) = Ok task
-outcome files (Refuses refusal) = Err refusal
-outcome files (Reads name next) = outcome_after (λ bytes. outcome files (next bytes)) (input_of name (file files name))
-
 -- the refusal by the words alone, before any file is read
 abbrev pub refused_first : {A : Type 0} → Reading A → Option Refusal
 refused_first (Done task) = None
 refused_first (Refuses refusal) = Some refusal
 refused_first (Reads name next) = None
+refused_first (Judges Says next) = None
 
 -- where the disk tells its files, the one of this name holds these bytes, or isn't there
 abbrev pub Holds : Option Files → Text → Option (List ℕ) → Type 0
 Holds told name given = (m : Files) → told ≡ Some m → file m name ≡ given
 
--- The files, told or untold, lead from one reading to another: to itself, or past a file that is read.
-pub data Leads {A : Type 0} (told : Option Files) : Reading A → Reading A → Type 0 where
-  Stays : (reading : Reading A) → Leads told reading reading
-  Goes : (name : Text) (next : List ℕ → Reading A) (given : Option (List ℕ)) (to : Reading A) → Holds told name given
-      → Leads told (after next (input_of name given)) to → Leads told (Reads name next) to
+-- where a reading ends: at what is to be done, at a refusal, or at a file that isn't read
+pub data Stop (A : Type 0) : Type 0 where
+  AtTask : A → Stop A
+  AtRefusal : Refusal → Stop A
+  AtFile : Text → Stop A
+
+-- past an input, or at its refusal
+abbrev pub ReachesPast : {A : Type 0} → (List ℕ → Type 0) → Result (List ℕ) Refusal → Stop A → Type 0
+ReachesPast On (Ok bytes) stop = On bytes
+ReachesPast On (Err refusal) stop = stop ≡ AtRefusal refusal
+
+-- The files, told or untold, lead a reading to where it ends.
+abbrev pub Reaches : {A : Type 0} → Option Files → Reading A → Stop A → Type 0
+Reaches told (Done task) stop = stop ≡ AtTask task
+Reaches told (Refuses refusal) stop = stop ≡ AtRefusal refusal
+Reaches told (Reads name next) stop =
+    (stop ≡ AtFile name)
+    ⊎ ((given : Option (List ℕ)) × Holds told name given
+    × ReachesPast (λ bytes. Reaches told (next bytes) stop) (input_of name given) stop)
+Reaches told (Judges Says next) stop =
+    (Says None × Reaches told next stop) ⊎ ((refusal : Refusal) × Says (Some refusal) × (stop ≡ AtRefusal refusal))
+
+-- The files lead from one reading to another: where the other ends, the first does.
+pub record Leads {A : Type 0} (told : Option Files) (a b : Reading A) : Type 0 where
+  pub on : (stop : Stop A) → Reaches told b stop → Reaches told a stop

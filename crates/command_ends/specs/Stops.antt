@@ -9,7 +9,7 @@ use Rattle.mm_base.specs.declared.errors.EndError.{EndError}
 use Rattle.mm_base.specs.declared.errors.EndError.TheVariants.{Failed}
 use Rattle.command_ends.specs.Causes.{Text}
 use Rattle.command_ends.specs.Outputs.{NamedText, HoldsFirst}
-use Rattle.command_ends.specs.Readings.{Reading, Refuses, Reads, Holds, Leads, input_of}
+use Rattle.command_ends.specs.Readings.{Reading, AtRefusal, AtFile, Holds, Leads, Reaches, input_of}
 use Rattle.command_ends.specs.declared.cause.Refusal.{Refusal}
 use Rattle.command_ends.specs.declared.cause.Refusal.TheVariants.{Absent}
 use Rattle.command_ends.specs.declared.cause.Cause.{Cause}
@@ -29,6 +29,10 @@ abbrev pub RefusesText : Option Refusal → Cause → Type 0
 RefusesText found cause = (cause ≡ OutOfMemory)
     ⊎ ((refusal : Refusal) × (cause ≡ Refused refusal) × (found ≡ Some refusal))
 
+-- why what was read is refused where it is judged: its refusal, or want of memory
+abbrev pub RefusesBy : (Option Refusal → Type 0) → Cause → Type 0
+RefusesBy Says cause = (cause ≡ OutOfMemory) ⊎ ((refusal : Refusal) × (cause ≡ Refused refusal) × Says (Some refusal))
+
 -- why the file of this name isn't read: its refusal, a fault, or want of memory
 pub data StopsAtFile (name : Text) (old new : DiskView) (cause : Cause) : Type 0 where
   FileRefused : (refusal : Refusal) → cause ≡ Refused refusal → (given : Option (List ℕ)) → Holds old.files name given
@@ -39,11 +43,10 @@ pub data StopsAtFile (name : Text) (old new : DiskView) (cause : Cause) : Type 0
 
 -- why a reading isn't done: its refusal, a fault at the file that is next, or want of memory
 pub data StopsReading {A : Type 0} (reading : Reading A) (old new : DiskView) (cause : Cause) : Type 0 where
-  ReadingRefused : (refusal : Refusal) → cause ≡ Refused refusal → Leads old.files reading (Refuses refusal)
+  ReadingRefused : (refusal : Refusal) → cause ≡ Refused refusal → Reaches old.files reading (AtRefusal refusal)
       → CountsAbsence refusal old new
       → StopsReading reading old new cause
-  ReadingFault : (name : Text) (rest : List ℕ → Reading A) → cause ≡ ReadFault name
-      → Leads old.files reading (Reads name rest)
+  ReadingFault : (name : Text) → cause ≡ ReadFault name → Reaches old.files reading (AtFile name)
       → Rose old.read_faults new.read_faults → StopsReading reading old new cause
   ReadingWants : cause ≡ OutOfMemory → StopsReading reading old new cause
 
