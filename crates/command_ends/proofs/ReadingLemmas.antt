@@ -288,54 +288,97 @@ text_stopped old new grammar name text (Ok value) input there answer = tt
 text_stopped old new grammar name text (Err cause) input there answer =
     text_stops old new grammar name Done text cause input there answer
 
--- a refusal of a text, whatever would have come next
-refused_next : {A B : Type 0} (found : Option Refusal) (last : A) (next : Reading B) (told : Option Files)
-    (refusal : Refusal) → Reaches told (unless found (Done last)) (AtRefusal refusal)
-    → Reaches told (unless found next) (AtRefusal refusal)
-refused_next None last next told refusal r = absurd (let no : AtRefusal refusal ≡ AtTask last = r in cc no)
-refused_next (Some other) last next told refusal r =
-    let both : AtRefusal refusal ≡ AtRefusal other = r in
-    let same : refusal ≡ other = cc both in
-    ap AtRefusal same
+-- where the one stops short of a task, the other does
+pub record StopsAlike {A B : Type 0} (told : Option Files) (one : Reading A) (other : Reading B) : Type 0 where
+  pub refused : (refusal : Refusal) → Reaches told one (AtRefusal refusal) → Reaches told other (AtRefusal refusal)
+  pub fault : (name : Text) → Reaches told one (AtFile name) → Reaches told other (AtFile name)
 
-refused_past : {A : Type 0} (told : Option Files) (grammar : List ℕ → Option Refusal) (next : List ℕ → Reading A)
+pub alike_done : {A B : Type 0} (told : Option Files) (task : A) (other : Reading B) → StopsAlike told (Done task) other
+alike_done told task other = record {
+  refused = λ refusal r. absurd (let no : AtRefusal refusal ≡ AtTask task = r in cc no);
+  fault = λ name r. absurd (let no : AtFile name ≡ AtTask task = r in cc no);
+}
+
+refuses_alike : {A B : Type 0} (told : Option Files) (refusal : Refusal)
+    → StopsAlike {A = A} {B = B} told (Refuses refusal) (Refuses refusal)
+refuses_alike told refusal = record {
+  refused = λ other r. let both : AtRefusal other ≡ AtRefusal refusal = r in
+      let same : other ≡ refusal = cc both in ap AtRefusal same;
+  fault = λ name r. absurd (let no : AtFile name ≡ AtRefusal refusal = r in cc no);
+}
+
+pub alike_unless : {A B : Type 0} (told : Option Files) (found : Option Refusal) (one : Reading A) (other : Reading B)
+    → StopsAlike told one other → StopsAlike told (unless found one) (unless found other)
+alike_unless told None one other alike = alike
+alike_unless told (Some refusal) one other alike = refuses_alike told refusal
+
+past_refused : {A B : Type 0} (told : Option Files) (one : List ℕ → Reading A) (other : List ℕ → Reading B)
     (refusal : Refusal) (found : Result (List ℕ) Refusal)
-    → ReachesPast {A = List ℕ} (λ t. Reaches told (unless (grammar t) (Done t)) (AtRefusal refusal)) found
-    (AtRefusal refusal)
-    → ReachesPast {A = A} (λ t. Reaches told (unless (grammar t) (next t)) (AtRefusal refusal)) found
-    (AtRefusal refusal)
-refused_past told grammar next refusal (Ok bytes) r =
-    refused_next (grammar bytes) bytes (next bytes) told refusal r
-refused_past told grammar next refusal (Err other) r =
-    let both : AtRefusal refusal ≡ AtRefusal other = r in
-    let same : refusal ≡ other = cc both in
-    ap AtRefusal same
+    → ((bytes : List ℕ) → StopsAlike told (one bytes) (other bytes))
+    → ReachesPast {A = A} (λ b. Reaches told (one b) (AtRefusal refusal)) found (AtRefusal refusal)
+    → ReachesPast {A = B} (λ b. Reaches told (other b) (AtRefusal refusal)) found (AtRefusal refusal)
+past_refused told one other refusal (Ok bytes) alike r = (alike bytes).refused refusal r
+past_refused {A} {B} told one other refusal (Err first) alike r =
+    (refuses_alike {A = A} {B = B} told first).refused refusal r
 
-fault_next : {A : Type 0} (found : Option Refusal) (last : A) (told : Option Files) (name : Text)
-    → Reaches told (unless found (Done last)) (AtFile name) → ⊥
-fault_next None last told name r = let no : AtFile name ≡ AtTask last = r in cc no
-fault_next (Some other) last told name r = let no : AtFile name ≡ AtRefusal other = r in cc no
+past_fault : {A B : Type 0} (told : Option Files) (one : List ℕ → Reading A) (other : List ℕ → Reading B)
+    (name : Text) (found : Result (List ℕ) Refusal)
+    → ((bytes : List ℕ) → StopsAlike told (one bytes) (other bytes))
+    → ReachesPast {A = A} (λ b. Reaches told (one b) (AtFile name)) found (AtFile name)
+    → ReachesPast {A = B} (λ b. Reaches told (other b) (AtFile name)) found (AtFile name)
+past_fault told one other name (Ok bytes) alike r = (alike bytes).fault name r
+past_fault {A} {B} told one other name (Err first) alike r =
+    (refuses_alike {A = A} {B = B} told first).fault name r
 
-fault_past : (told : Option Files) (grammar : List ℕ → Option Refusal) (name : Text) (found : Result (List ℕ) Refusal)
-    → ReachesPast {A = List ℕ} (λ t. Reaches told (unless (grammar t) (Done t)) (AtFile name)) found (AtFile name) → ⊥
-fault_past told grammar name (Ok bytes) r = fault_next (grammar bytes) bytes told name r
-fault_past told grammar name (Err other) r = let no : AtFile name ≡ AtRefusal other = r in cc no
+reads_refused : {A B : Type 0} (told : Option Files) (name : Text) (one : List ℕ → Reading A)
+    (other : List ℕ → Reading B) (refusal : Refusal)
+    → ((bytes : List ℕ) → StopsAlike told (one bytes) (other bytes))
+    → Reaches told (Reads name one) (AtRefusal refusal) → Reaches told (Reads name other) (AtRefusal refusal)
+reads_refused told name one other refusal alike (inl e) = absurd (cc e)
+reads_refused told name one other refusal alike (inr p) =
+    inr (p.0, p.1, past_refused told one other refusal (input_of name p.0) alike p.2)
+
+reads_fault : {A B : Type 0} (told : Option Files) (name : Text) (one : List ℕ → Reading A)
+    (other : List ℕ → Reading B) (file : Text)
+    → ((bytes : List ℕ) → StopsAlike told (one bytes) (other bytes))
+    → Reaches told (Reads name one) (AtFile file) → Reaches told (Reads name other) (AtFile file)
+reads_fault told name one other file alike (inl e) = let same : file ≡ name = cc e in inl (ap AtFile same)
+reads_fault told name one other file alike (inr p) =
+    inr (p.0, p.1, past_fault told one other file (input_of name p.0) alike p.2)
+
+pub alike_reads : {A B : Type 0} (told : Option Files) (name : Text) (one : List ℕ → Reading A)
+    (other : List ℕ → Reading B) → ((bytes : List ℕ) → StopsAlike told (one bytes) (other bytes))
+    → StopsAlike told (Reads name one) (Reads name other)
+alike_reads told name one other alike = record {
+  refused = λ refusal r. reads_refused told name one other refusal alike r;
+  fault = λ file r. reads_fault told name one other file alike r;
+}
+
+-- what stops the one stops the other
+pub stops_alike : {A B : Type 0} (one : Reading A) (other : Reading B) (old new : DiskView) (cause : Cause)
+    → StopsAlike old.files one other → StopsReading one old new cause → StopsReading other old new cause
+stops_alike one other old new cause alike (ReadingRefused refusal is first counts) =
+    ReadingRefused refusal is (alike.refused refusal first) counts
+stops_alike one other old new cause alike (ReadingFault name is next rose) =
+    ReadingFault name is (alike.fault name next) rose
+stops_alike one other old new cause alike (ReadingWants is) = ReadingWants is
+
+-- the reading of a text stops alike whatever comes next
+pub alike_text : {A B : Type 0} (told : Option Files) (grammar : List ℕ → Option Refusal) (name : Text)
+    (last : List ℕ → Reading A) (next : List ℕ → Reading B)
+    → ((text : List ℕ) → StopsAlike told (last text) (next text))
+    → StopsAlike told (reading_text grammar name last) (reading_text grammar name next)
+alike_text told grammar name last next alike =
+    alike_reads told name (λ t. unless (grammar t) (last t)) (λ t. unless (grammar t) (next t))
+    (λ t. alike_unless told (grammar t) (last t) (next t) (alike t))
 
 -- what stops the reading of a text stops it whatever would have come next
 pub text_stops_before : {A : Type 0} (old new : DiskView) (grammar : List ℕ → Option Refusal) (name : Text)
     (cause : Cause) (next : List ℕ → Reading A) → StopsReading (reading_text grammar name Done) old new cause
     → StopsReading (reading_text grammar name next) old new cause
-text_stops_before old new grammar name cause next (ReadingRefused refusal is (inl e) counts) =
-    absurd (cc e)
-text_stops_before old new grammar name cause next (ReadingRefused refusal is (inr p) counts) =
-    ReadingRefused refusal is
-    (inr (p.0, p.1, refused_past old.files grammar next refusal (input_of name p.0) p.2)) counts
-text_stops_before old new grammar name cause next (ReadingFault file is (inl e) rose) =
-    let same : file ≡ name = cc e in
-    ReadingFault file is (inl (ap AtFile same)) rose
-text_stops_before old new grammar name cause next (ReadingFault file is (inr p) rose) =
-    absurd (fault_past old.files grammar file (input_of name p.0) p.2)
-text_stops_before old new grammar name cause next (ReadingWants is) = ReadingWants is
+text_stops_before old new grammar name cause next stopped =
+    stops_alike (reading_text grammar name Done) (reading_text grammar name next) old new cause
+    (alike_text old.files grammar name Done next (λ t. alike_done old.files t (next t))) stopped
 
 -- what stops at a file after others were read
 pub file_later : (name : Text) (old mid new : DiskView) (cause : Cause) → OnlyReads old mid

@@ -17,14 +17,15 @@ use Rattle.trace_reader.specs.Traces.{TraceView}
 use Rattle.trace_reader.specs.declared.reading.TraceError.{TraceError}
 use Rattle.trace_reader.specs.declared.reading.TraceError.TheVariants as trace_errors
 use Rattle.command_ends.specs.Causes.{Text, status_of_refusal}
-use Rattle.command_ends.specs.Readings.{Reading, Leads, Stays}
+use Rattle.command_ends.specs.Readings.{Reading, Done, Leads}
 use Rattle.command_ends.specs.Stops.{IsInput, RefusesText, StopsReading}
 use Rattle.command_ends.specs.declared.cause.Cause.{Cause}
 use Rattle.command_ends.specs.declared.cause.Cause.TheVariants.{Refused}
 use Rattle.command_ends.specs.declared.cause.Limit.TheVariants.{Lines, Packets}
 use Rattle.command_ends.specs.declared.cause.Refusal.{Refusal}
 use Rattle.command_ends.specs.declared.cause.Refusal.TheVariants.{BadInput, Limit}
-use Rattle.command_ends.proofs.ReadingLemmas.{leads_text, leads_then, stops_later}
+use Rattle.command_ends.proofs.ReadingLemmas.{StopsAlike, alike_done, alike_text, leads_text, leads_then, stays}
+use Rattle.command_ends.proofs.ReadingLemmas.{stops_alike, stops_later, text_stops_before}
 use Rattle.command_ends.proofs.ReadingLemmas.{IsOfText, bad_input}
 use Rattle.command_run.specs.Inputs.{AreTraceTexts, reading_trace, reading_traces, schedule_refusal, schedule_refused}
 use Rattle.command_run.specs.Inputs.{trace_refusal, trace_refused}
@@ -138,7 +139,7 @@ schedule_found told name text (Err cause) input are accepted = tt
 pub leads_traces : {A : Type 0} {told : Option Files} {names : List Text} {texts : List (List ℕ)}
     {traces : List TraceView} (next : List (List ℕ) → Reading A)
     → HaveTraces told names texts traces → Leads told (reading_traces names next) (next texts)
-leads_traces next NoTraces = Stays (next [])
+leads_traces next NoTraces = stays (next [])
 leads_traces {told = told} next (MoreTraces name names text texts trace traces has more) =
     leads_then (leads_text told (trace_refusal name) name (λ t. reading_traces names (λ ts. next (t ∷ ts))) text
     has.input has.accepted)
@@ -148,7 +149,7 @@ leads_before : {A : Type 0} {told : Option Files} {names : List Text} {texts : L
     {traces : List TraceView} (later : List Text) (next : List (List ℕ) → Reading A)
     → HaveTraces told names texts traces
     → Leads told (reading_traces (names ++ later) next) (reading_traces later (λ more. next (texts ++ more)))
-leads_before later next NoTraces = Stays (reading_traces later next)
+leads_before later next NoTraces = stays (reading_traces later next)
 leads_before {told = told} later next (MoreTraces name names text texts trace traces has more) =
     leads_then (leads_text told (trace_refusal name) name (λ t. reading_traces (names ++ later) (λ ts. next (t ∷ ts)))
     text has.input has.accepted)
@@ -200,19 +201,38 @@ have_more told now names i name text texts traces all trace lt read same have st
     )
 
 -- reading stops at this one
-pub traces_stop : {A : Type 0} (names : List Text) (i : ℕ) (name text : Text) (old mid new : DiskView)
+pub traces_stop : (names : List Text) (i : ℕ) (name text : Text) (old mid new : DiskView)
     (texts : List (List ℕ)) (traces : List TraceView) (cause : Cause) → i < length names
     → name ≡ get_or names i name → text ≡ name → HaveTraces old.files (take i names) texts traces → OnlyReads old mid
-    → ((next : List ℕ → Reading A) → StopsReading (reading_trace text next) mid new cause)
-    → (next : List (List ℕ) → Reading A) → StopsReading (reading_traces names next) old new cause
-traces_stop {A} names i name text old mid new texts traces cause lt read same have reads stopped next =
+    → StopsReading (reading_trace text Done) mid new cause → StopsReading (reading_traces names Done) old new cause
+traces_stop names i name text old mid new texts traces cause lt read same have reads stopped =
     let order : names ≡ take i names ++ name ∷ drop (i + 1) names =
     sym (take-append-drop i names) ∙ ap (λ l. take i names ++ l) (drop_more names i name lt
     ∙ ap (λ n. n ∷ drop (i + 1) names) (sym read)) in
-    let rest : List ℕ → Reading A = λ t. reading_traces (drop (i + 1) names) (λ more. next (texts ++ (t ∷ more))) in
+    let rest : List ℕ → Reading (List (List ℕ)) =
+    λ t. reading_traces (drop (i + 1) names) (λ more. Done (texts ++ (t ∷ more))) in
     let here : StopsReading (reading_trace name rest) mid new cause =
-    subst (λ (n : Text). StopsReading (reading_trace n rest) mid new cause) same (stopped rest) in
-    subst (λ (l : List Text). StopsReading (reading_traces l next) old new cause) (sym order)
-    (stops_later (reading_traces (take i names ++ name ∷ drop (i + 1) names) next) (reading_trace name rest) old mid
+    subst (λ (n : Text). StopsReading (reading_trace n rest) mid new cause) same
+    (text_stops_before mid new (trace_refusal text) text cause rest stopped) in
+    subst (λ (l : List Text). StopsReading (reading_traces l Done) old new cause) (sym order)
+    (stops_later (reading_traces (take i names ++ name ∷ drop (i + 1) names) Done) (reading_trace name rest) old mid
     new cause
-    (leads_before (name ∷ drop (i + 1) names) next have) reads here)
+    (leads_before (name ∷ drop (i + 1) names) Done have) reads here)
+
+traces_alike : {A B : Type 0} (told : Option Files) (names : List Text) (last : List (List ℕ) → A)
+    (next : List (List ℕ) → Reading B)
+    → StopsAlike told (reading_traces names (λ texts. Done (last texts))) (reading_traces names next)
+traces_alike told [] last next = alike_done told (last []) (next [])
+traces_alike told (name ∷ names) last next =
+    alike_text told (trace_refusal name) name
+    (λ text. reading_traces names (λ texts. Done (last (text ∷ texts))))
+    (λ text. reading_traces names (λ texts. next (text ∷ texts)))
+    (λ text. traces_alike told names (λ texts. last (text ∷ texts)) (λ texts. next (text ∷ texts)))
+
+-- what stops the reading of traces stops it whatever would have come next
+pub traces_stop_before : {A : Type 0} (names : List Text) (old new : DiskView) (cause : Cause)
+    (next : List (List ℕ) → Reading A) → StopsReading (reading_traces names Done) old new cause
+    → StopsReading (reading_traces names next) old new cause
+traces_stop_before names old new cause next stopped =
+    stops_alike (reading_traces names Done) (reading_traces names next) old new cause
+    (traces_alike old.files names (λ texts. texts) next) stopped

@@ -13,14 +13,15 @@ use Rattle.nest_spec.specs.declared.error.NestError.TheVariants as nest_errors
 use Rattle.command_ends.specs.Causes.{status_of_refusal}
 use Rattle.command_ends.specs.Ends.{FinishesOnly}
 use Rattle.command_ends.specs.Outputs.{writes}
-use Rattle.command_ends.specs.Readings.{Reading, Done, Refuses, Leads, Stays, unless}
+use Rattle.command_ends.specs.Readings.{Reading, Done, Refuses, Leads, unless}
 use Rattle.command_ends.specs.Stops.{RefusesText, StopsReading, ReadingWants}
 use Rattle.command_ends.specs.declared.cause.Cause.{Cause}
 use Rattle.command_ends.specs.declared.cause.Cause.TheVariants.{Refused, OutOfMemory}
 use Rattle.command_ends.specs.declared.cause.Refusal.{Refusal}
 use Rattle.command_ends.proofs.CountLemmas.{reads_none}
 use Rattle.command_ends.proofs.EndLemmas.{finishes_only}
-use Rattle.command_ends.proofs.ReadingLemmas.{found_stop, leads_text, leads_then, leads_unless, stops_here, stops_later}
+use Rattle.command_ends.proofs.ReadingLemmas.{found_stop, leads_text, leads_then, leads_unless, stays, stops_here}
+use Rattle.command_ends.proofs.ReadingLemmas.{stops_later, text_stops_before}
 use Rattle.command_run.specs.Inputs.{reading_schedule, schedule_refusal}
 use Rattle.command_run.specs.Loaded.{HasNest, HasSchedule, HaveTraces}
 use Rattle.command_run.specs.Run.{GivesRun, RunJob, RunTask, nest_with, run_files}
@@ -50,7 +51,7 @@ nest_known : (told : Option Files) (job : RunJob) (plan : NestPlan) → nest_of 
     → Leads told (run_reading job) (after_nest job plan)
 nest_known told job plan e =
     subst (λ (r : Result NestPlan NestError). Leads told (with_nest r (λ p. after_nest job p)) (after_nest job plan))
-    (sym e) (Stays (after_nest job plan))
+    (sym e) (stays (after_nest job plan))
 
 -- the words are no nest
 pub nest_stop : (job : RunJob) (error : NestError) (cause : Cause)
@@ -62,7 +63,7 @@ nest_stop job error cause e (inr p) disk =
     let there : status_of_refusal (nest_refusal error) ≢ 3 = λ h. omega arith in
     let leads : Leads disk.files (run_reading job) (Refuses (nest_refusal error)) =
     subst (λ (r : Result NestPlan NestError). Leads disk.files (with_nest r (λ plan. after_nest job plan))
-    (Refuses (nest_refusal error))) (sym (e p.0)) (Stays (Refuses (nest_refusal error))) in
+    (Refuses (nest_refusal error))) (sym (e p.0)) (stays (Refuses (nest_refusal error))) in
     subst (λ (c : Cause). StopsReading (run_reading job) disk disk c) (sym p.1)
     (stops_here (run_reading job) disk disk (nest_refusal error) there leads)
 
@@ -124,12 +125,12 @@ schedule_next told job plan nest has =
 -- the schedule isn't read
 pub schedule_stop : (job : RunJob) (plan : NestPlan) (nest : NestParts) (old mid new : DiskView) (cause : Cause)
     → HasNest old.files job plan nest → OnlyReads old mid
-    → ((next : List ℕ → Reading RunTask) → StopsReading (reading_schedule job.schedule next) mid new cause)
+    → StopsReading (reading_schedule job.schedule Done) mid new cause
     → StopsReading (run_inputs job plan) old new cause
 schedule_stop job plan nest old mid new cause has reads stopped =
     stops_later (run_inputs job plan) (reading_schedule job.schedule (done_with job plan has.texts)) old mid new cause
     (schedule_next old.files job plan nest has) reads
-    (stopped (done_with job plan has.texts))
+    (text_stops_before mid new (schedule_refusal job.schedule) job.schedule cause (done_with job plan has.texts) stopped)
 
 -- all is read
 pub run_finishes : (job : RunJob) (plan : NestPlan) (nest : NestParts) (old mid : DiskView) (rows : List Row)

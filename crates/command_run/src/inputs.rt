@@ -6,12 +6,11 @@ ghost use Rattle.mm_base.specs.Lines.{lines_of};
 ghost use Rattle.packet_record.specs.Schedules.{IsScheduleText, first_fault};
 ghost use Rattle.trace_reader.specs.Reading.{trace_fault};
 ghost use Rattle.trace_reader.specs.TraceText.{IsTraceText};
-ghost use Rattle.command_ends.specs.Readings.{Reading};
+ghost use Rattle.command_ends.specs.Readings.{Done};
 ghost use Rattle.command_ends.specs.Stops.{IsInput, RefusesText, StopsAtFile, StopsReading};
 ghost use Rattle.command_run.specs.Inputs.{reading_schedule, reading_trace, reading_traces, schedule_refusal};
 ghost use Rattle.command_run.specs.Inputs.{trace_refusal};
 ghost use Rattle.command_run.specs.Loaded.{HasSchedule, HasTrace, HaveTraces};
-ghost use Rattle.command_run.specs.Run.{RunTask};
 
 use command_ends::{Cause, Limit, Refusal, input_size, read_input, read_pieces};
 use mm_base::{Disk, Text};
@@ -66,8 +65,8 @@ fn trace_of(alloc: Global, name: &str, text: &[u8]) -> Result<Trace, Cause>
 // The trace of the file of this name.
 fn load_trace<D: Disk>(alloc: Global, disk: &mut D, name: &str) -> Result<Trace, Cause>
     ensures found { IfOk result (λ trace. ((text : List ℕ) × HasTrace (D.view disk.old).files name.now text trace)) }
-    ensures stopped { IfErr result (λ cause. (next : List ℕ → Reading RunTask)
-        → StopsReading (reading_trace name.now next) (D.view disk.old) (D.view disk.new) cause) }
+    ensures stopped { IfErr result (λ cause. StopsReading (reading_trace name.now Done) (D.view disk.old)
+        (D.view disk.new) cause) }
     ensures only_reads { OnlyReads (D.view disk.old) (D.view disk.new) }
 {
     let bytes = read_input(alloc, disk, name)?;
@@ -83,8 +82,8 @@ pub(crate) fn load_traces<D: Disk>(
     ensures found { IfOk result (λ traces. ((texts : List (List ℕ))
         × HaveTraces (D.view disk.old).files names.now texts traces.items)) }
     ensures count { IfOk result (λ traces. length traces.items ≡ length names.now) }
-    ensures stopped { IfErr result (λ cause. (next : List (List ℕ) → Reading RunTask)
-        → StopsReading (reading_traces names.now next) (D.view disk.old) (D.view disk.new) cause) }
+    ensures stopped { IfErr result (λ cause. StopsReading (reading_traces names.now Done) (D.view disk.old)
+        (D.view disk.new) cause) }
     ensures only_reads { OnlyReads (D.view disk.old) (D.view disk.new) }
 {
     let mut traces = Vec::new(alloc);
@@ -132,8 +131,8 @@ pub(crate) fn load_schedule<D: Disk>(
     name: &str,
 ) -> Result<Schedule, Cause>
     ensures found { IfOk result (λ rows. ((text : List ℕ) × HasSchedule (D.view disk.old).files name.now text rows)) }
-    ensures stopped { IfErr result (λ cause. (next : List ℕ → Reading RunTask)
-        → StopsReading (reading_schedule name.now next) (D.view disk.old) (D.view disk.new) cause) }
+    ensures stopped { IfErr result (λ cause. StopsReading (reading_schedule name.now Done) (D.view disk.old)
+        (D.view disk.new) cause) }
     ensures only_reads { OnlyReads (D.view disk.old) (D.view disk.new) }
 {
     let text = read_schedule_file(alloc, disk, name)?;

@@ -7,13 +7,13 @@ use Rattle.command_report.specs.Report.{GivesReport}
 use Rattle.command_run.specs.Run.{RunTask, GivesRun}
 
 pub data Task : Type 0 where
-  Run : RunTask → Task
+  ToRun : RunTask → Task
   -- of a log's text
-  Report : List ℕ → Task
-  Make : MakeJob → Task
+  ToReport : List ℕ → Task
+  ToMake : MakeJob → Task
 
--- the net is a port, whose connections are of this type
+-- The net is a port, whose connections are of this type.
 abbrev pub work : {C : Type 0} → Task → Work (PortView C)
-work (Run task) = only GivesRun task
-work (Report text) = only GivesReport text
-work (Make job) = only GivesMake job
+work (ToRun task) = only GivesRun task
+work (ToReport text) = only GivesReport text
+work (ToMake job) = only GivesMake job

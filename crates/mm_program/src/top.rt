@@ -1,12 +1,12 @@
 // The top call.
-ghost use Rattle.std.specs.Prelude.{◌≡◌, ◌≢◌, ◌⊎◌, Some, None, Ok, Err, map, string_bytes};
+ghost use Rattle.std.specs.Prelude.{◌≡◌, ◌≢◌, ◌⊎◌, Some, None, map, string_bytes};
 ghost use Rattle.mm_base.specs.Counts.{Rose};
 ghost use Rattle.mm_base.specs.Files.{Files};
 ghost use Rattle.mm_base.specs.Sink.{CountsSinkFaults};
 ghost use Rattle.command_ends.specs.Answers.{Answers, CountsDisk, IsFaultless, StopsShort, cause_in};
 ghost use Rattle.command_ends.specs.Causes.{status_of_refusal};
 ghost use Rattle.command_ends.specs.Ends.{Ends, IsDone, KeepsFiles, outside};
-ghost use Rattle.command_ends.specs.Readings.{outcome, refused_first};
+ghost use Rattle.command_ends.specs.Readings.{Reaches, AtRefusal, AtTask, refused_first};
 ghost use Rattle.command_ends.specs.declared.cause.Refusal.{Refusal};
 ghost use Rattle.command_ends.specs.declared.cause.Refusal.TheVariants.{Words};
 ghost use Rattle.command_ends.specs.declared.cause.WordsRefusal.{WordsRefusal};
@@ -41,11 +41,14 @@ fn answer<R: Threads + Wait + Sync, D: Disk, O: Sink, P: Port, Q: Pace + Sync>(
     ensures counts { CountsDisk (D.view disk.old) (D.view disk.new) }
     ensures out_counts { CountsSinkFaults (O.view out.old) (O.view out.new) }
 {
-    match read_command(words) {
-        Command::Run(words) => answer_run(alloc, words, disk),
-        Command::Report(words) => answer_report(alloc, words, disk, out),
-        Command::Make(words) => answer_make(alloc, words, out),
-        Command::Unknown => Err(Cause::usage()),
+    let [word, words @ ..] = words else {
+        return Err(Cause::usage());
+    };
+    match read_command(word.as_str()) {
+        Some(Command::Run) => answer_run(alloc, words, disk),
+        Some(Command::Report) => answer_report(alloc, words, disk, out),
+        Some(Command::Make) => answer_make(alloc, words, out),
+        None => Err(Cause::usage()),
     }
 }
 
@@ -102,11 +105,11 @@ pub fn mm_main<R: Threads + Wait + Sync, D: Disk + Send, O: Sink, P: Port + Send
     ensures by_words { (refusal : Refusal) → refused_first (reading_of (map string_bytes words.now)) ≡ Some refusal
         → (result ≡ status_of_refusal refusal) ⊎ (result ≡ 9) }
     ensures by_files { (m : Files) (refusal : Refusal) → (D.view disk.old).files ≡ Some m
-        → outcome m (reading_of (map string_bytes words.now)) ≡ Err refusal
+        → Reaches (Some m) (reading_of (map string_bytes words.now)) (AtRefusal refusal)
         → ¬ Rose (D.view disk.old).read_faults (D.view disk.new).read_faults → (result ≡ status_of_refusal refusal)
         ⊎ (result ≡ 9) }
     ensures complete { (m : Files) (task : Task) → (D.view disk.old).files ≡ Some m
-        → outcome m (reading_of (map string_bytes words.now)) ≡ Ok task
+        → Reaches (Some m) (reading_of (map string_bytes words.now)) (AtTask task)
         → IsFaultless work task (outside (D.view disk.old) (O.view out.old) (P.view port.old))
         (outside (D.view disk.new) (O.view out.new) (P.view port.new))
         → (result ≡ 0) ⊎ (result ≡ 9) }

@@ -4,9 +4,9 @@ use Rattle.made_run.specs.SummaryText.{IsSummary}
 use Rattle.command_ends.specs.Ends.{Ends, offline}
 use Rattle.command_ends.specs.Works.{only}
 use Rattle.command_ends.specs.Outputs.{prints}
-use Rattle.command_ends.specs.Readings.{Stays}
 use Rattle.command_ends.specs.declared.cause.Cause.{Cause}
 use Rattle.command_ends.proofs.EndLemmas.{ends_early, ends_printed, finishes_only, keeps_all}
+use Rattle.command_ends.proofs.ReadingLemmas.{stays}
 use Rattle.command_make.specs.Make.{GivesMake, make_reading}
 use Rattle.command_make.specs.View.{make_values}
 use Rattle.command_make.proofs.make.make.Goals as goal
@@ -28,6 +28,6 @@ returns-clause-ends g c = λ disk.
     c.in_ok-summary.ensures in
     ends_printed (only GivesMake) reading (offline disk (g.O.Sink.view c.args.out.now))
     (offline disk (g.O.Sink.view c.print.new.out)) text c.print.result
-    (finishes_only reading GivesMake job disk.files (prints text) (Stays reading)
+    (finishes_only reading GivesMake job disk.files (prints text) (stays reading)
     (record { text = text; is = is; output_is = refl }))
     (keeps_all disk) c.print.ensures.ok c.print.ensures.stopped

@@ -1,11 +1,10 @@
 use Rattle.std.proofs.Common.{List, ℕ, subst, sym}
 use Rattle.std.proofs.lemmas.Result.{err_from_is_err_and}
-use Rattle.command_ends.specs.Readings.{unless}
+use Rattle.command_ends.specs.Readings.{Done, unless}
 use Rattle.command_ends.specs.Stops.{StopsReading}
 use Rattle.command_ends.specs.declared.cause.Cause.{Cause}
 use Rattle.command_ends.proofs.ReadingLemmas.{stops_at, text_stopped}
 use Rattle.command_run.specs.Inputs.{reading_schedule, schedule_refusal}
-use Rattle.command_run.specs.Run.{RunTask}
 use Rattle.command_run.proofs.InputLemmas.{schedule_found, schedule_text}
 use Rattle.command_run.proofs.inputs.load_schedule.Goals as goal
 
@@ -15,8 +14,8 @@ returns-in_err-text-clause-stopped g c =
     let name = c.args.name.now in
     let old = g.D.Disk.view c.args.disk.now in
     let new = g.D.Disk.view c.read_schedule_file.new.disk in
-    rw p.1 (λ next. subst (λ (k : Cause). StopsReading (reading_schedule name next) old new k) (sym p.2)
-    (stops_at name (λ text. unless (schedule_refusal name text) (next text)) old new _ c.in_err-text.ensures.stopped))
+    rw p.1 (subst (λ (k : Cause). StopsReading (reading_schedule name Done) old new k) (sym p.2)
+    (stops_at name (λ text. unless (schedule_refusal name text) (Done text)) old new _ c.in_err-text.ensures.stopped))
 
 pub returns-clause-found : goal.returns-clause-found
 returns-clause-found g c =
@@ -30,6 +29,6 @@ returns-clause-stopped g c =
     let old = g.D.Disk.view c.args.disk.now in
     let new = g.D.Disk.view c.read_schedule_file.new.disk in
     let read = c.in_ok-text.ensures.read in
-    text_stopped RunTask old new (schedule_refusal name) name read.0 c.schedule_of.result read.1
+    text_stopped old new (schedule_refusal name) name read.0 c.schedule_of.result read.1
     (λ refusal e. (schedule_text name read.0 refusal e).not_absent)
     (c.schedule_of.ensures.refused read.0 read.2)

@@ -1,11 +1,10 @@
 use Rattle.std.proofs.Common.{List, ℕ, IfErr, subst, sym}
 use Rattle.std.proofs.lemmas.Result.{err_from_is_err_and}
-use Rattle.command_ends.specs.Readings.{Reading, unless}
+use Rattle.command_ends.specs.Readings.{Done, unless}
 use Rattle.command_ends.specs.Stops.{StopsReading}
 use Rattle.command_ends.specs.declared.cause.Cause.{Cause}
 use Rattle.command_ends.proofs.ReadingLemmas.{stops_at, text_stopped}
 use Rattle.command_run.specs.Inputs.{reading_trace, trace_refusal}
-use Rattle.command_run.specs.Run.{RunTask}
 use Rattle.command_run.proofs.InputLemmas.{trace_found, trace_text}
 use Rattle.command_run.proofs.inputs.load_trace.Goals as goal
 
@@ -21,14 +20,14 @@ returns-in_err-bytes-clause-stopped g c =
     let name = c.args.name.now in
     let old = g.D.Disk.view c.args.disk.now in
     let new = g.D.Disk.view c.read_input.new.disk in
-    rw p.1 (λ next. subst (λ (k : Cause). StopsReading (reading_trace name next) old new k) (sym p.2)
-    (stops_at name (λ text. unless (trace_refusal name text) (next text)) old new _ c.in_err-bytes.ensures.stopped))
+    rw p.1 (subst (λ (k : Cause). StopsReading (reading_trace name Done) old new k) (sym p.2)
+    (stops_at name (λ text. unless (trace_refusal name text) (Done text)) old new _ c.in_err-bytes.ensures.stopped))
 
 pub returns-clause-stopped : goal.returns-clause-stopped
 returns-clause-stopped g c =
     let name = c.args.name.now in
     let old = g.D.Disk.view c.args.disk.now in
     let new = g.D.Disk.view c.read_input.new.disk in
-    text_stopped RunTask old new (trace_refusal name) name c.in_ok-bytes.bytes c.trace_of.result
+    text_stopped old new (trace_refusal name) name c.in_ok-bytes.bytes c.trace_of.result
     c.in_ok-bytes.ensures.input (λ refusal e. (trace_text name c.in_ok-bytes.bytes refusal e).not_absent)
     (rw c.as_slice.ensures at c.trace_of.ensures.refused)

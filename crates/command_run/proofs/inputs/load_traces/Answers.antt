@@ -4,6 +4,7 @@ use Rattle.std.proofs.lemmas.Result.{err_from_is_err_and}
 use Rattle.mm_base.proofs.Then.{OnlyReads-then}
 use Rattle.trace_reader.specs.Traces.{TraceView}
 use Rattle.command_ends.specs.Causes.{Text}
+use Rattle.command_ends.specs.Readings.{Done}
 use Rattle.command_ends.proofs.CountLemmas.{reads_none}
 use Rattle.command_ends.specs.Stops.{StopsReading, ReadingWants}
 use Rattle.command_ends.specs.declared.cause.Cause.{Cause}
@@ -29,15 +30,15 @@ returns-in_err-trace-clause-stopped g c =
     let mid = g.D.Disk.view c.loop-name.disk in
     let new = g.D.Disk.view c.load_trace.new.disk in
     let have = c.loop-name.invariant.so_far in
-    rw p.1 (λ next. subst (λ (k : Cause). StopsReading (reading_traces c.args.names.now next) old new k) (sym p.2)
+    rw p.1 (subst (λ (k : Cause). StopsReading (reading_traces c.args.names.now Done) old new k) (sym p.2)
     (traces_stop c.args.names.now c.loop-name.name-index c.name-item.result c.as_str.result.now old mid new have.0
     c.loop-name.traces.items _ c.loop-name-test.true c.name-item.is c.as_str.ensures
-    have.1 c.loop-name.invariant.only_reads c.in_err-trace.ensures.stopped next))
+    have.1 c.loop-name.invariant.only_reads c.in_err-trace.ensures.stopped))
 
 pub returns-in_err-push-clause-stopped : goal.returns-in_err-push-clause-stopped
 returns-in_err-push-clause-stopped g c =
     let p = err_from_is_err_and c.from_residual-in_err-push.result c.from_residual-in_err-push.ensures.1 in
-    rw p.1 (λ next. ReadingWants p.2)
+    rw p.1 (ReadingWants p.2)
 
 pub loop-name-preserved : goal.loop-name-preserved
 loop-name-preserved g c =

@@ -4,10 +4,12 @@ use Rattle.trace_reader.specs.Traces.{TraceView}
 use Rattle.command_ends.specs.Causes.{Text}
 use Rattle.command_ends.specs.Stops.{RefusesText, StopsReading}
 use Rattle.command_ends.specs.declared.cause.Cause.{Cause}
+use Rattle.command_ends.specs.Readings.{Done}
 use Rattle.command_run.specs.Inputs.{reading_traces}
 use Rattle.command_run.specs.Loaded.{HaveTraces}
 use Rattle.command_run.specs.RunReading.{refused_count, run_inputs}
 use Rattle.command_run.specs.View.{run_values}
+use Rattle.command_run.proofs.InputLemmas.{traces_stop_before}
 use Rattle.command_run.proofs.RunLemmas.{after_traces, count_stop}
 use Rattle.command_run.proofs.run.load_nest.Goals as goal
 
@@ -18,9 +20,9 @@ returns-in_err-traces-clause-stopped g c =
     let old = g.D.Disk.view c.args.disk.now in
     let new = g.D.Disk.view c.load_traces.new.disk in
     rw p.1 (subst (λ (k : Cause). StopsReading (run_inputs job c.args.words) old new k) (sym p.2)
-    (subst (λ (names : List Text). StopsReading (reading_traces names (after_traces job c.args.words)) old new
-    c.in_err-traces.field-0.0) c.traces.ensures.traces
-    (c.in_err-traces.ensures.stopped (after_traces job c.args.words))))
+    (traces_stop_before c.args.words.traces old new c.in_err-traces.field-0.0 (after_traces job c.args.words)
+    (subst (λ (names : List Text). StopsReading (reading_traces names Done) old new c.in_err-traces.field-0.0)
+    c.traces.ensures.traces c.in_err-traces.ensures.stopped)))
 
 pub returns-in_err-check_count-clause-stopped : goal.returns-in_err-check_count-clause-stopped
 returns-in_err-check_count-clause-stopped g c =

@@ -66,13 +66,13 @@ pub returns-clause-by_files : goal.returns-clause-by_files
 returns-clause-by_files g c =
     let t = tells work _ _ _ _ (g.O.Sink.view c.answer-answer.new.out) (g.O.Sink.view c.conclude.new.out)
     (cause_in c.answer-answer.result) c.conclude.result c.answer-answer.ensures.ends c.conclude.ensures in
-    t.by_files
+    λ m refusal. t.by_files m refusal (reading_first (map string_bytes c.args.words.now))
 
 pub returns-clause-complete : goal.returns-clause-complete
 returns-clause-complete g c =
     let t = tells work _ _ _ _ (g.O.Sink.view c.answer-answer.new.out) (g.O.Sink.view c.conclude.new.out)
     (cause_in c.answer-answer.result) c.conclude.result c.answer-answer.ensures.ends c.conclude.ensures in
-    t.complete
+    λ m task. t.complete m task (reading_first (map string_bytes c.args.words.now))
 
 pub returns-clause-out_counts : goal.returns-clause-out_counts
 returns-clause-out_counts g c = CountsFaults-then c.answer-answer.ensures.out_counts c.conclude.ensures.counts
