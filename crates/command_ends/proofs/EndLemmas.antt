@@ -7,7 +7,8 @@ use Rattle.mm_base.specs.Disk.{DiskView, OnlyReads}
 use Rattle.mm_base.specs.Files.{Files}
 use Rattle.mm_base.specs.Sink.{SinkView, sending}
 use Rattle.command_ends.specs.Answers.{cause_in}
-use Rattle.command_ends.specs.Ends.{Outside, outside, Ends, Finishes, FinishesOnly, HasOutFault, HasReadFault, HasWriteFault}
+use Rattle.command_ends.specs.Ends.{Outside, outside, Ends, Finishes, FinishesOnly, HasOutFault, HasReadFault}
+use Rattle.command_ends.specs.Ends.{HasWriteFault}
 use Rattle.command_ends.specs.Ends.{IsPartlyPrinted, IsPartlyWritten, IsRefused, IsUnchanged, KeepsFiles, Early}
 use Rattle.command_ends.specs.Ends.{Writing, Printing}
 use Rattle.command_ends.specs.Outputs.{NamedText, Output, HoldsFirst, holding_all, prints, writes}

@@ -56,11 +56,7 @@ fn make<O: Sink>(alloc: Global, job: &MakeJob, out: &mut O) -> Result<(), Cause>
 
 /// Does what the words after `make` say: prints the summary of a run that is made of a number. No file is read or
 /// written, and no net is touched.
-pub fn answer_make<O: Sink>(
-    alloc: Global,
-    words: &[String],
-    out: &mut O,
-) -> Result<(), Cause>
+pub fn answer_make<O: Sink>(alloc: Global, words: &[String], out: &mut O) -> Result<(), Cause>
     ensures ends { (disk : DiskView) → Ends (only GivesMake) (make_words (map string_bytes words.now))
         (offline disk (O.view out.old)) (offline disk (O.view out.new)) (cause_in result) }
     ensures out_counts { CountsSinkFaults (O.view out.old) (O.view out.new) }

@@ -5,7 +5,13 @@ use std::test::Fail;
 use test_outside::{TestOutside, words_of};
 
 // Whether the words after `make`, over an `out` whose call of this number fails, have this status and print this.
-fn ends_with(alloc: Global, words: &str, fails: u64, status: u8, printed: &str) -> Result<bool, Fail> {
+fn ends_with(
+    alloc: Global,
+    words: &str,
+    fails: u64,
+    status: u8,
+    printed: &str,
+) -> Result<bool, Fail> {
     let words = words_of(alloc, words)?;
     let mut outside = TestOutside::new(alloc, &[], &[], &[fails])?;
     let answer = answer_make(alloc, &words, &mut outside.out);

@@ -17,7 +17,6 @@ use Rattle.command_ends.specs.declared.cause.WordsRefusal.TheVariants.{Name}
 use Rattle.command_ends.proofs.ReadingLemmas.{IsOfText}
 use Rattle.command_run.specs.RunReading.{refused_count, refused_horizon}
 
-
 pub horizon_over : (until : ℕ) (cause : Cause) → 3600000 < until → cause ≡ Refused (Limit Horizon)
     → RefusesText (refused_horizon until) cause
 unfolding refused_horizon

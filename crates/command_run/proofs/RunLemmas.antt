@@ -130,7 +130,8 @@ pub schedule_stop : (job : RunJob) (plan : NestPlan) (nest : NestParts) (old mid
 schedule_stop job plan nest old mid new cause has reads stopped =
     stops_later (run_inputs job plan) (reading_schedule job.schedule (done_with job plan has.texts)) old mid new cause
     (schedule_next old.files job plan nest has) reads
-    (text_stops_before mid new (schedule_refusal job.schedule) job.schedule cause (done_with job plan has.texts) stopped)
+    (text_stops_before mid new (schedule_refusal job.schedule) job.schedule cause (done_with job plan has.texts)
+    stopped)
 
 -- all is read
 pub run_finishes : (job : RunJob) (plan : NestPlan) (nest : NestParts) (old mid : DiskView) (rows : List Row)

@@ -163,11 +163,7 @@ fn run<D: Disk>(alloc: Global, job: &RunJob<'_>, disk: &mut D) -> Result<(), Cau
 
 /// Does what the words after `run` say: passes the packets of a schedule through a nest of shells, and writes the logs
 /// that the shells' words name and then the fates of the packets. Nothing is printed, and no net is touched.
-pub fn answer_run<D: Disk>(
-    alloc: Global,
-    words: &[String],
-    disk: &mut D,
-) -> Result<(), Cause>
+pub fn answer_run<D: Disk>(alloc: Global, words: &[String], disk: &mut D) -> Result<(), Cause>
     ensures ends { (out : SinkView) → Ends (only GivesRun) (run_words (map string_bytes words.now))
         (offline (D.view disk.old) out) (offline (D.view disk.new) out) (cause_in result) }
     ensures counts { CountsDisk (D.view disk.old) (D.view disk.new) }

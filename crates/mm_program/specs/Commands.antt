@@ -1,5 +1,5 @@
 -- What a command line reads and refuses, by its first word.
-use Rattle.std.specs.Prelude.{List, [], ◌∷◌, Option, Some, None, codes, if◌then◌else◌}
+use Rattle.std.specs.Prelude.{List, [], ◌∷◌, codes, if◌then◌else◌}
 use Rattle.std.specs.Str.{bytes_eq}
 use Rattle.command_ends.specs.Causes.{Text}
 use Rattle.command_ends.specs.Readings.{Reading, map_reading, usage}
@@ -8,21 +8,21 @@ use Rattle.command_report.specs.ReportReading.{report_words}
 use Rattle.command_run.specs.RunReading.{run_words}
 use Rattle.mm_program.specs.Tasks.{Task, ToRun, ToReport, ToMake}
 use Rattle.mm_program.specs.declared.command.Command.{Command}
-use Rattle.mm_program.specs.declared.command.Command.TheVariants.{Run, Report, Make}
+use Rattle.mm_program.specs.declared.command.Command.TheVariants.{Run, Report, Make, Unknown}
 
 -- the command of this name
-unfoldable pub command_of : Text → Option Command
+unfoldable pub command_of : Text → Command
 command_of word =
-    if bytes_eq word (codes "run") then Some Run
-    else (if bytes_eq word (codes "report") then Some Report
-    else (if bytes_eq word (codes "make") then Some Make else None))
+    if bytes_eq word (codes "run") then Run
+    else (if bytes_eq word (codes "report") then Report
+    else (if bytes_eq word (codes "make") then Make else Unknown))
 
 -- what a command reads and refuses, by the words after it
-abbrev pub command_reading : Option Command → List Text → Reading Task
-command_reading None words = usage
-command_reading (Some Run) words = map_reading ToRun (run_words words)
-command_reading (Some Report) words = map_reading ToReport (report_words words)
-command_reading (Some Make) words = map_reading ToMake (make_words words)
+abbrev pub command_reading : Command → List Text → Reading Task
+command_reading Run words = map_reading ToRun (run_words words)
+command_reading Report words = map_reading ToReport (report_words words)
+command_reading Make words = map_reading ToMake (make_words words)
+command_reading Unknown words = usage
 
 -- The first word is the command, and the others are its own.
 abbrev pub reading_of : List Text → Reading Task

@@ -2,23 +2,24 @@
 ghost use Rattle.std.specs.Prelude.{◌≡◌};
 ghost use Rattle.mm_program.specs.Commands.{command_of};
 
-// A command.
+// A command, or none of that name.
 #[derive(Clone, Copy, Debug, PartialEq, Eq)]
 pub(crate) enum Command {
     Run,
     Report,
     Make,
+    Unknown,
 }
 
 // The command of this name.
 #[tactic(auto, unfolding(crate::specs::Commands::command_of))]
-pub(crate) fn read_command(word: &str) -> Option<Command>
+pub(crate) fn read_command(word: &str) -> Command
     ensures { result ≡ command_of word.now }
 {
     match word {
-        "run" => Some(Command::Run),
-        "report" => Some(Command::Report),
-        "make" => Some(Command::Make),
-        _ => None,
+        "run" => Command::Run,
+        "report" => Command::Report,
+        "make" => Command::Make,
+        _ => Command::Unknown,
     }
 }

@@ -44,7 +44,8 @@ fn leaves<R: Threads + Wait + Sync>(
 
 #[test]
 fn each_command_does_its_job(rt: HostRuntime) -> Result<(), Fail> {
-    let report = "entries 1\nspan 7 7\narrived 1 40\noffered 0 0\ndeparted 0 0\ndropped 0 0\nused none\ndelay none\n";
+    let report =
+        "entries 1\nspan 7 7\narrived 1 40\noffered 0 0\ndeparted 0 0\ndropped 0 0\nused none\ndelay none\n";
     let summary = "packets 3\ndeparted 3\ndropped 0\ninside 0\nunsent 0\nbytes 2524\nlast 26\n";
     for (words, fails, status, printed, fates) in [
         (

@@ -45,10 +45,10 @@ fn answer<R: Threads + Wait + Sync, D: Disk, O: Sink, P: Port, Q: Pace + Sync>(
         return Err(Cause::usage());
     };
     match read_command(word.as_str()) {
-        Some(Command::Run) => answer_run(alloc, words, disk),
-        Some(Command::Report) => answer_report(alloc, words, disk, out),
-        Some(Command::Make) => answer_make(alloc, words, out),
-        None => Err(Cause::usage()),
+        Command::Run => answer_run(alloc, words, disk),
+        Command::Report => answer_report(alloc, words, disk, out),
+        Command::Make => answer_make(alloc, words, out),
+        Command::Unknown => Err(Cause::usage()),
     }
 }
 

@@ -1,4 +1,5 @@
-//! What the tests of the commands share: the words of a line, and a disk and an `out` in memory with what is left there.
+//! What the tests of the commands share: the words of a line, and a disk and an `out` in memory with what is left
+//! there.
 #![tactic(auto)]
 
 mod outside;

@@ -51,7 +51,10 @@ fn files_past_their_size_are_refused(rt: HostRuntime) -> Result<(), Fail> {
         let words = words_of(alloc, words.as_str())?;
         let mut out = MemSink::new(alloc, Vec::new(alloc));
         let status = conclude(answer_run(alloc, &words, &mut LargeDisk), &mut out);
-        assert!(rt; status == 5 && out.written() == line.as_bytes(), "at {line}");
+        assert!(rt;
+            status == 5 && out.written() == line.as_bytes(),
+            "at {line}"
+        );
     }
     Ok(())
 }

@@ -44,7 +44,13 @@ fn shell_words_are_refused(rt: HostRuntime) -> Result<(), Fail> {
             line,
             files: &[("f", ABSENT)],
         };
-        let is_left = leaves(alloc, words.as_str(), &[("t", "1\n"), ("s", "")], &[], &left)?;
+        let is_left = leaves(
+            alloc,
+            words.as_str(),
+            &[("t", "1\n"), ("s", "")],
+            &[],
+            &left,
+        )?;
         assert!(rt; is_left, "at {words}");
     }
     Ok(())

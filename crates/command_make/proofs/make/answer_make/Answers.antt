@@ -13,7 +13,8 @@ use Rattle.command_make.proofs.make.answer_make.Goals as goal
 
 pub returns-in-Some-clause-ends : goal.returns-in-Some-clause-ends
 returns-in-Some-clause-ends g c = λ disk.
-    ends_asked (only GivesMake) (make_job_of (map string_bytes c.args.words.now)) (make_values c.in-Some.job) make_reading
+    ends_asked (only GivesMake) (make_job_of (map string_bytes c.args.words.now)) (make_values c.in-Some.job)
+    make_reading
     (offline disk (g.O.Sink.view c.args.out.now)) (offline disk (g.O.Sink.view c.make.new.out))
     (cause_in c.make.result) (ap (λ (o : Option MakeJob). option_map make_values o) (sym c.in-Some.is)
     ∙ c.in_ok-job.ensures) (c.make.ensures.ends disk)
@@ -29,5 +30,6 @@ returns-in_err-job-clause-ends g c = λ disk.
     let p = err_from_is_err_and c.from_residual.result c.from_residual.ensures.1 in
     let reading = make_words (map string_bytes c.args.words.now) in
     let out = g.O.Sink.view c.args.out.now in
-    rw p.1 (subst (λ (k : Cause). Ends (only GivesMake) reading (offline disk out) (offline disk out) (Some k)) (sym p.2)
+    rw p.1 (subst (λ (k : Cause). Ends (only GivesMake) reading (offline disk out) (offline disk out) (Some k))
+    (sym p.2)
     (ends_early (only GivesMake) reading disk disk out tt (keeps_all disk)))

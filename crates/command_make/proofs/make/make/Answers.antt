@@ -16,7 +16,8 @@ returns-in_err-summary-clause-ends g c = λ disk.
     let p = err_from_is_err_and c.from_residual.result c.from_residual.ensures.1 in
     let reading = make_reading (make_values c.args.job.now) in
     let out = g.O.Sink.view c.args.out.now in
-    rw p.1 (subst (λ (k : Cause). Ends (only GivesMake) reading (offline disk out) (offline disk out) (Some k)) (sym p.2)
+    rw p.1 (subst (λ (k : Cause). Ends (only GivesMake) reading (offline disk out) (offline disk out) (Some k))
+    (sym p.2)
     (ends_early (only GivesMake) reading disk disk out tt (keeps_all disk)))
 
 pub returns-clause-ends : goal.returns-clause-ends

@@ -14,7 +14,8 @@ use Rattle.command_report.proofs.report.answer_report.Goals as goal
 
 pub returns-in-Some-clause-ends : goal.returns-in-Some-clause-ends
 returns-in-Some-clause-ends g c =
-    ends_asked (only GivesReport) (report_job_of (map string_bytes c.args.words.now)) (report_values c.in-Some.job) report_reading
+    ends_asked (only GivesReport) (report_job_of (map string_bytes c.args.words.now)) (report_values c.in-Some.job)
+    report_reading
     (offline (g.D.Disk.view c.args.disk.now) (g.O.Sink.view c.args.out.now))
     (offline (g.D.Disk.view c.report.new.disk) (g.O.Sink.view c.report.new.out)) (cause_in c.report.result)
     (ap (λ (o : Option ReportJob). option_map report_values o) (sym c.in-Some.is) ∙ c.in_ok-job.ensures)
@@ -32,5 +33,6 @@ returns-in_err-job-clause-ends g c =
     let reading = report_words (map string_bytes c.args.words.now) in
     let disk = g.D.Disk.view c.args.disk.now in
     let out = g.O.Sink.view c.args.out.now in
-    rw p.1 (subst (λ (k : Cause). Ends (only GivesReport) reading (offline disk out) (offline disk out) (Some k)) (sym p.2)
+    rw p.1 (subst (λ (k : Cause). Ends (only GivesReport) reading (offline disk out) (offline disk out) (Some k))
+    (sym p.2)
     (ends_early (only GivesReport) reading disk disk out tt (keeps_all disk)))

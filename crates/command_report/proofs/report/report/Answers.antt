@@ -17,8 +17,10 @@ returns-in_err-report-clause-ends g c =
     let out = g.O.Sink.view c.args.out.now in
     let old = g.D.Disk.view c.args.disk.now in
     let new = g.D.Disk.view c.load_report.new.disk in
-    rw p.1 (subst (λ (k : Cause). Ends (only GivesReport) reading (offline old out) (offline new out) (Some k)) (sym p.2)
-    (ends_stopped (only GivesReport) reading old new out tt _ (keeps c.load_report.ensures.only_reads) c.in_err-report.ensures.stopped))
+    rw p.1 (subst (λ (k : Cause). Ends (only GivesReport) reading (offline old out) (offline new out) (Some k))
+    (sym p.2)
+    (ends_stopped (only GivesReport) reading old new out tt _ (keeps c.load_report.ensures.only_reads)
+    c.in_err-report.ensures.stopped))
 
 pub returns-in_err-text-clause-ends : goal.returns-in_err-text-clause-ends
 returns-in_err-text-clause-ends g c =
@@ -27,7 +29,8 @@ returns-in_err-text-clause-ends g c =
     let out = g.O.Sink.view c.args.out.now in
     let old = g.D.Disk.view c.args.disk.now in
     let new = g.D.Disk.view c.load_report.new.disk in
-    rw p.1 (subst (λ (k : Cause). Ends (only GivesReport) reading (offline old out) (offline new out) (Some k)) (sym p.2)
+    rw p.1 (subst (λ (k : Cause). Ends (only GivesReport) reading (offline old out) (offline new out) (Some k))
+    (sym p.2)
     (ends_early (only GivesReport) reading old new out tt (keeps c.load_report.ensures.only_reads)))
 
 pub returns-clause-ends : goal.returns-clause-ends
@@ -37,5 +40,6 @@ returns-clause-ends g c =
     let new = offline (g.D.Disk.view c.load_report.new.disk) (g.O.Sink.view c.print.new.out) in
     let same = sym (c.as_slice.ensures ∙ c.in_ok-text.ensures) in
     ends_printed (only GivesReport) reading old new c.as_slice.result.now c.print.result
-    (subst (λ (text : List ℕ). FinishesOnly GivesReport reading old.disk.files (prints text)) same c.in_ok-report.ensures.found)
+    (subst (λ (text : List ℕ). FinishesOnly GivesReport reading old.disk.files (prints text)) same
+    c.in_ok-report.ensures.found)
     (keeps c.load_report.ensures.only_reads) c.print.ensures.ok c.print.ensures.stopped

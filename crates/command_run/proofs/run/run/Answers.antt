@@ -25,7 +25,8 @@ returns-in_err-run-clause-ends g c = λ out.
     let job = run_values c.args.job.now in
     let old = g.D.Disk.view c.args.disk.now in
     let new = g.D.Disk.view c.run_packets.new.disk in
-    rw p.1 (subst (λ (k : Cause). Ends (only GivesRun) (run_reading job) (offline old out) (offline new out) (Some k)) (sym p.2)
+    rw p.1 (subst (λ (k : Cause). Ends (only GivesRun) (run_reading job) (offline old out) (offline new out) (Some k))
+    (sym p.2)
     (ends_stopped (only GivesRun) (run_reading job) old new out tt _ (keeps c.run_packets.ensures.only_reads)
     (stops_later (run_reading job) (run_inputs job c.in_ok-words.words) old old new _ (c.in_ok-words.ensures.read old)
     (reads_none old) c.in_err-run.ensures.stopped)))
@@ -36,6 +37,7 @@ returns-clause-ends g c = λ out.
     let old = g.D.Disk.view c.args.disk.now in
     let mid = g.D.Disk.view c.run_packets.new.disk in
     let new = g.D.Disk.view c.write_files.new.disk in
-    ends_written (only GivesRun) (run_reading job) old mid new out tt tt (run_files job.out c.in_ok-run.run') c.write_files.result
+    ends_written (only GivesRun) (run_reading job) old mid new out tt tt (run_files job.out c.in_ok-run.run')
+    c.write_files.result
     (finishes_later (c.in_ok-words.ensures.read old) c.in_ok-run.ensures.found) c.run_packets.ensures.only_reads
     c.write_files.ensures.ok c.write_files.ensures.stopped
