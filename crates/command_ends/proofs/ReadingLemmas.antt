@@ -8,7 +8,7 @@ use Rattle.mm_base.specs.Files.{Files}
 use Rattle.command_ends.specs.Causes.{Text, status_of_refusal}
 use Rattle.command_ends.specs.Readings.{Reading, Done, Refuses, Reads, Judges, Holds, Leads, Reaches, ReachesPast}
 use Rattle.command_ends.specs.Readings.{Stop, AtTask, AtRefusal, AtFile, input_of}
-use Rattle.command_ends.specs.Readings.{asked, reading_text, refused_first, unless}
+use Rattle.command_ends.specs.Readings.{asked, reading_judged, reading_text, refused_first, unless}
 use Rattle.command_ends.specs.Stops.{IsInput, ReadsOn, RefusesBy, RefusesText, StopsAtFile, FileRefused, FileFault}
 use Rattle.command_ends.specs.Stops.{FileWants}
 use Rattle.command_ends.specs.Stops.{StopsReading, ReadingRefused, ReadingFault, ReadingWants}
@@ -65,12 +65,19 @@ first_kept told (Refuses other) stop refusal e r =
 first_kept told (Reads name next) stop refusal e r = absurd (let no : None ≡ Some refusal = e in cc no)
 first_kept told (Judges Says next) stop refusal e r = absurd (let no : None ≡ Some refusal = e in cc no)
 
--- A judgement has one answer, and refuses no words.
+-- both accept, or refuse with one status
+abbrev pub AreAlike : Option Refusal → Option Refusal → Type 0
+AreAlike None None = Unit {0}
+AreAlike None (Some b) = ⊥
+AreAlike (Some a) None = ⊥
+AreAlike (Some a) (Some b) = status_of_refusal a ≡ status_of_refusal b
+
+-- A judgement accepts, or refuses with one status, and refuses no words.
 pub record IsJudgement (Says : Option Refusal → Type 0) : Type 0 where
   pub no_words : (refusal : Refusal) → Says (Some refusal) → status_of_refusal refusal ≢ 2
-  pub single : (a b : Option Refusal) → Says a → Says b → a ≡ b
+  pub alike : (a b : Option Refusal) → Says a → Says b → AreAlike a b
 
--- after these bytes are read no words are refused, and judgements have one answer
+-- after these bytes are read no words are refused, and judgements accept or refuse
 abbrev pub RefusesNoWords : {A : Type 0} → Reading A → Type 0
 RefusesNoWords (Done task) = Unit {0}
 RefusesNoWords (Refuses refusal) = status_of_refusal refusal ≢ 2
@@ -119,7 +126,7 @@ no_words told (Judges Says next) stop refusal none (inr p) is =
     let same : p.0 ≡ refusal = cc both in
     subst (λ (k : Refusal). status_of_refusal k ≢ 2) same (none.0.no_words p.0 p.1)
 
--- Words are refused only before any file is read, and judgements have one answer.
+-- Words are refused only before any file is read, and judgements accept or refuse.
 abbrev pub RefusesWordsFirst : {A : Type 0} → Reading A → Type 0
 RefusesWordsFirst (Done task) = Unit {0}
 RefusesWordsFirst (Refuses refusal) = Unit {0}
@@ -143,39 +150,54 @@ IsLast (AtTask task) = Unit {0}
 IsLast (AtRefusal refusal) = Unit {0}
 IsLast (AtFile name) = ⊥
 
+-- the same task, or refusals with one status
+abbrev pub EndAlike : {A : Type 0} → Stop A → Stop A → Type 0
+EndAlike (AtTask a) (AtTask b) = a ≡ b
+EndAlike (AtTask a) (AtRefusal b) = ⊥
+EndAlike (AtTask a) (AtFile b) = ⊥
+EndAlike (AtRefusal a) (AtTask b) = ⊥
+EndAlike (AtRefusal a) (AtRefusal b) = status_of_refusal a ≡ status_of_refusal b
+EndAlike (AtRefusal a) (AtFile b) = ⊥
+EndAlike (AtFile a) t = ⊥
+
+end_same : {A : Type 0} (s : Stop A) → IsLast s → EndAlike s s
+end_same (AtTask task) x = refl
+end_same (AtRefusal refusal) x = refl
+end_same (AtFile name) x = absurd x
+
+end_one : {A : Type 0} (s t k : Stop A) → s ≡ k → t ≡ k → IsLast s → EndAlike s t
+end_one {A} s t k a b x = subst (λ (u : Stop A). EndAlike s u) (a ∙ sym b) (end_same s x)
+
 one_past : {A : Type 0} (m : Files) (next : List ℕ → Reading A) (s t : Stop A) (found : Result (List ℕ) Refusal)
-    → ((bytes : List ℕ) → Reaches (Some m) (next bytes) s → Reaches (Some m) (next bytes) t → s ≡ t)
-    → ReachesPast (λ b. Reaches (Some m) (next b) s) found s → ReachesPast (λ b. Reaches (Some m) (next b) t) found t
-    → s ≡ t
-one_past m next s t (Ok bytes) one a b = one bytes a b
-one_past m next s t (Err refusal) one a b = a ∙ sym b
+    → ((bytes : List ℕ) → Reaches (Some m) (next bytes) s → Reaches (Some m) (next bytes) t → EndAlike s t)
+    → IsLast s → ReachesPast (λ b. Reaches (Some m) (next b) s) found s
+    → ReachesPast (λ b. Reaches (Some m) (next b) t) found t → EndAlike s t
+one_past m next s t (Ok bytes) one x a b = one bytes a b
+one_past m next s t (Err refusal) one x a b = end_one s t (AtRefusal refusal) a b x
 
 -- files that are told have one end
 pub one_end : {A : Type 0} (m : Files) (reading : Reading A) (s t : Stop A) → RefusesNoWords reading
-    → Reaches (Some m) reading s → Reaches (Some m) reading t → IsLast s → IsLast t → s ≡ t
-one_end m (Done task) s t none a b x y = a ∙ sym b
-one_end m (Refuses refusal) s t none a b x y = a ∙ sym b
+    → Reaches (Some m) reading s → Reaches (Some m) reading t → IsLast s → IsLast t → EndAlike s t
+one_end m (Done task) s t none a b x y = end_one s t (AtTask task) a b x
+one_end m (Refuses refusal) s t none a b x y = end_one s t (AtRefusal refusal) a b x
 one_end {A} m (Reads name next) s t none (inl e) b x y = absurd (subst (λ (k : Stop A). IsLast k) e x)
 one_end {A} m (Reads name next) s t none (inr p) (inl e) x y = absurd (subst (λ (k : Stop A). IsLast k) e y)
 one_end m (Reads name next) s t none (inr p) (inr q) x y =
     let same : p.0 ≡ q.0 = sym (p.1 m refl) ∙ q.1 m refl in
-    one_past m next s t (input_of name q.0) (λ bytes a b. one_end m (next bytes) s t (none bytes) a b x y)
+    one_past m next s t (input_of name q.0) (λ bytes a b. one_end m (next bytes) s t (none bytes) a b x y) x
     (subst (λ (given : Option (List ℕ)). ReachesPast (λ b. Reaches (Some m) (next b) s) (input_of name given) s)
     same p.2) q.2
 one_end m (Judges Says next) s t none (inl p) (inl q) x y = one_end m next s t none.1 p.1 q.1 x y
-one_end m (Judges Says next) s t none (inl p) (inr q) x y =
-    absurd (let no : None ≡ Some q.0 = none.0.single None (Some q.0) p.0 q.1 in cc no)
-one_end m (Judges Says next) s t none (inr p) (inl q) x y =
-    absurd (let no : None ≡ Some p.0 = none.0.single None (Some p.0) q.0 p.1 in cc no)
-one_end m (Judges Says next) s t none (inr p) (inr q) x y =
-    let both : Some p.0 ≡ Some q.0 = none.0.single (Some p.0) (Some q.0) p.1 q.1 in
-    let same : p.0 ≡ q.0 = cc both in
-    p.2 ∙ ap AtRefusal same ∙ sym q.2
+one_end m (Judges Says next) s t none (inl p) (inr q) x y = absurd (none.0.alike None (Some q.0) p.0 q.1)
+one_end m (Judges Says next) s t none (inr p) (inl q) x y = absurd (none.0.alike (Some p.0) None p.1 q.0)
+one_end {A} m (Judges Says next) s t none (inr p) (inr q) x y =
+    subst (λ (k : Stop A). EndAlike k t) (sym p.2)
+    (subst (λ (k : Stop A). EndAlike (AtRefusal p.0) k) (sym q.2) (none.0.alike (Some p.0) (Some q.0) p.1 q.1))
 
 pub one_end_first : {A : Type 0} (m : Files) (reading : Reading A) (s t : Stop A) → RefusesWordsFirst reading
-    → Reaches (Some m) reading s → Reaches (Some m) reading t → IsLast s → IsLast t → s ≡ t
-one_end_first m (Done task) s t first a b x y = a ∙ sym b
-one_end_first m (Refuses refusal) s t first a b x y = a ∙ sym b
+    → Reaches (Some m) reading s → Reaches (Some m) reading t → IsLast s → IsLast t → EndAlike s t
+one_end_first m (Done task) s t first a b x y = end_one s t (AtTask task) a b x
+one_end_first m (Refuses refusal) s t first a b x y = end_one s t (AtRefusal refusal) a b x
 one_end_first m (Reads name next) s t first a b x y = one_end m (Reads name next) s t first a b x y
 one_end_first m (Judges Says next) s t first a b x y = one_end m (Judges Says next) s t first a b x y
 
@@ -421,3 +443,57 @@ pub bad_input : (name : Text) (number place : ℕ) (refusal : Refusal)
 bad_input name number place refusal e =
     let same : BadInput name number place ≡ refusal = cc e in
     subst (λ (r : Refusal). IsOfText r) same (record { not_words = λ h. omega arith; not_absent = λ h. omega arith })
+
+-- past a text that is accepted where it is judged
+pub leads_judged_text : {A : Type 0} (told : Option Files) (Says : List ℕ → Option Refusal → Type 0) (name : Text)
+    (next : List ℕ → Reading A) (text : List ℕ) → IsInput told name text → Says text None
+    → Leads told (reading_judged Says name next) (next text)
+leads_judged_text told Says name next text input says =
+    leads_then (leads_past told name (λ t. Judges (Says t) (next t)) text input)
+    (leads_judged told (Says text) (next text) says)
+
+-- the answer of a reader of a text that is judged
+pub judged_stopped : {T : Type 0} (old new : DiskView) (Says : List ℕ → Option Refusal → Type 0) (name : Text)
+    (text : List ℕ) (result : Result T Cause)
+    → IsInput old.files name text
+    → ((refusal : Refusal) → Says text (Some refusal) → status_of_refusal refusal ≢ 3)
+    → IfErr result (λ cause. RefusesBy (Says text) cause)
+    → IfErr result (λ cause. StopsReading (reading_judged Says name Done) old new cause)
+judged_stopped old new Says name text (Ok value) input there answer = tt
+judged_stopped old new Says name text (Err cause) input there (inl is) = ReadingWants is
+judged_stopped old new Says name text (Err cause) input there (inr p) =
+    ReadingRefused p.0 p.1
+    ((leads_past old.files name (λ t. Judges (Says t) (Done t)) text input).on (AtRefusal p.0) (inr (p.0, p.2, refl)))
+    (λ missing e. absurd (there p.0 p.2 (ap status_of_refusal e)))
+
+judges_refused : {A B : Type 0} (told : Option Files) (Says : Option Refusal → Type 0) (one : Reading A)
+    (other : Reading B) (refusal : Refusal) → StopsAlike told one other
+    → Reaches told (Judges Says one) (AtRefusal refusal) → Reaches told (Judges Says other) (AtRefusal refusal)
+judges_refused told Says one other refusal alike (inl p) = inl (p.0, alike.refused refusal p.1)
+judges_refused told Says one other refusal alike (inr p) =
+    let both : AtRefusal refusal ≡ AtRefusal p.0 = p.2 in
+    let same : refusal ≡ p.0 = cc both in
+    inr (p.0, p.1, ap AtRefusal same)
+
+judges_fault : {A B : Type 0} (told : Option Files) (Says : Option Refusal → Type 0) (one : Reading A)
+    (other : Reading B) (name : Text) → StopsAlike told one other
+    → Reaches told (Judges Says one) (AtFile name) → Reaches told (Judges Says other) (AtFile name)
+judges_fault told Says one other name alike (inl p) = inl (p.0, alike.fault name p.1)
+judges_fault told Says one other name alike (inr p) =
+    absurd (let no : AtFile name ≡ AtRefusal p.0 = p.2 in cc no)
+
+pub alike_judges : {A B : Type 0} (told : Option Files) (Says : Option Refusal → Type 0) (one : Reading A)
+    (other : Reading B) → StopsAlike told one other → StopsAlike told (Judges Says one) (Judges Says other)
+alike_judges told Says one other alike = record {
+  refused = λ refusal r. judges_refused told Says one other refusal alike r;
+  fault = λ name r. judges_fault told Says one other name alike r;
+}
+
+-- what stops the reading of such a text stops it whatever would have come next
+pub judged_stops_before : {A : Type 0} (old new : DiskView) (Says : List ℕ → Option Refusal → Type 0) (name : Text)
+    (cause : Cause) (next : List ℕ → Reading A) → StopsReading (reading_judged Says name Done) old new cause
+    → StopsReading (reading_judged Says name next) old new cause
+judged_stops_before old new Says name cause next stopped =
+    stops_alike (reading_judged Says name Done) (reading_judged Says name next) old new cause
+    (alike_reads old.files name (λ t. Judges (Says t) (Done t)) (λ t. Judges (Says t) (next t))
+    (λ t. alike_judges old.files (Says t) (Done t) (next t) (alike_done old.files t (next t)))) stopped

@@ -17,7 +17,8 @@ use Rattle.command_ends.specs.declared.cause.Cause.TheVariants.{OutOfMemory}
 use Rattle.command_ends.specs.declared.cause.Refusal.{Refusal}
 use Rattle.command_ends.specs.declared.cause.Refusal.TheVariants.{Words, Absent, BadInput, Limit}
 use Rattle.command_ends.specs.declared.cause.WordsRefusal.{WordsRefusal}
-use Rattle.command_ends.proofs.ReadingLemmas.{RefusesWordsFirst, IsLast, first_kept, one_end_first, words_first}
+use Rattle.command_ends.proofs.ReadingLemmas.{RefusesWordsFirst, IsLast, EndAlike, first_kept, one_end_first}
+use Rattle.command_ends.proofs.ReadingLemmas.{words_first}
 
 -- the words' refusal, where the status is 2
 pub words_of : (refusal : Refusal) → status_of_refusal refusal ≡ 2 → (w : WordsRefusal) × (refusal ≡ Words w)
@@ -116,14 +117,13 @@ module _ {A N : Type 0} (work : A → Work N) (reading : Reading A) (old : Outsi
   -- where the files lead is where they are told to
   one : (m : Files) (stop wanted : Stop A) → RefusesWordsFirst reading → old.disk.files ≡ Some m
       → Reaches old.disk.files reading stop → Reaches (Some m) reading wanted → IsLast stop → IsLast wanted
-      → stop ≡ wanted
+      → EndAlike stop wanted
   one m stop wanted first told r w x y =
       one_end_first m reading stop wanted first (subst (λ (f : Option Files). Reaches f reading stop) told r) w x y
 
   same_task : (m : Files) (task led : A) → RefusesWordsFirst reading → old.disk.files ≡ Some m
       → Reaches (Some m) reading (AtTask task) → Reaches old.disk.files reading (AtTask led) → led ≡ task
-  same_task m task led first told w r =
-      let same : AtTask led ≡ AtTask task = one m (AtTask led) (AtTask task) first told r w tt tt in cc same
+  same_task m task led first told w r = one m (AtTask led) (AtTask task) first told r w tt tt
 
   -- and nothing is refused
   led_first : (refusal : Refusal) (led : A) → refused_first reading ≡ Some refusal
@@ -133,8 +133,7 @@ module _ {A N : Type 0} (work : A → Work N) (reading : Reading A) (old : Outsi
 
   led_told : (m : Files) (refusal : Refusal) (led : A) → RefusesWordsFirst reading → old.disk.files ≡ Some m
       → Reaches (Some m) reading (AtRefusal refusal) → Reaches old.disk.files reading (AtTask led) → ⊥
-  led_told m refusal led first told w r =
-      let no : AtTask led ≡ AtRefusal refusal = one m (AtTask led) (AtRefusal refusal) first told r w tt tt in cc no
+  led_told m refusal led first told w r = one m (AtTask led) (AtRefusal refusal) first told r w tt tt
 
   tells_none : Ends work reading old (outside disk mid net) None → Tells 0
   tells_none ends = record {
@@ -167,12 +166,9 @@ module _ {A N : Type 0} (work : A → Work N) (reading : Reading A) (old : Outsi
         let same_refusal : refusal ≡ wanted = cc same in
         inl (ap status_of_refusal same_refusal);
     by_files = λ m wanted first told e _.
-        let same : AtRefusal refusal ≡ AtRefusal wanted =
-        one m (AtRefusal refusal) (AtRefusal wanted) first told ends.first e tt tt in
-        let same_refusal : refusal ≡ wanted = cc same in
-        inl (ap status_of_refusal same_refusal);
-    complete = λ m task first told e _. absurd (let no : AtRefusal refusal ≡ AtTask task =
-        one m (AtRefusal refusal) (AtTask task) first told ends.first e tt tt in cc no);
+        inl (one m (AtRefusal refusal) (AtRefusal wanted) first told ends.first e tt tt);
+    complete = λ m task first told e _. absurd
+        (one m (AtRefusal refusal) (AtTask task) first told ends.first e tt tt);
   }
 
   tells_read_fault : (name : List ℕ) → Ends work reading old (outside disk mid net) (Some (ReadFault name)) → Tells 6

@@ -42,6 +42,10 @@ unless (Some refusal) next = Refuses refusal
 abbrev pub reading_text : {A : Type 0} → (List ℕ → Option Refusal) → Text → (List ℕ → Reading A) → Reading A
 reading_text grammar name next = Reads name (λ text. unless (grammar text) (next text))
 
+-- The file of this name is read, and its text is judged.
+abbrev pub reading_judged : {A : Type 0} → (List ℕ → Option Refusal → Type 0) → Text → (List ℕ → Reading A) → Reading A
+reading_judged Says name next = Reads name (λ text. Judges (Says text) (next text))
+
 -- The bytes of an input, where the file of this name holds these bytes, or isn't there. An input has at most
 -- 67,108,864 bytes.
 unfoldable pub input_of : Text → Option (List ℕ) → Result (List ℕ) Refusal
