@@ -1,12 +1,12 @@
 -- Words of a run are refused before any file is read.
-use Rattle.std.proofs.Common.{ℕ, List, [], ◌∷◌, Result, Ok, Err, map}
+use Rattle.std.proofs.Common.{ℕ, List, [], ◌∷◌, Option, Some, None, Result, Ok, Err, map}
 use Rattle.nest_spec.specs.Words.{NestPlan, nest_of}
 use Rattle.nest_spec.specs.declared.error.NestError.{NestError}
 use Rattle.command_ends.specs.Causes.{Text}
 use Rattle.command_ends.specs.Readings.{Reading, Done, unless}
 use Rattle.command_ends.proofs.ReadingLemmas.{RefusesNoWords, RefusesWordsFirst, asked_first, none_first, unless_first}
 use Rattle.command_ends.proofs.ReadingLemmas.{unless_no_words}
-use Rattle.command_run.specs.Inputs.{reading_schedule, reading_traces, schedule_refusal, trace_refusal}
+use Rattle.command_run.specs.Inputs.{reading_order, reading_schedule, reading_traces, schedule_refusal, trace_refusal}
 use Rattle.command_run.specs.Run.{RunJob, RunTask, run_of}
 use Rattle.command_run.specs.RunReading.{refused_count, refused_horizon, refused_outputs, run_inputs, run_reading}
 use Rattle.command_run.specs.RunReading.{run_words, with_nest}
@@ -29,13 +29,19 @@ schedule_no_words name next none = λ text.
     unless_no_words (schedule_refusal name text) (next text)
     (λ refusal e. (schedule_text name text refusal e).not_words) (none text)
 
+-- nor after an order
+order_no_words : (order : Option Text) (next : Reading RunTask) → RefusesNoWords next
+    → RefusesNoWords (reading_order order next)
+order_no_words None next none = none
+order_no_words (Some name) next none = λ bytes. none
+
 inputs_no_words : (job : RunJob) (plan : NestPlan) → RefusesNoWords (run_inputs job plan)
 inputs_no_words job plan =
     traces_no_words plan.traces _ (λ texts.
     unless_no_words (refused_count job.until plan.shells (map trace_in texts)) _
     (λ refusal e. (count_text job.until plan.shells (map trace_in texts) refusal e).not_words)
-    (schedule_no_words job.schedule
-    (λ schedule. Done (record { job = job; plan = plan; traces = texts; schedule = schedule })) (λ text. tt)))
+    (order_no_words job.order _ (schedule_no_words job.schedule
+    (λ schedule. Done (record { job = job; plan = plan; traces = texts; schedule = schedule })) (λ text. tt))))
 
 run_first : (job : RunJob) (nest : Result NestPlan NestError)
     → RefusesWordsFirst (with_nest nest

@@ -3,6 +3,7 @@ use Rattle.std.proofs.Common.{◌≡◌, ◌≢◌, ◌⊎◌, inl, inr, ℕ, �
 use Rattle.std.proofs.Common.{IfErr, map, subst, refl, ap, sym, ◌∙◌, arith}
 use Rattle.mm_base.specs.Disk.{DiskView, OnlyReads}
 use Rattle.mm_base.specs.Files.{Files}
+use Rattle.mm_base.proofs.Then.{OnlyReads-then}
 use Rattle.packet_record.specs.declared.packet.Row.{Row}
 use Rattle.trace_reader.specs.Traces.{TraceView}
 use Rattle.nest_spec.specs.Nests.{NestParts, RunLists, result_of}
@@ -10,7 +11,7 @@ use Rattle.nest_spec.specs.Once.{HaveOneFate}
 use Rattle.nest_spec.specs.Words.{NestPlan, nest_of}
 use Rattle.nest_spec.specs.declared.error.NestError.{NestError}
 use Rattle.nest_spec.specs.declared.error.NestError.TheVariants as nest_errors
-use Rattle.command_ends.specs.Causes.{status_of_refusal}
+use Rattle.command_ends.specs.Causes.{Text, status_of_refusal}
 use Rattle.command_ends.specs.Ends.{FinishesOnly}
 use Rattle.command_ends.specs.Outputs.{writes}
 use Rattle.command_ends.specs.Readings.{Reading, Done, Refuses, Leads, unless}
@@ -21,9 +22,9 @@ use Rattle.command_ends.specs.declared.cause.Refusal.{Refusal}
 use Rattle.command_ends.proofs.CountLemmas.{reads_none}
 use Rattle.command_ends.proofs.EndLemmas.{finishes_only}
 use Rattle.command_ends.proofs.ReadingLemmas.{found_stop, leads_text, leads_then, leads_unless, stays, stops_here}
-use Rattle.command_ends.proofs.ReadingLemmas.{stops_later, text_stops_before}
-use Rattle.command_run.specs.Inputs.{reading_schedule, schedule_refusal}
-use Rattle.command_run.specs.Loaded.{HasNest, HasSchedule, HaveTraces}
+use Rattle.command_ends.proofs.ReadingLemmas.{leads_past, stops_at, stops_later, text_stops_before}
+use Rattle.command_run.specs.Inputs.{reading_order, reading_schedule, schedule_refusal}
+use Rattle.command_run.specs.Loaded.{HasNest, HasOrder, HasSchedule, HaveTraces, StopsAtOrder}
 use Rattle.command_run.specs.Run.{GivesRun, RunJob, RunTask, nest_with, run_files}
 use Rattle.command_run.specs.RunReading.{nest_refusal, refused_count, refused_horizon, refused_outputs, run_inputs}
 use Rattle.command_run.specs.RunReading.{run_reading, with_nest}
@@ -39,13 +40,18 @@ after_nest job plan = unless (refused_outputs job plan) (unless (refused_horizon
 abbrev pub after_traces : RunJob → NestPlan → List (List ℕ) → Reading RunTask
 after_traces job plan traces =
     unless (refused_count job.until plan.shells (map trace_in traces)) (
+    reading_order job.order (
     reading_schedule job.schedule (λ schedule.
-    Done (record { job = job; plan = plan; traces = traces; schedule = schedule })))
+    Done (record { job = job; plan = plan; traces = traces; schedule = schedule }))))
 
 -- and after its schedule
 abbrev done_with : RunJob → NestPlan → List (List ℕ) → List ℕ → Reading RunTask
 done_with job plan traces schedule =
     Done (record { job = job; plan = plan; traces = traces; schedule = schedule })
+
+-- and after its order
+abbrev after_order : RunJob → NestPlan → List (List ℕ) → Reading RunTask
+after_order job plan traces = reading_schedule job.schedule (done_with job plan traces)
 
 nest_known : (told : Option Files) (job : RunJob) (plan : NestPlan) → nest_of job.shells ≡ Ok plan
     → Leads told (run_reading job) (after_nest job plan)
@@ -111,35 +117,71 @@ count_stop job plan old new texts traces cause have refused =
     (found_stop (refused_count job.until plan.shells (map trace_in texts)) _ old new cause
     (λ refusal h. (count_text job.until plan.shells (map trace_in texts) refusal h).not_absent) said)
 
-schedule_next : (told : Option Files) (job : RunJob) (plan : NestPlan) (nest : NestParts)
+order_next : (told : Option Files) (job : RunJob) (plan : NestPlan) (nest : NestParts)
     (has : HasNest told job plan nest)
-    → Leads told (run_inputs job plan) (reading_schedule job.schedule (done_with job plan has.texts))
-schedule_next told job plan nest has =
+    → Leads told (run_inputs job plan) (reading_order job.order (after_order job plan has.texts))
+order_next told job plan nest has =
     let few : refused_count job.until plan.shells (map trace_in has.texts) ≡ None =
     ap (refused_count job.until plan.shells) (have_said has.have)
     ∙ count_within job.until plan.shells has.traces has.few in
     leads_then (leads_traces (after_traces job plan) has.have)
     (leads_unless told (refused_count job.until plan.shells (map trace_in has.texts))
-    (reading_schedule job.schedule (done_with job plan has.texts)) few)
+    (reading_order job.order (after_order job plan has.texts)) few)
+
+-- past the order
+order_read : {A : Type 0} (told : Option Files) (order : Option Text) (next : Reading A) → HasOrder told order
+    → Leads told (reading_order order next) next
+order_read told None next has = stays next
+order_read told (Some name) next has = leads_past told name (λ bytes. next) has.0 has.1
+
+order_stops : {A : Type 0} (order : Option Text) (next : Reading A) (old new : DiskView) (cause : Cause)
+    → StopsAtOrder order old new cause → StopsReading (reading_order order next) old new cause
+order_stops None next old new cause stopped = ReadingWants stopped
+order_stops (Some name) next old new cause stopped = stops_at name (λ bytes. next) old new cause stopped
+
+-- the order isn't read
+pub order_stop : (job : RunJob) (plan : NestPlan) (nest : NestParts) (old mid new : DiskView) (cause : Cause)
+    → HasNest old.files job plan nest → OnlyReads old mid → StopsAtOrder job.order mid new cause
+    → StopsReading (run_inputs job plan) old new cause
+order_stop job plan nest old mid new cause has reads stopped =
+    stops_later (run_inputs job plan) (reading_order job.order (after_order job plan has.texts)) old mid new cause
+    (order_next old.files job plan nest has) reads
+    (order_stops job.order (after_order job plan has.texts) mid new cause stopped)
+
+-- the traces and the order of a run are read, and nothing else changes
+pub record HasInputs (old mid late : DiskView) (job : RunJob) (plan : NestPlan) (nest : NestParts) : Type 0 where
+  pub has : HasNest old.files job plan nest
+  pub first : OnlyReads old mid
+  pub order : HasOrder mid.files job.order
+  pub second : OnlyReads mid late
+
+schedule_next : (job : RunJob) (plan : NestPlan) (nest : NestParts) (old mid late : DiskView)
+    (read : HasInputs old mid late job plan nest)
+    → Leads old.files (run_inputs job plan) (after_order job plan read.has.texts)
+schedule_next job plan nest old mid late read =
+    leads_then (order_next old.files job plan nest read.has)
+    (order_read old.files job.order (after_order job plan read.has.texts)
+    (subst (λ (told : Option Files). HasOrder told job.order) read.first.same_files read.order))
 
 -- the schedule isn't read
-pub schedule_stop : (job : RunJob) (plan : NestPlan) (nest : NestParts) (old mid new : DiskView) (cause : Cause)
-    → HasNest old.files job plan nest → OnlyReads old mid
-    → StopsReading (reading_schedule job.schedule Done) mid new cause
+pub schedule_stop : (job : RunJob) (plan : NestPlan) (nest : NestParts) (old mid late new : DiskView) (cause : Cause)
+    → HasInputs old mid late job plan nest → StopsReading (reading_schedule job.schedule Done) late new cause
     → StopsReading (run_inputs job plan) old new cause
-schedule_stop job plan nest old mid new cause has reads stopped =
-    stops_later (run_inputs job plan) (reading_schedule job.schedule (done_with job plan has.texts)) old mid new cause
-    (schedule_next old.files job plan nest has) reads
-    (text_stops_before mid new (schedule_refusal job.schedule) job.schedule cause (done_with job plan has.texts)
-    stopped)
+schedule_stop job plan nest old mid late new cause read stopped =
+    stops_later (run_inputs job plan) (after_order job plan read.has.texts) old late new cause
+    (schedule_next job plan nest old mid late read) (OnlyReads-then read.first read.second)
+    (text_stops_before late new (schedule_refusal job.schedule) job.schedule cause
+    (done_with job plan read.has.texts) stopped)
 
 -- all is read
-pub run_finishes : (job : RunJob) (plan : NestPlan) (nest : NestParts) (old mid : DiskView) (rows : List Row)
-    (run : RunLists) → HasNest old.files job plan nest → OnlyReads old mid
-    → ((text : List ℕ) × HasSchedule mid.files job.schedule text rows) → run ≡ result_of nest rows
+pub run_finishes : (job : RunJob) (plan : NestPlan) (nest : NestParts) (old mid late : DiskView) (rows : List Row)
+    (run : RunLists) → HasInputs old mid late job plan nest
+    → ((text : List ℕ) × HasSchedule late.files job.schedule text rows) → run ≡ result_of nest rows
     → HaveOneFate nest rows
     → FinishesOnly GivesRun (run_inputs job plan) old.files (writes (run_files job.out run))
-run_finishes job plan nest old mid rows run has reads schedule is once =
+run_finishes job plan nest old mid late rows run read schedule is once =
+    let has = read.has in
+    let reads = OnlyReads-then read.first read.second in
     let text = schedule.0 in
     let held : HasSchedule old.files job.schedule text rows =
     subst (λ (told : Option Files). HasSchedule told job.schedule text rows) reads.same_files schedule.1 in
@@ -155,6 +197,6 @@ run_finishes job plan nest old mid rows run has reads schedule is once =
       output_is = ap (λ (lists : RunLists). writes (run_files job.out lists)) same;
     } in
     finishes_only (run_inputs job plan) GivesRun _ old.files (writes (run_files job.out run))
-    (leads_then (schedule_next old.files job plan nest has)
+    (leads_then (schedule_next job plan nest old mid late read)
     (leads_text old.files (schedule_refusal job.schedule) job.schedule (done_with job plan has.texts) text
     held.input held.accepted)) gives

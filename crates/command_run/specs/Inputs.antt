@@ -10,7 +10,7 @@ use Rattle.trace_reader.specs.Traces.{TraceView}
 use Rattle.trace_reader.specs.declared.reading.TraceError.{TraceError}
 use Rattle.trace_reader.specs.declared.reading.TraceError.TheVariants as trace_errors
 use Rattle.command_ends.specs.Causes.{Text}
-use Rattle.command_ends.specs.Readings.{Reading, reading_text}
+use Rattle.command_ends.specs.Readings.{Reading, Reads, reading_text}
 use Rattle.command_ends.specs.declared.cause.Limit.TheVariants.{Lines, Packets}
 use Rattle.command_ends.specs.declared.cause.Refusal.{Refusal}
 use Rattle.command_ends.specs.declared.cause.Refusal.TheVariants.{BadInput, Limit}
@@ -41,6 +41,11 @@ reading_trace name next = reading_text (trace_refusal name) name next
 
 abbrev pub reading_schedule : {A : Type 0} → Text → (List ℕ → Reading A) → Reading A
 reading_schedule name next = reading_text (schedule_refusal name) name next
+
+-- The file of the order is read, where there is one. Any bytes are an order, and the run gives the same by each.
+abbrev pub reading_order : {A : Type 0} → Option Text → Reading A → Reading A
+reading_order None next = next
+reading_order (Some name) next = Reads name (λ order. next)
 
 -- the files of these names are read, each a trace and read before the next
 abbrev pub reading_traces : {A : Type 0} → List Text → (List (List ℕ) → Reading A) → Reading A

@@ -3,4 +3,5 @@ pub mod Inputs
 pub mod Run
 pub mod RunReading
 pub mod Loaded
+pub mod PassedViews
 pub mod View

@@ -1,5 +1,6 @@
 -- What reading the inputs of a run leaves, for the bodies that read them.
-use Rattle.std.specs.Prelude.{◌≡◌, ◌≤◌, ℕ, List, [], ◌∷◌, Option, None}
+use Rattle.std.specs.Prelude.{◌≡◌, ◌≤◌, ℕ, List, [], ◌∷◌, Option, Some, None}
+use Rattle.mm_base.specs.Disk.{DiskView}
 use Rattle.mm_base.specs.Files.{Files}
 use Rattle.packet_record.specs.Schedules.{IsScheduleText}
 use Rattle.packet_record.specs.declared.packet.Row.{Row}
@@ -8,7 +9,9 @@ use Rattle.trace_reader.specs.Traces.{TraceView}
 use Rattle.nest_spec.specs.Nests.{NestParts, opportunities_of}
 use Rattle.nest_spec.specs.Words.{NestPlan}
 use Rattle.command_ends.specs.Causes.{Text}
-use Rattle.command_ends.specs.Stops.{IsInput}
+use Rattle.command_ends.specs.Stops.{IsInput, StopsAtFile}
+use Rattle.command_ends.specs.declared.cause.Cause.{Cause}
+use Rattle.command_ends.specs.declared.cause.Cause.TheVariants.{OutOfMemory}
 use Rattle.command_run.specs.Inputs.{schedule_refusal, trace_refusal}
 use Rattle.command_run.specs.Run.{RunJob, nest_with}
 
@@ -31,6 +34,16 @@ pub data HaveTraces (told : Option Files) : List Text → List (List ℕ) → Li
       (traces : List TraceView)
       → HasTrace told name text trace → HaveTraces told names texts traces
       → HaveTraces told (name ∷ names) (text ∷ texts) (trace ∷ traces)
+
+-- the file of the order is an input, where there is one
+abbrev pub HasOrder : Option Files → Option Text → Type 0
+HasOrder told None = Unit {0}
+HasOrder told (Some name) = (bytes : List ℕ) × IsInput told name bytes
+
+-- why it isn't read
+abbrev pub StopsAtOrder : Option Text → DiskView → DiskView → Cause → Type 0
+StopsAtOrder None old new cause = cause ≡ OutOfMemory
+StopsAtOrder (Some name) old new cause = StopsAtFile name old new cause
 
 -- the traces of a run are read, and few enough opportunities are theirs
 pub record HasNest (told : Option Files) (job : RunJob) (plan : NestPlan) (nest : NestParts) : Type 0 where

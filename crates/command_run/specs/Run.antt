@@ -1,6 +1,6 @@
 -- What `run` is asked for, and what it gives.
 use Rattle.std.specs.Prelude.{◌≡◌, ℕ, ◌+◌, Bool, List, [], ◌∷◌, ◌++◌, Option, Some, None, codes, map, position, take}
-use Rattle.std.specs.Prelude.{drop, option_and_then}
+use Rattle.std.specs.Prelude.{drop, option_and_then, is_some, ◌&&◌, if◌then◌else◌}
 use Rattle.std.specs.Str.{bytes_eq}
 use Rattle.mm_base.specs.Numbers.{decimal_of}
 use Rattle.packet_record.specs.Schedules.{IsScheduleText}
@@ -21,13 +21,15 @@ infixl 10 ◌>>=◌
 abbrev pub ◌>>=◌ : {A B : Type 0} → Option A → (A → Option B) → Option B
 o >>= f = option_and_then f o
 
--- its horizon in milliseconds, the names of its files, its seed, and the words of its shells
+-- its horizon in milliseconds, the names of its files, with that of its order if it has one, its seed, and the words
+-- of its shells
 pub record RunJob : Type 0 where
   pub until : ℕ
   pub schedule : Text
   pub out : Text
   pub seed : ℕ
   pub plain : Bool
+  pub order : Option Text
   pub shells : List Text
 
 -- the seed is 0 where none is given
@@ -46,16 +48,13 @@ run_numbers shells texts = do
     out = texts.out;
     seed = seed;
     plain = texts.plain;
+    order = texts.order;
     shells = shells;
   })
 
--- `--order` asks for nothing yet
-abbrev pub run_unordered : Option Text → Option RunJob → Option RunJob
-run_unordered None job = job
-run_unordered (Some order) job = None
-
+-- `--plain` and `--order` exclude each other
 abbrev pub run_with : List Text → RunTexts → Option RunJob
-run_with shells texts = run_unordered texts.order (run_numbers shells texts)
+run_with shells texts = if texts.plain && is_some texts.order then None else run_numbers shells texts
 
 abbrev pub ends_options : Text → Bool
 ends_options word = bytes_eq word (codes "--")

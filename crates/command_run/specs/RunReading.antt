@@ -1,5 +1,6 @@
 -- What `run` reads and refuses, in order.
 use Rattle.std.specs.Prelude.{ℕ, List, [], ◌∷◌, ◌++◌, Option, Some, None, Result, Ok, Err, map, nat_lt, if◌then◌else◌}
+use Rattle.std.specs.Prelude.{option_to_list}
 use Rattle.trace_reader.specs.Traces.{TraceView}
 use Rattle.nest_spec.specs.NestFaults.{number_of, place_of, inner_of}
 use Rattle.nest_spec.specs.Nests.{opportunities_of}
@@ -13,7 +14,7 @@ use Rattle.command_ends.specs.declared.cause.Limit.TheVariants.{Horizon, Opportu
 use Rattle.command_ends.specs.declared.cause.Refusal.{Refusal}
 use Rattle.command_ends.specs.declared.cause.Refusal.TheVariants.{Words, Limit}
 use Rattle.command_ends.specs.declared.cause.WordsRefusal.TheVariants.{Nest}
-use Rattle.command_run.specs.Inputs.{reading_schedule, reading_traces}
+use Rattle.command_run.specs.Inputs.{reading_order, reading_schedule, reading_traces}
 use Rattle.command_run.specs.Run.{RunJob, RunTask, run_of}
 use Rattle.command_run.specs.Traces.{trace_in}
 
@@ -25,10 +26,13 @@ abbrev pub with_nest : {A : Type 0} → Result NestPlan NestError → (NestPlan 
 with_nest (Err error) next = Refuses (nest_refusal error)
 with_nest (Ok plan) next = next plan
 
--- The inputs are the traces and the schedule. The outputs are the logs, in the order of the shells, up before down,
--- and the fates.
+-- the names of the inputs: the traces, the schedule, and the order if there is one
+abbrev pub input_names : RunJob → NestPlan → List Text
+input_names job plan = (plan.traces ++ job.schedule ∷ []) ++ option_to_list job.order
+
+-- The outputs are the logs, in the order of the shells, up before down, and the fates.
 abbrev pub refused_outputs : RunJob → NestPlan → Option Refusal
-refused_outputs job plan = refused_names (plan.traces ++ job.schedule ∷ []) (plan.logs ++ job.out ∷ [])
+refused_outputs job plan = refused_names (input_names job plan) (plan.logs ++ job.out ∷ [])
 
 -- the horizon is at most an hour
 unfoldable pub refused_horizon : ℕ → Option Refusal
@@ -39,13 +43,14 @@ unfoldable pub refused_count : ℕ → List ShellWords → List TraceView → Op
 refused_count until shells traces = if nat_lt 16000000 (opportunities_of until shells traces)
     then Some (Limit Opportunities) else None
 
--- the traces, in the order of the shells, up before down, and the schedule
+-- the traces, in the order of the shells, up before down, the order if there is one, and the schedule
 abbrev pub run_inputs : RunJob → NestPlan → Reading RunTask
 run_inputs job plan =
     reading_traces plan.traces (λ traces.
     unless (refused_count job.until plan.shells (map trace_in traces)) (
+    reading_order job.order (
     reading_schedule job.schedule (λ schedule.
-    Done (record { job = job; plan = plan; traces = traces; schedule = schedule }))))
+    Done (record { job = job; plan = plan; traces = traces; schedule = schedule })))))
 
 abbrev pub run_reading : RunJob → Reading RunTask
 run_reading job =

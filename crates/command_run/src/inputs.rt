@@ -1,5 +1,5 @@
-// The inputs of runs, read from their files: traces, in order, and a schedule.
-ghost use Rattle.std.specs.Prelude.{◌≡◌, ◌≢◌, ℕ, List, length, None, Some, IfOk, IfErr, MatchResult};
+// The inputs of runs, read from their files: traces, in order, an order, and a schedule.
+ghost use Rattle.std.specs.Prelude.{◌≡◌, ◌≢◌, ℕ, List, length, None, Some, IfOk, IfErr, MatchResult, OnOk, option_map};
 ghost use Rattle.mm_base.specs.Disk.{OnlyReads};
 ghost use Rattle.packet_record.specs.PartsRead.{HasRead};
 ghost use Rattle.mm_base.specs.Lines.{lines_of};
@@ -10,10 +10,10 @@ ghost use Rattle.command_ends.specs.Readings.{Done};
 ghost use Rattle.command_ends.specs.Stops.{IsInput, RefusesText, StopsAtFile, StopsReading};
 ghost use Rattle.command_run.specs.Inputs.{reading_schedule, reading_trace, reading_traces, schedule_refusal};
 ghost use Rattle.command_run.specs.Inputs.{trace_refusal};
-ghost use Rattle.command_run.specs.Loaded.{HasSchedule, HasTrace, HaveTraces};
+ghost use Rattle.command_run.specs.Loaded.{HasOrder, HasSchedule, HasTrace, HaveTraces, StopsAtOrder};
 
 use command_ends::{Cause, Limit, Refusal, input_size, read_input, read_pieces};
-use mm_base::{Disk, Text};
+use mm_base::{Bytes, Disk, Text};
 use packet_record::{Schedule, ScheduleError, ScheduleText};
 use std::alloc::Global;
 use trace_reader::{Trace, TraceError, read_trace};
@@ -92,6 +92,23 @@ pub(crate) fn load_traces<D: Disk>(
         traces.push(trace)?;
     }
     Ok(traces)
+}
+
+// The bytes of the order of this name, if there is one.
+pub(crate) fn load_order<D: Disk>(
+    alloc: Global,
+    disk: &mut D,
+    name: Option<&str>,
+) -> Result<Option<Bytes>, Cause>
+    ensures found { OnOk result (HasOrder (D.view disk.old).files (option_map (λ s. s.now) name.entry)) }
+    ensures stopped { IfErr result (λ cause. StopsAtOrder (option_map (λ s. s.now) name.entry) (D.view disk.old)
+        (D.view disk.new) cause) }
+    ensures only_reads { OnlyReads (D.view disk.old) (D.view disk.new) }
+{
+    match name {
+        Some(name) => Ok(Some(read_input(alloc, disk, name)?)),
+        None => Ok(None),
+    }
 }
 
 // The text of the schedule of this name, read in pieces.

@@ -2,10 +2,12 @@
 #![tactic(auto)]
 
 mod inputs;
+mod passing;
 mod run;
 mod run_files;
 mod run_job;
 #[cfg(test)]
 mod tests;
+mod whole_logs;
 
 pub use run::answer_run;

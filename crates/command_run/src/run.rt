@@ -12,17 +12,18 @@ ghost use Rattle.command_ends.specs.declared.cause.Cause.TheVariants as causes;
 ghost use Rattle.nest_spec.specs.Nests.{opportunities_of};
 ghost use Rattle.command_run.specs.Loaded.{HasNest};
 ghost use Rattle.command_run.specs.Run.{GivesRun, run_files};
-ghost use Rattle.command_run.specs.RunReading.{nest_refusal, refused_count, refused_horizon, refused_outputs};
-ghost use Rattle.command_run.specs.RunReading.{run_inputs, run_reading, run_words};
+ghost use Rattle.command_run.specs.RunReading.{input_names, nest_refusal, refused_count, refused_horizon};
+ghost use Rattle.command_run.specs.RunReading.{refused_outputs, run_inputs, run_reading, run_words};
+ghost use Rattle.command_run.specs.PassedViews.{passed_lists};
 ghost use Rattle.command_run.specs.View.{run_values};
 
-use crate::inputs::{load_schedule, load_traces};
+use crate::inputs::{load_order, load_schedule, load_traces};
+use crate::passing::{Passed, pass_packets};
 use crate::run_files::write_files;
 use crate::run_job::{RunJob, read_run};
 use command_ends::{Cause, Limit, Refusal, WordsRefusal, first_taken};
 use mm_base::limits::{HOUR, MOST_OPPORTUNITIES};
 use mm_base::{Disk, OutOfMemory, Text};
-use nest_plain::{NestRun, run_nest};
 use nest_spec::{Nest, NestError, NestWords, build, read_nest};
 use std::alloc::Global;
 use trace_reader::Trace;
@@ -58,12 +59,27 @@ fn names_of<'a>(
     Ok(names)
 }
 
+// The names of a run's inputs.
+fn input_names<'a>(
+    alloc: Global,
+    job: &RunJob<'a>,
+    nest: &'a NestWords,
+) -> Result<Vec<&'a str>, OutOfMemory>
+    ensures { IfOk result (λ names. map (λ name. name.now) names.items ≡ input_names (run_values job.now) nest.now) }
+{
+    let mut names = names_of(alloc, nest.traces(), job.schedule)?;
+    if let Some(order) = job.order {
+        names.push(order)?;
+    }
+    Ok(names)
+}
+
 // Refuses the first output that has the name of an input or of an output before it.
 fn check_names(alloc: Global, job: &RunJob<'_>, nest: &NestWords) -> Result<(), Cause>
     ensures { MatchResult result (λ _. refused_outputs (run_values job.now) nest.now ≡ None)
         (λ cause. RefusesText (refused_outputs (run_values job.now) nest.now) cause) }
 {
-    let inputs = names_of(alloc, nest.traces(), job.schedule)?;
+    let inputs = input_names(alloc, job, nest)?;
     let outputs = names_of(alloc, nest.logs(), job.out)?;
     match first_taken(inputs.as_slice(), outputs.as_slice()) {
         Some(name) => Err(Cause::taken(Text::from_text(alloc, name)?)),
@@ -137,17 +153,18 @@ fn run_packets<D: Disk>(
     job: &RunJob<'_>,
     words: NestWords,
     disk: &mut D,
-) -> Result<NestRun, Cause>
+) -> Result<Passed, Cause>
     requires { job.now.until ≤ 3600000 }
     ensures found { IfOk result (λ run. FinishesOnly GivesRun (run_inputs (run_values job.now) words)
-        (D.view disk.old).files (writes (run_files job.now.out.now run))) }
+        (D.view disk.old).files (writes (run_files job.now.out.now (passed_lists run)))) }
     ensures stopped { IfErr result (λ cause. StopsReading (run_inputs (run_values job.now) words) (D.view disk.old)
         (D.view disk.new) cause) }
     ensures only_reads { OnlyReads (D.view disk.old) (D.view disk.new) }
 {
     let nest = load_nest(alloc, job, words, disk)?;
+    let order = load_order(alloc, disk, job.order)?;
     let schedule = load_schedule(alloc, disk, job.schedule)?;
-    Ok(run_nest(alloc, &nest, &schedule)?)
+    Ok(pass_packets(alloc, &nest, &schedule, order)?)
 }
 
 // Runs the job: its inputs are read, its packets pass the nest, and then its logs and its fates are written.

@@ -7,13 +7,16 @@ ghost use Rattle.nest_spec.specs.FateTexts.{fates_text};
 ghost use Rattle.nest_plain.specs.Unwritten.{unwritten};
 ghost use Rattle.command_ends.specs.Outputs.{HoldsSome, holding_all, named_text};
 ghost use Rattle.command_ends.specs.Stops.{StopsAtOutput, StopsWriting};
+ghost use Rattle.command_run.specs.PassedViews.{passed_lists};
 ghost use Rattle.command_run.specs.Run.{log_file, run_files};
 
+use crate::passing::Passed;
+use crate::whole_logs::write_whole_logs;
 use command_ends::{Cause, file_written};
 use link_core::LinkLog;
 use mm_base::{Disk, DiskError, LineBuffer, append_lines, save, save_lines};
 use nest_plain::{NestRun, UnwrittenLog};
-use nest_spec::{FateRow, Named};
+use nest_spec::{FateRow, Named, RunResult};
 use shell_log::HEADER;
 use std::alloc::Global;
 
@@ -80,13 +83,8 @@ fn write_fates<D: Disk>(
     file_written(alloc, name, written)
 }
 
-// Writes the files of a run in order.
-pub(crate) fn write_files<D: Disk>(
-    alloc: Global,
-    disk: &mut D,
-    out: &str,
-    run: NestRun,
-) -> Result<(), Cause>
+// Writes the files of a run shell by shell.
+fn write_run<D: Disk>(alloc: Global, disk: &mut D, out: &str, run: NestRun) -> Result<(), Cause>
     ensures ok { OnOk result ((D.view disk.new).files ≡ holding_all (run_files out.now run) (D.view disk.old).files) }
     ensures stopped { IfErr result (λ cause. StopsWriting (run_files out.now run) (D.view disk.old) (D.view disk.new)
         cause) }
@@ -95,4 +93,40 @@ pub(crate) fn write_files<D: Disk>(
     let (fates, logs) = run.into_parts();
     write_logs(alloc, disk, logs)?;
     write_fates(alloc, disk, out, fates.as_slice())
+}
+
+// Writes the files of a run in an order.
+fn write_ordered<D: Disk>(
+    alloc: Global,
+    disk: &mut D,
+    out: &str,
+    run: &RunResult,
+) -> Result<(), Cause>
+    ensures ok { OnOk result ((D.view disk.new).files
+        ≡ holding_all (run_files out.now run.now) (D.view disk.old).files) }
+    ensures stopped { IfErr result (λ cause. StopsWriting (run_files out.now run.now) (D.view disk.old)
+        (D.view disk.new) cause) }
+    ensures only_writes { OnlyWrites (D.view disk.old) (D.view disk.new) }
+{
+    write_whole_logs(alloc, disk, run.logs())?;
+    write_fates(alloc, disk, out, run.fates())
+}
+
+// Writes the files of a run: its logs, in order, and then its fates.
+pub(crate) fn write_files<D: Disk>(
+    alloc: Global,
+    disk: &mut D,
+    out: &str,
+    run: Passed,
+) -> Result<(), Cause>
+    ensures ok { OnOk result ((D.view disk.new).files
+        ≡ holding_all (run_files out.now (passed_lists run)) (D.view disk.old).files) }
+    ensures stopped { IfErr result (λ cause. StopsWriting (run_files out.now (passed_lists run)) (D.view disk.old)
+        (D.view disk.new) cause) }
+    ensures only_writes { OnlyWrites (D.view disk.old) (D.view disk.new) }
+{
+    match run {
+        Passed::ByShells(run) => write_run(alloc, disk, out, run),
+        Passed::InOrder(run) => write_ordered(alloc, disk, out, &run),
+    }
 }

@@ -9,7 +9,8 @@ use mm_base::{OutOfMemory, read_decimal};
 use option_words::{RunWords, parse_run};
 use std::alloc::Global;
 
-// The horizon in milliseconds, the names of the files, the seed, and the words of the shells.
+// The horizon in milliseconds, the names of the files, with that of the order if there is one, the seed, and the words
+// of the shells.
 #[derive(Drop)]
 pub(crate) struct RunJob<'a> {
     pub until: u64,
@@ -17,6 +18,7 @@ pub(crate) struct RunJob<'a> {
     pub out: &'a str,
     pub seed: u64,
     pub plain: bool,
+    pub order: Option<&'a str>,
     pub shells: &'a [String],
 }
 
@@ -45,14 +47,14 @@ fn end_of_options(words: &[String]) -> Option<usize>
     words.iter().position(|word| word.as_str() == "--")
 }
 
-// The job of the options' values. There is none for an order yet.
+// The job of the options' values. `--plain` and `--order` exclude each other.
 fn run_job<'a>(texts: RunWords<'a>, shells: &'a [String]) -> Option<RunJob<'a>>
     ensures { option_map run_values result ≡ run_with (map string_bytes shells.now) (texts_of texts.entry) }
 {
-    match texts.order {
-        Some(_) => None,
-        None => with_numbers(texts, shells),
+    if texts.plain && texts.order.is_some() {
+        return None;
     }
+    with_numbers(texts, shells)
 }
 
 // The job of the options' values, where the numbers are decimals.
@@ -71,6 +73,7 @@ fn with_numbers<'a>(texts: RunWords<'a>, shells: &'a [String]) -> Option<RunJob<
         out: texts.out,
         seed,
         plain: texts.plain,
+        order: texts.order,
         shells,
     })
 }
