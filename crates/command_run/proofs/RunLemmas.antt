@@ -1,6 +1,6 @@
 -- Where a run's words and files lead, and what stops it.
-use Rattle.std.proofs.Common.{◌≡◌, ◌≢◌, ◌⊎◌, inl, inr, ℕ, ◌≤◌, List, [], ◌∷◌, ◌++◌, Option, Some, None, Result, Ok, Err}
-use Rattle.std.proofs.Common.{IfErr, map, subst, refl, ap, sym, ◌∙◌, arith}
+use Rattle.std.proofs.Common.{◌≡◌, ◌≢◌, ◌⊎◌, inl, inr, ℕ, List, Option, Some, None, Result, Ok, Err}
+use Rattle.std.proofs.Common.{map, subst, ap, sym, ◌∙◌, arith}
 use Rattle.mm_base.specs.Disk.{DiskView, OnlyReads}
 use Rattle.mm_base.specs.Files.{Files}
 use Rattle.mm_base.proofs.Then.{OnlyReads-then}
@@ -18,7 +18,6 @@ use Rattle.command_ends.specs.Readings.{Reading, Done, Refuses, Leads, unless}
 use Rattle.command_ends.specs.Stops.{RefusesText, StopsReading, ReadingWants}
 use Rattle.command_ends.specs.declared.cause.Cause.{Cause}
 use Rattle.command_ends.specs.declared.cause.Cause.TheVariants.{Refused, OutOfMemory}
-use Rattle.command_ends.specs.declared.cause.Refusal.{Refusal}
 use Rattle.command_ends.proofs.CountLemmas.{reads_none}
 use Rattle.command_ends.proofs.EndLemmas.{finishes_only}
 use Rattle.command_ends.proofs.ReadingLemmas.{found_stop, leads_text, leads_then, leads_unless, stays, stops_here}

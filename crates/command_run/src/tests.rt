@@ -6,6 +6,7 @@ use test_outside::{TestOutside, words_of};
 
 mod failing;
 mod large;
+mod orders;
 mod refused;
 mod written;
 

@@ -43,11 +43,12 @@ impl Disk for LargeDisk {
 #[test]
 fn files_past_their_size_are_refused(rt: HostRuntime) -> Result<(), Fail> {
     let alloc = rt.alloc();
-    for (shells, line) in [
-        ("mm-link t t", "mm: limit file t\n"),
-        ("mm-delay 20", "mm: limit file s\n"),
+    for (back, line) in [
+        ("-- mm-link t t", "mm: limit file t\n"),
+        ("--order o -- mm-delay 20", "mm: limit file o\n"),
+        ("-- mm-delay 20", "mm: limit file s\n"),
     ] {
-        let words = format!(in alloc; "--until 9 --schedule s --out f -- {shells}")?;
+        let words = format!(in alloc; "--until 9 --schedule s --out f {back}")?;
         let words = words_of(alloc, words.as_str())?;
         let mut out = MemSink::new(alloc, Vec::new(alloc));
         let status = conclude(answer_run(alloc, &words, &mut LargeDisk), &mut out);

@@ -127,13 +127,17 @@ fn a_log_of_many_pieces_is_written_whole(rt: HostRuntime) -> Result<(), Fail> {
     for moment in 1..5001 {
         log.push_str(format!(in alloc; "{moment} # 1504\n")?.as_str())?;
     }
-    let words = "--until 5000 --schedule s --out f -- mm-link t t --uplink-log u";
+    let link = "-- mm-link t t --uplink-log u";
     let left = Left {
         status: 0,
         line: "",
         files: &[("u", log.as_str())],
     };
     let files = [("t", "1\n"), ("s", "")];
-    assert!(rt; leaves(alloc, words, &files, &[], &left)?);
+    for order in ["", "--order s"] {
+        let words = format!(in alloc; "--until 5000 --schedule s --out f {order} {link}")?;
+        let is_left = leaves(alloc, words.as_str(), &files, &[], &left)?;
+        assert!(rt; is_left, "at {words}");
+    }
     Ok(())
 }
