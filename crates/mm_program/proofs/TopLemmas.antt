@@ -30,9 +30,9 @@ reading_first (word ∷ words) = command_first (command_of word) words
 -- a fault of the net is one that the port counted
 pub port_rose : {C : Type 0} (task : Task) (old new : PortView C) → (work task).faulted old new
     → Rose old.faults new.faults
-port_rose (ToRun task) old new no = absurd no
-port_rose (ToReport text) old new no = absurd no
-port_rose (ToMake job) old new no = absurd no
+port_rose (ToRun task) old new never = absurd never
+port_rose (ToReport text) old new never = absurd never
+port_rose (ToMake job) old new never = absurd never
 
 -- the reading of a command that the first word names is that of all words
 pub named : (all : List Text) (word : Text) (words : List Text) (command : Command) → all ≡ word ∷ words
