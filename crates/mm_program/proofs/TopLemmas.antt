@@ -1,5 +1,6 @@
 -- Words of every command are refused before any file is read, and what the port counts where a command serves.
-use Rattle.std.proofs.Common.{◌≡◌, List, [], ◌∷◌, ap, sym, ◌∙◌}
+use Rattle.std.proofs.Common.{◌≡◌, ◌≤◌, ◌-◌, List, [], ◌∷◌, length, map, take, drop, get_or, ap, sym, ◌∙◌, arith}
+use Rattle.std.proofs.lemmas.List.{take_rest}
 use Rattle.mm_base.specs.Counts.{Rose}
 use Rattle.mm_base.specs.Port.{PortView}
 use Rattle.command_ends.specs.Causes.{Text}
@@ -34,7 +35,19 @@ port_rose (ToRun task) old new never = absurd never
 port_rose (ToReport text) old new never = absurd never
 port_rose (ToMake job) old new never = absurd never
 
--- the reading of a command that the first word names is that of all words
-pub named : (all : List Text) (word : Text) (words : List Text) (command : Command) → all ≡ word ∷ words
-    → command ≡ command_of word → command_reading command words ≡ reading_of all
-named all word words command split is = ap (λ c. command_reading c words) is ∙ ap reading_of (sym split)
+split_words : {S : Type 0} (f : S → Text) (all : List S) (first : S) → 1 ≤ length all → first ≡ get_or all 0 first
+    → map f all ≡ f first ∷ map f (take (length all - 1) (drop 1 all))
+split_words f [] first some is = absurd (omega arith)
+split_words f (word ∷ words) first some is =
+    let head : word ≡ first = sym is in
+    let tail : words ≡ take (length (word ∷ words) - 1) (drop 1 (word ∷ words)) = sym (take_rest (word ∷ words) 1) in
+    λ j. f (head j) ∷ map f (tail j)
+
+-- the reading of the command that the first word names, by the words after it, is that of all words
+pub reading_named : {S : Type 0} (f : S → Text) (all : List S) (first : S) (word : Text) (command called : Command)
+    → 1 ≤ length all → first ≡ get_or all 0 first → word ≡ f first → called ≡ command → called ≡ command_of word
+    → command_reading command (map f (take (length all - 1) (drop 1 all))) ≡ reading_of (map f all)
+reading_named f all first word command called some is same found named =
+    let words : List Text = map f (take (length all - 1) (drop 1 all)) in
+    let by_word : command ≡ command_of (f first) = sym found ∙ named ∙ ap command_of same in
+    ap (λ c. command_reading c words) by_word ∙ ap reading_of (sym (split_words f all first some is))

@@ -1,0 +1,45 @@
+use Rattle.std.proofs.Common.{◌-◌, length, map, take, drop, string_bytes}
+use Rattle.command_ends.specs.Answers.{cause_in}
+use Rattle.command_ends.proofs.MapLemmas.{ends_beside}
+use Rattle.command_make.specs.Make.{GivesMake, make_words}
+use Rattle.command_report.specs.Report.{GivesReport}
+use Rattle.command_report.specs.ReportReading.{report_words}
+use Rattle.command_run.specs.Run.{GivesRun}
+use Rattle.command_run.specs.RunReading.{run_words}
+use Rattle.mm_program.specs.Tasks.{ToRun, ToReport, ToMake, work}
+use Rattle.mm_program.specs.declared.command.Command.TheVariants.{Run, Report, Make}
+use Rattle.mm_program.proofs.TopLemmas.{reading_named}
+use Rattle.mm_program.proofs.top.answer.Goals as goal
+
+pub returns-in-Run-clause-ends : goal.returns-in-Run-clause-ends
+returns-in-Run-clause-ends g c =
+    let all = c.args.words.now in
+    let disk = g.D.Disk.view c.args.disk.now in
+    let out = g.O.Sink.view c.args.out.now in
+    ends_beside ToRun GivesRun work (run_words (map string_bytes (take (length all - 1) (drop 1 all)))) _ disk
+    (g.D.Disk.view c.answer_run.new.disk) out out (g.P.Port.view c.args.port.now) (cause_in c.answer_run.result)
+    (λ task output gives. gives)
+    (reading_named string_bytes all c.word-item.result c.as_str.result.now Run c.read_command.result
+    c.in-len1-up.len_at_least c.word-item.is c.as_str.ensures.value c.in-Run.is c.read_command.ensures) (c.answer_run.ensures.ends out)
+
+pub returns-in-Report-clause-ends : goal.returns-in-Report-clause-ends
+returns-in-Report-clause-ends g c =
+    let all = c.args.words.now in
+    let disk = g.D.Disk.view c.args.disk.now in
+    let out = g.O.Sink.view c.args.out.now in
+    ends_beside ToReport GivesReport work (report_words (map string_bytes (take (length all - 1) (drop 1 all)))) _ disk
+    (g.D.Disk.view c.answer_report.new.disk) out (g.O.Sink.view c.answer_report.new.out) (g.P.Port.view c.args.port.now) (cause_in c.answer_report.result)
+    (λ task output gives. gives)
+    (reading_named string_bytes all c.word-item.result c.as_str.result.now Report c.read_command.result
+    c.in-len1-up.len_at_least c.word-item.is c.as_str.ensures.value c.in-Report.is c.read_command.ensures) c.answer_report.ensures.ends
+
+pub returns-in-Make-clause-ends : goal.returns-in-Make-clause-ends
+returns-in-Make-clause-ends g c =
+    let all = c.args.words.now in
+    let disk = g.D.Disk.view c.args.disk.now in
+    let out = g.O.Sink.view c.args.out.now in
+    ends_beside ToMake GivesMake work (make_words (map string_bytes (take (length all - 1) (drop 1 all)))) _ disk
+    disk out (g.O.Sink.view c.answer_make.new.out) (g.P.Port.view c.args.port.now) (cause_in c.answer_make.result)
+    (λ task output gives. gives)
+    (reading_named string_bytes all c.word-item.result c.as_str.result.now Make c.read_command.result
+    c.in-len1-up.len_at_least c.word-item.is c.as_str.ensures.value c.in-Make.is c.read_command.ensures) (c.answer_make.ensures.ends disk)
