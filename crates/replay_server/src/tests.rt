@@ -3,9 +3,11 @@ ghost use Rattle.std.specs.Prelude.{◌≤◌, IfOk};
 ghost use Rattle.mm_base.specs.MemLink.{IsUnused};
 
 use crate::{ConnEnd, ServeError, Served, serve, serve_conn};
-use mm_base::{Bytes, MemLink, MemPort, NoPace, Pace, Role};
+use mm_base::{Bytes, MemLink, MemPort, NoPace, Pace, Port, Role, TcpPort};
 use record_store::{Store, pair};
 use std::alloc::Global;
+use std::io::{self, Write};
+use std::net::{Ipv4Addr, Shutdown, SocketAddr, TcpStream};
 use std::sync::Wait;
 use std::sync::atomic::{AtomicU64, Ordering};
 use std::test::Fail;
@@ -89,6 +91,82 @@ fn sessions_answer_whole_requests(rt: HostRuntime) -> Result<(), Fail> {
             end
         );
         assert_eq!(rt; cut.given(), answers.as_bytes());
+    }
+    Ok(())
+}
+
+// A request as curl sends it, and a response in chunks.
+const CURL: &str =
+    "GET /index.html HTTP/1.1\r\nHost: 127.0.0.1:8080\r\nUser-Agent: curl/8.5.0\r\nAccept: */*\r\n\r\n";
+
+const CHUNKS: &str =
+    "HTTP/1.1 200 OK\r\nContent-Encoding: gzip\r\nTransfer-Encoding: chunked\r\n\r\n3\r\nabc\r\n0\r\n\r\n";
+
+#[test]
+fn recorded_chunks_come_as_they_are(rt: HostRuntime) -> Result<(), Fail> {
+    let alloc = rt.alloc();
+    let store = store(alloc, CURL, CHUNKS)?;
+    let mut twice = Bytes::from_slice(alloc, CURL.as_bytes())?;
+    twice.append(CURL.as_bytes())?;
+    let mut link = MemLink::new(alloc, twice, 8, Vec::new(alloc));
+    assert_eq!(rt;
+        serve_conn(&rt, alloc, &store, &mut link, None, 1, &NoPace),
+        ConnEnd::Closed
+    );
+    let (first, second) = link.given().split_at(CHUNKS.len().min(link.given().len()));
+    assert_eq!(rt; first, CHUNKS.as_bytes());
+    assert_eq!(rt; second, CHUNKS.as_bytes());
+    Ok(())
+}
+
+#[test]
+fn a_client_over_tcp_gets_the_recorded_bytes(rt: HostRuntime) -> Result<(), Fail> {
+    let alloc = rt.alloc();
+    let store = store(alloc, CURL, CHUNKS)?;
+    let mut port = TcpPort::new(rt.clone()?);
+    assert_eq!(rt; port.listen(0), Ok(()));
+    let number = port.number().ok_or("no number")?;
+    let mut client = TcpStream::connect(&rt, SocketAddr::from((Ipv4Addr::LOCALHOST, number)))?;
+    client.write_all(CURL.as_bytes())?;
+    client.shutdown(Shutdown::Write)?;
+    let mut link = port.accept().ok().flatten().ok_or("no link")?;
+    assert_eq!(rt;
+        serve_conn(&rt, alloc, &store, &mut link, None, 1, &NoPace),
+        ConnEnd::Closed
+    );
+    let answer = io::read_to_string(alloc, &client)?;
+    assert_eq!(rt; answer.as_str(), CHUNKS);
+    assert_eq!(rt; port.finish(link), Ok(()));
+    Ok(())
+}
+
+const BAD_REQUEST: &str =
+    "HTTP/1.1 400 Bad Request\r\nContent-Length: 0\r\nConnection: close\r\n\r\n";
+
+/// A request line, and so many copies of a field's line, without the head's end.
+fn open_head(alloc: Global, field: &[u8], count: u32) -> Result<Bytes, Fail> {
+    let mut head = Bytes::from_slice(alloc, b"GET / HTTP/1.1\r\n")?;
+    for _ in 0..count {
+        head.append(field)?;
+    }
+    Ok(head)
+}
+
+#[test]
+fn heads_past_their_limits_are_refused(rt: HostRuntime) -> Result<(), Fail> {
+    let alloc = rt.alloc();
+    let store = store(alloc, REQUEST, RESPONSE)?;
+    let mut long = Bytes::from_slice(alloc, b"A:")?;
+    long.append(vec![in alloc; b'x'; 996]?.as_slice())?;
+    long.append(b"\r\n")?;
+    for (field, count) in [(long.as_slice(), 66), (b"A: 1\r\n".as_slice(), 101)] {
+        let input = open_head(alloc, field, count)?;
+        let mut link = MemLink::new(alloc, input, 4_096, Vec::new(alloc));
+        assert_eq!(rt;
+            serve_conn(&rt, alloc, &store, &mut link, None, 1, &NoPace),
+            ConnEnd::BadRequest
+        );
+        assert_eq!(rt; link.given(), BAD_REQUEST.as_bytes());
     }
     Ok(())
 }
