@@ -187,7 +187,7 @@ fn a_link_that_fails_was_given_a_front(rt: HostRuntime) -> Result<(), Fail> {
         let end = serve_conn(&rt, alloc, &store, &mut link, None, 1, &NoPace);
         assert!(rt; TWO_ANSWERS.as_bytes().starts_with(link.given()));
         if end == ConnEnd::LinkFault {
-            faults += 1;
+            faults = faults.saturating_add(1);
         }
     }
     assert_eq!(rt; faults, 58);
