@@ -1,14 +1,17 @@
 -- What the reader of requests answers, for a session.
-use Rattle.std.proofs.Common.{◌≡◌, ◌∙◌, inl, inr, ℕ, Bool, true, false, List, ◌++◌, Option, Some, None, Ok, Err, refl}
+use Rattle.std.proofs.Common.{◌≡◌, ◌∙◌, ◌<◌, arith, length, length-append, inl, inr, ℕ, Bool, true, false, List, ◌++◌}
+use Rattle.std.proofs.Common.{Option, Some, None, Ok, Err, refl}
 use Rattle.std.proofs.Common.{sym, ap, subst}
-use Rattle.std.specs.Prelude.{Result, is_some}
+use Rattle.std.specs.Prelude.{◌==◌, Result, is_some}
 use Rattle.std.proofs.Math.Bool.{true≢false}
-use Rattle.httparse.specs.Grammar.{RequestHead as Head}
+use Rattle.std.proofs.lemmas.List.Sums.{count_by-le-length}
+use Rattle.httparse.specs.Grammar.{RequestHead as Head, print_request}
 use Rattle.http_frame.specs.Forms.{request_form}
 use Rattle.http_frame.specs.Messages.{IsRequest}
 use Rattle.http_frame.specs.Frames.{Frames, FaultCause, MoreCause, TakesMessage, StaysOpen, Fails, NextSays, GivesFault}
 use Rattle.http_frame.specs.HeadsAlone.{head_alone, NextHeadSays, GivesHead}
 use Rattle.http_frame.specs.Runs.{IsRequestOf, BeginsWithNone}
+use Rattle.http_frame.proofs.WindowLemmas.{request_lines}
 use Rattle.http_frame.specs.declared.messages.Request.{Request}
 use Rattle.http_frame.specs.declared.messages.RequestHead.{RequestHead}
 use Rattle.http_frame.specs.declared.errors.Step.{Step}
@@ -95,6 +98,20 @@ fails old new result error x is = go x.whole (sym x.alone ∙ is) x.says
 
 pub is_request : (old new : Frames) (m : Request) → TakesMessage request_form old m new → IsRequestOf m
 is_request old new m x = record { tree = x.begins.tree; is = x.begins.is; says = x.begins.says }
+
+-- a request isn't empty
+some_bytes : (bytes : List ℕ) (h : Head) → IsRequest bytes h → 0 < length bytes
+some_bytes bytes h r =
+    let text = print_request h in
+    omega (arith, request_lines h, count_by-le-length (λ b. b == 10) text, ap length r.split, length-append text r.body)
+
+-- one that is taken off leaves fewer bytes
+pub takes_bytes : (old new : Frames) (m : Request) → TakesMessage request_form old m new
+    → length new.unread < length old.unread
+takes_bytes old new m x =
+    let split : old.unread ≡ m.bytes ++ new.unread = x.unread in
+    let some : 0 < length m.bytes = some_bytes m.bytes x.begins.tree x.begins.is in
+    omega (arith, some, ap length split, length-append m.bytes new.unread)
 
 -- no request is there, where none is given
 pub none_there : (old new : Frames) (result : Answer) → has_head result ≡ false

@@ -14,7 +14,7 @@ use Rattle.mm_base.specs.declared.errors.EndError.TheVariants as refusals
 use Rattle.mm_base.specs.declared.read_start.ReadStart.{ReadStart}
 use Rattle.mm_base.proofs.Then.{CountsFaults-then, CountsFaults-none}
 use Rattle.record_store.specs.declared.record.Record.{Record}
-use Rattle.replay_server.specs.Sessions.{Session}
+use Rattle.replay_server.specs.Sessions.{Session, most as most_bytes}
 use Rattle.replay_server.specs.Links.{Passed, IfBothTold, counted_from, IsAtEnd, IsPrompt, IsServed, HasFaultCause}
 use Rattle.replay_server.specs.Servings.{IsConnServed, IsServing, ServingSays, no_ends, with_end, finished_with}
 use Rattle.replay_server.specs.Tallies.{IsTally, refusal_of, ended, tallied}
@@ -46,20 +46,22 @@ risen old new none rose = elim (cases_lt 0 new) [
 module _ (store : List Record) (site : Option ℕ) where
   told_session : (old new : Option LinkBytes) (end : ConnEnd) (taken given : List ℕ) (starts : List ReadStart)
       → IfSome old (λ l. (l.taken ≡ []) × (l.given ≡ []) × (l.reads ≡ []))
-      → IfBothTold (Passed taken given starts) old new
+      → IfBothTold (Passed taken given starts) old new → length taken ≤ most_bytes
       → Session store site taken (IsAtEnd new) given end → All (IsPrompt store site taken given) starts
       → IfSome new (λ l. Session store site l.taken (l.rest ≡ []) l.given end)
+      × IfSome new (λ l. length l.taken ≤ most_bytes)
       × IfSome new (λ l. All (IsPrompt store site l.taken l.given) l.reads)
-  told_session None None end taken given starts fresh x session prompt = (tt, tt)
-  told_session None (Some b) end taken given starts fresh x session prompt = absurd x
-  told_session (Some a) None end taken given starts fresh x session prompt = absurd x
-  told_session (Some a) (Some b) end taken given starts fresh x session prompt =
+  told_session None None end taken given starts fresh x few session prompt = (tt, tt, tt)
+  told_session None (Some b) end taken given starts fresh x few session prompt = absurd x
+  told_session (Some a) None end taken given starts fresh x few session prompt = absurd x
+  told_session (Some a) (Some b) end taken given starts fresh x few session prompt =
       let taken_is : taken ≡ b.taken = sym (x.taken_is ∙ ap (λ l. l ++ taken) fresh.0) in
       let given_is : given ≡ b.given = sym (x.given_is ∙ ap (λ l. l ++ given) fresh.1) in
       let starts_is : starts ≡ b.reads = sym (x.reads_is ∙ ap (λ l. l ++ map (counted_from a) starts) fresh.2
       ∙ same_starts a fresh.0 fresh.1 starts) in (
         subst (λ t. Session store site t (b.rest ≡ []) b.given end) taken_is
             (subst (λ g. Session store site taken (b.rest ≡ []) g end) given_is session),
+        subst (λ t. length t ≤ most_bytes) taken_is few,
         subst (λ t. All (IsPrompt store site t b.given) b.reads) taken_is
             (subst (λ g. All (IsPrompt store site taken g) b.reads) given_is
             (subst (λ s. All (IsPrompt store site taken given) s) starts_is prompt)),
@@ -69,11 +71,12 @@ module _ (store : List Record) (site : Option ℕ) where
       → HasFaultCause old new end
       → IsConnServed store site new end
   fresh_served old new end fresh x cause =
-      let both = told_session old.told new.told end x.taken x.given x.starts fresh.untouched x.passed x.session
+      let both = told_session old.told new.told end x.taken x.given x.starts fresh.untouched x.passed x.few x.session
       x.prompt in
       record {
         session = both.0;
-        prompt = both.1;
+        few = both.1;
+        prompt = both.2;
         fault = λ is. risen old.faults new.faults fresh.faultless (cause is);
       }
 
@@ -164,7 +167,11 @@ module _ {C : Type 0} (store : List Record) (site : Option ℕ) (view : C → Li
     each = none_each;
     finished_is = finished ∙ map_same old.finished;
     keeps = keeps;
-    says = (cause refl, λ few. let k = keeps.counts.grows in omega (arith, k, accepted));
+    says = (
+      All-nil (λ (c : C × ConnEnd). c.1 ≢ OutOfMemory),
+      cause refl,
+      λ few. let k = keeps.counts.grows in omega (arith, k, accepted),
+    );
   }
   serving_refused most old new refusals.OutOfMemory keeps finished accepted cause = record {
     served = [];
@@ -193,8 +200,9 @@ module _ {C : Type 0} (store : List Record) (site : Option ℕ) (view : C → Li
       (says.0, says.1, says.2 ∙ ap (λ k. k + length served) accepted, says.3)
   serves_listened most p₀ p₁ p₂ keeps accepted served (Err errors.Listen) tally says = absurd tally
   serves_listened most p₀ p₁ p₂ keeps accepted served (Err errors.Accept) tally says = (
-    (let grows = keeps.counts.grows in let rose = says.0 in omega (arith, grows, rose)),
-    λ few. (let grows = keeps.counts.grows in let left = says.1 few in omega (arith, grows, left, accepted)),
+    says.0,
+    (let grows = keeps.counts.grows in let rose = says.1 in omega (arith, grows, rose)),
+    λ few. (let grows = keeps.counts.grows in let left = says.2 few in omega (arith, grows, left, accepted)),
   )
   serves_listened most p₀ p₁ p₂ keeps accepted served (Err errors.OutOfMemory) tally says = tt
 
@@ -248,19 +256,20 @@ module _ {C : Type 0} (store : List Record) (site : Option ℕ) (view : C → Li
           ],
         )
 
-        passes_on : (e : ServeError) → IsTally (most - 1) (Err e)
+        passes_on : end ≢ OutOfMemory → (e : ServeError) → IsTally (most - 1) (Err e)
             → ServingSays store site view (most - 1) p₁ p₂ s.served (Err e)
             → IsServing store site view most p₀ p₃ (Err e)
-        passes_on errors.Listen tally says = absurd tally
-        passes_on errors.Accept tally says = finishes (Err errors.Accept) (
-          rose_all says.0,
+        passes_on other errors.Listen tally says = absurd tally
+        passes_on other errors.Accept tally says = finishes (Err errors.Accept) (
+          All-cons (λ (c : C × ConnEnd). c.1 ≢ OutOfMemory) (conn, end) s.served other says.0,
+          rose_all says.1,
           λ few.
               let a = before.counts.grows in
               let b = after.counts.grows in
-              let k = says.1 (omega (arith, few, b)) in
+              let k = says.2 (omega (arith, few, b)) in
               omega (arith, k, accepted, counted, a, b),
         )
-        passes_on errors.OutOfMemory tally says = finishes (Err errors.OutOfMemory) tt
+        passes_on other errors.OutOfMemory tally says = finishes (Err errors.OutOfMemory) tt
 
         lacks : IsServing store site view most p₀ p₃ (Err errors.OutOfMemory)
         lacks = finishes (Err errors.OutOfMemory) tt
@@ -280,10 +289,11 @@ module _ {C : Type 0} (store : List Record) (site : Option ℕ) (view : C → Li
         lost : IsServing store site view most p₀ p₃ (Err errors.OutOfMemory)
         lost = gives_up (Err errors.OutOfMemory) tt
 
-        fails_late : Rose p₂.faults p₃.faults
+        fails_late : All (λ (c : C × ConnEnd). c.1 ≢ OutOfMemory) s.served → Rose p₂.faults p₃.faults
             → (p₂.faults < 2 ^ 64 - 1 → p₂.accepted + p₁.faults ≤ p₁.accepted + length s.served + p₂.faults)
             → IsServing store site view most p₀ p₃ (Err errors.Accept)
-        fails_late rose bound = gives_up (Err errors.Accept) (
+        fails_late others rose bound = gives_up (Err errors.Accept) (
+          others,
           (let a = before.counts.grows in let b = s.keeps.counts.grows in omega (arith, rose, a, b)),
           λ few.
               let a = before.counts.grows in
@@ -305,7 +315,7 @@ module _ {C : Type 0} (store : List Record) (site : Option ℕ) (view : C → Li
         → p₃.finished ≡ p₂.finished
         → Rose p₂.faults p₃.faults → IsServing store site view most p₀ p₃ (Err e)
     gave_up errors.Listen s tally finished rose = absurd tally
-    gave_up errors.Accept s tally finished rose = fails_late (Err errors.Accept) s finished rose s.says.1
+    gave_up errors.Accept s tally finished rose = fails_late (Err errors.Accept) s finished s.says.0 rose s.says.2
     gave_up errors.OutOfMemory s tally finished rose = lost (Err errors.OutOfMemory) s finished
 
     other_ends : end ≢ OutOfMemory → (done : Result Unit EndError) (rest : Result Served ServeError)
@@ -314,10 +324,10 @@ module _ {C : Type 0} (store : List Record) (site : Option ℕ) (view : C → Li
         → (IsErrOf done refusals.Failed → Rose p₂.faults p₃.faults)
         → IsServing store site view most p₀ p₃ (tallied done (joined end rest))
     other_ends other (Ok d) (Ok n) s tally finished cause = counts_one (Ok n) s finished n s.says other
-    other_ends other (Ok d) (Err e) s tally finished cause = passes_on (Err e) s finished e tally s.says
+    other_ends other (Ok d) (Err e) s tally finished cause = passes_on (Err e) s finished other e tally s.says
     other_ends other (Err refusals.OutOfMemory) rest s tally finished cause = lost rest s finished
     other_ends other (Err refusals.Failed) (Ok n) s tally finished cause =
-        fails_late (Ok n) s finished (cause refl) (λ few. let k = s.says.2 in let g = s.keeps.counts.grows
+        fails_late (Ok n) s finished s.says.1 (cause refl) (λ few. let k = s.says.2 in let g = s.keeps.counts.grows
         in omega (arith, k, g))
     other_ends other (Err refusals.Failed) (Err e) s tally finished cause = gave_up e s tally finished (cause refl)
 

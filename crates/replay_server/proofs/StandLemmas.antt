@@ -1,5 +1,6 @@
 -- How far a session has come, one step more, and what it is when it ends.
-use Rattle.std.proofs.Common.{◌≡◌, ◌∙◌, ◌<◌, inl, inr, ℕ, ◌+◌, List, [], ◌∷◌, ◌++◌, length, take, Option, Some, None}
+use Rattle.std.proofs.Common.{◌≡◌, ◌∙◌, ◌<◌, ◌≤◌, inl, inr, ℕ, ◌+◌, List, [], ◌∷◌, ◌++◌, length, take, Option, Some}
+use Rattle.std.proofs.Common.{None}
 use Rattle.std.proofs.Common.{Ok, Err, refl, sym, ap, subst, append_assoc, append-nil, length-append, arith}
 use Rattle.std.specs.Prelude.{All, IfSome}
 use Rattle.std.specs.Option.{option_map}
@@ -44,6 +45,7 @@ module _ {store : List Record} {site : Option ℕ} where
     given_is = ap (λ l. l ++ also) x.given_is ∙ append_assoc x.given_then x.given_later also;
     start_is = x.start_is;
     answered = x.answered;
+    room = x.room;
   }
 
   prompts_more : (taken given more also : List ℕ) (starts : List ReadStart)
@@ -65,9 +67,9 @@ module _ {store : List Record} {site : Option ℕ} where
       subst (λ l. All (IsPrompt store site (taken ++ more) l) starts) (append-nil given)
       (prompts_more taken given more [] starts x)
 
-  prompt_now : (taken given : List ℕ) → IsOpen store site taken given
+  prompt_now : (taken given : List ℕ) → IsOpen store site taken given → length taken < most
       → IsPrompt store site taken given (start_at taken given)
-  prompt_now taken given x = record {
+  prompt_now taken given x room = record {
     taken_then = taken;
     taken_later = [];
     given_then = given;
@@ -76,13 +78,16 @@ module _ {store : List Record} {site : Option ℕ} where
     given_is = sym (append-nil given);
     start_is = refl;
     answered = x;
+    room = room;
   }
 
   prompts_push : (taken given : List ℕ) (starts : List ReadStart) → IsOpen store site taken given
+      → length taken < most
       → All (IsPrompt store site taken given) starts
       → All (IsPrompt store site taken given) (starts ++ start_at taken given ∷ [])
-  prompts_push taken given starts x prompts = All-push (IsPrompt store site taken given) starts (start_at taken given)
-      prompts (prompt_now taken given x)
+  prompts_push taken given starts x room prompts =
+      All-push (IsPrompt store site taken given) starts (start_at taken given) prompts
+      (prompt_now taken given x room)
 
   -- ---- steps
 
@@ -96,6 +101,7 @@ module _ {store : List Record} {site : Option ℕ} where
     text = refl;
     prompt = All-nil (IsPrompt store site [] []);
     count_is = refl;
+    few = omega arith;
   }
 
   -- a piece is due, and gathered
@@ -111,6 +117,7 @@ module _ {store : List Record} {site : Option ℕ} where
     text = sym (append_assoc x.given gathered piece) ∙ ap (λ l. l ++ piece) x.text;
     prompt = x.prompt;
     count_is = x.count_is;
+    few = x.few;
   }
 
   -- a request is answered
@@ -128,6 +135,7 @@ module _ {store : List Record} {site : Option ℕ} where
     text = x.text;
     prompt = x.prompt;
     count_is = x.count_is;
+    few = x.few;
   }
 
   -- what was gathered is given, or a front of it
@@ -145,6 +153,7 @@ module _ {store : List Record} {site : Option ℕ} where
     text = append_assoc x.given piece gathered' ∙ ap (λ l. x.given ++ l) (sym e) ∙ x.text;
     prompt = prompts_given x.taken x.given piece x.starts x.prompt;
     count_is = x.count_is;
+    few = x.few;
   }
 
   -- all that is due is given, and no answer closes
@@ -165,36 +174,40 @@ module _ {store : List Record} {site : Option ℕ} where
   -- a read that brings a piece
   pub stand_read : {start now : Option LinkBytes} {replies : List Reply} {rest due gathered : List ℕ} {count : ℕ}
       → (x : Stand store site start now replies rest due gathered count) → IsOpen store site x.taken x.given
-      → (new : Option LinkBytes) (n : ℕ) (piece : List ℕ) → length piece ≡ n → IfSome now (λ l. piece ≡ take n l.rest)
+      → count < most → (new : Option LinkBytes) (n : ℕ) → count + n ≤ most → (piece : List ℕ) → length piece ≡ n
+      → IfSome now (λ l. piece ≡ take n l.rest)
       → new ≡ option_map (after_read (Ok n)) now
       → Stand store site start new replies (rest ++ piece) due gathered (count + n)
-  stand_read {start} {now} {replies} {rest} x is_open new n piece long brought told = record {
+  stand_read {start} {now} {replies} {rest} x is_open room new n within piece long brought told = record {
     taken = x.taken ++ piece;
     given = x.given;
     starts = x.starts ++ start_at x.taken x.given ∷ [];
     passed = passed_read x.taken x.given x.starts start now new x.passed n piece brought told;
     are = replies_more x.taken replies rest piece x.are;
     text = x.text;
-    prompt = prompts_taken x.taken x.given piece _ (prompts_push x.taken x.given x.starts is_open x.prompt);
+    prompt = prompts_taken x.taken x.given piece _ (prompts_push x.taken x.given x.starts is_open
+        (let c = x.count_is in omega (arith, c, room)) x.prompt);
     count_is = let c = x.count_is in omega (arith, length-append x.taken piece, long, c);
+    few = within;
   }
 
   -- a read that fails
   pub stand_failed : {start now : Option LinkBytes} {replies : List Reply} {rest due gathered : List ℕ} {count : ℕ}
       → (x : Stand store site start now replies rest due gathered count) → IsOpen store site x.taken x.given
-      → (new : Option LinkBytes) (e : EndError) → new ≡ option_map (after_read (Err e)) now
+      → count < most → (new : Option LinkBytes) (e : EndError) → new ≡ option_map (after_read (Err e)) now
       → Stand store site start new replies rest due gathered count
-  stand_failed {start} {now} x is_open new Failed told = record {
+  stand_failed {start} {now} x is_open room new Failed told = record {
     taken = x.taken;
     given = x.given;
     starts = x.starts ++ start_at x.taken x.given ∷ [];
     passed = passed_failed x.taken x.given x.starts start now new x.passed told;
     are = x.are;
     text = x.text;
-    prompt = prompts_push x.taken x.given x.starts is_open x.prompt;
+    prompt = prompts_push x.taken x.given x.starts is_open (let c = x.count_is in omega (arith, c, room)) x.prompt;
     count_is = x.count_is;
+    few = x.few;
   }
-  stand_failed {start} {now} x is_open new NoMemory told = record {
+  stand_failed {start} {now} x is_open room new NoMemory told = record {
     taken = x.taken;
     given = x.given;
     starts = x.starts;
@@ -203,6 +216,7 @@ module _ {store : List Record} {site : Option ℕ} where
     text = x.text;
     prompt = x.prompt;
     count_is = x.count_is;
+    few = x.few;
   }
 
   -- ---- ends
@@ -216,6 +230,7 @@ module _ {store : List Record} {site : Option ℕ} where
     given = x.given;
     starts = x.starts;
     passed = x.passed;
+    few = (let c = x.count_is in let k = x.few in omega (arith, c, k));
     session = session;
     prompt = x.prompt;
   }
@@ -286,7 +301,8 @@ module _ {store : List Record} {site : Option ℕ} where
       → IsServed store site start new Closed
   served_ended {start} {now} {replies} {rest} {gathered} {count} x empty open_ones whole may few new ended told =
       let nothing : IfSome now (λ l. [] ≡ take {A = ℕ} 0 l.rest) = none_taken now in
-      let later = stand_read x (stand_open x empty open_ones whole may) new 0 [] refl nothing told in
+      let later = stand_read x (stand_open x empty open_ones whole may) few new 0 (omega (arith, few)) [] refl
+      nothing told in
       let still : Stand store site start new replies rest (full_text replies) gathered (count + 0)
       = subst (λ l. Stand store site start new replies l (full_text replies) gathered (count + 0)) (append-nil rest)
       later in

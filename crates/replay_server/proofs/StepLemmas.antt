@@ -1,7 +1,7 @@
 -- The steps of a session, each from what its calls say.
 use Rattle.std.proofs.Common.{◌≡◌, ◌∙◌, ◌<◌, ◌≤◌, inl, inr, ℕ, ◌+◌, Bool, true, false, List, [], ◌∷◌, ◌++◌, length}
 use Rattle.std.proofs.Common.{take, Option, Some, None, Ok, Err, refl, sym, ap, subst, append-nil, arith}
-use Rattle.std.specs.Prelude.{IfSome}
+use Rattle.std.specs.Prelude.{IfSome, IfNone}
 use Rattle.std.specs.Option.{option_map}
 use Rattle.std.proofs.lemmas.List.Elements.{All-nil}
 use Rattle.http_frame.specs.Runs.{IsRequestOf, BeginsWithNone}
@@ -30,6 +30,10 @@ waiting talk unread = record talk { frames = record talk.frames { unread = unrea
 abbrev pub reply_of : Request → List ℕ → Bool → Reply
 reply_of r bytes closes = record { request = r; answer = record { bytes = bytes; closes = closes } }
 
+pub if_none : {T P : Type 0} (o : Option T) → P → IfNone o P
+if_none None p = p
+if_none (Some x) p = tt
+
 due_push : (replies : List Reply) (r : Request) (bytes : List ℕ) (closes : Bool) (rest : List ℕ) → AllOpen replies
     → IsDue (replies ++ reply_of r bytes closes ∷ []) rest (full_text (replies ++ reply_of r bytes closes ∷ []))
 due_push replies r bytes true rest x = inl (inr (closes_push replies (reply_of r bytes true) x refl), refl)
@@ -53,7 +57,6 @@ module _ {store : List Record} {site : Option ℕ} where
     replies = [];
     open_ones = All-nil (λ (r : Reply). r.answer.closes ≡ false);
     stand = stand_start told;
-    few = omega arith;
     running = refl;
     not_ended = refl;
   }
@@ -66,7 +69,6 @@ module _ {store : List Record} {site : Option ℕ} where
     replies = p.replies;
     open_ones = p.open_ones;
     stand = p.stand;
-    few = p.few;
     running = running;
     not_ended = ended ∙ p.not_ended;
   }
@@ -110,7 +112,6 @@ module _ {store : List Record} {site : Option ℕ} where
       open_ones = open_push p.replies (reply_of r bytes closes) p.open_ones open_one;
       stand = stand_pour (answered start now talk unread r bytes closes is answer e p) new pours.poured gathered
           pours.told pours.all;
-      few = p.few;
       running = p.running;
       not_ended = p.not_ended;
     }
@@ -176,7 +177,6 @@ module _ {store : List Record} {site : Option ℕ} where
       replies = p.replies;
       open_ones = p.open_ones;
       stand = stand_pour p.stand new pours.poured last pours.told (sym (append-nil talk.gathered) ∙ pours.all);
-      few = p.few;
       running = p.running;
       not_ended = p.not_ended;
     }
@@ -184,12 +184,14 @@ module _ {store : List Record} {site : Option ℕ} where
     module _ (empty : talk.gathered ≡ []) (whole : BeginsWithNone talk.frames.unread)
         (may : MayGoOn talk.frames.unread) where
       pub is_full : most ≤ talk.taken → IsServed store site start now Full
-      is_full reached = let few = p.few in served_full p.stand empty p.open_ones whole may (omega (arith, reached, few))
+      is_full reached = let few = p.stand.few
+          in served_full p.stand empty p.open_ones whole may (omega (arith, reached, few))
 
-      pub read_fails : (new : Option LinkBytes) (error : EndError) → new ≡ option_map (after_read (Err error)) now
+      pub read_fails : talk.taken < most → (new : Option LinkBytes) (error : EndError)
+          → new ≡ option_map (after_read (Err error)) now
           → IsServed store site start new (end_of error)
-      read_fails new error told =
-          served_cut (stand_failed p.stand (stand_open p.stand empty p.open_ones whole may) new error told)
+      read_fails room new error told =
+          served_cut (stand_failed p.stand (stand_open p.stand empty p.open_ones whole may) room new error told)
           (inl (inl p.open_ones, refl)) error
 
       pub read_ends : talk.taken < most → (new : Option LinkBytes) (n : ℕ) → n ≡ 0 → IfSome now (λ l. l.rest ≡ [])
@@ -205,22 +207,21 @@ module _ {store : List Record} {site : Option ℕ} where
       brought None n buf h = tt
       brought (Some l) n buf h = h.1
 
-      module _ (new : Option LinkBytes) (n : ℕ) (buf : List ℕ) (long : length (take n buf) ≡ n)
+      module _ (room : talk.taken < most) (new : Option LinkBytes) (n : ℕ) (within : talk.taken + n ≤ most)
+          (buf : List ℕ) (long : length (take n buf) ≡ n)
           (front : IfSome now (λ l. (n ≤ length l.rest) × (take n buf ≡ take n l.rest)))
           (told : new ≡ option_map (after_read (Ok n)) now) where
         read_on : Stand store site start new p.replies (talk.frames.unread ++ take n buf) (full_text p.replies)
             talk.gathered (talk.taken + n)
-        read_on = stand_read p.stand (stand_open p.stand empty p.open_ones whole may) new n (take n buf) long
-            (brought now n buf front) told
+        read_on = stand_read p.stand (stand_open p.stand empty p.open_ones whole may) room new n within
+            (take n buf) long (brought now n buf front) told
 
-        pub read_kept : talk.taken + n ≤ most
-            → Progress store site start new
+        pub read_kept : Progress store site start new
             (record (waiting talk (talk.frames.unread ++ take n buf)) { taken = talk.taken + n })
-        read_kept few = record {
+        read_kept = record {
           replies = p.replies;
           open_ones = p.open_ones;
           stand = read_on;
-          few = few;
           running = p.running;
           not_ended = p.not_ended;
         }

@@ -1,10 +1,10 @@
 -- What a session does to its link.
-use Rattle.std.specs.Prelude.{◌≡◌, ℕ, ◌+◌, ◌++◌, List, [], length, map, All, Option, Some, None, IfSome}
+use Rattle.std.specs.Prelude.{◌≡◌, ◌<◌, ◌≤◌, ℕ, ◌+◌, ◌++◌, List, [], length, map, All, Option, Some, None, IfSome}
 use Rattle.mm_base.specs.Counts.{Rose}
 use Rattle.mm_base.specs.Link.{LinkBytes, LinkView}
 use Rattle.mm_base.specs.declared.read_start.ReadStart.{ReadStart}
 use Rattle.record_store.specs.declared.record.Record.{Record}
-use Rattle.replay_server.specs.Sessions.{Session, IsOpen}
+use Rattle.replay_server.specs.Sessions.{Session, IsOpen, most}
 use Rattle.replay_server.specs.declared.ends.ConnEnd.{ConnEnd}
 use Rattle.replay_server.specs.declared.ends.ConnEnd.TheVariants.{LinkFault}
 
@@ -30,7 +30,8 @@ IfBothTold P (Some old) (Some new) = P old new
 abbrev pub IsAtEnd : Option LinkBytes → Type 0
 IsAtEnd told = IfSome told (λ l. l.rest ≡ [])
 
--- When a read began, what had been given was all that was due for what had been taken.
+-- When a read began, what had been given was all that was due for what had been taken, and fewer bytes had been taken
+-- than may be.
 pub record IsPrompt (store : List Record) (site : Option ℕ) (taken given : List ℕ) (start : ReadStart) : Type 0 where
   pub taken_then : List ℕ
   pub taken_later : List ℕ
@@ -40,14 +41,16 @@ pub record IsPrompt (store : List Record) (site : Option ℕ) (taken given : Lis
   pub given_is : given ≡ given_then ++ given_later
   pub start_is : start ≡ record { taken = length taken_then; given = length given_then }
   pub answered : IsOpen store site taken_then given_then
+  pub room : length taken_then < most
 
--- What a session that ends so has done to its link: it took bytes and gave others, as it is due, and each of its reads
--- began when what was due had been given.
+-- What a session that ends so has done to its link: it took bytes, no more than it may, and gave others, as it is due,
+-- and each of its reads began when what was due had been given.
 pub record IsServed (store : List Record) (site : Option ℕ) (old new : Option LinkBytes) (end : ConnEnd) : Type 0 where
   pub taken : List ℕ
   pub given : List ℕ
   pub starts : List ReadStart
   pub passed : IfBothTold (Passed taken given starts) old new
+  pub few : length taken ≤ most
   pub session : Session store site taken (IsAtEnd new) given end
   pub prompt : All (IsPrompt store site taken given) starts
 

@@ -1,5 +1,5 @@
 -- For proofs: how far a session has come.
-use Rattle.std.specs.Prelude.{◌≡◌, ◌⊎◌, ◌≤◌, ℕ, ◌++◌, false, List, length, All, Option, Some, None}
+use Rattle.std.specs.Prelude.{◌≡◌, ◌⊎◌, ◌≤◌, ℕ, ◌+◌, ◌-◌, ◌*◌, ◌++◌, false, List, length, All, Option, Some, None}
 use Rattle.http_frame.specs.Runs.{BeginsWithNone}
 use Rattle.mm_base.specs.declared.errors.EndError.{EndError}
 use Rattle.mm_base.specs.declared.errors.EndError.TheVariants.{Failed, OutOfMemory as NoMemory}
@@ -24,6 +24,7 @@ pub record Stand (store : List Record) (site : Option ℕ) (start now : Option L
   pub text : given ++ gathered ≡ due
   pub prompt : All (IsPrompt store site taken given) starts
   pub count_is : length taken ≡ count
+  pub few : count ≤ most
 
 -- What is due to those requests, and where the rest is hopeless the text that says so.
 abbrev pub IsDue : List Reply → List ℕ → List ℕ → Type 0
@@ -41,9 +42,13 @@ pub record Progress (store : List Record) (site : Option ℕ) (start now : Optio
   pub replies : List Reply
   pub open_ones : AllOpen replies
   pub stand : Stand store site start now replies talk.frames.unread (full_text replies) talk.gathered talk.taken
-  pub few : talk.taken ≤ most
   pub running : talk.frames.failed ≡ None
   pub not_ended : talk.frames.ended ≡ false
+
+-- How much a session has left to do at most: each byte is still to be taken, and then to be answered. Each step
+-- lowers it.
+abbrev pub to_do : Talk → ℕ
+to_do talk = 2 * (most - talk.taken) + length talk.frames.unread
 
 -- After a step the session goes on, or ends so.
 abbrev pub GoesOn : List Record → Option ℕ → Option LinkBytes → Option LinkBytes → Talk → Option ConnEnd → Type 0

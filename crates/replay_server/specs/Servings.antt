@@ -6,7 +6,7 @@ use Rattle.mm_base.specs.Counts.{Rose}
 use Rattle.mm_base.specs.Link.{LinkView}
 use Rattle.mm_base.specs.Port.{PortView, KeepsPort}
 use Rattle.record_store.specs.declared.record.Record.{Record}
-use Rattle.replay_server.specs.Sessions.{Session}
+use Rattle.replay_server.specs.Sessions.{Session, most as most_bytes}
 use Rattle.replay_server.specs.Links.{IsPrompt}
 use Rattle.replay_server.specs.declared.ends.ConnEnd.{ConnEnd}
 use Rattle.replay_server.specs.declared.ends.ConnEnd.TheVariants.{Closed, BadRequest, LinkFault, Full, OutOfMemory}
@@ -14,9 +14,11 @@ use Rattle.replay_server.specs.declared.ends.Served.{Served}
 use Rattle.replay_server.specs.declared.ends.ServeError.{ServeError}
 use Rattle.replay_server.specs.declared.ends.ServeError.TheVariants as errors
 
--- A connection of which nothing had been taken was served and ended so. Only at a fault of it is the end a fault.
+-- A connection of which nothing had been taken was served and ended so, and no more was taken than may be. Only at a
+-- fault of it is the end a fault.
 pub record IsConnServed (store : List Record) (site : Option ℕ) (link : LinkView) (end : ConnEnd) : Type 0 where
   pub session : IfSome link.told (λ l. Session store site l.taken (l.rest ≡ []) l.given end)
+  pub few : IfSome link.told (λ l. length l.taken ≤ most_bytes)
   pub prompt : IfSome link.told (λ l. All (IsPrompt store site l.taken l.given) l.reads)
   pub fault : end ≡ LinkFault → 0 < link.faults
 
@@ -51,13 +53,14 @@ module _ {C : Type 0} (store : List Record) (site : Option ℕ) (view : C → Li
   ServingSays most old new served (Err errors.Listen) =
       (new.finished ≡ old.finished) × (new.accepted ≡ old.accepted) × Rose old.faults new.faults
   ServingSays most old new served (Err errors.Accept) =
-      Rose old.faults new.faults
+      All (λ (c : C × ConnEnd). c.1 ≢ OutOfMemory) served × Rose old.faults new.faults
       × (new.faults < 2 ^ 64 - 1 → new.accepted + old.faults ≤ old.accepted + length served + new.faults)
   ServingSays most old new served (Err errors.OutOfMemory) = Unit {0}
 
   -- What a serving of at most so many connections did: it served these, in the order in which they were accepted, and
   -- finished them in the other. At Ok these are all that it accepted: as many as it should, or the port is drained. At
-  -- Accept those that it accepted and didn't finish are no more than the faults that the port counted.
+  -- Accept those that it accepted and didn't finish are no more than the faults that the port counted. Neither is
+  -- answered where one that was finished ended for want of memory.
   pub record IsServing (most : ℕ) (old new : PortView C) (result : Result Served ServeError) : Type 0 where
     pub served : List (C × ConnEnd)
     pub each : All (λ (c : C × ConnEnd). IsConnServed store site (view c.0) c.1) served

@@ -31,6 +31,7 @@ pub enum ServeError {
     Listen,
     /// A connection couldn't be accepted, or not be finished. Those accepted before were served to their end.
     Accept,
-    /// For want of memory, in a connection or in a call of the port. It is answered before `Accept`.
+    /// For want of memory, in a connection or in a call of the port. Where a connection that was finished ended so,
+    /// no other answer is given.
     OutOfMemory,
 }

@@ -1,8 +1,8 @@
 // A session: one connection, from its first byte to its end.
-ghost use Rattle.std.specs.Prelude.{◌≡◌, ◌<◌, ℕ, Option, length, IfSome, IfOk, vec_len};
+ghost use Rattle.std.specs.Prelude.{◌≡◌, ◌<◌, ℕ, Option, length, IfSome, IfNone, IfOk, vec_len};
 ghost use Rattle.mm_base.specs.Link.{LinkBytes, CountsLinkFaults};
 ghost use Rattle.replay_server.specs.Links.{IsServed, HasFaultCause};
-ghost use Rattle.replay_server.specs.Progress.{Progress, GoesOn};
+ghost use Rattle.replay_server.specs.Progress.{Progress, GoesOn, to_do};
 
 use crate::answers::answer_to;
 use crate::ends::ConnEnd;
@@ -33,6 +33,7 @@ fn step<L: Link, Q: Pace, R: Wait>(
     ensures goes_on { (start : Option LinkBytes)
         → Progress source.now.store.now source.now.index.port start (L.view link.old).told talk.old
         → GoesOn source.now.store.now source.now.index.port start (L.view link.new).told talk.new result }
+    ensures less { IfNone result (to_do talk.new < to_do talk.old) }
     ensures counts { CountsLinkFaults (L.view link.old) (L.view link.new) }
     ensures cause { IfSome result (HasFaultCause (L.view link.old) (L.view link.new)) }
 {
@@ -64,12 +65,11 @@ fn converse<L: Link, Q: Pace, R: Wait>(
     ensures cause { HasFaultCause (L.view link.old) (L.view link.new) result }
 {
     let mut talk = Talk::new(alloc);
-    for _ in rt.forever() {
+    'steps: loop {
         if let Some(end) = step(rt, source, &mut talk, link, buf, role, pace) {
             return end;
         }
     }
-    unreachable!()
 }
 
 /// So many bytes of 0.
@@ -134,7 +134,8 @@ pub fn serve_link<L: Link, Q: Pace, R: Wait>(
 ///
 /// `Closed` comes after the first answer whose request or response closes (RFC 9112, section 9.3), or at the end of the
 /// input. `BadRequest` comes after the text that there is no request, and never will be. `Full` comes where 67,108,864
-/// bytes were taken and no answer closed. `LinkFault` comes only where a fault of the link was counted.
+/// bytes were taken and no answer closed, and no more are ever taken. `LinkFault` comes only where a fault of the link
+/// was counted.
 pub fn serve_conn<L: Link, Q: Pace, R: Wait>(
     rt: &R,
     alloc: Global,

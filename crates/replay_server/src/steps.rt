@@ -1,5 +1,5 @@
 // The steps of a session.
-ghost use Rattle.std.specs.Prelude.{◌≡◌, ◌<◌, ◌≤◌, ◌+◌, ◌++◌, ℕ, List, [], Option, length, IfSome};
+ghost use Rattle.std.specs.Prelude.{◌≡◌, ◌<◌, ◌≤◌, ◌+◌, ◌++◌, ℕ, List, [], Option, length, IfSome, IfNone};
 ghost use Rattle.http_frame.specs.Runs.{IsRequestOf, BeginsWithNone};
 ghost use Rattle.http_frame.specs.declared.messages.Request.{Request};
 ghost use Rattle.mm_base.specs.Counts.{Rose};
@@ -7,7 +7,7 @@ ghost use Rattle.mm_base.specs.Link.{LinkBytes, CountsLinkFaults};
 ghost use Rattle.record_store.specs.declared.record.Record.{Record};
 ghost use Rattle.replay_server.specs.Answers.{IsAnswer};
 ghost use Rattle.replay_server.specs.Links.{IsServed, HasFaultCause};
-ghost use Rattle.replay_server.specs.Progress.{Stand, Progress, GoesOn, end_of};
+ghost use Rattle.replay_server.specs.Progress.{Stand, Progress, GoesOn, end_of, to_do};
 ghost use Rattle.replay_server.specs.Sessions.{Reply, AllOpen, IsHopeless, MayGoOn, full_text, most};
 
 use crate::answers::refusal;
@@ -44,6 +44,8 @@ pub fn give_answer<L: Link>(
         → Progress store site start (L.view link.old).told
         (record talk.old { frames = record talk.old.frames { unread = unread } })
         → GoesOn store site start (L.view link.new).told talk.new result }
+    ensures same_frames { talk.new.frames ≡ talk.old.frames }
+    ensures same_taken { talk.new.taken ≡ talk.old.taken }
     ensures counts { CountsLinkFaults (L.view link.old) (L.view link.new) }
     ensures cause { IfSome result (HasFaultCause (L.view link.old) (L.view link.new)) }
 {
@@ -86,6 +88,7 @@ fn read_more<L: Link>(talk: &mut Talk, link: &mut L, piece: &mut [u8]) -> Option
         → Progress store site start (L.view link.old).told talk.old → talk.old.gathered ≡ []
         → BeginsWithNone talk.old.frames.unread → MayGoOn talk.old.frames.unread
         → GoesOn store site start (L.view link.new).told talk.new result }
+    ensures less { IfNone result (to_do talk.new < to_do talk.old) }
     ensures counts { CountsLinkFaults (L.view link.old) (L.view link.new) }
     ensures cause { IfSome result (HasFaultCause (L.view link.old) (L.view link.new)) }
 {
@@ -116,6 +119,7 @@ pub fn take_more<L: Link, Q: Pace, R: Wait>(
         → Progress store site start (L.view link.old).told talk.old
         → BeginsWithNone talk.old.frames.unread → MayGoOn talk.old.frames.unread
         → GoesOn store site start (L.view link.new).told talk.new result }
+    ensures less { IfNone result (to_do talk.new < to_do talk.old) }
     ensures counts { CountsLinkFaults (L.view link.old) (L.view link.new) }
     ensures cause { IfSome result (HasFaultCause (L.view link.old) (L.view link.new)) }
 {

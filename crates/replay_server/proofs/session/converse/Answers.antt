@@ -6,8 +6,8 @@ use Rattle.replay_server.specs.declared.talk.Talk.{Talk}
 use Rattle.replay_server.proofs.StepLemmas.{progress_first}
 use Rattle.replay_server.proofs.session.converse.Goals as goal
 
-pub loop-init : goal.loop-init
-loop-init g c =
+pub steps-init : goal.steps-init
+steps-init g c =
     let told = (g.L.Link.view c.args.link.now).told in
     record {
       progress = subst (λ (t : Talk). Progress c.args.source.now.store.now c.args.source.now.index.port told told t)

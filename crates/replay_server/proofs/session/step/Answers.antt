@@ -1,13 +1,14 @@
-use Rattle.std.proofs.Common.{◌∙◌, Ok, Err, sym, ap, subst}
+use Rattle.std.proofs.Common.{◌∙◌, ◌<◌, ◌≡◌, Ok, Err, length, sym, ap, subst, arith}
+use Rattle.std.specs.Prelude.{IfNone}
 use Rattle.http_frame.specs.Frames.{Frames}
 use Rattle.http_frame.specs.Runs.{BeginsWithNone}
 use Rattle.http_frame.specs.declared.messages.RequestHead.{RequestHead}
 use Rattle.replay_server.specs.Answers.{Answer, IsAnswer}
-use Rattle.replay_server.specs.Progress.{Progress}
+use Rattle.replay_server.specs.Progress.{Progress, to_do}
 use Rattle.replay_server.specs.Sessions.{MayGoOn}
 use Rattle.replay_server.proofs.FrameSteps.{given, waits, fails, is_request, none_there, has_head, lacks_memory}
-use Rattle.replay_server.proofs.FrameSteps.{may_wait, is_hopeless}
-use Rattle.replay_server.proofs.StepLemmas.{still}
+use Rattle.replay_server.proofs.FrameSteps.{may_wait, is_hopeless, takes_bytes}
+use Rattle.replay_server.proofs.StepLemmas.{still, if_none}
 use Rattle.replay_server.proofs.session.step.Goals as goal
 
 pub returns-in-Ok-Message-clause-goes_on : goal.returns-in-Ok-Message-clause-goes_on
@@ -55,3 +56,25 @@ returns-in-Err-Frame-clause-goes_on g c =
     let whole = none_there old new result (ap has_head is) c.next_head.ensures.first (ap lacks_memory is) p.running in
     let hopeless = is_hopeless old new _ (fails old new result _ c.next_head.ensures.says is) p.running p.not_ended in
     c.refuse.ensures.ends _ _ start p.replies old.unread talk.taken p.stand p.open_ones whole hopeless
+
+pub returns-in-Ok-Message-clause-less : goal.returns-in-Ok-Message-clause-less
+returns-in-Ok-Message-clause-less g c =
+    let old = c.args.talk.now.frames in
+    let new = c.next_head.new.self in
+    let m = given old new c.next_head.result c.in-Ok-Message.head c.next_head.ensures.says (c.in-Ok-Message.is
+    ∙ ap Ok c.in-Ok-Message.field-0-is) in
+    let left = c.give_answer.new.talk in
+    let unread : length left.frames.unread ≡ length new.unread
+    = ap (λ (f : Frames). length f.unread) c.give_answer.ensures.same_frames in
+    let taken : left.taken ≡ c.args.talk.now.taken = c.give_answer.ensures.same_taken in
+    let fewer : length new.unread < length old.unread = takes_bytes old new m.0 m.2 in
+    let less : to_do left < to_do c.args.talk.now = omega (arith, unread, taken, fewer) in
+    if_none c.give_answer.result less
+
+pub returns-in-Ok-More-clause-less : goal.returns-in-Ok-More-clause-less
+returns-in-Ok-More-clause-less g c =
+    let talk = c.args.talk.now in
+    let is = c.in-Ok-More.is ∙ ap Ok c.in-Ok-More.field-0-is in
+    let same = (waits talk.frames c.next_head.new.self c.next_head.result c.next_head.ensures.says is).0.same in
+    subst (λ (f : Frames). IfNone c.take_more.result (to_do c.take_more.new.talk < to_do (record talk { frames = f })))
+    same c.take_more.ensures.less
