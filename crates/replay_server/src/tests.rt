@@ -2,16 +2,16 @@
 ghost use Rattle.std.specs.Prelude.{◌≤◌, IfOk};
 ghost use Rattle.mm_base.specs.MemLink.{IsUnused};
 
-use crate::{ConnEnd, ServeError, Served, serve, serve_conn};
-use mm_base::{Bytes, MemLink, MemPort, NoPace, Pace, Port, Role, TcpPort};
+mod ports;
+mod watched;
+
+use crate::{ConnEnd, serve_conn};
+use mm_base::{Bytes, Link, MemLink, NoPace, Port, TcpPort};
 use record_store::{Store, pair};
 use std::alloc::Global;
 use std::io::{self, Write};
 use std::net::{Ipv4Addr, Shutdown, SocketAddr, TcpStream};
-use std::sync::Wait;
-use std::sync::atomic::{AtomicU64, Ordering};
 use std::test::Fail;
-use std::thread;
 
 const REQUEST: &str = "GET / HTTP/1.1\r\nHost: a\r\n\r\n";
 
@@ -181,113 +181,48 @@ const TWO_ANSWERS: &str =
 fn a_link_that_fails_was_given_a_front(rt: HostRuntime) -> Result<(), Fail> {
     let alloc = rt.alloc();
     let store = store(alloc, REQUEST, RESPONSE)?;
-    let mut faults = 0;
+    let mut faults = 0u64;
     for call in 1..100u64 {
         let mut link = link(alloc, TWO, 1, &[call])?;
         let end = serve_conn(&rt, alloc, &store, &mut link, None, 1, &NoPace);
-        assert!(rt; TWO_ANSWERS.as_bytes().starts_with(link.given()));
         if end == ConnEnd::LinkFault {
             faults = faults.saturating_add(1);
+            assert!(rt; TWO_ANSWERS.as_bytes().starts_with(link.given()));
+        } else {
+            assert_eq!(rt; end, ConnEnd::Closed);
+            assert_eq!(rt; link.given(), TWO_ANSWERS.as_bytes());
         }
     }
     assert_eq!(rt; faults, 58);
     Ok(())
 }
 
-// A request of 65,536 bytes, so that 1,024 of them are as many as a connection brings.
+// How many bytes each read brings: one request. After 1,024 of them a connection brings 1,024 bytes more.
+const EACH: usize = 65_535;
+
+/// 1,025 requests, each of as many bytes as a read brings.
+fn more_than_the_limit(alloc: Global) -> Result<Bytes, Fail> {
+    let body = vec![in alloc; b'x'; 65_484]?;
+    let mut input = Bytes::with_capacity(alloc, 67_173_375)?;
+    for _ in 0..1_025 {
+        input.append(b"POST / HTTP/1.1\r\nHost: a\r\nContent-Length: 65484\r\n\r\n")?;
+        input.append(body.as_slice())?;
+    }
+    Ok(input)
+}
+
 #[test]
 fn a_connection_brings_no_more_than_its_limit(rt: HostRuntime) -> Result<(), Fail> {
     let alloc = rt.alloc();
     let store = store(alloc, REQUEST, RESPONSE)?;
-    let body = vec![in alloc; b'x'; 65_485]?;
-    let mut input = Bytes::with_capacity(alloc, 67_108_865)?;
-    for _ in 0..1_024 {
-        input.append(b"POST / HTTP/1.1\r\nHost: a\r\nContent-Length: 65485\r\n\r\n")?;
-        input.append(body.as_slice())?;
-    }
-    input.append(b"G")?;
-    let mut link = MemLink::new(alloc, input, 65_536, Vec::new(alloc));
+    let input = more_than_the_limit(alloc)?;
+    let mut link = MemLink::new(alloc, input, EACH, Vec::new(alloc));
     assert_eq!(rt;
         serve_conn(&rt, alloc, &store, &mut link, None, 1, &NoPace),
         ConnEnd::Full
     );
     assert_eq!(rt; link.given().len(), 1_024 * 45);
-    Ok(())
-}
-
-// The first turns of connections 1 and 2 wait for each other.
-#[derive(Drop)]
-struct Together {
-    begun: AtomicU64,
-    limits: AtomicU64,
-}
-
-impl Pace for Together {
-    fn turn<R: Wait>(&self, _rt: &R, _role: Role, count: u64) {
-        if count != 1 {
-            return;
-        }
-        self.begun.fetch_add(1, Ordering::SeqCst);
-        for _ in 0..10_000_000 {
-            if self.begun.load(Ordering::SeqCst) >= 2 {
-                return;
-            }
-            thread::yield_now();
-        }
-        self.limits.fetch_add(1, Ordering::SeqCst);
-    }
-}
-
-#[test]
-fn connections_are_served_beside_each_other(rt: HostRuntime) -> Result<(), Fail> {
-    let alloc = rt.alloc();
-    let store = store(alloc, REQUEST, RESPONSE)?;
-    let first = link(alloc, TWO, 1, &[3])?;
-    let second = link(alloc, TWO, 1, &[])?;
-    let links = vec![in alloc; first, second]?;
-    let mut port = MemPort::new(alloc, links, Vec::new(alloc));
-    let pace = Together {
-        begun: AtomicU64::new(0),
-        limits: AtomicU64::new(0),
-    };
-    let served = serve(&rt, alloc, &store, &mut port, 80, None, 3, &pace)
-        .ok()
-        .ok_or("refused")?;
-    assert_eq!(rt;
-        served,
-        Served {
-            closed: 1,
-            bad: 0,
-            broken: 1,
-            full: 0
-        }
-    );
-    assert_eq!(rt; pace.limits.load(Ordering::SeqCst), 0);
-    assert_eq!(rt; port.finished().len(), 2);
-    assert_eq!(rt; port.finished()[0].given(), TWO_ANSWERS.as_bytes());
-    Ok(())
-}
-
-#[test]
-fn a_port_that_fails_stops_the_serving(rt: HostRuntime) -> Result<(), Fail> {
-    let alloc = rt.alloc();
-    let store = store(alloc, REQUEST, RESPONSE)?;
-    // the calls are listening, accepting, accepting and finishing
-    let rows = [
-        (1, ServeError::Listen, 0),
-        (2, ServeError::Accept, 0),
-        (3, ServeError::Accept, 1),
-        (4, ServeError::Accept, 0),
-    ];
-    for (call, error, finished) in rows {
-        let only = link(alloc, TWO, 8, &[])?;
-        let links = vec![in alloc; only]?;
-        let mut port = MemPort::new(alloc, links, vec![in alloc; call]?);
-        assert_eq!(rt;
-            serve(&rt, alloc, &store, &mut port, 80, None, 2, &NoPace),
-            Err(error)
-        );
-        assert_eq!(rt; port.finished().len(), finished);
-    }
+    let mut left = vec![in alloc; 0u8; EACH]?;
+    assert_eq!(rt; link.read(left.as_mut_slice()), Ok(64_511));
     Ok(())
 }
