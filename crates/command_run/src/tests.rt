@@ -11,6 +11,7 @@ mod refused;
 mod written;
 
 // What the words after `run` are to leave: a status, a line on `out`, and files.
+#[derive(Drop)]
 struct Left<'a> {
     status: u8,
     line: &'a str,

@@ -12,7 +12,8 @@ pub loop-log-preserved : goal.loop-log-preserved
 loop-log-preserved g c = record {
   all = c.loop-log.invariant.all ∙ ap (λ l. c.loop-log.yielded ++ l) c.in-Some.ensures.steps.0
       ∙ sym (append_assoc c.loop-log.yielded (c.in-Some.log ∷ []) c.next.new.self.rest.items);
-  whole = log_written unwritten_log c.loop-log.yielded c.in-Some.log _ _ _ c.loop-log.invariant.whole c.in_ok-write_log.ensures.ok;
+  whole = log_written unwritten_log c.loop-log.yielded c.in-Some.log _ _ _ c.loop-log.invariant.whole
+      c.in_ok-write_log.ensures.ok;
   only_writes = OnlyWrites-then c.loop-log.invariant.only_writes c.write_log.ensures.only_writes;
 }
 
@@ -24,6 +25,7 @@ returns-in_err-write_log-clause-stopped g c =
     let new = g.D.Disk.view c.write_log.new.disk in
     let all = c.loop-log.invariant.all ∙ ap (λ l. c.loop-log.yielded ++ l) c.in-Some.ensures.steps.0 in
     rw p.1 (subst (λ (k : Cause). StopsWriting (files_by unwritten_log c.args.logs.items) old new k) (sym p.2)
-    (stops_at_log unwritten_log c.args.logs.items c.loop-log.yielded c.next.new.self.rest.items c.in-Some.log old mid new _ all
+    (stops_at_log unwritten_log c.args.logs.items c.loop-log.yielded c.next.new.self.rest.items c.in-Some.log old mid
+        new _ all
     c.loop-log.invariant.whole
     c.in_err-write_log.ensures.partly c.loop-log.invariant.only_writes c.in_err-write_log.ensures.stopped))
