@@ -26,6 +26,6 @@ returns-in_err-write_log-clause-stopped g c =
     let all = c.loop-log.invariant.all ∙ ap (λ l. c.loop-log.yielded ++ l) c.in-Some.ensures.steps.0 in
     rw p.1 (subst (λ (k : Cause). StopsWriting (files_by unwritten_log c.args.logs.items) old new k) (sym p.2)
     (stops_at_log unwritten_log c.args.logs.items c.loop-log.yielded c.next.new.self.rest.items c.in-Some.log old mid
-        new _ all
+    new _ all
     c.loop-log.invariant.whole
     c.in_err-write_log.ensures.partly c.loop-log.invariant.only_writes c.in_err-write_log.ensures.stopped))
