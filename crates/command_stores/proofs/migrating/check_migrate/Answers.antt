@@ -1,0 +1,10 @@
+use Rattle.std.proofs.Common.{[], ◌∷◌}
+use Rattle.command_stores.specs.Migrating.{migrate_inputs}
+use Rattle.command_stores.specs.View.{migrate_values}
+use Rattle.command_stores.proofs.NameLemmas.{names_read}
+use Rattle.command_stores.proofs.migrating.check_migrate.Goals as goal
+
+pub returns : goal.returns
+returns c =
+    let job = migrate_values c.args.job.now in
+    names_read (job.store ∷ []) job.out (migrate_inputs job) c.check_names.result c.check_names.ensures

@@ -1,0 +1,67 @@
+-- What `match` is asked for, what it reads and refuses, and what it gives.
+use Rattle.std.specs.Prelude.{◌≡◌, ℕ, ◌+◌, List, [], ◌∷◌, ◌++◌, Option, Some, None, Ok, codes, decimal, option_and_then}
+use Rattle.http_frame.specs.declared.messages.RequestHead.{RequestHead}
+use Rattle.record_store.specs.StoreText.{StoreSays}
+use Rattle.record_store.specs.declared.record.Record.{Record}
+use Rattle.request_match.specs.Match.{BestCause}
+use Rattle.option_words.specs.Commands.{MatchTexts, match_texts}
+use Rattle.option_words.specs.Givens.{◌>>=◌}
+use Rattle.command_ends.specs.Causes.{Text}
+use Rattle.command_ends.specs.Outputs.{Output, prints}
+use Rattle.command_ends.specs.Readings.{Reading, Done, asked}
+use Rattle.store_input.specs.Stores.{reading_store}
+use Rattle.command_stores.specs.Ports.{given_port}
+use Rattle.command_stores.specs.Requests.{IsOneRequest, reading_request}
+
+-- the names of the files of a store and of a request, and the port that it is asked at, or none
+pub record MatchJob : Type 0 where
+  pub store : Text
+  pub request : Text
+  pub port : Option ℕ
+
+abbrev pub match_at : MatchTexts → Option ℕ → MatchJob
+match_at texts port = record { store = texts.store; request = texts.request; port = port }
+
+unfoldable pub match_with : MatchTexts → Option MatchJob
+match_with texts = do
+  port ← given_port texts.port
+  Some (match_at texts port)
+
+-- the job of `match`'s words
+unfoldable pub match_job_of : List Text → Option MatchJob
+match_job_of words = option_and_then match_with (match_texts words)
+
+-- a job, and the texts of the store and of the request
+pub record MatchTask : Type 0 where
+  pub job : MatchJob
+  pub store : List ℕ
+  pub request : List ℕ
+
+-- the number of the best record, from 1, or none, where no record agrees
+abbrev pub HasNumber : RequestHead → Option ℕ → List Record → Option ℕ → Type 0
+HasNumber head port records None = BestCause head port records None
+HasNumber head port records (Some number) =
+    (place : ℕ) × BestCause head port records (Some place) × (number ≡ place + 1)
+
+abbrev pub number_text : Option ℕ → List ℕ
+number_text None = codes "none\n"
+number_text (Some number) = decimal number ++ 10 ∷ []
+
+-- The number of the best record is printed.
+pub record GivesMatch (task : MatchTask) (output : Output) : Type 0 where
+  pub records : List Record
+  pub says : StoreSays task.store (Ok records)
+  pub head : RequestHead
+  pub asks : IsOneRequest task.request head
+  pub number : Option ℕ
+  pub best : HasNumber head task.job.port records number
+  pub output_is : output ≡ prints (number_text number)
+
+-- the store, and then the request
+abbrev pub match_reading : MatchJob → Reading MatchTask
+match_reading job = reading_store job.store (λ store. reading_request job.request (λ request.
+    Done (record { job = job; store = store; request = request })))
+
+-- the words after `match`
+abbrev pub match_words : List Text → Reading MatchTask
+match_words words = asked (match_job_of words) match_reading

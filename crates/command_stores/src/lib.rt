@@ -1,0 +1,15 @@
+//! The commands over stores: `record` makes one of the two streams of a connection, `match` asks one which recorded
+//! exchange answers a request, and `migrate` writes one in the newer form.
+#![tactic(auto)]
+
+mod matching;
+mod migrating;
+mod names;
+mod port;
+mod recording;
+mod request_file;
+mod store_file;
+
+pub use matching::answer_match;
+pub use migrating::answer_migrate;
+pub use recording::answer_record;

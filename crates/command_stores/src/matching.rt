@@ -1,0 +1,150 @@
+// The command `match`: its words, and the number of the record that answers a request.
+ghost use Rattle.std.specs.Prelude.{◌≡◌, ◌<◌, ◌+◌, IfOk, IfErr, length, map, string_bytes};
+ghost use Rattle.std.specs.Option.{option_map};
+ghost use Rattle.mm_base.specs.Disk.{OnlyReads};
+ghost use Rattle.mm_base.specs.Sink.{CountsSinkFaults};
+ghost use Rattle.option_words.specs.View.{match_texts_of};
+ghost use Rattle.command_ends.specs.Answers.{CountsDisk, cause_in};
+ghost use Rattle.command_ends.specs.Ends.{Ends, FinishesOnly, offline};
+ghost use Rattle.command_ends.specs.Outputs.{prints};
+ghost use Rattle.command_ends.specs.Stops.{StopsReading};
+ghost use Rattle.command_ends.specs.Works.{only};
+ghost use Rattle.command_stores.specs.Matching.{GivesMatch, HasNumber, match_job_of, match_reading, match_with};
+ghost use Rattle.command_stores.specs.Matching.{match_words, number_text};
+ghost use Rattle.command_stores.specs.View.{match_values};
+
+use crate::port::given_port;
+use crate::request_file::load_request;
+use command_ends::{Cause, print};
+use http_frame::RequestHead;
+use mm_base::{Bytes, Disk, OutOfMemory, Sink, write_decimal};
+use option_words::{MatchWords, parse_match};
+use record_store::Store;
+use request_match::best;
+use std::alloc::Global;
+use store_input::load_store;
+
+// The names of the files of a store and of a request, and the port that it is asked at, or none.
+#[derive(Drop)]
+pub(crate) struct MatchJob<'a> {
+    pub store: &'a str,
+    pub request: &'a str,
+    pub port: Option<u16>,
+}
+
+// The job of the words after `match`, if they have one. `OutOfMemory` is want of memory.
+#[tactic(auto, unfolding(crate::specs::Matching::match_job_of))]
+fn read_match<'a>(
+    alloc: Global,
+    words: &'a [String],
+) -> Result<Option<MatchJob<'a>>, OutOfMemory>
+    ensures { IfOk result (λ found. option_map match_values found ≡ match_job_of (map string_bytes words.now)) }
+{
+    match parse_match(alloc, words)? {
+        Some(texts) => Ok(with_port(texts)),
+        None => Ok(None),
+    }
+}
+
+// The job of the options' values, where the port is one.
+#[tactic(auto, unfolding(crate::specs::Matching::match_with))]
+fn with_port<'a>(texts: MatchWords<'a>) -> Option<MatchJob<'a>>
+    ensures { option_map match_values result ≡ match_with (match_texts_of texts.entry) }
+{
+    match given_port(texts.port) {
+        Some(port) => Some(MatchJob {
+            store: texts.store,
+            request: texts.request,
+            port,
+        }),
+        None => None,
+    }
+}
+
+// The number of the record at a place, from 1.
+fn number_at(store: &Store, place: usize) -> u64
+    requires { place < length store.now }
+    ensures { result ≡ place + 1 }
+{
+    let count = store.records().len();
+    prove!(place < count);
+    place as u64 + 1
+}
+
+// The number of the best record, from 1, or none.
+fn best_number(store: &Store, request: &RequestHead, port: Option<u16>) -> Option<u64>
+    ensures { HasNumber request.now port store.now result }
+{
+    match best(store, request, port) {
+        Some(place) => Some(number_at(store, place)),
+        None => None,
+    }
+}
+
+// The number of the best record of a job's store for its request.
+fn find_best<D: Disk>(
+    alloc: Global,
+    job: &MatchJob<'_>,
+    disk: &mut D,
+) -> Result<Option<u64>, Cause>
+    ensures found { IfOk result (λ number. FinishesOnly GivesMatch (match_reading (match_values job.now))
+        (D.view disk.old).files (prints (number_text number))) }
+    ensures stopped { IfErr result (λ cause. StopsReading (match_reading (match_values job.now)) (D.view disk.old)
+        (D.view disk.new) cause) }
+    ensures only_reads { OnlyReads (D.view disk.old) (D.view disk.new) }
+{
+    let store = load_store(alloc, disk, job.store)?;
+    let request = load_request(alloc, disk, job.request)?;
+    Ok(best_number(&store, &request, job.port))
+}
+
+// The line of a number, or of none.
+fn text_of(alloc: Global, number: Option<u64>) -> Result<Bytes, OutOfMemory>
+    ensures { IfOk result (λ text. text ≡ number_text number) }
+{
+    let mut text = Bytes::new(alloc);
+    match number {
+        Some(number) => {
+            write_decimal(&mut text, number)?;
+            text.push(b'\n')?;
+        }
+        None => text.append(b"none\n")?,
+    }
+    Ok(text)
+}
+
+// Does the job: the store and the request are read, and then the number is printed.
+fn print_best<D: Disk, O: Sink>(
+    alloc: Global,
+    job: &MatchJob<'_>,
+    disk: &mut D,
+    out: &mut O,
+) -> Result<(), Cause>
+    ensures ends { Ends (only GivesMatch) (match_reading (match_values job.now))
+        (offline (D.view disk.old) (O.view out.old)) (offline (D.view disk.new) (O.view out.new)) (cause_in result) }
+    ensures counts { CountsDisk (D.view disk.old) (D.view disk.new) }
+    ensures out_counts { CountsSinkFaults (O.view out.old) (O.view out.new) }
+{
+    let number = find_best(alloc, job, disk)?;
+    let text = text_of(alloc, number)?;
+    print(out, text.as_slice())
+}
+
+/// Does what the words after `match` say: prints the number, from 1, of the record of a store that answers a request,
+/// or `none`. No file is written, and no net is touched.
+pub fn answer_match<D: Disk, O: Sink>(
+    alloc: Global,
+    words: &[String],
+    disk: &mut D,
+    out: &mut O,
+) -> Result<(), Cause>
+    ensures ends { Ends (only GivesMatch) (match_words (map string_bytes words.now))
+        (offline (D.view disk.old) (O.view out.old)) (offline (D.view disk.new) (O.view out.new)) (cause_in result) }
+    ensures counts { CountsDisk (D.view disk.old) (D.view disk.new) }
+    ensures out_counts { CountsSinkFaults (O.view out.old) (O.view out.new) }
+{
+    match read_match(alloc, words)? {
+        Some(job) => print_best(alloc, &job, disk, out),
+        None => Err(Cause::usage()),
+    }
+}

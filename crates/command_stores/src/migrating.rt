@@ -1,0 +1,94 @@
+// The command `migrate`: its words, and the store that it writes in form 2.
+ghost use Rattle.std.specs.Prelude.{◌≡◌, IfOk, IfErr, map, string_bytes};
+ghost use Rattle.std.specs.Option.{option_map};
+ghost use Rattle.mm_base.specs.Disk.{DiskView, OnlyReads};
+ghost use Rattle.mm_base.specs.Sink.{SinkView};
+ghost use Rattle.command_ends.specs.Answers.{CountsDisk, cause_in};
+ghost use Rattle.command_ends.specs.Ends.{Ends, FinishesOnly, offline};
+ghost use Rattle.command_ends.specs.Outputs.{writes};
+ghost use Rattle.command_ends.specs.Stops.{ReadsOn, StopsReading};
+ghost use Rattle.command_ends.specs.Works.{only};
+ghost use Rattle.command_stores.specs.Migrating.{GivesMigrate, migrate_inputs, migrate_job_of, migrate_reading};
+ghost use Rattle.command_stores.specs.Migrating.{migrate_words};
+ghost use Rattle.command_stores.specs.View.{migrate_values};
+ghost use Rattle.command_stores.specs.Written.{store_file};
+
+use crate::names::check_names;
+use crate::store_file::write_store;
+use command_ends::Cause;
+use mm_base::{Disk, OutOfMemory};
+use option_words::parse_migrate;
+use record_store::Store;
+use std::alloc::Global;
+use store_input::load_store;
+
+// The names of the files of a store in either form, and of the same in form 2.
+#[derive(Drop)]
+pub(crate) struct MigrateJob<'a> {
+    pub store: &'a str,
+    pub out: &'a str,
+}
+
+// The job of the words after `migrate`, if they have one. `OutOfMemory` is want of memory.
+#[tactic(auto, unfolding(crate::specs::Migrating::migrate_job_of))]
+fn read_migrate<'a>(
+    alloc: Global,
+    words: &'a [String],
+) -> Result<Option<MigrateJob<'a>>, OutOfMemory>
+    ensures { IfOk result (λ found. option_map migrate_values found ≡ migrate_job_of (map string_bytes words.now)) }
+{
+    match parse_migrate(alloc, words)? {
+        Some(texts) => Ok(Some(MigrateJob {
+            store: texts.store,
+            out: texts.out,
+        })),
+        None => Ok(None),
+    }
+}
+
+// Refuses an output that has the name of the input.
+fn check_migrate(alloc: Global, job: &MigrateJob<'_>) -> Result<(), Cause>
+    ensures { (disk : DiskView) → ReadsOn (migrate_reading (migrate_values job.now))
+        (λ _. migrate_inputs (migrate_values job.now)) disk disk result }
+{
+    check_names(alloc, &[job.store], job.out)
+}
+
+// The store of a job.
+fn load_old<D: Disk>(alloc: Global, job: &MigrateJob<'_>, disk: &mut D) -> Result<Store, Cause>
+    ensures found { IfOk result (λ store. FinishesOnly GivesMigrate (migrate_inputs (migrate_values job.now))
+        (D.view disk.old).files (writes (store_file job.now.out.now store))) }
+    ensures stopped { IfErr result (λ cause. StopsReading (migrate_inputs (migrate_values job.now)) (D.view disk.old)
+        (D.view disk.new) cause) }
+    ensures only_reads { OnlyReads (D.view disk.old) (D.view disk.new) }
+{
+    load_store(alloc, disk, job.store)
+}
+
+// Does the job: the store is read in either form, and then written in form 2.
+fn migrate<D: Disk>(alloc: Global, job: &MigrateJob<'_>, disk: &mut D) -> Result<(), Cause>
+    ensures ends { (out : SinkView) → Ends (only GivesMigrate) (migrate_reading (migrate_values job.now))
+        (offline (D.view disk.old) out) (offline (D.view disk.new) out) (cause_in result) }
+    ensures counts { CountsDisk (D.view disk.old) (D.view disk.new) }
+{
+    check_migrate(alloc, job)?;
+    let store = load_old(alloc, job, disk)?;
+    write_store(alloc, disk, job.out, &store)
+}
+
+/// Does what the words after `migrate` say: reads a store in either form, and writes it in form 2. Nothing is printed,
+/// and no net is touched.
+pub fn answer_migrate<D: Disk>(
+    alloc: Global,
+    words: &[String],
+    disk: &mut D,
+) -> Result<(), Cause>
+    ensures ends { (out : SinkView) → Ends (only GivesMigrate) (migrate_words (map string_bytes words.now))
+        (offline (D.view disk.old) out) (offline (D.view disk.new) out) (cause_in result) }
+    ensures counts { CountsDisk (D.view disk.old) (D.view disk.new) }
+{
+    match read_migrate(alloc, words)? {
+        Some(job) => migrate(alloc, &job, disk),
+        None => Err(Cause::usage()),
+    }
+}

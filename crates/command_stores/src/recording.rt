@@ -1,0 +1,147 @@
+// The command `record`: its words, the two streams of a connection, and the store that is made of them.
+ghost use Rattle.std.specs.Prelude.{◌≡◌, ◌≢◌, ℕ, List, Err, IfOk, IfErr, map, string_bytes};
+ghost use Rattle.std.specs.Option.{option_map};
+ghost use Rattle.mm_base.specs.Disk.{DiskView, OnlyReads};
+ghost use Rattle.mm_base.specs.Sink.{SinkView};
+ghost use Rattle.record_store.specs.Pairs.{Pairs};
+ghost use Rattle.option_words.specs.View.{record_texts_of};
+ghost use Rattle.command_ends.specs.Answers.{CountsDisk, cause_in};
+ghost use Rattle.command_ends.specs.Ends.{Ends, FinishesOnly, offline};
+ghost use Rattle.command_ends.specs.Outputs.{writes};
+ghost use Rattle.command_ends.specs.Stops.{ReadsOn, RefusesBy, StopsReading};
+ghost use Rattle.command_ends.specs.Works.{only};
+ghost use Rattle.command_stores.specs.Recording.{GivesRecord, PairVerdict, record_inputs, record_job_of, record_reading};
+ghost use Rattle.command_stores.specs.Recording.{record_with, record_words, stream_named};
+ghost use Rattle.command_stores.specs.View.{record_values};
+ghost use Rattle.command_stores.specs.Written.{store_file};
+
+use crate::names::check_names;
+use crate::port::given_port;
+use crate::store_file::write_store;
+use command_ends::{Cause, Refusal, read_input};
+use mm_base::{Disk, OutOfMemory, Text};
+use option_words::{RecordWords, parse_record};
+use record_store::{PairError, Store, pair};
+use std::alloc::Global;
+
+// The names of the files of the two streams and of the store, and the port that it was recorded from.
+#[derive(Drop)]
+pub(crate) struct RecordJob<'a> {
+    pub client: &'a str,
+    pub server: &'a str,
+    pub out: &'a str,
+    pub port: u16,
+}
+
+// The job of the words after `record`, if they have one. `OutOfMemory` is want of memory.
+#[tactic(auto, unfolding(crate::specs::Recording::record_job_of))]
+fn read_record<'a>(
+    alloc: Global,
+    words: &'a [String],
+) -> Result<Option<RecordJob<'a>>, OutOfMemory>
+    ensures { IfOk result (λ found. option_map record_values found ≡ record_job_of (map string_bytes words.now)) }
+{
+    match parse_record(alloc, words)? {
+        Some(texts) => Ok(with_port(texts)),
+        None => Ok(None),
+    }
+}
+
+// The job of the options' values, where the port is one.
+#[tactic(auto, unfolding(crate::specs::Recording::record_with))]
+fn with_port<'a>(texts: RecordWords<'a>) -> Option<RecordJob<'a>>
+    ensures { option_map record_values result ≡ record_with (record_texts_of texts.entry) }
+{
+    match given_port(texts.port) {
+        Some(port) => Some(RecordJob {
+            client: texts.client,
+            server: texts.server,
+            out: texts.out,
+            port: port.unwrap_or(0),
+        }),
+        None => None,
+    }
+}
+
+// The file that a refusal of the streams names.
+fn stream_named<'a>(job: &RecordJob<'a>, error: PairError) -> &'a str
+    ensures { result.now ≡ stream_named (record_values job.now) error }
+{
+    match error {
+        PairError::BadRequest { .. } => job.client,
+        PairError::BadResponse { .. }
+        | PairError::Unanswered { .. }
+        | PairError::ExtraResponse
+        | PairError::OutOfMemory => job.server,
+    }
+}
+
+// Why the streams are no pairs.
+fn pair_cause(alloc: Global, job: &RecordJob<'_>, error: PairError) -> Cause
+    ensures { (client server : List ℕ) → Pairs client server job.now.port (Err error)
+        → RefusesBy (PairVerdict (record_values job.now) client server) result }
+{
+    match error {
+        PairError::OutOfMemory => Cause::OutOfMemory,
+        _ => match Text::from_text(alloc, stream_named(job, error)) {
+            Ok(name) => Cause::Refused(Refusal::BadInput {
+                name,
+                number: error.number(),
+                place: error.request(),
+            }),
+            Err(_) => Cause::OutOfMemory,
+        },
+    }
+}
+
+// The store of the pairs of a job's streams.
+fn load_pairs<D: Disk>(alloc: Global, job: &RecordJob<'_>, disk: &mut D) -> Result<Store, Cause>
+    ensures found { IfOk result (λ store. FinishesOnly GivesRecord (record_inputs (record_values job.now))
+        (D.view disk.old).files (writes (store_file job.now.out.now store))) }
+    ensures stopped { IfErr result (λ cause. StopsReading (record_inputs (record_values job.now)) (D.view disk.old)
+        (D.view disk.new) cause) }
+    ensures only_reads { OnlyReads (D.view disk.old) (D.view disk.new) }
+{
+    let client = read_input(alloc, disk, job.client)?;
+    let server = read_input(alloc, disk, job.server)?;
+    match pair(alloc, client.as_slice(), server.as_slice(), job.port) {
+        Ok(store) => Ok(store),
+        Err(error) => Err(pair_cause(alloc, job, error)),
+    }
+}
+
+// Refuses an output that has the name of an input.
+fn check_record(alloc: Global, job: &RecordJob<'_>) -> Result<(), Cause>
+    ensures { (disk : DiskView) → ReadsOn (record_reading (record_values job.now))
+        (λ _. record_inputs (record_values job.now)) disk disk result }
+{
+    check_names(alloc, &[job.client, job.server], job.out)
+}
+
+// Does the job: its streams are read and paired, and then the store is written.
+fn make_store<D: Disk>(alloc: Global, job: &RecordJob<'_>, disk: &mut D) -> Result<(), Cause>
+    ensures ends { (out : SinkView) → Ends (only GivesRecord) (record_reading (record_values job.now))
+        (offline (D.view disk.old) out) (offline (D.view disk.new) out) (cause_in result) }
+    ensures counts { CountsDisk (D.view disk.old) (D.view disk.new) }
+{
+    check_record(alloc, job)?;
+    let store = load_pairs(alloc, job, disk)?;
+    write_store(alloc, disk, job.out, &store)
+}
+
+/// Does what the words after `record` say: pairs the two byte streams of a connection, and writes the store of the
+/// pairs. Nothing is printed, and no net is touched.
+pub fn answer_record<D: Disk>(
+    alloc: Global,
+    words: &[String],
+    disk: &mut D,
+) -> Result<(), Cause>
+    ensures ends { (out : SinkView) → Ends (only GivesRecord) (record_words (map string_bytes words.now))
+        (offline (D.view disk.old) out) (offline (D.view disk.new) out) (cause_in result) }
+    ensures counts { CountsDisk (D.view disk.old) (D.view disk.new) }
+{
+    match read_record(alloc, words)? {
+        Some(job) => make_store(alloc, &job, disk),
+        None => Err(Cause::usage()),
+    }
+}

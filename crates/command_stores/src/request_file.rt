@@ -1,0 +1,99 @@
+// A request from a file that has nothing else.
+ghost use Rattle.std.specs.Prelude.{◌≡◌, ◌≢◌, ℕ, List, IfOk, IfErr};
+ghost use Rattle.mm_base.specs.Disk.{OnlyReads};
+ghost use Rattle.command_ends.specs.Readings.{Done};
+ghost use Rattle.command_ends.specs.Stops.{IsInput, RefusesBy, StopsReading};
+ghost use Rattle.command_stores.specs.Requests.{IsOneRequest, RefusesRequest, RequestVerdict, reading_request};
+ghost use Rattle.command_stores.specs.declared.request_file.RequestError.TheVariants as errors;
+
+use command_ends::{Cause, Refusal, read_input};
+use http_frame::{FrameError, FrameFault, RequestFrames, RequestHead, Step};
+use mm_base::{Disk, OutOfMemory, Text};
+use std::alloc::Global;
+
+/// Why a text isn't accepted as a request.
+#[derive(Clone, Copy, Debug, PartialEq, Eq)]
+pub(crate) enum RequestError {
+    /// 1 to 8: the reader of requests refuses it.
+    Frame(FrameError),
+    /// 9: it holds no whole request, or bytes after one.
+    NotOne,
+    OutOfMemory,
+}
+
+impl RequestError {
+    ghost use Rattle.command_stores.specs.Requests.{number_of};
+
+    // The number of the refusal, 1 to 9, or 0 for want of memory.
+    fn number(self) -> u32
+        ensures { result ≡ number_of self }
+    {
+        match self {
+            RequestError::Frame(error) => error.number(),
+            RequestError::NotOne => 9,
+            RequestError::OutOfMemory => 0,
+        }
+    }
+}
+
+impl From<OutOfMemory> for RequestError {
+    ghost from_gives = { λ _ e. e ≡ errors.OutOfMemory };
+
+    fn from(_: OutOfMemory) -> Self {
+        RequestError::OutOfMemory
+    }
+}
+
+// The head of the request that a text is. Its body isn't kept.
+fn read_head(alloc: Global, text: &[u8]) -> Result<RequestHead, RequestError>
+    ensures whole { IfOk result (IsOneRequest text.now) }
+    ensures refused { IfErr result (RefusesRequest text.now) }
+{
+    let mut frames = RequestFrames::new(alloc);
+    frames.feed(text)?;
+    match frames.next_head() {
+        Ok(Step::Message(head)) => {
+            if frames.unread().is_empty() {
+                Ok(head)
+            } else {
+                Err(RequestError::NotOne)
+            }
+        }
+        Ok(Step::More) => Err(RequestError::NotOne),
+        Err(FrameFault::Frame(error)) => Err(RequestError::Frame(error)),
+        Err(FrameFault::OutOfMemory) => Err(RequestError::OutOfMemory),
+    }
+}
+
+// Why the text of the request's file of this name isn't accepted.
+fn request_cause(name: Text, error: RequestError) -> Cause
+    ensures { (text : List ℕ) → RefusesRequest text error → RefusesBy (RequestVerdict name text) result }
+{
+    match error {
+        RequestError::OutOfMemory => Cause::OutOfMemory,
+        _ => Cause::Refused(Refusal::BadInput {
+            name,
+            number: error.number(),
+            place: 0,
+        }),
+    }
+}
+
+/// The head of the request that is the file of this name.
+pub(crate) fn load_request<D: Disk>(
+    alloc: Global,
+    disk: &mut D,
+    name: &str,
+) -> Result<RequestHead, Cause>
+    ensures found { IfOk result (λ head. ((text : List ℕ) × IsInput (D.view disk.old).files name.now text
+        × IsOneRequest text head)) }
+    ensures stopped { IfErr result (λ cause. StopsReading (reading_request name.now Done) (D.view disk.old)
+        (D.view disk.new) cause) }
+    ensures only_reads { OnlyReads (D.view disk.old) (D.view disk.new) }
+{
+    let text = read_input(alloc, disk, name)?;
+    match read_head(alloc, text.as_slice()) {
+        Ok(head) => Ok(head),
+        Err(error) => Err(request_cause(Text::from_text(alloc, name)?, error)),
+    }
+}
