@@ -1,5 +1,6 @@
 -- What a reader of requests answers for a text that is all there.
-use Rattle.std.proofs.Common.{◌≡◌, ◌≢◌, ◌∙◌, ◌⊎◌, inl, inr, ℕ, false, List, [], ◌++◌, Option, Some, None, Result, Ok, Err}
+use Rattle.std.proofs.Common.{◌≡◌, ◌≢◌, ◌∙◌, ◌⊎◌, inl, inr, ℕ, false, List, [], ◌++◌, Option, Some, None, Result, Ok}
+use Rattle.std.proofs.Common.{Err}
 use Rattle.std.proofs.Common.{◌∷◌, true, length, refl, sym, ap, subst, append-nil, arith}
 use Rattle.std.specs.Prelude.{◌==◌}
 use Rattle.std.proofs.lemmas.Bool.Decides.{Decides-eqb}
@@ -25,7 +26,8 @@ use Rattle.command_ends.specs.declared.cause.Cause.TheVariants.{Refused}
 use Rattle.command_ends.specs.declared.cause.Refusal.{Refusal}
 use Rattle.command_ends.specs.declared.cause.Refusal.TheVariants.{BadInput}
 use Rattle.command_ends.proofs.ReadingLemmas.{AreAlike, IsJudgement, judged_stopped, stops_at}
-use Rattle.command_stores.specs.Requests.{HasOthers, IsNoRequest, IsOneRequest, RefusesRequest, RequestVerdict, number_of}
+use Rattle.command_stores.specs.Requests.{HasOthers, IsNoRequest, IsOneRequest, RefusesRequest, RequestVerdict}
+use Rattle.command_stores.specs.Requests.{number_of}
 use Rattle.command_stores.specs.Requests.{reading_request}
 use Rattle.command_stores.specs.declared.request_file.RequestError.{RequestError}
 use Rattle.command_stores.specs.declared.request_file.RequestError.TheVariants as errors
@@ -122,16 +124,20 @@ module _ (text : List ℕ) (old new : Frames) (result : Result (Step RequestHead
   pub more_needed : result ≡ Ok steps.More → RefusesRequest text errors.NotOne
   more_needed is =
       let out = λ (h : Head) (gives : GivesHead h [] result new).
-      subst (λ (r : Result (Step RequestHead) FrameFault). GivesHead h [] r new) is gives in
-      (none_of text result new first_here out, inr (more_of text new says_here.whole says_here.says (sym is
-      ∙ says_here.alone)))
+      subst (λ (r : Result (Step RequestHead) FrameFault). GivesHead h [] r new) is gives in (
+        none_of text result new first_here out,
+        inr (more_of text new says_here.whole says_here.says (sym is
+            ∙ says_here.alone)),
+      )
 
   pub faulty : (fault : FrameError) → result ≡ Err (faults.Frame fault) → RefusesRequest text (errors.Frame fault)
   faulty fault is =
       let out = λ (h : Head) (gives : GivesHead h [] result new).
-      subst (λ (r : Result (Step RequestHead) FrameFault). GivesHead h [] r new) is gives in
-      (none_of text result new first_here out, fault_of text new fault says_here.whole says_here.says (sym is
-      ∙ says_here.alone))
+      subst (λ (r : Result (Step RequestHead) FrameFault). GivesHead h [] r new) is gives in (
+        none_of text result new first_here out,
+        fault_of text new fault says_here.whole says_here.says (sym is
+            ∙ says_here.alone),
+      )
 
 pub empty_list : (xs : List ℕ) → (length xs == 0) ≡ true → xs ≡ []
 empty_list [] e = refl

@@ -34,10 +34,7 @@ pub(crate) struct MatchJob<'a> {
 
 // The job of the words after `match`, if they have one. `OutOfMemory` is want of memory.
 #[tactic(auto, unfolding(crate::specs::Matching::match_job_of))]
-fn read_match<'a>(
-    alloc: Global,
-    words: &'a [String],
-) -> Result<Option<MatchJob<'a>>, OutOfMemory>
+fn read_match<'a>(alloc: Global, words: &'a [String]) -> Result<Option<MatchJob<'a>>, OutOfMemory>
     ensures { IfOk result (λ found. option_map match_values found ≡ match_job_of (map string_bytes words.now)) }
 {
     match parse_match(alloc, words)? {
@@ -82,11 +79,7 @@ fn best_number(store: &Store, request: &RequestHead, port: Option<u16>) -> Optio
 }
 
 // The number of the best record of a job's store for its request.
-fn find_best<D: Disk>(
-    alloc: Global,
-    job: &MatchJob<'_>,
-    disk: &mut D,
-) -> Result<Option<u64>, Cause>
+fn find_best<D: Disk>(alloc: Global, job: &MatchJob<'_>, disk: &mut D) -> Result<Option<u64>, Cause>
     ensures found { IfOk result (λ number. FinishesOnly GivesMatch (match_reading (match_values job.now))
         (D.view disk.old).files (prints (number_text number))) }
     ensures stopped { IfErr result (λ cause. StopsReading (match_reading (match_values job.now)) (D.view disk.old)

@@ -78,11 +78,7 @@ fn migrate<D: Disk>(alloc: Global, job: &MigrateJob<'_>, disk: &mut D) -> Result
 
 /// Does what the words after `migrate` say: reads a store in either form, and writes it in form 2. Nothing is printed,
 /// and no net is touched.
-pub fn answer_migrate<D: Disk>(
-    alloc: Global,
-    words: &[String],
-    disk: &mut D,
-) -> Result<(), Cause>
+pub fn answer_migrate<D: Disk>(alloc: Global, words: &[String], disk: &mut D) -> Result<(), Cause>
     ensures ends { (out : SinkView) → Ends (only GivesMigrate) (migrate_words (map string_bytes words.now))
         (offline (D.view disk.old) out) (offline (D.view disk.new) out) (cause_in result) }
     ensures counts { CountsDisk (D.view disk.old) (D.view disk.new) }

@@ -10,7 +10,8 @@ ghost use Rattle.command_ends.specs.Ends.{Ends, FinishesOnly, offline};
 ghost use Rattle.command_ends.specs.Outputs.{writes};
 ghost use Rattle.command_ends.specs.Stops.{ReadsOn, RefusesBy, StopsReading};
 ghost use Rattle.command_ends.specs.Works.{only};
-ghost use Rattle.command_stores.specs.Recording.{GivesRecord, PairVerdict, record_inputs, record_job_of, record_reading};
+ghost use Rattle.command_stores.specs.Recording.{GivesRecord, PairVerdict, record_inputs, record_job_of};
+ghost use Rattle.command_stores.specs.Recording.{record_reading};
 ghost use Rattle.command_stores.specs.Recording.{record_with, record_words, stream_named};
 ghost use Rattle.command_stores.specs.View.{record_values};
 ghost use Rattle.command_stores.specs.Written.{store_file};
@@ -35,10 +36,7 @@ pub(crate) struct RecordJob<'a> {
 
 // The job of the words after `record`, if they have one. `OutOfMemory` is want of memory.
 #[tactic(auto, unfolding(crate::specs::Recording::record_job_of))]
-fn read_record<'a>(
-    alloc: Global,
-    words: &'a [String],
-) -> Result<Option<RecordJob<'a>>, OutOfMemory>
+fn read_record<'a>(alloc: Global, words: &'a [String]) -> Result<Option<RecordJob<'a>>, OutOfMemory>
     ensures { IfOk result (λ found. option_map record_values found ≡ record_job_of (map string_bytes words.now)) }
 {
     match parse_record(alloc, words)? {
@@ -131,11 +129,7 @@ fn make_store<D: Disk>(alloc: Global, job: &RecordJob<'_>, disk: &mut D) -> Resu
 
 /// Does what the words after `record` say: pairs the two byte streams of a connection, and writes the store of the
 /// pairs. Nothing is printed, and no net is touched.
-pub fn answer_record<D: Disk>(
-    alloc: Global,
-    words: &[String],
-    disk: &mut D,
-) -> Result<(), Cause>
+pub fn answer_record<D: Disk>(alloc: Global, words: &[String], disk: &mut D) -> Result<(), Cause>
     ensures ends { (out : SinkView) → Ends (only GivesRecord) (record_words (map string_bytes words.now))
         (offline (D.view disk.old) out) (offline (D.view disk.new) out) (cause_in result) }
     ensures counts { CountsDisk (D.view disk.old) (D.view disk.new) }

@@ -1,5 +1,6 @@
 -- A store's text is accepted or refused, and a command goes on from it.
-use Rattle.std.proofs.Common.{◌≡◌, ◌≢◌, ◌∙◌, inl, inr, ℕ, List, Option, Some, None, Ok, Err, refl, sym, ap, subst, arith}
+use Rattle.std.proofs.Common.{◌≡◌, ◌≢◌, ◌∙◌, inl, inr, ℕ, List, Option, Some, None, Ok, Err, refl, sym, ap, subst}
+use Rattle.std.proofs.Common.{arith}
 use Rattle.mm_base.specs.Disk.{DiskView}
 use Rattle.mm_base.specs.Files.{Files}
 use Rattle.record_store.specs.Refusals.{number_of, place_named}
@@ -73,11 +74,13 @@ store_refused name text error cause other says is =
 
 pub store_at_file : (name : Text) (old new : DiskView) (cause : Cause) → StopsAtFile name old new cause
     → StopsReading (reading_store name Done) old new cause
-store_at_file name old new cause stops = stops_at name (λ text. Judges (StoreVerdict name text) (Done text)) old new cause
+store_at_file name old new cause stops = stops_at name (λ text. Judges (StoreVerdict name text) (Done text)) old new
+    cause
     stops
 
 pub store_judged : (name : Text) (old new : DiskView) (text : List ℕ) (cause : Cause)
     → IsInput old.files name text → RefusesBy (StoreVerdict name text) cause
     → StopsReading (reading_store name Done) old new cause
 store_judged name old new text cause input refused =
-    judged_stopped {T = List ℕ} old new (StoreVerdict name) name text (Err cause) input (verdict_there name text) refused
+    judged_stopped {T = List ℕ} old new (StoreVerdict name) name text (Err cause) input (verdict_there name text)
+    refused

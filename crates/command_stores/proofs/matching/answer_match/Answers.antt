@@ -12,20 +12,22 @@ use Rattle.command_stores.specs.declared.matching.MatchJob.{MatchJob}
 use Rattle.command_stores.proofs.matching.answer_match.Goals as goal
 
 pub returns-in-Some-clause-ends : goal.returns-in-Some-clause-ends
-returns-in-Some-clause-ends g c = 
-    ends_asked (only GivesMatch) (match_job_of (map string_bytes c.args.words.now)) (match_values c.in-Some.job) match_reading
-    (offline (g.D.Disk.view c.args.disk.now) (g.O.Sink.view c.args.out.now)) (offline (g.D.Disk.view c.print_best.new.disk) (g.O.Sink.view c.print_best.new.out))
+returns-in-Some-clause-ends g c =
+    ends_asked (only GivesMatch) (match_job_of (map string_bytes c.args.words.now)) (match_values c.in-Some.job)
+    match_reading
+    (offline (g.D.Disk.view c.args.disk.now) (g.O.Sink.view c.args.out.now))
+    (offline (g.D.Disk.view c.print_best.new.disk) (g.O.Sink.view c.print_best.new.out))
     (cause_in c.print_best.result) (ap (λ (o : Option MatchJob). option_map match_values o) (sym c.in-Some.is)
     ∙ c.in_ok-job.ensures) c.print_best.ensures.ends
 
 pub returns-in-None-clause-ends : goal.returns-in-None-clause-ends
-returns-in-None-clause-ends g c = 
+returns-in-None-clause-ends g c =
     ends_unasked (only GivesMatch) (match_job_of (map string_bytes c.args.words.now)) match_reading
     (offline (g.D.Disk.view c.args.disk.now) (g.O.Sink.view c.args.out.now)) c.usage.result
     (ap (λ (o : Option MatchJob). option_map match_values o) (sym c.in-None.is) ∙ c.in_ok-job.ensures) c.usage.ensures
 
 pub returns-in_err-job-clause-ends : goal.returns-in_err-job-clause-ends
-returns-in_err-job-clause-ends g c = 
+returns-in_err-job-clause-ends g c =
     let p = err_from_is_err_and c.from_residual.result c.from_residual.ensures.1 in
     let reading = match_words (map string_bytes c.args.words.now) in
     let disk = g.D.Disk.view c.args.disk.now in

@@ -16,7 +16,8 @@ returns-in_err-check_migrate-clause-ends g c = λ out.
     let p = err_from_is_err_and c.from_residual.result c.from_residual.ensures.1 in
     let reading = migrate_reading (migrate_values c.args.job.now) in
     let old = g.D.Disk.view c.args.disk.now in
-    rw p.1 (subst (λ (k : Cause). Ends (only GivesMigrate) reading (offline old out) (offline old out) (Some k)) (sym p.2)
+    rw p.1 (subst (λ (k : Cause). Ends (only GivesMigrate) reading (offline old out) (offline old out) (Some k))
+    (sym p.2)
     (ends_stopped (only GivesMigrate) reading old old out tt _ (keeps_all old) (c.in_err-check_migrate.ensures old)))
 
 pub returns-in_err-store-clause-ends : goal.returns-in_err-store-clause-ends
@@ -25,10 +26,12 @@ returns-in_err-store-clause-ends g c = λ out.
     let job = migrate_values c.args.job.now in
     let old = g.D.Disk.view c.args.disk.now in
     let new = g.D.Disk.view c.load_old.new.disk in
-    rw p.1 (subst (λ (k : Cause). Ends (only GivesMigrate) (migrate_reading job) (offline old out) (offline new out) (Some k))
+    rw p.1 (subst (λ (k : Cause). Ends (only GivesMigrate) (migrate_reading job) (offline old out) (offline new out)
+    (Some k))
     (sym p.2)
     (ends_stopped (only GivesMigrate) (migrate_reading job) old new out tt _ (keeps c.load_old.ensures.only_reads)
-    (stops_later (migrate_reading job) (migrate_inputs job) old old new _ (c.in_ok-check_migrate.ensures old) (reads_none old)
+    (stops_later (migrate_reading job) (migrate_inputs job) old old new _ (c.in_ok-check_migrate.ensures old)
+    (reads_none old)
     c.in_err-store.ensures.stopped)))
 
 pub returns-clause-ends : goal.returns-clause-ends
@@ -37,6 +40,7 @@ returns-clause-ends g c = λ out.
     let old = g.D.Disk.view c.args.disk.now in
     let mid = g.D.Disk.view c.load_old.new.disk in
     let new = g.D.Disk.view c.write_store.new.disk in
-    ends_written (only GivesMigrate) (migrate_reading job) old mid new out tt tt (store_file job.out c.in_ok-store.store)
+    ends_written (only GivesMigrate) (migrate_reading job) old mid new out tt tt
+    (store_file job.out c.in_ok-store.store)
     c.write_store.result (finishes_later (c.in_ok-check_migrate.ensures old) c.in_ok-store.ensures.found)
     c.load_old.ensures.only_reads c.write_store.ensures.ok c.write_store.ensures.stopped

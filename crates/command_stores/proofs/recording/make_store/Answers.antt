@@ -16,7 +16,8 @@ returns-in_err-check_record-clause-ends g c = λ out.
     let p = err_from_is_err_and c.from_residual.result c.from_residual.ensures.1 in
     let reading = record_reading (record_values c.args.job.now) in
     let old = g.D.Disk.view c.args.disk.now in
-    rw p.1 (subst (λ (k : Cause). Ends (only GivesRecord) reading (offline old out) (offline old out) (Some k)) (sym p.2)
+    rw p.1 (subst (λ (k : Cause). Ends (only GivesRecord) reading (offline old out) (offline old out) (Some k))
+    (sym p.2)
     (ends_stopped (only GivesRecord) reading old old out tt _ (keeps_all old) (c.in_err-check_record.ensures old)))
 
 pub returns-in_err-store-clause-ends : goal.returns-in_err-store-clause-ends
@@ -25,10 +26,12 @@ returns-in_err-store-clause-ends g c = λ out.
     let job = record_values c.args.job.now in
     let old = g.D.Disk.view c.args.disk.now in
     let new = g.D.Disk.view c.load_pairs.new.disk in
-    rw p.1 (subst (λ (k : Cause). Ends (only GivesRecord) (record_reading job) (offline old out) (offline new out) (Some k))
+    rw p.1 (subst (λ (k : Cause). Ends (only GivesRecord) (record_reading job) (offline old out) (offline new out)
+    (Some k))
     (sym p.2)
     (ends_stopped (only GivesRecord) (record_reading job) old new out tt _ (keeps c.load_pairs.ensures.only_reads)
-    (stops_later (record_reading job) (record_inputs job) old old new _ (c.in_ok-check_record.ensures old) (reads_none old)
+    (stops_later (record_reading job) (record_inputs job) old old new _ (c.in_ok-check_record.ensures old)
+    (reads_none old)
     c.in_err-store.ensures.stopped)))
 
 pub returns-clause-ends : goal.returns-clause-ends
