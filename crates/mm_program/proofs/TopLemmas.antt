@@ -12,15 +12,23 @@ use Rattle.command_report.specs.ReportReading.{report_words}
 use Rattle.command_report.proofs.ReportLemmas.{report_words_first}
 use Rattle.command_run.specs.RunReading.{run_words}
 use Rattle.command_run.proofs.FirstLemmas.{run_words_first}
+use Rattle.command_stores.specs.Matching.{match_words}
+use Rattle.command_stores.specs.Migrating.{migrate_words}
+use Rattle.command_stores.specs.Recording.{record_words}
+use Rattle.command_stores.proofs.FirstLemmas.{match_words_first, migrate_words_first, record_words_first}
 use Rattle.mm_program.specs.Commands.{command_of, command_reading, reading_of}
-use Rattle.mm_program.specs.Tasks.{Task, ToRun, ToReport, ToMake, work}
+use Rattle.mm_program.specs.Tasks.{Task, ToRun, ToReport, ToMake, ToRecord, ToMatch, ToMigrate, work}
 use Rattle.mm_program.specs.declared.command.Command.{Command}
-use Rattle.mm_program.specs.declared.command.Command.TheVariants.{Run, Report, Make, Unknown}
+use Rattle.mm_program.specs.declared.command.Command.TheVariants.{Run, Report, Make, Record, Match, Migrate}
+use Rattle.mm_program.specs.declared.command.Command.TheVariants.{Unknown}
 
 command_first : (command : Command) (words : List Text) → RefusesWordsFirst (command_reading command words)
 command_first Run words = first_mapped ToRun (run_words words) (run_words_first words)
 command_first Report words = first_mapped ToReport (report_words words) (report_words_first words)
 command_first Make words = first_mapped ToMake (make_words words) (make_words_first words)
+command_first Record words = first_mapped ToRecord (record_words words) (record_words_first words)
+command_first Match words = first_mapped ToMatch (match_words words) (match_words_first words)
+command_first Migrate words = first_mapped ToMigrate (migrate_words words) (migrate_words_first words)
 command_first Unknown words = tt
 
 -- words are refused only before any file is read
@@ -34,6 +42,9 @@ pub port_rose : {C : Type 0} (task : Task) (old new : PortView C) → (work task
 port_rose (ToRun task) old new never = absurd never
 port_rose (ToReport text) old new never = absurd never
 port_rose (ToMake job) old new never = absurd never
+port_rose (ToRecord task) old new never = absurd never
+port_rose (ToMatch task) old new never = absurd never
+port_rose (ToMigrate task) old new never = absurd never
 
 split_words : {S : Type 0} (f : S → Text) (all : List S) (first : S) → 1 ≤ length all → first ≡ get_or all 0 first
     → map f all ≡ f first ∷ map f (take (length all - 1) (drop 1 all))

@@ -5,15 +5,24 @@ use Rattle.command_ends.specs.Works.{Work, only}
 use Rattle.command_make.specs.Make.{MakeJob, GivesMake}
 use Rattle.command_report.specs.Report.{GivesReport}
 use Rattle.command_run.specs.Run.{RunTask, GivesRun}
+use Rattle.command_stores.specs.Matching.{MatchTask, GivesMatch}
+use Rattle.command_stores.specs.Migrating.{MigrateTask, GivesMigrate}
+use Rattle.command_stores.specs.Recording.{RecordTask, GivesRecord}
 
 pub data Task : Type 0 where
   ToRun : RunTask → Task
   -- of a log's text
   ToReport : List ℕ → Task
   ToMake : MakeJob → Task
+  ToRecord : RecordTask → Task
+  ToMatch : MatchTask → Task
+  ToMigrate : MigrateTask → Task
 
 -- The net is a port, whose connections are of this type.
 abbrev pub work : {C : Type 0} → Task → Work (PortView C)
 work (ToRun task) = only GivesRun task
 work (ToReport text) = only GivesReport text
 work (ToMake job) = only GivesMake job
+work (ToRecord task) = only GivesRecord task
+work (ToMatch task) = only GivesMatch task
+work (ToMigrate task) = only GivesMigrate task

@@ -8,6 +8,9 @@ pub(crate) enum Command {
     Run,
     Report,
     Make,
+    Record,
+    Match,
+    Migrate,
     Unknown,
 }
 
@@ -20,6 +23,9 @@ pub(crate) fn read_command(word: &str) -> Command
         "run" => Command::Run,
         "report" => Command::Report,
         "make" => Command::Make,
+        "record" => Command::Record,
+        "match" => Command::Match,
+        "migrate" => Command::Migrate,
         _ => Command::Unknown,
     }
 }

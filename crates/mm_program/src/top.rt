@@ -18,6 +18,7 @@ use command_ends::{Cause, conclude};
 use command_make::answer_make;
 use command_report::answer_report;
 use command_run::answer_run;
+use command_stores::{answer_match, answer_migrate, answer_record};
 use mm_base::{Disk, Pace, Port, Sink};
 use std::alloc::Global;
 use std::marker::{Send, Sync};
@@ -48,6 +49,9 @@ fn answer<R: Threads + Wait + Sync, D: Disk, O: Sink, P: Port, Q: Pace + Sync>(
         Command::Run => answer_run(alloc, words, disk),
         Command::Report => answer_report(alloc, words, disk, out),
         Command::Make => answer_make(alloc, words, out),
+        Command::Record => answer_record(alloc, words, disk),
+        Command::Match => answer_match(alloc, words, disk, out),
+        Command::Migrate => answer_migrate(alloc, words, disk),
         Command::Unknown => Err(Cause::usage()),
     }
 }
@@ -58,7 +62,9 @@ fn answer<R: Threads + Wait + Sync, D: Disk, O: Sink, P: Port, Q: Pace + Sync>(
 /// a nest of 1 to 8 shells up to the horizon `MS` in milliseconds, and writes the logs that the shells' words name and
 /// then the fates of the packets. `report --log FILE` prints the report of a log, or `empty`. `make --number N
 /// --packets COUNT` prints the summary of a run of 1 to 1,000,000 packets that is made of a number, up to ten digits
-/// of it. Nothing else has a job yet.
+/// of it. `record --client FILE --server FILE --out FILE [--port N]` writes the store of the two byte streams of a
+/// connection. `match --store FILE --request FILE [--port N]` prints the number of the record that answers a request,
+/// or `none`. `migrate --store FILE --out FILE` writes a store in form 2. Nothing else has a job yet.
 ///
 /// 0: it is done. 2: the words have no job, the shells' words are no nest, or an output has the name of an input or of
 /// an earlier output. 3: an input isn't there. 4: an input doesn't meet its grammar. 5: a limit is passed. 6: reading

@@ -6,8 +6,11 @@ use Rattle.command_report.specs.Report.{GivesReport}
 use Rattle.command_report.specs.ReportReading.{report_words}
 use Rattle.command_run.specs.Run.{GivesRun}
 use Rattle.command_run.specs.RunReading.{run_words}
-use Rattle.mm_program.specs.Tasks.{ToRun, ToReport, ToMake, work}
-use Rattle.mm_program.specs.declared.command.Command.TheVariants.{Run, Report, Make}
+use Rattle.command_stores.specs.Matching.{GivesMatch, match_words}
+use Rattle.command_stores.specs.Migrating.{GivesMigrate, migrate_words}
+use Rattle.command_stores.specs.Recording.{GivesRecord, record_words}
+use Rattle.mm_program.specs.Tasks.{ToRun, ToReport, ToMake, ToRecord, ToMatch, ToMigrate, work}
+use Rattle.mm_program.specs.declared.command.Command.TheVariants.{Run, Report, Make, Record, Match, Migrate}
 use Rattle.mm_program.proofs.TopLemmas.{reading_named}
 use Rattle.mm_program.proofs.top.answer.Goals as goal
 
@@ -20,7 +23,8 @@ returns-in-Run-clause-ends g c =
     (g.D.Disk.view c.answer_run.new.disk) out out (g.P.Port.view c.args.port.now) (cause_in c.answer_run.result)
     (λ task output gives. gives)
     (reading_named string_bytes all c.word-item.result c.as_str.result.now Run c.read_command.result
-    c.in-len1-up.len_at_least c.word-item.is c.as_str.ensures.value c.in-Run.is c.read_command.ensures) (c.answer_run.ensures.ends out)
+    c.in-len1-up.len_at_least c.word-item.is c.as_str.ensures.value c.in-Run.is c.read_command.ensures)
+    (c.answer_run.ensures.ends out)
 
 pub returns-in-Report-clause-ends : goal.returns-in-Report-clause-ends
 returns-in-Report-clause-ends g c =
@@ -28,10 +32,12 @@ returns-in-Report-clause-ends g c =
     let disk = g.D.Disk.view c.args.disk.now in
     let out = g.O.Sink.view c.args.out.now in
     ends_beside ToReport GivesReport work (report_words (map string_bytes (take (length all - 1) (drop 1 all)))) _ disk
-    (g.D.Disk.view c.answer_report.new.disk) out (g.O.Sink.view c.answer_report.new.out) (g.P.Port.view c.args.port.now) (cause_in c.answer_report.result)
+    (g.D.Disk.view c.answer_report.new.disk) out (g.O.Sink.view c.answer_report.new.out)
+    (g.P.Port.view c.args.port.now) (cause_in c.answer_report.result)
     (λ task output gives. gives)
     (reading_named string_bytes all c.word-item.result c.as_str.result.now Report c.read_command.result
-    c.in-len1-up.len_at_least c.word-item.is c.as_str.ensures.value c.in-Report.is c.read_command.ensures) c.answer_report.ensures.ends
+    c.in-len1-up.len_at_least c.word-item.is c.as_str.ensures.value c.in-Report.is c.read_command.ensures)
+    c.answer_report.ensures.ends
 
 pub returns-in-Make-clause-ends : goal.returns-in-Make-clause-ends
 returns-in-Make-clause-ends g c =
@@ -42,4 +48,42 @@ returns-in-Make-clause-ends g c =
     disk out (g.O.Sink.view c.answer_make.new.out) (g.P.Port.view c.args.port.now) (cause_in c.answer_make.result)
     (λ task output gives. gives)
     (reading_named string_bytes all c.word-item.result c.as_str.result.now Make c.read_command.result
-    c.in-len1-up.len_at_least c.word-item.is c.as_str.ensures.value c.in-Make.is c.read_command.ensures) (c.answer_make.ensures.ends disk)
+    c.in-len1-up.len_at_least c.word-item.is c.as_str.ensures.value c.in-Make.is c.read_command.ensures)
+    (c.answer_make.ensures.ends disk)
+
+pub returns-in-Record-clause-ends : goal.returns-in-Record-clause-ends
+returns-in-Record-clause-ends g c =
+    let all = c.args.words.now in
+    let disk = g.D.Disk.view c.args.disk.now in
+    let out = g.O.Sink.view c.args.out.now in
+    ends_beside ToRecord GivesRecord work (record_words (map string_bytes (take (length all - 1) (drop 1 all)))) _ disk
+    (g.D.Disk.view c.answer_record.new.disk) out out (g.P.Port.view c.args.port.now)
+    (cause_in c.answer_record.result) (λ task output gives. gives)
+    (reading_named string_bytes all c.word-item.result c.as_str.result.now Record c.read_command.result
+    c.in-len1-up.len_at_least c.word-item.is c.as_str.ensures.value c.in-Record.is c.read_command.ensures)
+    (c.answer_record.ensures.ends out)
+
+pub returns-in-Match-clause-ends : goal.returns-in-Match-clause-ends
+returns-in-Match-clause-ends g c =
+    let all = c.args.words.now in
+    let disk = g.D.Disk.view c.args.disk.now in
+    let out = g.O.Sink.view c.args.out.now in
+    ends_beside ToMatch GivesMatch work (match_words (map string_bytes (take (length all - 1) (drop 1 all)))) _ disk
+    (g.D.Disk.view c.answer_match.new.disk) out (g.O.Sink.view c.answer_match.new.out) (g.P.Port.view c.args.port.now)
+    (cause_in c.answer_match.result) (λ task output gives. gives)
+    (reading_named string_bytes all c.word-item.result c.as_str.result.now Match c.read_command.result
+    c.in-len1-up.len_at_least c.word-item.is c.as_str.ensures.value c.in-Match.is c.read_command.ensures)
+    c.answer_match.ensures.ends
+
+pub returns-in-Migrate-clause-ends : goal.returns-in-Migrate-clause-ends
+returns-in-Migrate-clause-ends g c =
+    let all = c.args.words.now in
+    let disk = g.D.Disk.view c.args.disk.now in
+    let out = g.O.Sink.view c.args.out.now in
+    ends_beside ToMigrate GivesMigrate work (migrate_words (map string_bytes (take (length all - 1) (drop 1 all)))) _
+    disk
+    (g.D.Disk.view c.answer_migrate.new.disk) out out (g.P.Port.view c.args.port.now)
+    (cause_in c.answer_migrate.result) (λ task output gives. gives)
+    (reading_named string_bytes all c.word-item.result c.as_str.result.now Migrate c.read_command.result
+    c.in-len1-up.len_at_least c.word-item.is c.as_str.ensures.value c.in-Migrate.is c.read_command.ensures)
+    (c.answer_migrate.ensures.ends out)
