@@ -1,13 +1,16 @@
 -- Words of every command are refused before any file is read, and what the port counts where a command serves.
-use Rattle.std.proofs.Common.{◌≡◌, ◌≤◌, ◌-◌, List, [], ◌∷◌, length, map, take, drop, get_or, ap, sym, ◌∙◌, arith}
+use Rattle.std.proofs.Common.{◌≡◌, ◌≤◌, ◌-◌, List, [], ◌∷◌, length, map, take, drop, get_or, ap, sym, ◌∙◌, arith, Some}
 use Rattle.std.proofs.lemmas.List.{take_rest}
 use Rattle.mm_base.specs.Counts.{Rose}
+use Rattle.mm_base.specs.Link.{LinkView}
 use Rattle.mm_base.specs.Port.{PortView}
 use Rattle.command_ends.specs.Causes.{Text}
 use Rattle.command_ends.proofs.MapLemmas.{first_mapped}
 use Rattle.command_ends.proofs.ReadingLemmas.{RefusesWordsFirst}
 use Rattle.command_make.specs.Make.{make_words}
 use Rattle.command_make.proofs.MakeLemmas.{make_words_first}
+use Rattle.command_replay.specs.Replay.{replay_words}
+use Rattle.command_replay.proofs.ReplayLemmas.{replay_words_first}
 use Rattle.command_report.specs.ReportReading.{report_words}
 use Rattle.command_report.proofs.ReportLemmas.{report_words_first}
 use Rattle.command_run.specs.RunReading.{run_words}
@@ -16,10 +19,10 @@ use Rattle.command_stores.specs.Matching.{match_words}
 use Rattle.command_stores.specs.Migrating.{migrate_words}
 use Rattle.command_stores.specs.Recording.{record_words}
 use Rattle.command_stores.proofs.FirstLemmas.{match_words_first, migrate_words_first, record_words_first}
-use Rattle.mm_program.specs.Commands.{command_of, command_reading, reading_of}
-use Rattle.mm_program.specs.Tasks.{Task, ToRun, ToReport, ToMake, ToRecord, ToMatch, ToMigrate, work}
+use Rattle.mm_program.specs.Commands.{command_of, command_reading, named_command, reading_of}
+use Rattle.mm_program.specs.Tasks.{Task, ToRun, ToReport, ToMake, ToReplay, ToRecord, ToMatch, ToMigrate, work}
 use Rattle.mm_program.specs.declared.command.Command.{Command}
-use Rattle.mm_program.specs.declared.command.Command.TheVariants.{Run, Report, Make, Record, Match, Migrate}
+use Rattle.mm_program.specs.declared.command.Command.TheVariants.{Run, Report, Make, Replay, Record, Match, Migrate}
 use Rattle.mm_program.specs.declared.command.Command.TheVariants.{Unknown}
 
 command_first : (command : Command) (words : List Text) → RefusesWordsFirst (command_reading command words)
@@ -29,6 +32,7 @@ command_first Make words = first_mapped ToMake (make_words words) (make_words_fi
 command_first Record words = first_mapped ToRecord (record_words words) (record_words_first words)
 command_first Match words = first_mapped ToMatch (match_words words) (match_words_first words)
 command_first Migrate words = first_mapped ToMigrate (migrate_words words) (migrate_words_first words)
+command_first Replay words = first_mapped ToReplay (replay_words words) (replay_words_first words)
 command_first Unknown words = tt
 
 -- words are refused only before any file is read
@@ -37,14 +41,16 @@ reading_first [] = tt
 reading_first (word ∷ words) = command_first (command_of word) words
 
 -- a fault of the net is one that the port counted
-pub port_rose : {C : Type 0} (task : Task) (old new : PortView C) → (work task).faulted old new
+pub port_rose : {C : Type 0} (view : C → LinkView) (task : Task) (old new : PortView C)
+    → (work view task).faulted old new
     → Rose old.faults new.faults
-port_rose (ToRun task) old new never = absurd never
-port_rose (ToReport text) old new never = absurd never
-port_rose (ToMake job) old new never = absurd never
-port_rose (ToRecord task) old new never = absurd never
-port_rose (ToMatch task) old new never = absurd never
-port_rose (ToMigrate task) old new never = absurd never
+port_rose view (ToRun task) old new never = absurd never
+port_rose view (ToReport text) old new never = absurd never
+port_rose view (ToMake job) old new never = absurd never
+port_rose view (ToReplay task) old new rose = rose
+port_rose view (ToRecord task) old new never = absurd never
+port_rose view (ToMatch task) old new never = absurd never
+port_rose view (ToMigrate task) old new never = absurd never
 
 split_words : {S : Type 0} (f : S → Text) (all : List S) (first : S) → 1 ≤ length all → first ≡ get_or all 0 first
     → map f all ≡ f first ∷ map f (take (length all - 1) (drop 1 all))
@@ -62,3 +68,11 @@ reading_named f all first word command called some is same found named =
     let words : List Text = map f (take (length all - 1) (drop 1 all)) in
     let by_word : command ≡ command_of (f first) = sym found ∙ named ∙ ap command_of same in
     ap (λ c. command_reading c words) by_word ∙ ap reading_of (sym (split_words f all first some is))
+
+-- and this is the command that they name
+pub command_named : {S : Type 0} (f : S → Text) (all : List S) (first : S) (word : Text) (command called : Command)
+    → 1 ≤ length all → first ≡ get_or all 0 first → word ≡ f first → called ≡ command → called ≡ command_of word
+    → named_command (map f all) ≡ Some command
+command_named f all first word command called some is same found named =
+    let by_word : command ≡ command_of (f first) = sym found ∙ named ∙ ap command_of same in
+    ap named_command (split_words f all first some is) ∙ ap Some (sym by_word)

@@ -1,8 +1,10 @@
 -- What the commands do once their inputs are read: a task for each, and its work.
 use Rattle.std.specs.Prelude.{ℕ, List}
+use Rattle.mm_base.specs.Link.{LinkView}
 use Rattle.mm_base.specs.Port.{PortView}
 use Rattle.command_ends.specs.Works.{Work, only}
 use Rattle.command_make.specs.Make.{MakeJob, GivesMake}
+use Rattle.command_replay.specs.Replay.{ReplayTask, serve_work}
 use Rattle.command_report.specs.Report.{GivesReport}
 use Rattle.command_run.specs.Run.{RunTask, GivesRun}
 use Rattle.command_stores.specs.Matching.{MatchTask, GivesMatch}
@@ -14,15 +16,17 @@ pub data Task : Type 0 where
   -- of a log's text
   ToReport : List ℕ → Task
   ToMake : MakeJob → Task
+  ToReplay : ReplayTask → Task
   ToRecord : RecordTask → Task
   ToMatch : MatchTask → Task
   ToMigrate : MigrateTask → Task
 
--- The net is a port, whose connections are of this type.
-abbrev pub work : {C : Type 0} → Task → Work (PortView C)
-work (ToRun task) = only GivesRun task
-work (ToReport text) = only GivesReport text
-work (ToMake job) = only GivesMake job
-work (ToRecord task) = only GivesRecord task
-work (ToMatch task) = only GivesMatch task
-work (ToMigrate task) = only GivesMigrate task
+-- The net is a port, of whose connections this is seen.
+abbrev pub work : {C : Type 0} → (C → LinkView) → Task → Work (PortView C)
+work view (ToRun task) = only GivesRun task
+work view (ToReport text) = only GivesReport text
+work view (ToMake job) = only GivesMake job
+work view (ToRecord task) = only GivesRecord task
+work view (ToMatch task) = only GivesMatch task
+work view (ToMigrate task) = only GivesMigrate task
+work view (ToReplay task) = serve_work view task

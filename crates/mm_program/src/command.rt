@@ -11,6 +11,7 @@ pub(crate) enum Command {
     Record,
     Match,
     Migrate,
+    Replay,
     Unknown,
 }
 
@@ -23,6 +24,7 @@ pub(crate) fn read_command(word: &str) -> Command
         "run" => Command::Run,
         "report" => Command::Report,
         "make" => Command::Make,
+        "replay" => Command::Replay,
         "record" => Command::Record,
         "match" => Command::Match,
         "migrate" => Command::Migrate,

@@ -10,12 +10,13 @@ ghost use Rattle.command_ends.specs.Readings.{Reaches, AtRefusal, AtTask, refuse
 ghost use Rattle.command_ends.specs.declared.cause.Refusal.{Refusal};
 ghost use Rattle.command_ends.specs.declared.cause.Refusal.TheVariants.{Words};
 ghost use Rattle.command_ends.specs.declared.cause.WordsRefusal.{WordsRefusal};
-ghost use Rattle.mm_program.specs.Commands.{reading_of};
+ghost use Rattle.mm_program.specs.Commands.{named_command, reading_of};
 ghost use Rattle.mm_program.specs.Tasks.{Task, work};
 
 use crate::command::{Command, read_command};
 use command_ends::{Cause, conclude};
 use command_make::answer_make;
+use command_replay::answer_replay;
 use command_report::answer_report;
 use command_run::answer_run;
 use command_stores::{answer_match, answer_migrate, answer_record};
@@ -27,18 +28,19 @@ use std::thread::Threads;
 
 // Does what the words say.
 fn answer<R: Threads + Wait + Sync, D: Disk, O: Sink, P: Port, Q: Pace + Sync>(
-    _rt: &R,
+    rt: &R,
     alloc: Global,
     words: &[String],
     disk: &mut D,
     out: &mut O,
     port: &mut P,
-    _pace: &Q,
+    pace: &Q,
 ) -> Result<(), Cause>
-    ensures ends { Ends work (reading_of (map string_bytes words.now))
+    ensures ends { Ends (work P.Conn.view) (reading_of (map string_bytes words.now))
         (outside (D.view disk.old) (O.view out.old) (P.view port.old))
         (outside (D.view disk.new) (O.view out.new) (P.view port.new)) (cause_in result) }
-    ensures port { P.view port.new ≡ P.view port.old }
+    ensures port { named_command (map string_bytes words.now) ≢ Some Command.Replay
+        → P.view port.new ≡ P.view port.old }
     ensures counts { CountsDisk (D.view disk.old) (D.view disk.new) }
     ensures out_counts { CountsSinkFaults (O.view out.old) (O.view out.new) }
 {
@@ -49,6 +51,7 @@ fn answer<R: Threads + Wait + Sync, D: Disk, O: Sink, P: Port, Q: Pace + Sync>(
         Command::Run => answer_run(alloc, words, disk),
         Command::Report => answer_report(alloc, words, disk, out),
         Command::Make => answer_make(alloc, words, out),
+        Command::Replay => answer_replay(rt, alloc, words, disk, out, port, pace),
         Command::Record => answer_record(alloc, words, disk),
         Command::Match => answer_match(alloc, words, disk, out),
         Command::Migrate => answer_migrate(alloc, words, disk),
@@ -65,13 +68,18 @@ fn answer<R: Threads + Wait + Sync, D: Disk, O: Sink, P: Port, Q: Pace + Sync>(
 /// of it. `record --client FILE --server FILE --out FILE [--port N]` writes the store of the two byte streams of a
 /// connection. `match --store FILE --request FILE [--port N]` prints the number of the record that answers a request,
 /// or `none`. `migrate --store FILE --out FILE` writes a store in form 2. Nothing else has a job yet.
+/// `replay --store FILE --port N --connections N [--site-port N]` serves a store's responses to 1 to 64 connections at a
+/// port of 1 to 65,535, each beside the others, asked at the site's port or else at the one that it listens at, and prints
+/// how the connections ended, as `closed C bad B broken K full F`.
 ///
 /// 0: it is done. 2: the words have no job, the shells' words are no nest, or an output has the name of an input or of
 /// an earlier output. 3: an input isn't there. 4: an input doesn't meet its grammar. 5: a limit is passed. 6: reading
 /// failed. 7: writing a file, or printing on `out`, failed. 8: the port failed. 9: memory was wanting. A status other
 /// than 0 is explained by one line on `out`, but for a fault of `out` itself.
 ///
-/// `port` is where connections come in, and `pace` is asked before each turn of a thread. No command uses them yet.
+/// `port` is where connections come in, and `pace` is asked before each turn of a thread. Of each connection that the
+/// port finished in this call it is said, at every status, that it is a session: each whole request that was taken was
+/// answered by the best of the agreeing records of the store's text, or by Not Found where none agrees.
 pub fn mm_main<R: Threads + Wait + Sync, D: Disk + Send, O: Sink, P: Port + Send, Q: Pace + Sync>(
     rt: &R,
     alloc: Global,
@@ -82,20 +90,20 @@ pub fn mm_main<R: Threads + Wait + Sync, D: Disk + Send, O: Sink, P: Port + Send
     pace: &Q,
 ) -> u8
     // 0: the output is written and printed whole, and nothing else is changed.
-    ensures done { result ≡ 0 → IsDone work (reading_of (map string_bytes words.now))
+    ensures done { result ≡ 0 → IsDone (work P.Conn.view) (reading_of (map string_bytes words.now))
         (outside (D.view disk.old) (O.view out.old) (P.view port.old))
         (outside (D.view disk.new) (O.view out.new) (P.view port.new)) }
 
     // Each status has its cause, what it leaves of the files and of the port, and its line.
-    ensures answered { result ≢ 9 → Answers work (reading_of (map string_bytes words.now))
+    ensures answered { result ≢ 9 → Answers (work P.Conn.view) (reading_of (map string_bytes words.now))
         (outside (D.view disk.old) (O.view out.old) (P.view port.old))
         (outside (D.view disk.new) (O.view out.new) (P.view port.new)) result }
-    ensures stopped { result ≡ 9 → StopsShort work (reading_of (map string_bytes words.now))
+    ensures stopped { result ≡ 9 → StopsShort (work P.Conn.view) (reading_of (map string_bytes words.now))
         (outside (D.view disk.old) (O.view out.old) (P.view port.old))
         (outside (D.view disk.new) (O.view out.new) (P.view port.new)) }
 
     // 2 comes by the words alone, 3, 6, 7 and 8 only where the disk, `out` or the port counted it. At 2 to 6 and at 8
-    // no file is changed. No command touches the port.
+    // no file is changed. No other command than `replay` touches the port.
     ensures usage { result ≡ 2 → ((w : WordsRefusal)
         × (refused_first (reading_of (map string_bytes words.now)) ≡ Some (Words w))) }
     ensures absent { result ≡ 3 → Rose (D.view disk.old).absences (D.view disk.new).absences }
@@ -104,7 +112,8 @@ pub fn mm_main<R: Threads + Wait + Sync, D: Disk + Send, O: Sink, P: Port + Send
         ⊎ Rose (O.view out.old).faults (O.view out.new).faults }
     ensures net_fault { result ≡ 8 → Rose (P.view port.old).faults (P.view port.new).faults }
     ensures keeps { result ≢ 0 → result ≢ 7 → result ≢ 9 → KeepsFiles (D.view disk.old) (D.view disk.new) }
-    ensures port { P.view port.new ≡ P.view port.old }
+    ensures port { named_command (map string_bytes words.now) ≢ Some Command.Replay
+        → P.view port.new ≡ P.view port.old }
 
     // Words that refuse give their status, and so do files that are told, unless reading fails. Nothing refused gives
     // 0, unless a fault is counted: of `out` where the task prints, of the port where it serves.
@@ -116,7 +125,7 @@ pub fn mm_main<R: Threads + Wait + Sync, D: Disk + Send, O: Sink, P: Port + Send
         ⊎ (result ≡ 9) }
     ensures complete { (m : Files) (task : Task) → (D.view disk.old).files ≡ Some m
         → Reaches (Some m) (reading_of (map string_bytes words.now)) (AtTask task)
-        → IsFaultless work task (outside (D.view disk.old) (O.view out.old) (P.view port.old))
+        → IsFaultless (work P.Conn.view) task (outside (D.view disk.old) (O.view out.old) (P.view port.old))
         (outside (D.view disk.new) (O.view out.new) (P.view port.new))
         → (result ≡ 0) ⊎ (result ≡ 9) }
 

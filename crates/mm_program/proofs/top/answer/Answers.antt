@@ -1,7 +1,9 @@
 use Rattle.std.proofs.Common.{◌-◌, length, map, take, drop, string_bytes}
 use Rattle.command_ends.specs.Answers.{cause_in}
-use Rattle.command_ends.proofs.MapLemmas.{ends_beside}
+use Rattle.command_ends.specs.Ends.{outside}
+use Rattle.command_ends.proofs.MapLemmas.{ends_beside, ends_within}
 use Rattle.command_make.specs.Make.{GivesMake, make_words}
+use Rattle.command_replay.specs.Replay.{replay_words, serve_work}
 use Rattle.command_report.specs.Report.{GivesReport}
 use Rattle.command_report.specs.ReportReading.{report_words}
 use Rattle.command_run.specs.Run.{GivesRun}
@@ -9,9 +11,9 @@ use Rattle.command_run.specs.RunReading.{run_words}
 use Rattle.command_stores.specs.Matching.{GivesMatch, match_words}
 use Rattle.command_stores.specs.Migrating.{GivesMigrate, migrate_words}
 use Rattle.command_stores.specs.Recording.{GivesRecord, record_words}
-use Rattle.mm_program.specs.Tasks.{ToRun, ToReport, ToMake, ToRecord, ToMatch, ToMigrate, work}
-use Rattle.mm_program.specs.declared.command.Command.TheVariants.{Run, Report, Make, Record, Match, Migrate}
-use Rattle.mm_program.proofs.TopLemmas.{reading_named}
+use Rattle.mm_program.specs.Tasks.{ToRun, ToReport, ToMake, ToReplay, ToRecord, ToMatch, ToMigrate, work}
+use Rattle.mm_program.specs.declared.command.Command.TheVariants.{Run, Report, Make, Replay, Record, Match, Migrate}
+use Rattle.mm_program.proofs.TopLemmas.{command_named, reading_named}
 use Rattle.mm_program.proofs.top.answer.Goals as goal
 
 pub returns-in-Run-clause-ends : goal.returns-in-Run-clause-ends
@@ -19,7 +21,8 @@ returns-in-Run-clause-ends g c =
     let all = c.args.words.now in
     let disk = g.D.Disk.view c.args.disk.now in
     let out = g.O.Sink.view c.args.out.now in
-    ends_beside ToRun GivesRun work (run_words (map string_bytes (take (length all - 1) (drop 1 all)))) _ disk
+    ends_beside ToRun GivesRun (work g.P.Conn.Link.view)
+    (run_words (map string_bytes (take (length all - 1) (drop 1 all)))) _ disk
     (g.D.Disk.view c.answer_run.new.disk) out out (g.P.Port.view c.args.port.now) (cause_in c.answer_run.result)
     (λ task output gives. gives)
     (reading_named string_bytes all c.word-item.result c.as_str.result.now Run c.read_command.result
@@ -31,7 +34,8 @@ returns-in-Report-clause-ends g c =
     let all = c.args.words.now in
     let disk = g.D.Disk.view c.args.disk.now in
     let out = g.O.Sink.view c.args.out.now in
-    ends_beside ToReport GivesReport work (report_words (map string_bytes (take (length all - 1) (drop 1 all)))) _ disk
+    ends_beside ToReport GivesReport (work g.P.Conn.Link.view)
+    (report_words (map string_bytes (take (length all - 1) (drop 1 all)))) _ disk
     (g.D.Disk.view c.answer_report.new.disk) out (g.O.Sink.view c.answer_report.new.out)
     (g.P.Port.view c.args.port.now) (cause_in c.answer_report.result)
     (λ task output gives. gives)
@@ -44,7 +48,8 @@ returns-in-Make-clause-ends g c =
     let all = c.args.words.now in
     let disk = g.D.Disk.view c.args.disk.now in
     let out = g.O.Sink.view c.args.out.now in
-    ends_beside ToMake GivesMake work (make_words (map string_bytes (take (length all - 1) (drop 1 all)))) _ disk
+    ends_beside ToMake GivesMake (work g.P.Conn.Link.view)
+    (make_words (map string_bytes (take (length all - 1) (drop 1 all)))) _ disk
     disk out (g.O.Sink.view c.answer_make.new.out) (g.P.Port.view c.args.port.now) (cause_in c.answer_make.result)
     (λ task output gives. gives)
     (reading_named string_bytes all c.word-item.result c.as_str.result.now Make c.read_command.result
@@ -56,7 +61,8 @@ returns-in-Record-clause-ends g c =
     let all = c.args.words.now in
     let disk = g.D.Disk.view c.args.disk.now in
     let out = g.O.Sink.view c.args.out.now in
-    ends_beside ToRecord GivesRecord work (record_words (map string_bytes (take (length all - 1) (drop 1 all)))) _ disk
+    ends_beside ToRecord GivesRecord (work g.P.Conn.Link.view)
+    (record_words (map string_bytes (take (length all - 1) (drop 1 all)))) _ disk
     (g.D.Disk.view c.answer_record.new.disk) out out (g.P.Port.view c.args.port.now)
     (cause_in c.answer_record.result) (λ task output gives. gives)
     (reading_named string_bytes all c.word-item.result c.as_str.result.now Record c.read_command.result
@@ -68,7 +74,8 @@ returns-in-Match-clause-ends g c =
     let all = c.args.words.now in
     let disk = g.D.Disk.view c.args.disk.now in
     let out = g.O.Sink.view c.args.out.now in
-    ends_beside ToMatch GivesMatch work (match_words (map string_bytes (take (length all - 1) (drop 1 all)))) _ disk
+    ends_beside ToMatch GivesMatch (work g.P.Conn.Link.view)
+    (match_words (map string_bytes (take (length all - 1) (drop 1 all)))) _ disk
     (g.D.Disk.view c.answer_match.new.disk) out (g.O.Sink.view c.answer_match.new.out) (g.P.Port.view c.args.port.now)
     (cause_in c.answer_match.result) (λ task output gives. gives)
     (reading_named string_bytes all c.word-item.result c.as_str.result.now Match c.read_command.result
@@ -80,10 +87,34 @@ returns-in-Migrate-clause-ends g c =
     let all = c.args.words.now in
     let disk = g.D.Disk.view c.args.disk.now in
     let out = g.O.Sink.view c.args.out.now in
-    ends_beside ToMigrate GivesMigrate work (migrate_words (map string_bytes (take (length all - 1) (drop 1 all)))) _
+    ends_beside ToMigrate GivesMigrate (work g.P.Conn.Link.view)
+    (migrate_words (map string_bytes (take (length all - 1) (drop 1 all)))) _
     disk
     (g.D.Disk.view c.answer_migrate.new.disk) out out (g.P.Port.view c.args.port.now)
     (cause_in c.answer_migrate.result) (λ task output gives. gives)
     (reading_named string_bytes all c.word-item.result c.as_str.result.now Migrate c.read_command.result
     c.in-len1-up.len_at_least c.word-item.is c.as_str.ensures.value c.in-Migrate.is c.read_command.ensures)
     (c.answer_migrate.ensures.ends out)
+
+pub returns-in-Replay-clause-ends : goal.returns-in-Replay-clause-ends
+returns-in-Replay-clause-ends g c =
+    let all = c.args.words.now in
+    ends_within ToReplay (serve_work g.P.Conn.Link.view) (work g.P.Conn.Link.view)
+    (replay_words (map string_bytes (take (length all - 1) (drop 1 all)))) _
+    (outside (g.D.Disk.view c.args.disk.now) (g.O.Sink.view c.args.out.now) (g.P.Port.view c.args.port.now))
+    (outside (g.D.Disk.view c.answer_replay.new.disk) (g.O.Sink.view c.answer_replay.new.out)
+    (g.P.Port.view c.answer_replay.new.port)) (cause_in c.answer_replay.result)
+    (record {
+      gives = λ task output gives. gives;
+      stops = λ task cause stops. stops;
+      faulted = λ task faulted. faulted;
+      kept = λ same. same;
+    })
+    (reading_named string_bytes all c.word-item.result c.as_str.result.now Replay c.read_command.result
+    c.in-len1-up.len_at_least c.word-item.is c.as_str.ensures.value c.in-Replay.is c.read_command.ensures)
+    c.answer_replay.ensures.ends
+
+pub returns-in-Replay-clause-port : goal.returns-in-Replay-clause-port
+returns-in-Replay-clause-port g c = λ other. absurd (other
+    (command_named string_bytes c.args.words.now c.word-item.result c.as_str.result.now Replay c.read_command.result
+    c.in-len1-up.len_at_least c.word-item.is c.as_str.ensures.value c.in-Replay.is c.read_command.ensures))

@@ -1,0 +1,119 @@
+-- What `replay` is asked for, what it reads and refuses, and what it does with its port.
+use Rattle.std.specs.Prelude.{◌≡◌, ℕ, List, [], ◌∷◌, ◌++◌, Option, Some, None, Ok, Err, ◌&&◌, nat_le, codes, decimal}
+use Rattle.std.specs.Prelude.{option_and_then, if◌then◌else◌}
+use Rattle.mm_base.specs.Counts.{Rose}
+use Rattle.mm_base.specs.Link.{LinkView}
+use Rattle.mm_base.specs.Numbers.{decimal_of}
+use Rattle.mm_base.specs.Port.{PortView}
+use Rattle.record_store.specs.StoreText.{StoreSays}
+use Rattle.record_store.specs.declared.record.Record.{Record}
+use Rattle.replay_server.specs.Servings.{IsServing}
+use Rattle.replay_server.specs.declared.ends.Served.{Served}
+use Rattle.replay_server.specs.declared.ends.ServeError.{ServeError}
+use Rattle.replay_server.specs.declared.ends.ServeError.TheVariants as errors
+use Rattle.option_words.specs.Commands.{ReplayTexts, replay_texts}
+use Rattle.option_words.specs.Givens.{◌>>=◌}
+use Rattle.command_ends.specs.Causes.{Text}
+use Rattle.command_ends.specs.Outputs.{Output, prints}
+use Rattle.command_ends.specs.Readings.{Reading, Done, asked}
+use Rattle.command_ends.specs.Works.{Work}
+use Rattle.command_ends.specs.declared.cause.Cause.{Cause}
+use Rattle.command_ends.specs.declared.cause.Cause.TheVariants.{NetFault, OutOfMemory}
+use Rattle.store_input.specs.Stores.{reading_store}
+
+-- the name of a store's file, the port to listen at, how many connections are served, and the port that requests are
+-- asked at
+pub record ReplayJob : Type 0 where
+  pub store : Text
+  pub port : ℕ
+  pub connections : ℕ
+  pub site : ℕ
+
+abbrev pub within : ℕ → ℕ → Option ℕ
+within most number = if nat_le 1 number && nat_le number most then Some number else None
+
+-- the number that a text stands for, if it is a decimal of 1 to that many
+unfoldable pub number_in : ℕ → Text → Option ℕ
+number_in most text = do
+  number ← decimal_of text
+  within most number
+
+-- the port that requests are asked at: the given one, or else the one that is listened at
+abbrev pub site_in : ℕ → Option Text → Option ℕ
+site_in port None = Some port
+site_in port (Some text) = number_in 65535 text
+
+-- the numbers are within their ranges
+unfoldable pub replay_with : ReplayTexts → Option ReplayJob
+replay_with texts = do
+  port ← number_in 65535 texts.port
+  connections ← number_in 64 texts.connections
+  site ← site_in port texts.site_port
+  Some (record { store = texts.store; port = port; connections = connections; site = site })
+
+-- the job of `replay`'s words
+unfoldable pub replay_job_of : List Text → Option ReplayJob
+replay_job_of words = option_and_then replay_with (replay_texts words)
+
+-- a job, and the text of its store
+pub record ReplayTask : Type 0 where
+  pub job : ReplayJob
+  pub store : List ℕ
+
+-- The store is read.
+abbrev pub replay_reading : ReplayJob → Reading ReplayTask
+replay_reading job = reading_store job.store (λ store. Done (record { job = job; store = store }))
+
+-- the words after `replay`
+abbrev pub replay_words : List Text → Reading ReplayTask
+replay_words words = asked (replay_job_of words) replay_reading
+
+-- words and a number
+abbrev pub counted : List ℕ → ℕ → List ℕ
+counted words count = words ++ decimal count
+
+-- `closed C bad B broken K full F`
+abbrev pub served_line : Served → List ℕ
+served_line n =
+    counted (codes "closed ") n.closed
+    ++ (counted (codes " bad ") n.bad ++ (counted (codes " broken ") n.broken
+    ++ (counted (codes " full ") n.full ++ 10 ∷ [])))
+
+-- Why a serving stopped.
+abbrev pub cause_of : ServeError → Cause
+cause_of errors.Listen = NetFault
+cause_of errors.Accept = NetFault
+cause_of errors.OutOfMemory = OutOfMemory
+
+module _ {C : Type 0} where
+  -- A serving from these records stopped for this cause. What it did to its port is said of each connection that it
+  -- finished.
+  pub record StopsAsServing (records : List Record) (site : Option ℕ) (view : C → LinkView) (most : ℕ)
+      (old new : PortView C) (cause : Cause) : Type 0 where
+    pub error : ServeError
+    pub cause_is : cause ≡ cause_of error
+    pub serving : IsServing records site view most old new (Err error)
+
+  module _ (view : C → LinkView) (task : ReplayTask) (old new : PortView C) where
+    -- The connections of the job were served from the records that the store's text states, and it is printed how they
+    -- ended.
+    pub record GivesReplay (output : Output) : Type 0 where
+      pub records : List Record
+      pub says : StoreSays task.store (Ok records)
+      pub served : Served
+      pub serving : IsServing records (Some task.job.site) view task.job.connections old new (Ok served)
+      pub output_is : output ≡ prints (served_line served)
+
+    -- The serving stopped by itself.
+    pub record StopsReplay (cause : Cause) : Type 0 where
+      pub records : List Record
+      pub says : StoreSays task.store (Ok records)
+      pub stopped : StopsAsServing records (Some task.job.site) view task.job.connections old new cause
+
+  -- what a task does with its port, of whose connections this is seen
+  abbrev pub serve_work : (C → LinkView) → ReplayTask → Work (PortView C)
+  serve_work view task = record {
+    gives = λ old new output. GivesReplay view task old new output;
+    stops = λ old new cause. StopsReplay view task old new cause;
+    faulted = λ old new. Rose old.faults new.faults;
+  }

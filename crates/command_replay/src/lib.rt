@@ -1,0 +1,11 @@
+//! The command `replay`: what its words ask for, the store that it reads, and the connections that it serves.
+#![tactic(auto)]
+
+mod counts;
+mod job;
+mod replay;
+#[cfg(test)]
+mod tests;
+mod words;
+
+pub use replay::answer_replay;

@@ -1,0 +1,105 @@
+// The command `replay`: its words, its store, and the connections that it serves.
+ghost use Rattle.std.specs.Prelude.{◌≡◌, ℕ, List, Some, Ok, Err, IfOk, IfErr, map, string_bytes};
+ghost use Rattle.mm_base.specs.Sink.{CountsSinkFaults};
+ghost use Rattle.replay_server.specs.Servings.{IsServing};
+ghost use Rattle.command_ends.specs.Answers.{CountsDisk, cause_in};
+ghost use Rattle.command_ends.specs.Ends.{Ends, outside};
+ghost use Rattle.command_replay.specs.Replay.{cause_of, replay_reading, replay_words, serve_work, StopsAsServing};
+ghost use Rattle.command_replay.specs.View.{replay_values};
+
+use crate::counts::print_served;
+use crate::job::ReplayJob;
+use crate::words::read_replay;
+use command_ends::Cause;
+use mm_base::{Disk, Pace, Port, Sink};
+use record_store::Store;
+use replay_server::{ServeError, Served, serve};
+use std::alloc::Global;
+use std::marker::Sync;
+use std::sync::Wait;
+use std::thread::Threads;
+use store_input::load_store;
+
+// Why a serving stopped.
+fn cause_of(error: ServeError) -> Cause
+    ensures { result ≡ cause_of error }
+{
+    match error {
+        ServeError::Listen | ServeError::Accept => Cause::NetFault,
+        ServeError::OutOfMemory => Cause::OutOfMemory,
+    }
+}
+
+// Serves the connections of a job from its store.
+fn serve_job<R: Threads + Wait + Sync, P: Port, Q: Pace + Sync>(
+    rt: &R,
+    alloc: Global,
+    job: &ReplayJob<'_>,
+    store: &Store,
+    port: &mut P,
+    pace: &Q,
+) -> Result<Served, Cause>
+    ensures served { IfOk result (λ n. IsServing store.now (Some job.now.site) P.Conn.view job.now.connections
+        (P.view port.old) (P.view port.new) (Ok n)) }
+    ensures stopped { IfErr result (λ cause. StopsAsServing store.now (Some job.now.site) P.Conn.view
+        job.now.connections (P.view port.old) (P.view port.new) cause) }
+{
+    match serve(
+        rt,
+        alloc,
+        store,
+        port,
+        job.port,
+        Some(job.site),
+        job.connections,
+        pace,
+    ) {
+        Ok(served) => Ok(served),
+        Err(error) => Err(cause_of(error)),
+    }
+}
+
+// Does the job: its store is read, connections are served, and then it is printed how they ended.
+fn replay<R: Threads + Wait + Sync, D: Disk, O: Sink, P: Port, Q: Pace + Sync>(
+    rt: &R,
+    alloc: Global,
+    job: &ReplayJob<'_>,
+    disk: &mut D,
+    out: &mut O,
+    port: &mut P,
+    pace: &Q,
+) -> Result<(), Cause>
+    ensures ends { Ends (serve_work P.Conn.view) (replay_reading (replay_values job.now))
+        (outside (D.view disk.old) (O.view out.old) (P.view port.old))
+        (outside (D.view disk.new) (O.view out.new) (P.view port.new)) (cause_in result) }
+    ensures counts { CountsDisk (D.view disk.old) (D.view disk.new) }
+    ensures out_counts { CountsSinkFaults (O.view out.old) (O.view out.new) }
+{
+    let store = load_store(alloc, disk, job.store)?;
+    let served = serve_job(rt, alloc, job, &store, port, pace)?;
+    print_served(alloc, served, out)
+}
+
+/// Does what the words after `replay` say: reads a store, listens at a port, serves so many connections side by side,
+/// and prints how they ended, as `closed C bad B broken K full F`. No file is written. `NetFault` comes where the port
+/// can't be listened at, or a connection can't be accepted or finished.
+pub fn answer_replay<R: Threads + Wait + Sync, D: Disk, O: Sink, P: Port, Q: Pace + Sync>(
+    rt: &R,
+    alloc: Global,
+    words: &[String],
+    disk: &mut D,
+    out: &mut O,
+    port: &mut P,
+    pace: &Q,
+) -> Result<(), Cause>
+    ensures ends { Ends (serve_work P.Conn.view) (replay_words (map string_bytes words.now))
+        (outside (D.view disk.old) (O.view out.old) (P.view port.old))
+        (outside (D.view disk.new) (O.view out.new) (P.view port.new)) (cause_in result) }
+    ensures counts { CountsDisk (D.view disk.old) (D.view disk.new) }
+    ensures out_counts { CountsSinkFaults (O.view out.old) (O.view out.new) }
+{
+    match read_replay(alloc, words)? {
+        Some(job) => replay(rt, alloc, &job, disk, out, port, pace),
+        None => Err(Cause::usage()),
+    }
+}

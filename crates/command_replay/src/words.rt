@@ -1,0 +1,74 @@
+// What the words after `replay` ask for.
+ghost use Rattle.std.specs.Prelude.{◌≡◌, ◌≤◌, IfOk, IfSome, map, string_bytes, option_map};
+ghost use Rattle.option_words.specs.View.{replay_texts_of};
+ghost use Rattle.command_replay.specs.Replay.{number_in, replay_job_of, replay_with, site_in};
+ghost use Rattle.command_replay.specs.View.{replay_values};
+
+use crate::job::ReplayJob;
+use mm_base::{OutOfMemory, read_decimal};
+use option_words::{ReplayWords, parse_replay};
+use std::alloc::Global;
+
+// The number that a text stands for: a decimal of 1 to that many.
+#[tactic(auto, unfolding(crate::specs::Replay::number_in))]
+fn read_number(text: &str, most: u64) -> Option<u64>
+    ensures number { result ≡ number_in most text.now }
+    ensures some { IfSome result (λ n. 1 ≤ n) }
+    ensures within { IfSome result (λ n. n ≤ most) }
+{
+    let number = read_decimal(text.as_bytes())?;
+    if 1 <= number && number <= most {
+        return Some(number);
+    }
+    None
+}
+
+// A port of that number.
+fn read_port(text: &str) -> Option<u16>
+    ensures { result ≡ number_in 65535 text.now }
+{
+    match read_number(text, 65_535) {
+        Some(port) => Some(port as u16),
+        None => None,
+    }
+}
+
+// The port that requests are asked at: the given one, or else the one that is listened at.
+fn read_site(text: Option<&str>, port: u16) -> Option<u16>
+    ensures { result ≡ site_in port (option_map (λ t. t.now) text.entry) }
+{
+    match text {
+        Some(text) => read_port(text),
+        None => Some(port),
+    }
+}
+
+// The job of the options' values, where the numbers are decimals within their ranges.
+#[tactic(auto, unfolding(crate::specs::Replay::replay_with))]
+fn with_numbers<'a>(texts: ReplayWords<'a>) -> Option<ReplayJob<'a>>
+    ensures { option_map replay_values result ≡ replay_with (replay_texts_of texts.entry) }
+{
+    let port = read_port(texts.port)?;
+    let connections = read_number(texts.connections, 64)?;
+    let site = read_site(texts.site_port, port)?;
+    Some(ReplayJob {
+        store: texts.store,
+        port,
+        connections: connections as u32,
+        site,
+    })
+}
+
+/// The job of the words after `replay`, if they have one. `OutOfMemory` is want of memory.
+#[tactic(auto, unfolding(crate::specs::Replay::replay_job_of))]
+pub(crate) fn read_replay<'a>(
+    alloc: Global,
+    words: &'a [String],
+) -> Result<Option<ReplayJob<'a>>, OutOfMemory>
+    ensures { IfOk result (λ found. option_map replay_values found ≡ replay_job_of (map string_bytes words.now)) }
+{
+    match parse_replay(alloc, words)? {
+        Some(texts) => Ok(with_numbers(texts)),
+        None => Ok(None),
+    }
+}
