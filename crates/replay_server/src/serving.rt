@@ -1,7 +1,9 @@
 // Serving: connections beside each other.
-ghost use Rattle.std.specs.Prelude.{◌≡◌, ◌<◌, ◌≤◌, ◌+◌, Option};
+ghost use Rattle.std.specs.Prelude.{◌≡◌, ◌<◌, ◌≤◌, ◌+◌, Option, IsErrOf};
 ghost use Rattle.std.specs.Thread.{IsSync};
+ghost use Rattle.mm_base.specs.Counts.{Rose};
 ghost use Rattle.mm_base.specs.Link.{IsFresh};
+ghost use Rattle.mm_base.specs.Port.{KeepsPort, after_finish};
 ghost use Rattle.replay_server.specs.Servings.{IsConnServed, IsServing, no_ends, with_end};
 ghost use Rattle.replay_server.specs.Tallies.{IsTally, total, refusal_of, ended, tallied};
 
@@ -88,6 +90,16 @@ fn tally(done: Result<(), EndError>, rest: Result<Served, ServeError>) -> Result
     }
 }
 
+/// Finishes a connection that was served.
+fn finish<P: Port>(port: &mut P, conn: P::Conn) -> Result<(), EndError>
+    ensures finished { (P.view port.new).finished ≡ after_finish conn result (P.view port.old).finished }
+    ensures accepted { (P.view port.new).accepted ≡ (P.view port.old).accepted }
+    ensures keeps { KeepsPort (P.view port.old) (P.view port.new) }
+    ensures failed_cause { IsErrOf result EndError.Failed → Rose (P.view port.old).faults (P.view port.new).faults }
+{
+    port.finish(conn)
+}
+
 /// Serves a connection of which nothing was taken.
 fn serve_fresh<C: Link, Q: Pace, R: Wait>(
     rt: &R,
@@ -130,7 +142,7 @@ fn serve_from<P: Port, Q: Pace + Sync, R: Threads + Wait + Sync>(
         return Ok(nothing());
     };
     let (conn, end, rest) = serve_beside(rt, alloc, source, port, conn, number, most - 1, pace);
-    let done = port.finish(conn);
+    let done = finish(port, conn);
     tally(done, count_end(end, rest, most - 1))
 }
 

@@ -42,7 +42,7 @@ serve_from-returns-clause-serving g t c =
     let before = g.P.Port.view c.args.port.now in
     let asked = g.P.Port.view c.accept.new.self in
     let served = g.P.Port.view c.serve_beside-conn.new.port in
-    let after = g.P.Port.view c.finish-done.new.self in
+    let after = g.P.Port.view c.finish-done.new.port in
     let told : (asked.accepted ≡ before.accepted + 1) × IsFresh (view c.in-Some.conn) = search rules in
     let some : 0 < c.args.most = let none = c.if-most-eq0.false in omega (arith, none) in
     let rest = c.serve_beside-conn.result.2 in
