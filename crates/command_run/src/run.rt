@@ -178,8 +178,9 @@ fn run<D: Disk>(alloc: Global, job: &RunJob<'_>, disk: &mut D) -> Result<(), Cau
     write_files(alloc, disk, job.out, run)
 }
 
-/// Does what the words after `run` say: passes the packets of a schedule through a nest of shells, and writes the logs
-/// that the shells' words name and then the fates of the packets. Nothing is printed, and no net is touched.
+/// Does what the words after `run` say: passes the packets of a schedule through a nest of shells, shell by shell or by
+/// single steps in the order that a file states, and writes the logs that the shells' words name and then the fates of
+/// the packets. Nothing is printed, and no net is touched.
 pub fn answer_run<D: Disk>(alloc: Global, words: &[String], disk: &mut D) -> Result<(), Cause>
     ensures ends { (out : SinkView) → Ends (only GivesRun) (run_words (map string_bytes words.now))
         (offline (D.view disk.old) out) (offline (D.view disk.new) out) (cause_in result) }

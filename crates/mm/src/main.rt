@@ -7,7 +7,10 @@ ghost use Rattle.std.specs.Process.{exit_status};
 
 use mm_base::{FileDisk, NoPace, StdSink, TcpPort};
 use mm_program::mm_main;
+use std::marker::Sync;
 use std::process::ExitCode;
+use std::sync::Wait;
+use std::thread::Threads;
 use std::{env, io};
 
 // The exit status of want of memory.
@@ -22,14 +25,15 @@ fn read_words(rt: &HostRuntime) -> io::Result<Vec<String>> {
     }
 }
 
-// What the words make of the machine's files and of its port. An error is want of memory before the top call.
-fn run(rt: &HostRuntime) -> io::Result<u8> {
+// What the words make of the machine's files and of its port, over threads. An error is want of memory before the top
+// call.
+fn run<T: Threads + Wait + Sync>(threads: &T, rt: &HostRuntime) -> io::Result<u8> {
     let words = read_words(rt)?;
     let mut out = StdSink::new(rt.stdout());
     let mut disk = FileDisk::new(rt.clone()?);
     let mut port = TcpPort::new(rt.clone()?);
     Ok(mm_main(
-        rt,
+        threads,
         rt.alloc(),
         &words,
         &mut disk,
@@ -51,5 +55,5 @@ fn ended(status: io::Result<u8>) -> ExitCode
 }
 
 fn main(rt: HostRuntime) -> ExitCode {
-    ended(run(&rt))
+    ended(run(&rt, &rt))
 }

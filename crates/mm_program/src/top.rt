@@ -61,16 +61,17 @@ fn answer<R: Threads + Wait + Sync, D: Disk, O: Sink, P: Port, Q: Pace + Sync>(
 
 /// Does what the words after the program's name say, and answers the exit status.
 ///
-/// `run --until MS --schedule FILE --out FILE [--seed N] [--plain] -- SHELLS` passes the packets of a schedule through
-/// a nest of 1 to 8 shells up to the horizon `MS` in milliseconds, and writes the logs that the shells' words name and
-/// then the fates of the packets. `report --log FILE` prints the report of a log, or `empty`. `make --number N
-/// --packets COUNT` prints the summary of a run of 1 to 1,000,000 packets that is made of a number, up to ten digits
-/// of it. `record --client FILE --server FILE --out FILE [--port N]` writes the store of the two byte streams of a
-/// connection. `match --store FILE --request FILE [--port N]` prints the number of the record that answers a request,
-/// or `none`. `migrate --store FILE --out FILE` writes a store in form 2.
-/// `replay --store FILE --port N --connections N [--site-port N]` serves a store's responses to 1 to 64 connections at a
-/// port of 1 to 65,535, each beside the others, asked at the site's port or else at the one that it listens at, and prints
-/// how the connections ended, as `closed C bad B broken K full F`. Nothing else has a job yet.
+/// `run --until MS --schedule FILE --out FILE [--seed N] [--plain] [--order FILE] -- SHELLS` passes the packets of a
+/// schedule through a nest of 1 to 8 shells up to the horizon `MS` in milliseconds, and writes the logs that the
+/// shells' words name and then the fates of the packets. With `--order` it goes by single steps in the order that the
+/// bytes of a file state, whatever they are, and writes the same; beside `--plain` that has no job. `report --log FILE`
+/// prints the report of a log, or `empty`. `make --number N --packets COUNT` prints the summary of a run of 1 to
+/// 1,000,000 packets that is made of a number, up to ten digits of it. `record --client FILE --server FILE --out FILE
+/// [--port N]` writes the store of the two byte streams of a connection. `match --store FILE --request FILE [--port N]`
+/// prints the number of the record that answers a request, or `none`. `migrate --store FILE --out FILE` writes a store
+/// in form 2. `replay --store FILE --port N --connections N [--site-port N]` serves a store's responses to 1 to 64
+/// connections at a port of 1 to 65,535, each beside the others, asked at the site's port or else at the one that it
+/// listens at, and prints how the connections ended, as `closed C bad B broken K full F`. Nothing else has a job yet.
 ///
 /// 0: it is done. 2: the words have no job, the shells' words are no nest, or an output has the name of an input or of
 /// an earlier output. 3: an input isn't there. 4: an input doesn't meet its grammar. 5: a limit is passed. 6: reading

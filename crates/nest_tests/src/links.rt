@@ -271,15 +271,23 @@ fn a_log_in_pieces_is_the_whole_log(rt: HostRuntime) -> Result<(), Fail> {
     Ok(())
 }
 
+// A link over which nothing goes logs so many opportunities, and a log of none has no piece.
+fn logs_opportunities(
+    rt: &impl Abort,
+    alloc: Global,
+    horizon: u64,
+    count: usize,
+) -> Result<(), Fail> {
+    let whole = run_over(alloc, &each_millisecond(alloc, horizon)?, &[])?;
+    let pieces = put_together(alloc, whole.log.ok_or("no log")?)?;
+    assert_eq!(rt; pieces.entries.len(), count);
+    assert!(rt; pieces.entries.iter().all(is_opportunity));
+    assert_eq!(rt; pieces.number == 0, count == 0);
+    Ok(())
+}
+
 #[test]
 fn a_link_without_arrivals_has_its_opportunities(rt: HostRuntime) -> Result<(), Fail> {
-    let alloc = rt.alloc();
-    for (horizon, count) in [(3_000, 3_000), (0, 0)] {
-        let whole = run_over(alloc, &each_millisecond(alloc, horizon)?, &[])?;
-        let pieces = put_together(alloc, whole.log.ok_or("no log")?)?;
-        assert_eq!(rt; pieces.entries.len(), count);
-        assert!(rt; pieces.entries.iter().all(is_opportunity));
-        assert_eq!(rt; pieces.number == 0, count == 0);
-    }
-    Ok(())
+    logs_opportunities(&rt, rt.alloc(), 3_000, 3_000)?;
+    logs_opportunities(&rt, rt.alloc(), 0, 0)
 }

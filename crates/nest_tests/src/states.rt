@@ -186,7 +186,8 @@ fn a_broken_state(rt: HostRuntime) -> Result<(), Fail> {
     play(&rt, &mut state, 9, 4, &steps)?;
     state.break_off();
     assert!(rt; state.is_broken());
-    play(&rt, &mut state, 9, 4, &[give(Item::Broken)])?;
+    assert!(rt; state.taken().end() == FlowEnd::Open);
+    assert_eq!(rt; state.take(4)?, Taken::Item(Item::Broken));
     assert!(rt; state.taken().end() == FlowEnd::Broken);
     assert_eq!(rt; state.taken().packets().len(), 1);
     Ok(())

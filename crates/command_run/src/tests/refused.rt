@@ -1,5 +1,6 @@
 // What runs refuse.
 use super::{Left, leaves};
+use std::alloc::Global;
 use std::test::Fail;
 use test_outside::ABSENT;
 
@@ -56,149 +57,269 @@ fn shell_words_are_refused(rt: HostRuntime) -> Result<(), Fail> {
     Ok(())
 }
 
+// Words in two parts, the texts of the trace and the schedule, and what is answered.
+struct Refusal {
+    front: &'static str,
+    back: &'static str,
+    trace: &'static str,
+    schedule: &'static str,
+    status: u8,
+    line: &'static str,
+}
+
+const LINK: &str = "--until 9 --schedule s --out f -- mm-link t t";
+
+const BOTH: &str = "--until 9 --schedule s --out f -- mm-link t t --downlink-log u --uplink-log";
+
+const MOST: &str = "--until 3600000 --schedule q --out f -- mm-link t t";
+
+const REFUSALS: [Refusal; 28] = [
+    Refusal {
+        front: "--until 9 --schedule s --out f --plain mm-delay 20",
+        back: "",
+        trace: "1\n",
+        schedule: "",
+        status: 2,
+        line: "mm: usage\n",
+    },
+    Refusal {
+        front: "--until 9x --schedule s --out f -- mm-delays",
+        back: "",
+        trace: "1\n",
+        schedule: "",
+        status: 2,
+        line: "mm: usage\n",
+    },
+    Refusal {
+        front: "--until 9 --schedule s --out f --plain --order s --",
+        back: "mm-delay 20",
+        trace: "1\n",
+        schedule: "",
+        status: 2,
+        line: "mm: usage\n",
+    },
+    Refusal {
+        front: "--until 9 --schedule s --out o --order o -- mm-delay 20",
+        back: "",
+        trace: "1\n",
+        schedule: "",
+        status: 2,
+        line: "mm: name o\n",
+    },
+    Refusal {
+        front: "--until 3600000 --schedule q --out f --order o -- mm-link t t",
+        back: "",
+        trace: "1\n1\n1\n1\n1\n",
+        schedule: "",
+        status: 5,
+        line: "mm: limit opportunities\n",
+    },
+    Refusal {
+        front: "--until 9 --schedule q --out f --order o -- mm-link t t",
+        back: "",
+        trace: "1\n",
+        schedule: "",
+        status: 3,
+        line: "mm: absent o\n",
+    },
+    Refusal {
+        front: "--until 9 --schedule q --out f --order t -- mm-link t t",
+        back: "",
+        trace: "1\n",
+        schedule: "",
+        status: 3,
+        line: "mm: absent q\n",
+    },
+    Refusal {
+        front: "--until 9 --schedule s --out s -- mm-delay 20",
+        back: "",
+        trace: "1\n",
+        schedule: "",
+        status: 2,
+        line: "mm: name s\n",
+    },
+    Refusal {
+        front: "--until 3600001 --schedule s --out t -- mm-link t t",
+        back: "",
+        trace: "1\n",
+        schedule: "",
+        status: 2,
+        line: "mm: name t\n",
+    },
+    Refusal {
+        front: BOTH,
+        back: "s",
+        trace: "1\n",
+        schedule: "",
+        status: 2,
+        line: "mm: name s\n",
+    },
+    Refusal {
+        front: BOTH,
+        back: "t",
+        trace: "1\n",
+        schedule: "",
+        status: 2,
+        line: "mm: name t\n",
+    },
+    Refusal {
+        front: BOTH,
+        back: "u",
+        trace: "1\n",
+        schedule: "",
+        status: 2,
+        line: "mm: name u\n",
+    },
+    Refusal {
+        front: BOTH,
+        back: "f",
+        trace: "1\n",
+        schedule: "",
+        status: 2,
+        line: "mm: name f\n",
+    },
+    Refusal {
+        front: "--until 3600001 --schedule q --out f -- mm-delay 20",
+        back: "",
+        trace: "1\n",
+        schedule: "",
+        status: 5,
+        line: "mm: limit horizon\n",
+    },
+    Refusal {
+        front: LINK,
+        back: "",
+        trace: "",
+        schedule: "",
+        status: 4,
+        line: "mm: bad input t 1 0\n",
+    },
+    Refusal {
+        front: LINK,
+        back: "",
+        trace: "0\n",
+        schedule: "",
+        status: 4,
+        line: "mm: bad input t 4 0\n",
+    },
+    Refusal {
+        front: LINK,
+        back: "",
+        trace: "5\n4\n",
+        schedule: "",
+        status: 4,
+        line: "mm: bad input t 3 2\n",
+    },
+    Refusal {
+        front: LINK,
+        back: "",
+        trace: "1\n\n2\n",
+        schedule: "",
+        status: 4,
+        line: "mm: bad input t 2 2\n",
+    },
+    Refusal {
+        front: LINK,
+        back: "",
+        trace: "# mm-trace 2\n1 0\n",
+        schedule: "",
+        status: 4,
+        line: "mm: bad input t 6 2\n",
+    },
+    Refusal {
+        front: LINK,
+        back: "",
+        trace: "# mm-trace 2\n",
+        schedule: "",
+        status: 4,
+        line: "mm: bad input t 1 0\n",
+    },
+    Refusal {
+        front: LINK,
+        back: "mm-link t x",
+        trace: "1\n",
+        schedule: "",
+        status: 3,
+        line: "mm: absent x\n",
+    },
+    Refusal {
+        front: LINK,
+        back: "mm-link x t",
+        trace: "0\n",
+        schedule: "",
+        status: 4,
+        line: "mm: bad input t 4 0\n",
+    },
+    Refusal {
+        front: MOST,
+        back: "",
+        trace: "1\n1\n1\n1\n1\n",
+        schedule: "",
+        status: 5,
+        line: "mm: limit opportunities\n",
+    },
+    Refusal {
+        front: MOST,
+        back: "",
+        trace: "1\n1\n",
+        schedule: "",
+        status: 3,
+        line: "mm: absent q\n",
+    },
+    Refusal {
+        front: MOST,
+        back: "",
+        trace: "1\n0\n",
+        schedule: "",
+        status: 4,
+        line: "mm: bad input t 3 2\n",
+    },
+    Refusal {
+        front: LINK,
+        back: "",
+        trace: "1\n",
+        schedule: "0 up 1505\n",
+        status: 4,
+        line: "mm: bad input s 2 1\n",
+    },
+    Refusal {
+        front: LINK,
+        back: "",
+        trace: "1\n",
+        schedule: "5 up 100\n5  up 100\n",
+        status: 4,
+        line: "mm: bad input s 1 2\n",
+    },
+    Refusal {
+        front: LINK,
+        back: "",
+        trace: "1\n",
+        schedule: "5 up 100\n4 up 100\n",
+        status: 4,
+        line: "mm: bad input s 3 2\n",
+    },
+];
+
+fn is_refused(alloc: Global, refusal: &Refusal) -> Result<bool, Fail> {
+    let words = format!(in alloc; "{} {}", refusal.front, refusal.back)?;
+    let files = [("t", refusal.trace), ("s", refusal.schedule)];
+    let left = Left {
+        status: refusal.status,
+        line: refusal.line,
+        files: &[
+            ("f", ABSENT),
+            ("u", ABSENT),
+            ("t", refusal.trace),
+            ("s", refusal.schedule),
+        ],
+    };
+    leaves(alloc, words.as_str(), &files, &[], &left)
+}
+
 #[test]
 fn refusals_have_their_status_and_line(rt: HostRuntime) -> Result<(), Fail> {
-    let alloc = rt.alloc();
-    let link = "--until 9 --schedule s --out f -- mm-link t t";
-    let both = "--until 9 --schedule s --out f -- mm-link t t --downlink-log u --uplink-log";
-    let most = "--until 3600000 --schedule q --out f -- mm-link t t";
-    for (front, back, trace, schedule, status, line) in [
-        (
-            "--until 9 --schedule s --out f --plain mm-delay 20",
-            "",
-            "1\n",
-            "",
-            2,
-            "mm: usage\n",
-        ),
-        (
-            "--until 9x --schedule s --out f -- mm-delays",
-            "",
-            "1\n",
-            "",
-            2,
-            "mm: usage\n",
-        ),
-        (
-            "--until 9 --schedule s --out f --plain --order s --",
-            "mm-delay 20",
-            "1\n",
-            "",
-            2,
-            "mm: usage\n",
-        ),
-        (
-            "--until 9 --schedule s --out o --order o -- mm-delay 20",
-            "",
-            "1\n",
-            "",
-            2,
-            "mm: name o\n",
-        ),
-        (
-            "--until 3600000 --schedule q --out f --order o -- mm-link t t",
-            "",
-            "1\n1\n1\n1\n1\n",
-            "",
-            5,
-            "mm: limit opportunities\n",
-        ),
-        (
-            "--until 9 --schedule q --out f --order o -- mm-link t t",
-            "",
-            "1\n",
-            "",
-            3,
-            "mm: absent o\n",
-        ),
-        (
-            "--until 9 --schedule q --out f --order t -- mm-link t t",
-            "",
-            "1\n",
-            "",
-            3,
-            "mm: absent q\n",
-        ),
-        (
-            "--until 9 --schedule s --out s -- mm-delay 20",
-            "",
-            "1\n",
-            "",
-            2,
-            "mm: name s\n",
-        ),
-        (
-            "--until 3600001 --schedule s --out t -- mm-link t t",
-            "",
-            "1\n",
-            "",
-            2,
-            "mm: name t\n",
-        ),
-        (both, "s", "1\n", "", 2, "mm: name s\n"),
-        (both, "t", "1\n", "", 2, "mm: name t\n"),
-        (both, "u", "1\n", "", 2, "mm: name u\n"),
-        (both, "f", "1\n", "", 2, "mm: name f\n"),
-        (
-            "--until 3600001 --schedule q --out f -- mm-delay 20",
-            "",
-            "1\n",
-            "",
-            5,
-            "mm: limit horizon\n",
-        ),
-        (link, "", "", "", 4, "mm: bad input t 1 0\n"),
-        (link, "", "0\n", "", 4, "mm: bad input t 4 0\n"),
-        (link, "", "5\n4\n", "", 4, "mm: bad input t 3 2\n"),
-        (link, "", "1\n\n2\n", "", 4, "mm: bad input t 2 2\n"),
-        (
-            link,
-            "",
-            "# mm-trace 2\n1 0\n",
-            "",
-            4,
-            "mm: bad input t 6 2\n",
-        ),
-        (link, "", "# mm-trace 2\n", "", 4, "mm: bad input t 1 0\n"),
-        (link, "mm-link t x", "1\n", "", 3, "mm: absent x\n"),
-        (link, "mm-link x t", "0\n", "", 4, "mm: bad input t 4 0\n"),
-        (
-            most,
-            "",
-            "1\n1\n1\n1\n1\n",
-            "",
-            5,
-            "mm: limit opportunities\n",
-        ),
-        (most, "", "1\n1\n", "", 3, "mm: absent q\n"),
-        (most, "", "1\n0\n", "", 4, "mm: bad input t 3 2\n"),
-        (link, "", "1\n", "0 up 1505\n", 4, "mm: bad input s 2 1\n"),
-        (
-            link,
-            "",
-            "1\n",
-            "5 up 100\n5  up 100\n",
-            4,
-            "mm: bad input s 1 2\n",
-        ),
-        (
-            link,
-            "",
-            "1\n",
-            "5 up 100\n4 up 100\n",
-            4,
-            "mm: bad input s 3 2\n",
-        ),
-    ] {
-        let words = format!(in alloc; "{front} {back}")?;
-        let files = [("t", trace), ("s", schedule)];
-        let left = Left {
-            status,
-            line,
-            files: &[("f", ABSENT), ("u", ABSENT), ("t", trace), ("s", schedule)],
-        };
-        let is_left = leaves(alloc, words.as_str(), &files, &[], &left)?;
-        assert!(rt; is_left, "at {words}");
+    for (at, refusal) in REFUSALS.iter().enumerate() {
+        assert!(rt; is_refused(rt.alloc(), refusal)?, "row {at}");
     }
     Ok(())
 }
