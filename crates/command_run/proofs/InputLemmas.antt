@@ -1,6 +1,6 @@
 -- Traces and schedules that are read, and what stops them.
-use Rattle.std.proofs.Common.{◌≡◌, ◌≢◌, inl, inr, ℕ, suc, ◌+◌, ◌<◌, List, [], ◌∷◌, ◌++◌, Option, Some, None, Result, Ok}
-use Rattle.std.proofs.Common.{Err, IfOk, IfErr, MatchResult, length, map, take, drop, get_or, subst, refl, ap, sym, ◌∙◌}
+use Rattle.std.proofs.Common.{◌≡◌, ◌≢◌, inr, ℕ, suc, ◌+◌, ◌<◌, List, [], ◌∷◌, ◌++◌, Option, Some, None, Result, Ok}
+use Rattle.std.proofs.Common.{Err, IfOk, MatchResult, length, map, take, drop, get_or, subst, refl, ap, sym, ◌∙◌}
 use Rattle.std.proofs.Common.{arith}
 use Rattle.std.proofs.lemmas.List.{take_more, drop_more, take-append-drop}
 use Rattle.mm_base.specs.Disk.{DiskView, OnlyReads}
@@ -16,7 +16,7 @@ use Rattle.trace_reader.specs.TraceText.{IsTraceText}
 use Rattle.trace_reader.specs.Traces.{TraceView}
 use Rattle.trace_reader.specs.declared.reading.TraceError.{TraceError}
 use Rattle.trace_reader.specs.declared.reading.TraceError.TheVariants as trace_errors
-use Rattle.command_ends.specs.Causes.{Text, status_of_refusal}
+use Rattle.command_ends.specs.Causes.{Text}
 use Rattle.command_ends.specs.Readings.{Reading, Done, Leads}
 use Rattle.command_ends.specs.Stops.{IsInput, RefusesText, StopsReading}
 use Rattle.command_ends.specs.declared.cause.Cause.{Cause}

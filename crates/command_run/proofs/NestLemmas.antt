@@ -1,9 +1,8 @@
 -- What a run's words and traces are refused for.
-use Rattle.std.proofs.Common.{◌≡◌, ◌≢◌, inl, inr, ℕ, ◌<◌, ◌≤◌, Bool, true, false, cond, nat_lt, List, Option, Some}
-use Rattle.std.proofs.Common.{None, subst, refl, ap, sym, ◌∙◌, rules, tests, arith}
+use Rattle.std.proofs.Common.{◌≡◌, ◌≢◌, inr, ℕ, ◌<◌, ◌≤◌, Bool, true, false, cond, nat_lt, List, Option, Some}
+use Rattle.std.proofs.Common.{None, refl, ap, sym, ◌∙◌, rules, tests, arith}
 use Rattle.trace_reader.specs.Traces.{TraceView}
 use Rattle.nest_spec.specs.Nests.{opportunities_of}
-use Rattle.nest_spec.specs.Words.{NestPlan}
 use Rattle.nest_spec.specs.declared.shell_words.ShellWords.{ShellWords}
 use Rattle.command_ends.specs.Causes.{Text, status_of_refusal}
 use Rattle.command_ends.specs.Names.{first_taken, refused_name, refused_names}

@@ -5,7 +5,7 @@ use Rattle.std.proofs.lemmas.Bool.{leb-true}
 use Rattle.mm_base.specs.Lines.{lines_of}
 use Rattle.trace_reader.specs.declared.opportunity.Opportunity.{Opportunity}
 use Rattle.trace_reader.specs.declared.opportunity.Form.{Form}
-use Rattle.trace_reader.specs.TraceText.{IsTraceText, form_of, said, said_of, stated}
+use Rattle.trace_reader.specs.TraceText.{IsTraceText, said, said_of, stated}
 use Rattle.trace_reader.specs.Traces.{TraceView}
 use Rattle.trace_reader.proofs.Fields.{same_opportunity}
 use Rattle.command_run.specs.Traces.{opportunity_within, opportunity_said, opportunities_said, trace_in}

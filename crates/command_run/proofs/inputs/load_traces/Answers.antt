@@ -1,4 +1,4 @@
-use Rattle.std.proofs.Common.{List, ℕ, [], subst, sym, arith}
+use Rattle.std.proofs.Common.{List, [], subst, sym, arith}
 use Rattle.std.proofs.lemmas.List.{take_all}
 use Rattle.std.proofs.lemmas.Result.{err_from_is_err_and}
 use Rattle.mm_base.proofs.Then.{OnlyReads-then}

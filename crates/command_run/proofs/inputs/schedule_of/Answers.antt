@@ -1,4 +1,4 @@
-use Rattle.std.proofs.Common.{subst, sym, ap}
+use Rattle.std.proofs.Common.{subst}
 use Rattle.command_ends.specs.Causes.{Text}
 use Rattle.command_ends.specs.Stops.{RefusesText}
 use Rattle.command_run.specs.Inputs.{schedule_refusal}

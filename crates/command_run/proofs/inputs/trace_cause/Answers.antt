@@ -1,4 +1,4 @@
-use Rattle.std.proofs.Common.{Some, refl, ap, sym, subst, ◌∙◌}
+use Rattle.std.proofs.Common.{Some, ap, sym, ◌∙◌}
 use Rattle.trace_reader.specs.declared.reading.TraceError.{TraceError}
 use Rattle.command_run.specs.Inputs.{trace_refused}
 use Rattle.command_run.proofs.InputLemmas.{trace_bad, trace_said}
