@@ -1,0 +1,172 @@
+// A run of a nest over threads.
+ghost use Rattle.std.specs.Prelude.{◌≡◌, ◌≤◌, [], length, OnOk, IfOk};
+ghost use Rattle.std.specs.Thread.{IsSync};
+ghost use Rattle.packet_record.specs.declared.item.FlowEnd.TheVariants.{Ended as IsOver};
+ghost use Rattle.packet_record.specs.declared.packet.Direction.TheVariants.{Up, Down};
+ghost use Rattle.packet_record.specs.Rows.{Rises, entering};
+ghost use Rattle.packet_record.specs.Streams.{no_items};
+ghost use Rattle.mark_channel.specs.Ends.{IsSameEnd};
+ghost use Rattle.nest_spec.specs.Nests.{result_of};
+ghost use Rattle.nest_spec.specs.Once.{HaveOneFate};
+ghost use Rattle.nest_runner.specs.Ends.{IfEnded};
+ghost use Rattle.nest_runner.specs.Lanes.{HasCarried, IsDonePath, IsFreshLane, IsFreshPath, IsSameLane, IsSamePath};
+ghost use Rattle.nest_runner.specs.Stages.{AllDone, AllFresh, AllSame};
+
+use crate::collecting::collector;
+use crate::ends::WorkEnd;
+use crate::lane::{Lane, Path};
+use crate::sourcing::source;
+use crate::stages::stages;
+use mm_base::{OutOfMemory, Pace, Role};
+use nest_spec::{Nest, RunResult, gather};
+use packet_record::{Direction, Row, Schedule};
+use std::alloc::Global;
+use std::marker::Sync;
+use std::sync::Wait;
+use std::thread::{Threads, join_mut};
+
+// How many opportunities are burnt at a time.
+const MOST: u32 = 256;
+
+/// Runs the schedule through the nest over threads: a source, a feeder and a drain for each direction of each shell,
+/// and a collector for each direction, beside each other. The result, if it returns, is that of the composition of the
+/// shells, for every order in which the threads get their turns. The pace is asked before the turns of the threads.
+/// `OutOfMemory` is want of memory, in any thread.
+pub fn run_threads<Q: Pace + Sync, R: Threads + Wait + Sync>(
+    rt: &R,
+    alloc: Global,
+    nest: &Nest,
+    schedule: &Schedule,
+    pace: &Q,
+) -> Result<RunResult, OutOfMemory>
+    ensures value { IfOk result (λ r. r ≡ result_of nest.now schedule.now) }
+    ensures once { OnOk result (HaveOneFate nest.now schedule.now) }
+{
+    let mut up = Lane::open(alloc, nest, Direction::Up)?;
+    let mut down = Lane::open(alloc, nest, Direction::Down)?;
+    let rows = schedule.rows();
+    let end = run_lanes(
+        rt,
+        rows,
+        nest.horizon(),
+        &mut up,
+        &mut down,
+        nest.shells(),
+        pace,
+    );
+    let WorkEnd::Ended = end else {
+        return Err(OutOfMemory);
+    };
+    let up = up.close(alloc)?;
+    let down = down.close(alloc)?;
+    gather(alloc, nest, rows, up.as_slice(), down.as_slice())
+}
+
+// Runs the source beside the paths of both directions.
+fn run_lanes<Q: Pace + Sync, R: Threads + Wait + Sync>(
+    rt: &R,
+    rows: &[Row],
+    horizon: u64,
+    up: &mut Lane,
+    down: &mut Lane,
+    shells: u32,
+    pace: &Q,
+) -> WorkEnd
+    requires fresh { IsFreshLane horizon up.old × IsFreshLane horizon down.old }
+    requires few { (length up.old.path.stages.items ≤ 8) × (length down.old.path.stages.items ≤ 8) }
+    requires rises { Rises 0 rows.now }
+    ensures up { IfEnded result (HasCarried (entering Up horizon rows.now) up.new) }
+    ensures down { IfEnded result (HasCarried (entering Down horizon rows.now) down.new) }
+    ensures same { IsSameLane up.old up.new × IsSameLane down.old down.new }
+{
+    let Lane {
+        head: up_head,
+        path: up_path,
+    } = up;
+    let Lane {
+        head: down_head,
+        path: down_path,
+    } = down;
+    let (_, end) = join_mut(
+        rt,
+        &mut ||
+            requires { (up_head.now.flow ≡ no_items) × (down_head.now.flow ≡ no_items)
+                × (up_head.now.items ≡ []) × (down_head.now.items ≡ [])
+                × (up_head.now.horizon ≡ horizon) × (down_head.now.horizon ≡ horizon)
+                × Rises 0 rows.now × IsSync R.row × IsSync Q.row }
+            ensures up { up_head.exit.now.flow.packets ≡ entering Up horizon rows.entry.now }
+            ensures down { down_head.exit.now.flow.packets ≡ entering Down horizon rows.entry.now }
+            ensures same { IsSameEnd up_head.entry.now up_head.exit.now
+                × IsSameEnd down_head.entry.now down_head.exit.now }
+        { source(rt, rows, horizon, up_head, down_head, pace) },
+        &mut || -> WorkEnd
+            requires { IsFreshPath up_path.now × IsFreshPath down_path.now
+                × (length up_path.now.stages.items ≤ 8) × (length down_path.now.stages.items ≤ 8)
+                × IsSync R.row × IsSync Q.row }
+            ensures done { IfEnded result (IsDonePath up_path.exit.now × IsDonePath down_path.exit.now) }
+            ensures same { IsSamePath up_path.entry.now up_path.exit.now
+                × IsSamePath down_path.entry.now down_path.exit.now }
+        { run_paths(rt, up_path, down_path, shells, pace) },
+    );
+    end
+}
+
+// Runs the paths of both directions beside each other.
+fn run_paths<Q: Pace + Sync, R: Threads + Wait + Sync>(
+    rt: &R,
+    up: &mut Path,
+    down: &mut Path,
+    shells: u32,
+    pace: &Q,
+) -> WorkEnd
+    requires fresh { IsFreshPath up.old × IsFreshPath down.old }
+    requires few { (length up.old.stages.items ≤ 8) × (length down.old.stages.items ≤ 8) }
+    ensures done { IfEnded result (IsDonePath up.new × IsDonePath down.new) }
+    ensures same { IsSamePath up.old up.new × IsSamePath down.old down.new }
+{
+    let (up_end, down_end) = join_mut(
+        rt,
+        &mut || -> WorkEnd
+            requires { IsFreshPath up.now × (length up.now.stages.items ≤ 8) × IsSync R.row × IsSync Q.row }
+            ensures done { IfEnded result (IsDonePath up.exit.now) }
+            ensures same { IsSamePath up.entry.now up.exit.now }
+        { run_path(rt, up, true, shells, pace) },
+        &mut || -> WorkEnd
+            requires { IsFreshPath down.now × (length down.now.stages.items ≤ 8) × IsSync R.row × IsSync Q.row }
+            ensures done { IfEnded result (IsDonePath down.exit.now) }
+            ensures same { IsSamePath down.entry.now down.exit.now }
+        { run_path(rt, down, false, 1, pace) },
+    );
+    up_end.worse(down_end)
+}
+
+// Runs the stages of a direction beside its collector.
+fn run_path<Q: Pace + Sync, R: Threads + Wait + Sync>(
+    rt: &R,
+    path: &mut Path,
+    up: bool,
+    first: u32,
+    pace: &Q,
+) -> WorkEnd
+    requires fresh { IsFreshPath path.old }
+    requires few { length path.old.stages.items ≤ 8 }
+    ensures done { IfEnded result (IsDonePath path.new) }
+    ensures same { IsSamePath path.old path.new }
+{
+    let Path { stages: list, last } = path;
+    let list = list.as_mut_slice();
+    let (collected, passed) = join_mut(
+        rt,
+        &mut || -> WorkEnd
+            requires { (last.now.flow ≡ no_items) × IsSync R.row × IsSync Q.row }
+            ensures ended { IfEnded result (last.exit.now.flow.end ≡ IsOver) }
+            ensures same { IsSameEnd last.entry.now last.exit.now }
+        { collector(rt, last, Role::Collector { up }, pace) },
+        &mut || -> WorkEnd
+            requires { AllFresh list.now × (length list.now ≤ 8) × IsSync R.row × IsSync Q.row }
+            ensures ended { IfEnded result (AllDone list.exit.now) }
+            ensures same { AllSame list.entry.now list.exit.now }
+        { stages(rt, list, up, first, MOST, pace) },
+    );
+    collected.worse(passed)
+}
