@@ -25,3 +25,8 @@ pub passed_on-snoc : (arrived : List Timed) (states : List State) (s : State)
     → passed_on arrived (states ++ s ∷ []) ≡ s.taken.packets
 passed_on-snoc arrived [] s = refl
 passed_on-snoc arrived (x ∷ xs) s = passed_on-snoc x.taken.packets xs s
+
+pub does-snoc : (states : List State) (s : State) (rest : List DirSpec)
+    → does (states ++ s ∷ []) ++ rest ≡ does states ++ (s.spec ∷ rest)
+does-snoc [] s rest = refl
+does-snoc (x ∷ xs) s rest = ap (λ (l : List DirSpec). x.spec ∷ l) (does-snoc xs s rest)

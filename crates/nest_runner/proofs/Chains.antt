@@ -62,3 +62,8 @@ still_wired h specs old new wired same = record {
   own = AllOwn-same h _ _ same.1.0 wired.own;
   specs_are = specs-same _ _ same.1.0 ∙ wired.specs_are;
 }
+
+pub specs-snoc : (stages : List Stage) (s : Stage) (rest : List DirSpec)
+    → specs_of (stages ++ s ∷ []) ++ rest ≡ specs_of stages ++ (s.cell.opening.spec ∷ rest)
+specs-snoc [] s rest = refl
+specs-snoc (x ∷ xs) s rest = ap (λ (l : List DirSpec). x.cell.opening.spec ∷ l) (specs-snoc xs s rest)

@@ -1,12 +1,12 @@
 // One direction of a run: how it is opened before any thread starts, and closed after all have ended.
-ghost use Rattle.std.specs.Prelude.{◌≡◌, ◌≤◌, ◌×◌, [], length, map, IfOk};
+ghost use Rattle.std.specs.Prelude.{◌≡◌, ◌≤◌, [], length, map, IfOk};
 ghost use Rattle.packet_record.specs.declared.item.FlowEnd.TheVariants.{Ended as IsOver};
 ghost use Rattle.packet_record.specs.Streams.{no_items};
 ghost use Rattle.shell_core.specs.Shells.{IsInRange, opportunities};
 ghost use Rattle.shell_state.specs.States.{new_state};
 ghost use Rattle.nest_spec.specs.Nests.{AllFit, directions_of};
 ghost use Rattle.nest_spec.specs.Passed.{HavePassed};
-ghost use Rattle.nest_runner.specs.Lanes.{AllOwn, HasCarried, IsFreshLane, IsWired, Linked, specs_of};
+ghost use Rattle.nest_runner.specs.Lanes.{AllOwn, IsFreshLane, IsWired, Linked, specs_of};
 ghost use Rattle.nest_runner.specs.Stages.{AllDone, AllFresh, IsDone, IsFresh};
 
 use crate::stage::Stage;
@@ -43,6 +43,8 @@ impl Lane {
         ensures few { IfOk result (λ lane. length lane.path.stages.items ≤ 8) }
     {
         let horizon = nest.horizon();
+        // What holds of every nest: it has at most 8 shells.
+        nest.shells();
         let specs = nest.directions(direction)?;
         let (head, first) = mark_channel::open(alloc, CAPACITY, horizon)?;
         let path = open_path(alloc, horizon, specs, first)?;
@@ -50,15 +52,16 @@ impl Lane {
     }
 
     /// Settles the channels and closes the cells of a direction whose workers have ended: the states of its shells.
-    pub fn close(self, alloc: Global) -> Result<Vec<ShellState>, OutOfMemory>
-        ensures { (horizon : _) (specs : _) (packets : _) → IsWired horizon specs self → HasCarried packets self
-            → IfOk result (λ states. HavePassed horizon specs packets states.items) }
+    pub fn close(self, alloc: Global, horizon: u64) -> Result<Vec<ShellState>, OutOfMemory>
+        requires linked { Linked self.head.channel self.path.stages.items self.path.last.channel }
+        requires own { AllOwn horizon self.path.stages.items }
+        requires done { AllDone self.path.stages.items }
+        ensures { IfOk result (λ states. HavePassed horizon (specs_of self.path.stages.items) self.head.flow.packets
+            states.items) }
     {
         let Lane { head, path } = self;
         let Path { stages, last } = path;
-        let (states, to) = close_stages(alloc, head, stages)?;
-        settle(to, last);
-        Ok(states)
+        close_stages(alloc, horizon, head, stages, last)
     }
 }
 
@@ -115,16 +118,18 @@ fn open_stage(
     Ok((stage, next))
 }
 
-// Settles the channel before each stage and closes its cell: the states, and the sender behind the last.
+// Settles each channel and closes each cell: the states.
 fn close_stages(
     alloc: Global,
+    _horizon: u64,
     head: Sender,
     stages: Vec<Stage>,
-) -> Result<(Vec<ShellState>, Sender), OutOfMemory>
-    ensures { (horizon : _) (last : _) → AllDone stages.items → AllOwn horizon stages.items
-        → Linked head.channel stages.items last
-        → IfOk result (λ r. HavePassed horizon (specs_of stages.items) head.flow.packets r.0.items
-        × (r.1.channel ≡ last)) }
+    last: Receiver,
+) -> Result<Vec<ShellState>, OutOfMemory>
+    requires linked { Linked head.channel stages.items last.channel }
+    requires own { AllOwn _horizon stages.items }
+    requires done { AllDone stages.items }
+    ensures { IfOk result (λ states. HavePassed _horizon (specs_of stages.items) head.flow.packets states.items) }
 {
     let mut states = Vec::with_capacity(alloc, stages.len())?;
     let mut to = head;
@@ -133,7 +138,8 @@ fn close_stages(
         states.push(state)?;
         to = next;
     }
-    Ok((states, to))
+    settle(to, last);
+    Ok(states)
 }
 
 // Settles the channel before a stage and closes its cell: its state, and the sender behind it.

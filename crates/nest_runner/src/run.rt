@@ -6,10 +6,12 @@ ghost use Rattle.packet_record.specs.declared.packet.Direction.TheVariants.{Up, 
 ghost use Rattle.packet_record.specs.Rows.{Rises, entering};
 ghost use Rattle.packet_record.specs.Streams.{no_items};
 ghost use Rattle.mark_channel.specs.Ends.{IsSameEnd};
-ghost use Rattle.nest_spec.specs.Nests.{result_of};
+ghost use Rattle.nest_spec.specs.Nests.{directions_of, result_of};
 ghost use Rattle.nest_spec.specs.Once.{HaveOneFate};
+ghost use Rattle.nest_spec.specs.Passed.{HavePassed};
 ghost use Rattle.nest_runner.specs.Ends.{IfEnded};
 ghost use Rattle.nest_runner.specs.Lanes.{HasCarried, IsDonePath, IsFreshLane, IsFreshPath, IsSameLane, IsSamePath};
+ghost use Rattle.nest_runner.specs.Lanes.{IsWired};
 ghost use Rattle.nest_runner.specs.Stages.{AllDone, AllFresh, AllSame};
 
 use crate::collecting::collector;
@@ -20,6 +22,7 @@ use crate::stages::stages;
 use mm_base::{OutOfMemory, Pace, Role};
 use nest_spec::{Nest, RunResult, gather};
 use packet_record::{Direction, Row, Schedule};
+use shell_state::ShellState;
 use std::alloc::Global;
 use std::marker::Sync;
 use std::sync::Wait;
@@ -57,9 +60,25 @@ pub fn run_threads<Q: Pace + Sync, R: Threads + Wait + Sync>(
     let WorkEnd::Ended = end else {
         return Err(OutOfMemory);
     };
-    let up = up.close(alloc)?;
-    let down = down.close(alloc)?;
+    let up = states_of(alloc, nest, Direction::Up, rows, up)?;
+    let down = states_of(alloc, nest, Direction::Down, rows, down)?;
     gather(alloc, nest, rows, up.as_slice(), down.as_slice())
+}
+
+// The states of a direction's shells, through which these rows have gone.
+fn states_of(
+    alloc: Global,
+    nest: &Nest,
+    _direction: Direction,
+    _rows: &[Row],
+    lane: Lane,
+) -> Result<Vec<ShellState>, OutOfMemory>
+    requires wired { IsWired nest.now.horizon (directions_of _direction nest.now) lane }
+    requires carried { HasCarried (entering _direction nest.now.horizon _rows.now) lane }
+    ensures { IfOk result (λ states. HavePassed nest.now.horizon (directions_of _direction nest.now)
+        (entering _direction nest.now.horizon _rows.now) states.items) }
+{
+    lane.close(alloc, nest.horizon())
 }
 
 // Runs the source beside the paths of both directions.

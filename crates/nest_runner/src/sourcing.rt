@@ -39,19 +39,52 @@ pub fn source<Q: Pace, R: Wait>(
     for row in rows {
         count = count.saturating_add(1);
         pace.turn(rt, Role::Source, count);
-        match row.direction {
-            Direction::Up => {
-                up_sent = send_row(rt, Direction::Up, horizon, up_sent, row, up);
-                down_sent = send_row(rt, Direction::Down, horizon, down_sent, row, down);
-            }
-            Direction::Down => {
-                down_sent = send_row(rt, Direction::Down, horizon, down_sent, row, down);
-                up_sent = send_row(rt, Direction::Up, horizon, up_sent, row, up);
-            }
-        }
+        let sent = send_both(rt, horizon, up_sent, down_sent, row, up, down);
+        up_sent = sent.0;
+        down_sent = sent.1;
     }
     up.send(rt, Item::End);
     down.send(rt, Item::End);
+}
+
+// Sends what a row gives in both directions, first in its own, where the greatest moments that were sent in them are
+// these, and answers those that are then.
+fn send_both<R: Wait>(
+    rt: &R,
+    horizon: u64,
+    up_sent: u64,
+    down_sent: u64,
+    row: &Row,
+    up: &mut Sender,
+    down: &mut Sender,
+) -> (u64, u64)
+    requires open { (up.old.flow.end ≡ Open) × (down.old.flow.end ≡ Open) }
+    requires sent { (up.old.flow.bound ≡ up_sent) × (down.old.flow.bound ≡ down_sent) }
+    requires horizon { (up.old.horizon ≡ horizon) × (down.old.horizon ≡ horizon) }
+    requires rises { (up_sent ≤ row.now.timed.moment) × (down_sent ≤ row.now.timed.moment) }
+    ensures sent { (up.new.flow.bound ≡ result.0) × (down.new.flow.bound ≡ result.1) }
+    ensures after { (result.0 ≡ sent_after up_sent row.now (source_item Up horizon up_sent row.now))
+        × (result.1 ≡ sent_after down_sent row.now (source_item Down horizon down_sent row.now)) }
+    ensures rises { (result.0 ≤ row.now.timed.moment) × (result.1 ≤ row.now.timed.moment) }
+    ensures items { (up.new.items ≡ up.old.items ++ option_to_list (source_item Up horizon up_sent row.now))
+        × (down.new.items ≡ down.old.items ++ option_to_list (source_item Down horizon down_sent row.now)) }
+    ensures packets { (up.new.flow.packets ≡ up.old.flow.packets ++ entering Up horizon (row.now ∷ []))
+        × (down.new.flow.packets ≡ down.old.flow.packets ++ entering Down horizon (row.now ∷ [])) }
+    ensures open { (up.new.flow.end ≡ Open) × (down.new.flow.end ≡ Open) }
+    ensures same { IsSameEnd up.old up.new × IsSameEnd down.old down.new }
+{
+    match row.direction {
+        Direction::Up => {
+            let up_sent = send_row(rt, Direction::Up, horizon, up_sent, row, up);
+            let down_sent = send_row(rt, Direction::Down, horizon, down_sent, row, down);
+            (up_sent, down_sent)
+        }
+        Direction::Down => {
+            let down_sent = send_row(rt, Direction::Down, horizon, down_sent, row, down);
+            let up_sent = send_row(rt, Direction::Up, horizon, up_sent, row, up);
+            (up_sent, down_sent)
+        }
+    }
 }
 
 // Sends what a row gives in a direction, where the greatest moment that was sent in it is `sent`, and answers the
