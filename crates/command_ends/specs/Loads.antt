@@ -1,4 +1,4 @@
--- What reading makes of a disk's refusal.
+-- For proofs: what reading makes of a disk's refusal.
 use Rattle.mm_base.specs.declared.errors.DiskError.{DiskError}
 use Rattle.mm_base.specs.declared.errors.DiskError.TheVariants as disk_errors
 use Rattle.mm_base.specs.declared.errors.LoadError.{LoadError}

@@ -1,4 +1,4 @@
--- What the values of the code stand for.
+-- For proofs: what the values of the code stand for.
 use Rattle.command_make.specs.Make as make
 use Rattle.command_make.specs.declared.make_job.MakeJob.{MakeJob}
 

@@ -1,4 +1,4 @@
--- What the values of the code stand for.
+-- For proofs: what the values of the code stand for.
 use Rattle.command_replay.specs.Replay as replay
 use Rattle.command_replay.specs.declared.job.ReplayJob.{ReplayJob}
 

@@ -1,4 +1,4 @@
--- What the values of the code stand for.
+-- For proofs: what the values of the code stand for.
 use Rattle.command_report.specs.Report as report
 use Rattle.command_report.specs.declared.report.ReportJob.{ReportJob}
 

@@ -10,7 +10,7 @@ use Rattle.command_run.specs.Inputs.{reading_order, reading_schedule, reading_tr
 use Rattle.command_run.specs.Run.{RunJob, RunTask, run_of}
 use Rattle.command_run.specs.RunReading.{refused_count, refused_horizon, refused_outputs, run_inputs, run_reading}
 use Rattle.command_run.specs.RunReading.{run_words, with_nest}
-use Rattle.command_run.specs.Traces.{trace_in}
+use Rattle.trace_reader.specs.TraceIn.{trace_in}
 use Rattle.command_run.proofs.InputLemmas.{schedule_text, trace_text}
 use Rattle.command_run.proofs.NestLemmas.{count_text}
 

@@ -30,7 +30,7 @@ use Rattle.command_ends.proofs.ReadingLemmas.{IsOfText, bad_input}
 use Rattle.command_run.specs.Inputs.{AreTraceTexts, reading_trace, reading_traces, schedule_refusal, schedule_refused}
 use Rattle.command_run.specs.Inputs.{trace_refusal, trace_refused}
 use Rattle.command_run.specs.Loaded.{HasSchedule, HasTrace, HaveTraces, NoTraces, MoreTraces}
-use Rattle.command_run.specs.Traces.{trace_in}
+use Rattle.trace_reader.specs.TraceIn.{trace_in}
 use Rattle.command_run.proofs.TraceLemmas.{trace_is}
 
 -- the text of a trace

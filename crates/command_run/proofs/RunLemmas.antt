@@ -27,7 +27,7 @@ use Rattle.command_run.specs.Loaded.{HasNest, HasOrder, HasSchedule, HaveTraces,
 use Rattle.command_run.specs.Run.{GivesRun, RunJob, RunTask, nest_with, run_files}
 use Rattle.command_run.specs.RunReading.{nest_refusal, refused_count, refused_horizon, refused_outputs, run_inputs}
 use Rattle.command_run.specs.RunReading.{run_reading, with_nest}
-use Rattle.command_run.specs.Traces.{trace_in}
+use Rattle.trace_reader.specs.TraceIn.{trace_in}
 use Rattle.command_run.proofs.InputLemmas.{have_said, have_texts, leads_traces}
 use Rattle.command_run.proofs.NestLemmas.{count_text, count_within, horizon_text, names_there}
 

@@ -8,7 +8,7 @@ use Rattle.trace_reader.specs.declared.opportunity.Form.{Form}
 use Rattle.trace_reader.specs.TraceText.{IsTraceText, said, said_of, stated}
 use Rattle.trace_reader.specs.Traces.{TraceView}
 use Rattle.trace_reader.proofs.Fields.{same_opportunity}
-use Rattle.command_run.specs.Traces.{opportunity_within, opportunity_said, opportunities_said, trace_in}
+use Rattle.trace_reader.specs.TraceIn.{opportunity_within, opportunity_said, opportunities_said, trace_in}
 
 within : (m n : ℕ) (some most : Bool) (e : nat_le 1 n ≡ some) (f : nat_le n 1000000 ≡ most) (o : Opportunity)
     → some ≡ true → most ≡ true → m ≡ o.moment → n ≡ o.bytes

@@ -1,4 +1,3 @@
-pub mod Traces
 pub mod Inputs
 pub mod Run
 pub mod RunReading

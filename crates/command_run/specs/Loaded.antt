@@ -1,4 +1,4 @@
--- What reading the inputs of a run leaves, for the bodies that read them.
+-- For proofs: what reading the inputs of a run leaves, for the bodies that read them.
 use Rattle.std.specs.Prelude.{◌≡◌, ◌≤◌, ℕ, List, [], ◌∷◌, Option, Some, None}
 use Rattle.mm_base.specs.Disk.{DiskView}
 use Rattle.mm_base.specs.Files.{Files}

@@ -1,4 +1,4 @@
--- What contracts see of a run's result, in either form.
+-- For proofs: what contracts see of a run's result, in either form.
 use Rattle.nest_spec.specs.Nests.{RunLists}
 use Rattle.command_run.specs.declared.passing.Passed.{Passed}
 use Rattle.command_run.specs.declared.passing.Passed.TheVariants.{ByShells, InOrder}

@@ -16,7 +16,7 @@ use Rattle.command_ends.specs.declared.cause.Refusal.TheVariants.{Words, Limit}
 use Rattle.command_ends.specs.declared.cause.WordsRefusal.TheVariants.{Nest}
 use Rattle.command_run.specs.Inputs.{reading_order, reading_schedule, reading_traces}
 use Rattle.command_run.specs.Run.{RunJob, RunTask, run_of}
-use Rattle.command_run.specs.Traces.{trace_in}
+use Rattle.trace_reader.specs.TraceIn.{trace_in}
 
 abbrev pub nest_refusal : NestError → Refusal
 nest_refusal error = Words (Nest (number_of error) (place_of error) (inner_of error))

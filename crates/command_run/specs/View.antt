@@ -1,4 +1,4 @@
--- What the values of the code stand for.
+-- For proofs: what the values of the code stand for.
 use Rattle.std.specs.Prelude.{map, option_map, string_bytes}
 use Rattle.command_run.specs.Run as run
 use Rattle.command_run.specs.declared.run_job.RunJob.{RunJob}

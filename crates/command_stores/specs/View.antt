@@ -1,4 +1,4 @@
--- What the values of the code stand for.
+-- For proofs: what the values of the code stand for.
 use Rattle.command_stores.specs.Matching as matching
 use Rattle.command_stores.specs.Migrating as migrating
 use Rattle.command_stores.specs.Recording as recording

@@ -4,7 +4,7 @@ use Rattle.std.proofs.Common.{option_to_list, reverse, length, nat_le, slice_get
 use Rattle.std.specs.Option.{option_map, option_and_then}
 use Rattle.std.proofs.lemmas.Bool.{cases_lt, le-leb, lt-leb, eq-eqb, ne_eqb}
 use Rattle.packet_record.specs.declared.packet.Timed.{Timed}
-use Rattle.packet_queue.specs.Queues.{moved_to}
+use Rattle.packet_record.specs.Packets.{moved_to}
 use Rattle.trace_reader.specs.declared.opportunity.Opportunity.{Opportunity}
 use Rattle.trace_reader.proofs.ListLemmas.{slice_get-front, slice_get-next, some_at}
 use Rattle.link_core.specs.Orders.{AreFalling}

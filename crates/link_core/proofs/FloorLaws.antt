@@ -8,7 +8,7 @@ use Rattle.packet_record.specs.declared.packet.Timed.{Timed}
 use Rattle.packet_record.specs.Moments.{AreUpTo, Rise}
 use Rattle.packet_record.proofs.MomentsLemmas.{up_to-append, rise-append}
 use Rattle.packet_queue.specs.declared.spec.QueueSpec.{QueueSpec}
-use Rattle.packet_queue.specs.Queues.{moved_to}
+use Rattle.packet_record.specs.Packets.{moved_to}
 use Rattle.trace_reader.specs.declared.opportunity.Opportunity.{Opportunity}
 use Rattle.trace_reader.specs.Orders.{Each, AreRising}
 use Rattle.trace_reader.proofs.OrderLemmas.{each_map, counted, length-up_to}

@@ -5,7 +5,8 @@ use Rattle.packet_record.specs.declared.packet.Timed.{Timed}
 use Rattle.packet_queue.specs.declared.spec.QueueKind.{QueueKind}
 use Rattle.packet_queue.specs.declared.spec.QueueKind.TheVariants.{Infinite, DropTail, DropHead}
 use Rattle.packet_queue.specs.declared.spec.QueueSpec.{QueueSpec}
-use Rattle.packet_queue.specs.Queues.{fits, fitting, enqueued, enqueued_by, dropped, moved_to}
+use Rattle.packet_record.specs.Packets.{moved_to}
+use Rattle.packet_queue.specs.Queues.{fits, fitting, enqueued, enqueued_by, dropped}
 use Rattle.trace_reader.specs.declared.opportunity.Opportunity.{Opportunity}
 use Rattle.link_core.specs.Stream.{waiting, ahead}
 use Rattle.trace_reader.specs.Orders.{Each}

@@ -6,7 +6,8 @@ use Rattle.std.proofs.lemmas.List.{append_assoc}
 use Rattle.packet_record.specs.declared.packet.Timed.{Timed}
 use Rattle.packet_queue.specs.declared.spec.QueueSpec.{QueueSpec}
 use Rattle.packet_queue.specs.declared.spec.QueueKind.TheVariants.{Infinite, DropTail}
-use Rattle.packet_queue.specs.Queues.{fits, moved_to}
+use Rattle.packet_record.specs.Packets.{moved_to}
+use Rattle.packet_queue.specs.Queues.{fits}
 use Rattle.packet_queue.proofs.Sizes.{by_infinite, by_tail_in, by_tail_out}
 use Rattle.trace_reader.specs.declared.opportunity.Opportunity.{Opportunity}
 use Rattle.link_core.specs.Stream.{waiting, ahead, ending}

@@ -5,7 +5,7 @@ use Rattle.std.proofs.lemmas.Bool.{cases_lt, cond_both, le-leb, lt-leb, lt-ltb, 
 use Rattle.std.proofs.lemmas.List.{length-append, length-take-le}
 use Rattle.packet_record.specs.declared.packet.Timed.{Timed}
 use Rattle.packet_queue.specs.declared.spec.QueueSpec.{QueueSpec}
-use Rattle.packet_queue.specs.Queues.{bytes}
+use Rattle.packet_record.specs.Packets.{bytes}
 use Rattle.shell_log.specs.declared.entry.Entry.{Entry}
 use Rattle.shell_log.specs.declared.entry.Entry.TheVariants as entries
 use Rattle.trace_reader.specs.declared.opportunity.Opportunity.{Opportunity}

@@ -3,7 +3,7 @@ use Rattle.std.proofs.Common.{ℕ, ◌≤◌, ◌==◌, Bool, List, [], ◌∷�
 use Rattle.std.proofs.lemmas.Bool.{cond_both}
 use Rattle.packet_record.specs.declared.packet.Timed.{Timed}
 use Rattle.packet_queue.specs.declared.spec.QueueSpec.{QueueSpec}
-use Rattle.packet_queue.specs.Queues.{bytes}
+use Rattle.packet_record.specs.Packets.{bytes}
 use Rattle.shell_log.specs.declared.entry.Entry.TheVariants as entries
 use Rattle.shell_log.specs.Entries.{AreUpTo}
 use Rattle.shell_log.proofs.LogLemmas.{up_to_append}

@@ -2,7 +2,7 @@
 use Rattle.std.proofs.Common.{◌≡◌, ℕ, ◌+◌, ◌<◌, ◌≤◌, ◌++◌, List, [], ◌∷◌, map, arith, refl, ap, sym, ◌∙◌, inl, inr}
 use Rattle.std.proofs.lemmas.Bool.{cases_lt, lt-ltb, le-ltb}
 use Rattle.packet_record.specs.declared.packet.Timed.{Timed}
-use Rattle.packet_queue.specs.Queues.{bytes, moved_to}
+use Rattle.packet_record.specs.Packets.{bytes, moved_to}
 use Rattle.trace_reader.specs.declared.opportunity.Opportunity.{Opportunity}
 use Rattle.link_core.specs.Stream.{ending}
 use Rattle.trace_reader.specs.Orders.{Each}

@@ -4,7 +4,8 @@ use Rattle.std.proofs.Common.{subst, ◌∙◌}
 use Prim.Native.Nat.{min}
 use Rattle.packet_record.specs.declared.packet.Timed.{Timed}
 use Rattle.packet_queue.specs.declared.spec.QueueSpec.{QueueSpec}
-use Rattle.packet_queue.specs.Queues.{bytes, enqueued, dropped, moved_to}
+use Rattle.packet_record.specs.Packets.{bytes, moved_to}
+use Rattle.packet_queue.specs.Queues.{enqueued, dropped}
 use Rattle.shell_log.specs.declared.entry.Entry.{Entry}
 use Rattle.shell_log.specs.declared.entry.Entry.TheVariants as entries
 use Rattle.trace_reader.specs.declared.opportunity.Opportunity.{Opportunity}

@@ -5,7 +5,8 @@ use Rattle.std.proofs.lemmas.List.{append-nil, append_assoc, reverse-append}
 use Rattle.std.proofs.lemmas.List.Sums.{fold-append}
 use Rattle.packet_record.specs.declared.packet.Timed.{Timed}
 use Rattle.packet_queue.specs.declared.spec.QueueSpec.{QueueSpec}
-use Rattle.packet_queue.specs.Queues.{enqueued, dropped, moved_to}
+use Rattle.packet_record.specs.Packets.{moved_to}
+use Rattle.packet_queue.specs.Queues.{enqueued, dropped}
 use Rattle.shell_log.specs.declared.entry.Entry.TheVariants as entries
 use Rattle.trace_reader.specs.declared.opportunity.Opportunity.{Opportunity}
 use Rattle.trace_reader.specs.Opps.{up_to}

@@ -1,4 +1,4 @@
--- The arrivals of a link: those let in, those to come, and how many more there is room for.
+-- For proofs: the arrivals of a link: those let in, those to come, and how many more there is room for.
 use Rattle.std.specs.Prelude.{ℕ, List}
 use Rattle.packet_record.specs.declared.packet.Timed.{Timed}
 

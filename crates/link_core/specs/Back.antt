@@ -1,10 +1,12 @@
--- What one direction of a link makes of its arrivals and opportunities, step by step: all lists of opportunities and
--- arrivals here have the latest first, which suits proofs. `Links` has the meaning, over lists in order.
+-- For proofs: what one direction of a link makes of its arrivals and opportunities, step by step: all lists of
+-- opportunities and arrivals here have the latest first, which suits proofs. `Links` has the meaning, over lists in
+-- order.
 use Rattle.std.specs.Prelude.{ℕ, ◌+◌, ◌++◌, List, [], ◌∷◌, nat_le, nat_lt, filter, map}
 use Prim.Native.Nat.{min}
 use Rattle.packet_record.specs.declared.packet.Timed.{Timed}
 use Rattle.packet_queue.specs.declared.spec.QueueSpec.{QueueSpec}
-use Rattle.packet_queue.specs.Queues.{enqueued, dropped, moved_to}
+use Rattle.packet_record.specs.Packets.{moved_to}
+use Rattle.packet_queue.specs.Queues.{enqueued, dropped}
 use Rattle.shell_log.specs.declared.entry.Entry.{Entry}
 use Rattle.shell_log.specs.declared.entry.Entry.TheVariants as entries
 use Rattle.trace_reader.specs.declared.opportunity.Opportunity.{Opportunity}

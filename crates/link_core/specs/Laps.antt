@@ -1,4 +1,4 @@
--- Laps of a trace that is played again and again.
+-- For proofs: laps of a trace that is played again and again.
 use Rattle.std.specs.Prelude.{◌≡◌, ℕ, ◌*◌, ◌/◌, List, length}
 use Rattle.trace_reader.specs.declared.opportunity.Opportunity.{Opportunity}
 use Rattle.trace_reader.specs.Opps.{last_moment}

@@ -6,7 +6,6 @@ pub mod State
 pub mod Arriving
 pub mod Sound
 pub mod View
-pub mod Numbers
 pub mod Promises
 pub mod Laps
 pub mod Written

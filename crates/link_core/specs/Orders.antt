@@ -1,4 +1,4 @@
--- Lists in the order of their moments.
+-- For proofs: lists in the order of their moments.
 use Rattle.std.specs.Prelude.{◌≤◌, List, [], ◌∷◌}
 use Rattle.packet_record.specs.declared.packet.Timed.{Timed}
 use Rattle.trace_reader.specs.declared.opportunity.Opportunity.{Opportunity}

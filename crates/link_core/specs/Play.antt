@@ -1,4 +1,4 @@
--- A link that goes over all its arrivals, and what is still to come of its log.
+-- For proofs: A link that goes over all its arrivals, and what is still to come of its log.
 use Rattle.std.specs.Prelude.{◌≡◌, ℕ, ◌+◌, ◌-◌, ◌≤◌, ◌++◌, List, [], ◌∷◌, length, take, drop}
 use Rattle.packet_record.specs.declared.packet.Timed.{Timed}
 use Rattle.packet_record.specs.Moments.{AreUpTo, Rise}

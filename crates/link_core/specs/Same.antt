@@ -1,4 +1,4 @@
--- What stays of a link, whatever is done with its parts.
+-- For proofs: what stays of a link, whatever is done with its parts.
 use Rattle.std.specs.Prelude.{◌≡◌}
 use Rattle.link_core.specs.declared.parts.Parts.{Parts}
 

@@ -1,4 +1,4 @@
--- What is true of the parts of a link at all times.
+-- For proofs: what is true of the parts of a link at all times.
 use Rattle.std.specs.Prelude.{ℕ, ◌<◌, ◌≤◌, ◌++◌, Bool, List, [], Option, length, take, drop, reverse}
 use Rattle.packet_record.specs.declared.packet.Timed.{Timed}
 use Rattle.packet_queue.specs.declared.spec.QueueSpec.{QueueSpec}

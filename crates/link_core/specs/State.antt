@@ -1,4 +1,4 @@
--- What the parts of a link hold, after these arrivals and opportunities, the latest first.
+-- For proofs: what the parts of a link hold, after these arrivals and opportunities, the latest first.
 use Rattle.std.specs.Prelude.{◌≡◌, ℕ, ◌<◌, Bool, List, [], ◌∷◌, Option, Some, None, map}
 use Rattle.packet_record.specs.declared.packet.Timed.{Timed}
 use Rattle.packet_queue.specs.declared.spec.QueueSpec.{QueueSpec}

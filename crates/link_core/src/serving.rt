@@ -1,6 +1,6 @@
 // One opportunity, used.
 ghost use Rattle.std.specs.Prelude.{◌≡◌, ◌+◌, ◌-◌, ◌<◌, ◌≤◌, ◌++◌, ◌∷◌, [], length, map, vec_len, vec_capacity};
-ghost use Rattle.packet_queue.specs.Queues.{moved_to};
+ghost use Rattle.packet_record.specs.Packets.{moved_to};
 ghost use Rattle.packet_queue.specs.View.{Queue};
 ghost use Rattle.shell_log.specs.Entries.{AreUpTo, IsEntry};
 ghost use Rattle.link_core.specs.Written.{written};

@@ -1,4 +1,4 @@
--- What goes through an end, item by item.
+-- For proofs: what goes through an end, item by item.
 use Rattle.std.specs.Prelude.{List, [], ◌∷◌, ◌++◌}
 use Rattle.packet_record.specs.declared.item.Item.{Item}
 use Rattle.packet_record.specs.declared.item.Stream.{Stream}

@@ -1,5 +1,5 @@
--- What was sent is what was received and then what the channel holds, and that may follow what was received.
--- One pass at most may send, and it knows what was sent. The same for receiving.
+-- For proofs: what was sent is what was received and then what the channel holds, and that may follow what was
+-- received. One pass at most may send, and it knows what was sent. The same for receiving.
 use Rattle.std.specs.Prelude.{◌≡◌, ℕ, Bool, true, false, List, []}
 use mathlib.Core.Option.{some}
 use lib.ListN.{get_elem?}

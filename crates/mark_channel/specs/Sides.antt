@@ -1,4 +1,4 @@
--- What contracts see of the two ends.
+-- For proofs: what contracts see of the two ends.
 use Rattle.std.specs.Prelude.{◌≡◌, true, false}
 use Rattle.crossbeam_channel.specs.Claims.{Pass, view, IsSeatAt}
 use Rattle.crossbeam_channel.specs.Ends.{sends_on, receives_on}

@@ -11,10 +11,13 @@ use std::time::Duration;
 // For how many seconds a peer may take nothing of what is given to it.
 const PATIENCE: u64 = 300;
 
-// How often, and for how many seconds each time, a peer is still heard after the last byte was given to it.
+// How often, and for how many seconds each time, a peer is still heard after the last byte was given to it, and how
+// often it may say less than it is listened to.
 const LAST_READS: u32 = 1024;
 
 const LAST_WAIT: u64 = 1;
+
+const LAST_SHORT_READS: u32 = 16;
 
 /// A connection over TCP. It tells no content. Each error but want of memory is counted as a fault: a peer that resets
 /// the connection, or one that has taken nothing for five minutes while there was something to be given.
@@ -34,17 +37,24 @@ impl TcpLink {
         TcpLink { stream, faults: 0 }
     }
 
-    // Ends the connection once the peer has ended its side, or says nothing for a second. What it still says is let
-    // go: a socket that is closed with bytes unread takes back what the peer hasn't read yet.
+    // Ends the connection once the peer has ended its side, says nothing for a second, or says little again and again.
+    // What it still says is let go: a socket that is closed with bytes unread takes back what the peer hasn't read yet.
     pub fn end(self) {
         let mut stream = self.stream;
         let _ = stream.shutdown(Shutdown::Write);
         let _ = stream.set_read_timeout(Some(Duration::from_secs(LAST_WAIT)));
         let mut unheard = [0u8; 4096];
+        let mut short_reads = 0u32;
         for _ in 0..LAST_READS {
-            let Ok(1..) = read_once(&mut stream, &mut unheard) else {
+            let Ok(count @ 1..) = read_once(&mut stream, &mut unheard) else {
                 return;
             };
+            if count < unheard.len() {
+                short_reads = short_reads.saturating_add(1);
+            }
+            if short_reads == LAST_SHORT_READS {
+                return;
+            }
         }
     }
 

@@ -17,7 +17,7 @@ use Rattle.shell_state.specs.States.{State}
 use Rattle.shell_state.specs.Standing.{Stands, Foretells}
 use Rattle.shell_state.proofs.Foretelling.{foretells_more, finished}
 use Rattle.nest_core.specs.declared.stage.Stage.{Stage}
-use Rattle.nest_core.specs.Chains.{last_departed, chain_logs}
+use Rattle.nest_spec.specs.Chains.{last_departed, chain_logs}
 use Rattle.nest_core.specs.Channels.{ChannelParts}
 use Rattle.nest_core.specs.Worlds.{WorldParts}
 use Rattle.nest_core.specs.Promises.{source_stream, arrivals_of, AreUnderWay, Keeps}

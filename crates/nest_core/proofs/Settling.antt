@@ -21,7 +21,7 @@ use Rattle.nest_spec.specs.Passed.{HavePassed}
 use Rattle.nest_core.specs.declared.stage.Stage.{Stage}
 use Rattle.nest_core.specs.declared.actor.Actor.{Actor}
 use Rattle.nest_core.specs.declared.actor.Actor.TheVariants.{Source, Receiver, Feeder, Taker, Sender}
-use Rattle.nest_core.specs.Chains.{chain_logs}
+use Rattle.nest_spec.specs.Chains.{chain_logs}
 use Rattle.nest_core.specs.Channels.{ChannelParts, holding, new_channel, has_room, with_last, first_of, left_by}
 use Rattle.nest_core.specs.Stages.{most, stage, receives, fed_stage, feeding, given, taking, taken_stage, sending}
 use Rattle.nest_core.specs.Stages.{sent_stage}

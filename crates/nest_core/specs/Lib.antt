@@ -5,7 +5,6 @@ pub mod Actors
 pub mod Stages
 pub mod Worlds
 pub mod WorldSteps
-pub mod Chains
 pub mod Promises
 pub mod Left
 pub mod Standing

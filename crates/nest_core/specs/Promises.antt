@@ -15,7 +15,7 @@ use Rattle.shell_state.specs.States.{State}
 use Rattle.shell_state.specs.Standing.{Stands}
 use Rattle.nest_spec.specs.Nests.{NestParts, directions_of}
 use Rattle.nest_core.specs.declared.stage.Stage.{Stage}
-use Rattle.nest_core.specs.Chains.{last_departed, chain_logs}
+use Rattle.nest_spec.specs.Chains.{last_departed, chain_logs}
 use Rattle.nest_core.specs.Worlds.{WorldParts}
 use Rattle.nest_core.specs.WorldSteps.{actors_of, step_of}
 

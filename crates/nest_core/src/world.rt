@@ -82,9 +82,9 @@ impl<'a> World<'a> {
         })
     }
 
-    /// How many actors it has: 4 k + 2 for k shells. They are numbered from 0: the source is 0; the feeder of the
-    /// j-th shell that packets pass, which is counted from 1, is 4 j - 3 where it receives and 4 j - 2 where it
-    /// feeds; its drain is 4 j - 1 where it takes and 4 j where it sends; the collector is 4 k + 1.
+    /// How many actors it has: 4 k + 2 for k shells. They are numbered from 0: the source is 0; shell j, counted from 0
+    /// in the order in which packets pass, has 4 j + 1, where its feeder receives, 4 j + 2, where that feeds, 4 j + 3,
+    /// where its drain takes, and 4 j + 4, where that sends; the collector is 4 k + 1.
     pub fn actors(&self) -> u32
         ensures count { result ≡ actors_of self.now }
         ensures most { result ≤ 34 }

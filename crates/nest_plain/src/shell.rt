@@ -10,7 +10,8 @@ ghost use Rattle.nest_spec.specs.Fates.{fated};
 ghost use Rattle.nest_spec.specs.Links.{AreBuilt, NamedAreLinks, specs_in};
 ghost use Rattle.nest_spec.specs.Marks.{ids_of, marked_through, passed};
 ghost use Rattle.nest_spec.specs.Nests.{AllFit};
-ghost use Rattle.nest_spec.specs.Walk.{step, walk, whole_inside, named_log};
+ghost use Rattle.shell_core.specs.Shells.{whole_inside};
+ghost use Rattle.nest_spec.specs.Walk.{step, walk, named_log};
 ghost use Rattle.nest_plain.specs.Unwritten.{unwritten_log};
 
 use crate::nest_run::UnwrittenLog;

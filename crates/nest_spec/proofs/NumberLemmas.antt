@@ -4,13 +4,13 @@ use Rattle.std.proofs.Common.{length, refl, arith}
 use Rattle.std.specs.List.{list_any}
 use Rattle.packet_record.specs.declared.packet.Packet.{Packet}
 use Rattle.packet_record.specs.declared.packet.Timed.{Timed}
-use Rattle.link_core.specs.Numbers.{number}
+use Rattle.packet_record.specs.Packets.{number}
 use Rattle.shell_core.specs.declared.spec.DirSpec.{DirSpec}
 use Rattle.shell_core.specs.Shells.{IsBuilt, opportunities, whole_out, whole_lost}
 use Rattle.shell_core.proofs.Once.{number_once}
 use Rattle.nest_spec.specs.Fates.{find_id}
 use Rattle.nest_spec.specs.Marks.{ids_of}
-use Rattle.nest_spec.specs.Walk.{whole_inside}
+use Rattle.shell_core.specs.Shells.{whole_inside}
 
 abbrev pub is_id : ℕ → Packet → Bool
 is_id id p = eqb p.id id

@@ -12,7 +12,7 @@ use Rattle.packet_record.specs.declared.item.Stream.{Stream}
 use Rattle.nest_spec.specs.declared.shell.ShellDirection.{ShellDirection}
 use Rattle.nest_spec.specs.Links.{specs_in}
 use Rattle.nest_spec.specs.Passed.{HavePassed}
-use Rattle.nest_spec.specs.Walk.{whole_inside}
+use Rattle.shell_core.specs.Shells.{whole_inside}
 
 pub record HasRun (c : DirSpec) (h : ℕ) (arrived : List Timed) (s : State) : Type 0 where
   pub departed : s.taken.packets ≡ whole_out c h arrived

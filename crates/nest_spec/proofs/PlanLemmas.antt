@@ -4,7 +4,7 @@ use Rattle.std.proofs.Common.{length, Option, Some, None, Result, Ok, Err, optio
 use Rattle.std.proofs.Common.{sym, subst, ◌∙◌, arith, rules, tests, length-append}
 use Rattle.packet_record.specs.declared.packet.Direction.{Direction}
 use Rattle.mm_base.specs.Numbers.{decimal_of}
-use Rattle.nest_spec.specs.RateValues.{rate_value}
+use Rattle.loss_core.specs.RateValues.{rate_value}
 use Rattle.nest_spec.specs.Words.{Text, next, and_then, ShellRead, shell_read, delay_ms, delay_words, loss_direction}
 use Rattle.nest_spec.specs.Words.{loss_rate, rate_words, loss_words, nothing_given, LinkRead, link_from, queue_given}
 use Rattle.nest_spec.specs.Words.{side_words, queues_read, traces_read, link_end, link_words, kind_of, shell_words}

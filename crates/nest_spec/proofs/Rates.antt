@@ -7,7 +7,7 @@ use Rattle.loss_core.specs.Rates.{rate_of, in_range, billionths_of, parts_of}
 use Rattle.loss_core.specs.declared.rate.Rate.{Rate}
 use Rattle.loss_core.specs.declared.rate.RateError.{RateError}
 use Rattle.loss_core.specs.declared.rate.RateError.TheVariants.{AboveOne}
-use Rattle.nest_spec.specs.RateValues.{rate_within, rate_from, rate_value}
+use Rattle.loss_core.specs.RateValues.{rate_within, rate_from, rate_value}
 
 abbrev rate : (b : ℕ) → b ≤ 1000000000 → Rate
 rate b most = record { billionths = b; most = most }

@@ -8,7 +8,7 @@ use Rattle.packet_record.specs.Rows.{goes, entering}
 use Rattle.nest_spec.specs.declared.fate.Fate.{Fate}
 use Rattle.nest_spec.specs.declared.fate.Fate.TheVariants.{Unsent}
 use Rattle.nest_spec.specs.Links.{AreBuilt}
-use Rattle.nest_spec.specs.Passed.{AreApart}
+use Rattle.packet_record.specs.Rows.{AreApart}
 use Rattle.nest_spec.specs.Fates.{fated, fate_in}
 use Rattle.std.proofs.lemmas.List.{length-map}
 use Rattle.shell_log.specs.declared.entry.Entry.{Entry}

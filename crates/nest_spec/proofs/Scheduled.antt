@@ -2,7 +2,7 @@
 use Rattle.std.proofs.Common.{◌≡◌, ℕ, zero, suc, ◌+◌, ◌<◌, List, [], ◌∷◌, length, get_or, arith}
 use Rattle.packet_record.specs.declared.packet.Row.{Row}
 use Rattle.packet_record.specs.Orders.{AreInOrder, IsSchedule}
-use Rattle.nest_spec.specs.Passed.{AreApart}
+use Rattle.packet_record.specs.Rows.{AreApart}
 use Rattle.nest_spec.specs.Index.{AreFromOne}
 
 id_at : (place low : ℕ) (rows : List Row) (i : ℕ) (d : Row) → AreInOrder place low rows → i < length rows

@@ -1,5 +1,4 @@
 pub mod FateTexts
-pub mod RateValues
 pub mod NestFaults
 pub mod Words
 pub mod Plans
@@ -20,3 +19,4 @@ pub mod NestViews
 pub mod PlanViews
 pub mod ResultViews
 pub mod ShellViews
+pub mod Chains

@@ -1,4 +1,4 @@
--- For proofs: what holds of the directions of a nest's shells.
+-- What holds of the directions of a nest's shells.
 use Rattle.std.specs.Prelude.{List, [], ◌∷◌, IsSome, map}
 use Rattle.shell_core.specs.declared.spec.DirSpec.{DirSpec}
 use Rattle.shell_core.specs.Shells.{IsBuilt}

@@ -6,7 +6,7 @@ use Rattle.packet_record.specs.declared.packet.Timed.{Timed}
 use Rattle.packet_record.specs.declared.packet.Row.{Row}
 use Rattle.packet_record.specs.declared.packet.Direction.TheVariants.{Up, Down}
 use Rattle.packet_record.specs.Rows.{entering}
-use Rattle.link_core.specs.Numbers.{number}
+use Rattle.packet_record.specs.Packets.{number}
 use Rattle.nest_spec.specs.declared.fate.Fate.{Fate}
 use Rattle.nest_spec.specs.declared.fate.Fate.TheVariants.{Departed, Dropped, Inside, Unsent}
 use Rattle.nest_spec.specs.declared.fate.FateRow.{FateRow}

@@ -1,17 +1,13 @@
 -- The walk of packets through shells, step by step in the order in which they pass them. What a run gives is said over
 -- its steps.
-use Rattle.std.specs.Prelude.{ℕ, List, [], ◌∷◌, ◌++◌, Option, length, map, reverse, option_map, option_to_list}
+use Rattle.std.specs.Prelude.{ℕ, List, [], ◌∷◌, ◌++◌, Option, map, reverse, option_map, option_to_list}
 use Rattle.std.specs.List.{flat_map, zip}
 use Rattle.packet_record.specs.declared.packet.Timed.{Timed}
 use Rattle.shell_log.specs.declared.entry.Entry.{Entry}
 use Rattle.shell_core.specs.declared.spec.DirSpec.{DirSpec}
-use Rattle.shell_core.specs.Shells.{opportunities, inside, whole_out, whole_lost, whole_log}
+use Rattle.shell_core.specs.Shells.{whole_out, whole_lost, whole_inside, whole_log}
 use Rattle.nest_spec.specs.declared.shell.ShellDirection.{ShellDirection}
 use Rattle.nest_spec.specs.Words.{Text}
-
--- Inside: the packets that neither departed nor were dropped
-abbrev pub whole_inside : DirSpec → ℕ → List Timed → List Timed
-whole_inside c h arrivals = inside c h (length (opportunities c h)) arrivals
 
 -- One shell on the way: its number, what it does, what arrived, what departed (Out), what was dropped (Lost), what
 -- stays inside (Inside), its log (ShellLog), and the log's name, if it has one.

@@ -12,7 +12,7 @@ use Rattle.packet_queue.specs.declared.spec.QueueSpec.{QueueSpec}
 use Rattle.packet_queue.specs.declared.spec.QueueError.{QueueError}
 use Rattle.loss_core.specs.declared.rate.Rate.{Rate}
 use Rattle.loss_core.specs.declared.rate.RateError.{RateError}
-use Rattle.nest_spec.specs.RateValues.{rate_value}
+use Rattle.loss_core.specs.RateValues.{rate_value}
 use Rattle.nest_spec.specs.declared.error.NestError.{NestError}
 use Rattle.nest_spec.specs.declared.error.NestError.TheVariants as errors
 use Rattle.nest_spec.specs.declared.shell_words.ShellKind.{ShellKind}

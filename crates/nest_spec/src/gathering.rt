@@ -12,7 +12,8 @@ ghost use Rattle.nest_spec.specs.Links.{AreBuilt, NamedAreLinks, specs_in};
 ghost use Rattle.nest_spec.specs.Marks.{marked_through};
 ghost use Rattle.nest_spec.specs.Nests.{directions_of, shells_in, walk_of, result_of};
 ghost use Rattle.nest_spec.specs.Once.{HaveOneFate};
-ghost use Rattle.nest_spec.specs.Passed.{AreApart, HavePassed};
+ghost use Rattle.packet_record.specs.Rows.{AreApart};
+ghost use Rattle.nest_spec.specs.Passed.{HavePassed};
 ghost use Rattle.nest_spec.specs.RunViews.{entries_in, named_by};
 ghost use Rattle.nest_spec.specs.Walk.{walk, named_entries, named_log};
 

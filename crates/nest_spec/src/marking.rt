@@ -4,7 +4,7 @@ ghost use Rattle.packet_record.specs.declared.packet.Row.{Row as RowValue};
 ghost use Rattle.nest_spec.specs.declared.fate.Fate.{Fate as FateValue};
 ghost use Rattle.nest_spec.specs.Fates.{fate_row, fated};
 ghost use Rattle.nest_spec.specs.Marks.{marks, put, marked, held_in, passed};
-ghost use Rattle.nest_spec.specs.Passed.{AreApart};
+ghost use Rattle.packet_record.specs.Rows.{AreApart};
 ghost use Rattle.nest_spec.specs.Places.{ArePlaces};
 
 use crate::mark::{Mark, fate_by};

@@ -1,6 +1,6 @@
 // The places of rows by their numbers.
 ghost use Rattle.std.specs.Prelude.{◌≡◌, ◌≤◌, ◌-◌, ◌+◌, ℕ, length, MatchOption, IfOk};
-ghost use Rattle.nest_spec.specs.Passed.{AreApart};
+ghost use Rattle.packet_record.specs.Rows.{AreApart};
 ghost use Rattle.nest_spec.specs.Index.{IsIndex, IsNowhere, IsOnlyAt, AreFromOne};
 ghost use Rattle.nest_spec.specs.Places.{ArePlaces};
 ghost use Rattle.std.specs.Bool.{OnTrue};

@@ -5,7 +5,7 @@ ghost use Rattle.mm_base.specs.Numbers.{decimal_of};
 ghost use Rattle.nest_spec.specs.Words.{shell_read, delay_ms, delay_words, loss_direction, loss_rate, rate_words};
 ghost use Rattle.nest_spec.specs.Words.{loss_words, queue_given, side_words, queues_read, link_end, link_words};
 ghost use Rattle.nest_spec.specs.Words.{shell_words};
-ghost use Rattle.nest_spec.specs.RateValues.{rate_value};
+ghost use Rattle.loss_core.specs.RateValues.{rate_value};
 ghost use Rattle.nest_spec.specs.LinkViews.{side_given, rest_given};
 ghost use Rattle.nest_spec.specs.ShellViews.{shell_given};
 

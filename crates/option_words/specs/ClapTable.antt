@@ -1,4 +1,4 @@
--- A table of options as clap's command, and the rows of its matches.
+-- For proofs: A table of options as clap's command, and the rows of its matches.
 use Rattle.std.specs.Prelude.{true, false, List, [], ◌∷◌, map, Option, Some, None, codes, if◌then◌else◌, fold}
 use Rattle.clap.specs.Walk.{Row, Rule, with_default}
 use Rattle.clap.specs.Simple.{App, new_app, new_rule, on_top}

@@ -1,4 +1,4 @@
--- What the matches of a parse hold.
+-- For proofs: what the matches of a parse hold.
 use Rattle.std.specs.Prelude.{◌≡◌, List, Option, Some, None}
 use Rattle.clap.specs.Walk.{rows_of}
 use Rattle.clap.specs.Matches.{found_of}

@@ -6,7 +6,8 @@ use Rattle.packet_record.specs.declared.packet.Timed.{Timed}
 use Rattle.packet_queue.specs.declared.spec.QueueKind.{QueueKind}
 use Rattle.packet_queue.specs.declared.spec.QueueKind.TheVariants.{Infinite, DropTail, DropHead}
 use Rattle.packet_queue.specs.declared.spec.QueueSpec.{QueueSpec}
-use Rattle.packet_queue.specs.Queues.{bytes, is_within, fits, fitting, excess, enqueued, enqueued_by, dropped}
+use Rattle.packet_record.specs.Packets.{bytes}
+use Rattle.packet_queue.specs.Queues.{is_within, fits, fitting, excess, enqueued, enqueued_by, dropped}
 use Rattle.packet_queue.specs.Queues.{dropped_by}
 use Rattle.packet_queue.specs.Kept.{AreKept, AreKeptBy}
 use Rattle.packet_queue.proofs.Sizes.{bytes_push, length_push, fit_stays}

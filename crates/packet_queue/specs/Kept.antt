@@ -1,4 +1,4 @@
--- What holds of the packets that wait, whatever came before.
+-- For proofs: what holds of the packets that wait, whatever came before.
 use Rattle.std.specs.Prelude.{◌≡◌, true, List}
 use Rattle.packet_record.specs.declared.packet.Timed.{Timed}
 use Rattle.packet_queue.specs.declared.spec.QueueKind.{QueueKind}

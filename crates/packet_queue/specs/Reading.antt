@@ -1,4 +1,4 @@
--- Reading arguments item by item.
+-- For proofs: reading arguments item by item.
 use Rattle.std.specs.Prelude.{ℕ, ◌==◌, List, [], ◌∷◌, Option, Some, None, Result, Err, option_to_list}
 use Rattle.std.specs.Borrow.{Bor}
 use Rattle.std.specs.List.{slice_split}

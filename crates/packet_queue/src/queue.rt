@@ -2,7 +2,8 @@
 ghost use Rattle.std.specs.Prelude.{◌≡◌, ◌+◌, ◌-◌, ◌*◌, ◌^◌, ◌<◌, ◌≤◌, ◌≢◌, ◌&&◌, ◌++◌, ◌∷◌, [], length, map, IfOk};
 ghost use Rattle.std.specs.Prelude.{OnOk, OnErr, ◌↔◌, IsSome, option_to_list, vec_len, vec_capacity};
 ghost use Rattle.std.specs.VecDeque.{deque_len, deque_capacity};
-ghost use Rattle.packet_queue.specs.Queues.{bytes, is_within, fits, fitting, excess, enqueued, dropped, moved_to};
+ghost use Rattle.packet_record.specs.Packets.{bytes, moved_to};
+ghost use Rattle.packet_queue.specs.Queues.{is_within, fits, fitting, excess, enqueued, dropped};
 ghost use Rattle.packet_queue.specs.View.{Queue};
 ghost use Rattle.packet_queue.specs.Kept.{AreKept};
 
@@ -36,7 +37,7 @@ pub struct PacketQueue {
 impl Model for PacketQueue {
     ghost use Rattle.std.specs.Prelude.{◌≡◌, ◌+◌, ◌^◌, ◌≤◌, length, vec_len, vec_capacity};
     ghost use Rattle.std.specs.VecDeque.{deque_capacity};
-    ghost use Rattle.packet_queue.specs.Queues.{bytes};
+    ghost use Rattle.packet_record.specs.Packets.{bytes};
     ghost use Rattle.packet_queue.specs.View.{Queue};
     ghost use Rattle.packet_queue.specs.Kept.{AreKept};
 

@@ -1,4 +1,4 @@
--- What contracts see of gathered rows.
+-- For proofs: what contracts see of gathered rows.
 use Rattle.packet_record.specs.Gathered.{Gathered, gathered}
 use Rattle.packet_record.specs.Orders.{AreWithin, IsSchedule}
 use Rattle.packet_record.specs.declared.gathering.ScheduleRows.TheInside.{Inside}

@@ -18,3 +18,4 @@ pub mod Gathered
 pub mod Gatherers
 pub mod PartsRead
 pub mod TextReaders
+pub mod Packets

@@ -1,4 +1,4 @@
--- What contracts see of a reader of a schedule.
+-- For proofs: what contracts see of a reader of a schedule.
 use Rattle.std.specs.Prelude.{◌≡◌, ◌≤◌, Some}
 use Rattle.mm_base.specs.declared.limits.TheConstants.{MOST_LINES}
 use Rattle.packet_record.specs.Reading.{Reading}

@@ -1,5 +1,6 @@
 -- The rows of a schedule.
-use Rattle.std.specs.Prelude.{ℕ, ◌≤◌, Bool, true, false, ◌&&◌, List, [], ◌∷◌, nat_le, filter, map}
+use Rattle.std.specs.Prelude.{◌≡◌, ◌<◌, ℕ, ◌≤◌, Bool, true, false, ◌&&◌, List, [], ◌∷◌, nat_le, filter, map}
+use Rattle.std.specs.Prelude.{length, get_or}
 use Rattle.packet_record.specs.declared.packet.Timed.{Timed}
 use Rattle.packet_record.specs.declared.packet.Row.{Row}
 use Rattle.packet_record.specs.declared.packet.Direction.{Direction}
@@ -20,3 +21,8 @@ entering d horizon rows =
 abbrev pub Rises : ℕ → List Row → Type 0
 Rises bound [] = Unit {0}
 Rises bound (r ∷ rs) = (bound ≤ r.timed.moment) × Rises r.timed.moment rs
+
+-- no two rows have one number
+abbrev pub AreApart : List Row → Type 0
+AreApart rows = (i j : ℕ) (d : Row) → i < length rows → j < length rows
+    → (get_or rows i d).timed.packet.id ≡ (get_or rows j d).timed.packet.id → i ≡ j

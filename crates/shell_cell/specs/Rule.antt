@@ -1,4 +1,4 @@
--- What stands in the table at every moment, and what each step tells the seat that makes it.
+-- For proofs: what stands in the table at every moment, and what each step tells the seat that makes it.
 use Rattle.std.specs.Prelude.{◌≡◌, ◌≢◌, ℕ, suc, ◌+◌, ◌*◌, ◌<◌, List, [], ◌∷◌, ◌++◌, Bool, true, false, ◌||◌, Option}
 use Rattle.std.specs.Prelude.{Some, None, All, ◌⊎◌}
 use mathlib.Core.Option.{some, none}

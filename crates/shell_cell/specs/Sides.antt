@@ -1,4 +1,4 @@
--- A cell and its seats by their parts.
+-- For proofs: A cell and its seats by their parts.
 use Rattle.std.specs.Prelude.{◌≡◌, [], None}
 use Rattle.shell_cell.specs.declared.view.Role.TheVariants.{Feeder, Drain}
 use Rattle.shell_cell.specs.declared.cell.ShellCell.TheInside.{Inside as CellInside}

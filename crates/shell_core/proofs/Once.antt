@@ -10,7 +10,7 @@ use Rattle.trace_reader.specs.declared.opportunity.Opportunity.{Opportunity}
 use Rattle.trace_reader.specs.Opps.{opps}
 use Rattle.trace_reader.specs.Orders.{AreRising}
 use Rattle.trace_reader.proofs.OppsLaws.{opps_rising}
-use Rattle.link_core.specs.Numbers.{number}
+use Rattle.packet_record.specs.Packets.{number}
 use Rattle.link_core.specs.Links.{link_out, link_lost, link_inside}
 use Rattle.link_core.proofs.Turned.{reverse_cons}
 use Rattle.link_core.proofs.InOrder.{out_is, lost_is, inside_is, falling_turned}

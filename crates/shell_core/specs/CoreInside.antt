@@ -1,4 +1,4 @@
--- How the cores of each kind are seen as one.
+-- For proofs: how the cores of each kind are seen as one.
 use Rattle.std.specs.Prelude.{◌≡◌, ◌≤◌, ℕ, List, []}
 use Rattle.packet_record.specs.declared.packet.Timed.{Timed}
 use Rattle.loss_core.specs.Losses.{cha_word}

@@ -1,4 +1,4 @@
--- What was taken of the departures.
+-- For proofs: what was taken of the departures.
 use Rattle.std.specs.Prelude.{◌+◌, ◌<◌, ◌^◌, ℕ}
 use Rattle.packet_record.specs.declared.item.Item.{Item}
 use Rattle.packet_record.specs.declared.item.Item.TheVariants.{Packet, Mark, End, Broken}

@@ -4,3 +4,4 @@ pub mod Traces
 pub mod TraceText
 pub mod Reading
 pub mod Made
+pub mod TraceIn

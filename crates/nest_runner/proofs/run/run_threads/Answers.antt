@@ -2,7 +2,7 @@ use Rattle.std.proofs.Common.{List, sym, subst}
 use Rattle.packet_record.specs.declared.packet.Row.{Row}
 use Rattle.packet_record.specs.Rows.{Rises}
 use Rattle.packet_record.proofs.RowsLemmas.{rises-in_order}
-use Rattle.nest_spec.specs.Passed.{AreApart}
+use Rattle.packet_record.specs.Rows.{AreApart}
 use Rattle.nest_spec.proofs.Scheduled.{apart}
 use Rattle.nest_runner.proofs.Chains.{still_wired}
 use Rattle.nest_runner.proofs.run.run_threads.Goals as goal

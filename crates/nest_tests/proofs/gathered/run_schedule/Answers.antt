@@ -1,7 +1,7 @@
 use Rattle.std.proofs.Common.{subst, sym}
 use Rattle.packet_record.specs.Rows.{Rises}
 use Rattle.packet_record.proofs.RowsLemmas.{rises-in_order}
-use Rattle.nest_spec.specs.Passed.{AreApart}
+use Rattle.packet_record.specs.Rows.{AreApart}
 use Rattle.nest_spec.proofs.Scheduled.{apart}
 use Rattle.nest_tests.proofs.gathered.run_schedule.Goals as goal
 

@@ -1,6 +1,7 @@
 use Rattle.std.proofs.Common.{◌≡◌, ◌++◌, List, ◌∷◌, [], length, take, map, arith, ap, ◌∙◌}
 use Rattle.packet_record.specs.declared.packet.Timed.{Timed}
-use Rattle.packet_queue.specs.Queues.{enqueued, dropped, moved_to}
+use Rattle.packet_record.specs.Packets.{moved_to}
+use Rattle.packet_queue.specs.Queues.{enqueued, dropped}
 use Rattle.packet_queue.specs.View.{Queue}
 use Rattle.shell_log.specs.declared.entry.Entry.TheVariants as entries
 use Rattle.link_core.specs.Written.{written}

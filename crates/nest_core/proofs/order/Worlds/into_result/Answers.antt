@@ -1,6 +1,6 @@
 use Rattle.std.proofs.Common.{List, sym, subst}
 use Rattle.packet_record.specs.declared.packet.Row.{Row}
-use Rattle.nest_spec.specs.Passed.{AreApart}
+use Rattle.packet_record.specs.Rows.{AreApart}
 use Rattle.nest_spec.proofs.Scheduled.{apart}
 use Rattle.nest_core.proofs.order.Worlds.into_result.Goals as goal
 

@@ -1,5 +1,6 @@
 use Rattle.std.proofs.Common.{◌++◌, ◌∷◌, [], ap, arith}
-use Rattle.packet_queue.specs.Queues.{bytes, excess}
+use Rattle.packet_record.specs.Packets.{bytes}
+use Rattle.packet_queue.specs.Queues.{excess}
 use Rattle.packet_queue.specs.View.{Queue}
 use Rattle.packet_queue.proofs.Sizes.{by_head}
 use Rattle.packet_queue.proofs.Limits.{few_dropped}
