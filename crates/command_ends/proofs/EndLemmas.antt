@@ -54,6 +54,29 @@ module _ {A N : Type 0} (work : A → Work N) (reading : Reading A) where
       → Ends work reading (outside old out net) (outside new out net) (Some OutOfMemory)
   ends_early old new out net keep = Early (unchanged old new out net keep)
 
+  -- writing the files of an output stopped at one of them
+  pub ends_unwritten : (old mid new : DiskView) (out : SinkView) (net after : N) (output : Output) (cause : Cause)
+      → Finishes work reading old.files net after output → OnlyReads old mid
+      → StopsWriting output.files mid new cause
+      → Ends work reading (outside old out net) (outside new out after) (Some cause)
+  ends_unwritten old mid new out net after output cause finishes reads stopped =
+      let partly : IsPartlyWritten work reading (outside old out net) (outside new out after) stopped.name = record {
+        output = output;
+        finishes = finishes;
+        held = subst (λ (told : Option Files). HoldsFirst output.files told new.files stopped.name) reads.same_files
+            stopped.holds;
+        silent = refl;
+      } in
+      elim stopped.refused [
+        | inl e ↦ subst (λ (c : Cause). Ends work reading (outside old out net) (outside new out after) (Some c))
+            (sym e) (Writing stopped.name partly)
+        | inr p ↦
+            let fault : HasWriteFault work reading (outside old out net) (outside new out after) stopped.name =
+            record { partly = partly; rose = subst (λ n. Rose n new.write_faults) reads.writes p.1 } in
+            subst (λ (c : Cause). Ends work reading (outside old out net) (outside new out after) (Some c)) (sym p.0)
+            fault
+      ]
+
   -- the files are written, or some of them
   pub ends_written : {T : Type 0} (old mid new : DiskView) (out : SinkView) (net after : N) (files : List NamedText)
       (result : Result T Cause) → Finishes work reading old.files net after (writes files)
@@ -71,44 +94,32 @@ module _ {A N : Type 0} (work : A → Work N) (reading : Reading A) where
       nothing_sent None = refl
       nothing_sent (Some bytes) = ap Some (sym (append-nil bytes))
   ends_written old mid new out net after files (Err cause) finishes reads ok stopped =
-      let partly : IsPartlyWritten work reading (outside old out net) (outside new out after) stopped.name = record {
-        output = writes files;
-        finishes = finishes;
-        held = subst (λ (told : Option Files). HoldsFirst files told new.files stopped.name) reads.same_files
-            stopped.holds;
-        silent = refl;
-      } in
-      elim stopped.refused [
-        | inl e ↦ subst (λ (c : Cause). Ends work reading (outside old out net) (outside new out after) (Some c))
-            (sym e) (Writing stopped.name partly)
-        | inr p ↦
-            let fault : HasWriteFault work reading (outside old out net) (outside new out after) stopped.name =
-            record { partly = partly; rose = subst (λ n. Rose n new.write_faults) reads.writes p.1 } in
-            subst (λ (c : Cause). Ends work reading (outside old out net) (outside new out after) (Some c)) (sym p.0)
-            fault
-      ]
+      ends_unwritten old mid new out net after (writes files) cause finishes reads stopped
 
-  -- the text is printed, or a front of it
-  pub ends_printed : {T : Type 0} (old new : Outside N) (text : List ℕ) (result : Result T Cause)
-      → Finishes work reading old.disk.files old.net new.net (prints text)
-      → KeepsFiles old.disk new.disk → OnOk result (new.out.written ≡ sending text old.out.written)
-      → IfErr result (λ cause. StopsPrinting text old.out new.out cause)
+  -- the files of an output are whole, and its text is printed, or a front of it
+  pub ends_whole : {T : Type 0} (old new : Outside N) (output : Output) (result : Result T Cause)
+      → Finishes work reading old.disk.files old.net new.net output
+      → new.disk.files ≡ holding_all output.files old.disk.files
+      → (output.files ≡ [] → new.disk.write_faults ≡ old.disk.write_faults)
+      → OnOk result (new.out.written ≡ sending output.printed old.out.written)
+      → IfErr result (λ cause. StopsPrinting output.printed old.out new.out cause)
       → Ends work reading old new (cause_in result)
-  ends_printed old new text (Ok value) finishes keep ok stopped = record {
-    output = prints text;
+  ends_whole old new output (Ok value) finishes written faults ok stopped = record {
+    output = output;
     finishes = finishes;
-    written = keep.files;
+    written = written;
     printed = ok;
   }
-  ends_printed old new text (Err cause) finishes keep ok stopped =
+  ends_whole old new output (Err cause) finishes written faults ok stopped =
       let partly : IsPartlyPrinted work reading old new =
       record {
-        output = prints text;
+        output = output;
         finishes = finishes;
         count = stopped.count;
         short = stopped.short;
         front = stopped.front;
-        keeps = keep;
+        written = written;
+        faults = faults;
       } in
       elim stopped.refused [
         | inl e ↦ subst (λ (c : Cause). Ends work reading old new (Some c)) (sym e) (Printing partly)
@@ -116,6 +127,15 @@ module _ {A N : Type 0} (work : A → Work N) (reading : Reading A) where
             let fault : HasOutFault work reading old new = record { partly = partly; rose = p.1 } in
             subst (λ (c : Cause). Ends work reading old new (Some c)) (sym p.0) fault
       ]
+
+  -- the same of a command that writes no files
+  pub ends_printed : {T : Type 0} (old new : Outside N) (text : List ℕ) (result : Result T Cause)
+      → Finishes work reading old.disk.files old.net new.net (prints text)
+      → KeepsFiles old.disk new.disk → OnOk result (new.out.written ≡ sending text old.out.written)
+      → IfErr result (λ cause. StopsPrinting text old.out new.out cause)
+      → Ends work reading old new (cause_in result)
+  ends_printed old new text result finishes keep ok stopped =
+      ends_whole old new (prints text) result finishes keep.files (λ none. keep.faults) ok stopped
 
 -- a task that touches no net is finished
 pub finishes_only : {A : Type 0} (reading : Reading A) (Gives : A → Output → Type 0) (task : A) (told : Option Files)

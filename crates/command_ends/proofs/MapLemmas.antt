@@ -9,7 +9,7 @@ use Rattle.command_ends.specs.Outputs.{Output}
 use Rattle.command_ends.specs.Readings.{Reading, Done, Refuses, Reads, Judges, Reaches, ReachesPast, input_of}
 use Rattle.command_ends.specs.Readings.{Stop, AtTask, AtRefusal, AtFile, map_reading}
 use Rattle.command_ends.specs.Works.{Work, only}
-use Rattle.command_ends.proofs.ReadingLemmas.{RefusesNoWords, RefusesWordsFirst}
+use Rattle.command_ends.proofs.ReadingLemmas.{HasOneEnd, RefusesNoWords, RefusesWordsFirst}
 use Rattle.command_ends.specs.declared.cause.Refusal.{Refusal}
 use Rattle.command_ends.specs.declared.cause.Cause.{Cause}
 use Rattle.command_ends.specs.declared.cause.Cause.TheVariants.{Refused, ReadFault, WriteFault, OutFault, NetFault}
@@ -57,6 +57,14 @@ first_mapped f (Done task) first = tt
 first_mapped f (Refuses refusal) first = tt
 first_mapped f (Reads name next) first = λ bytes. no_words_mapped f (next bytes) (first bytes)
 first_mapped f (Judges Says next) first = (first.0, no_words_mapped f next first.1)
+
+-- and it is one end as it was
+pub one_end_mapped : {A B : Type 0} (f : A → B) (reading : Reading A) → HasOneEnd reading
+    → HasOneEnd (map_reading f reading)
+one_end_mapped f (Done task) one = tt
+one_end_mapped f (Refuses refusal) one = tt
+one_end_mapped f (Reads name next) one = λ bytes. one_end_mapped f (next bytes) (one bytes)
+one_end_mapped f (Judges Says next) one = (one.0, one_end_mapped f next one.1)
 
 -- What a task does between these two views of its net, another does between those two of its own.
 pub record Widens {A B N M : Type 0} (f : A → B) (work : A → Work N) (whole : B → Work M) (old new : N)
@@ -109,7 +117,8 @@ module _ {A B N M : Type 0} (f : A → B) (work : A → Work N) (whole : B → W
     count = e.count;
     short = e.short;
     front = e.front;
-    keeps = e.keeps;
+    written = e.written;
+    faults = e.faults;
   }
 
   -- so a command's end is the whole program's

@@ -72,10 +72,22 @@ AreAlike None (Some b) = ⊥
 AreAlike (Some a) None = ⊥
 AreAlike (Some a) (Some b) = status_of_refusal a ≡ status_of_refusal b
 
+-- A judgement accepts, or refuses with one status.
+abbrev pub JudgesAlike : (Option Refusal → Type 0) → Type 0
+JudgesAlike Says = (a b : Option Refusal) → Says a → Says b → AreAlike a b
+
 -- A judgement accepts, or refuses with one status, and refuses no words.
 pub record IsJudgement (Says : Option Refusal → Type 0) : Type 0 where
   pub no_words : (refusal : Refusal) → Says (Some refusal) → status_of_refusal refusal ≢ 2
-  pub alike : (a b : Option Refusal) → Says a → Says b → AreAlike a b
+  pub alike : JudgesAlike Says
+
+-- Each judgement accepts, or refuses with one status, so that files that are told have one end. Words may be refused
+-- after files are read.
+abbrev pub HasOneEnd : {A : Type 0} → Reading A → Type 0
+HasOneEnd (Done task) = Unit {0}
+HasOneEnd (Refuses refusal) = Unit {0}
+HasOneEnd (Reads name next) = (bytes : List ℕ) → HasOneEnd (next bytes)
+HasOneEnd (Judges Says next) = JudgesAlike Says × HasOneEnd next
 
 -- after these bytes are read no words are refused, and judgements accept or refuse
 abbrev pub RefusesNoWords : {A : Type 0} → Reading A → Type 0
@@ -176,30 +188,36 @@ one_past m next s t (Ok bytes) one x a b = one bytes a b
 one_past m next s t (Err refusal) one x a b = end_one s t (AtRefusal refusal) a b x
 
 -- files that are told have one end
-pub one_end : {A : Type 0} (m : Files) (reading : Reading A) (s t : Stop A) → RefusesNoWords reading
+pub one_end : {A : Type 0} (m : Files) (reading : Reading A) (s t : Stop A) → HasOneEnd reading
     → Reaches (Some m) reading s → Reaches (Some m) reading t → IsLast s → IsLast t → EndAlike s t
-one_end m (Done task) s t none a b x y = end_one s t (AtTask task) a b x
-one_end m (Refuses refusal) s t none a b x y = end_one s t (AtRefusal refusal) a b x
-one_end {A} m (Reads name next) s t none (inl e) b x y = absurd (subst (λ (k : Stop A). IsLast k) e x)
-one_end {A} m (Reads name next) s t none (inr p) (inl e) x y = absurd (subst (λ (k : Stop A). IsLast k) e y)
-one_end m (Reads name next) s t none (inr p) (inr q) x y =
+one_end m (Done task) s t single a b x y = end_one s t (AtTask task) a b x
+one_end m (Refuses refusal) s t single a b x y = end_one s t (AtRefusal refusal) a b x
+one_end {A} m (Reads name next) s t single (inl e) b x y = absurd (subst (λ (k : Stop A). IsLast k) e x)
+one_end {A} m (Reads name next) s t single (inr p) (inl e) x y = absurd (subst (λ (k : Stop A). IsLast k) e y)
+one_end m (Reads name next) s t single (inr p) (inr q) x y =
     let same : p.0 ≡ q.0 = sym (p.1 m refl) ∙ q.1 m refl in
-    one_past m next s t (input_of name q.0) (λ bytes a b. one_end m (next bytes) s t (none bytes) a b x y) x
+    one_past m next s t (input_of name q.0) (λ bytes a b. one_end m (next bytes) s t (single bytes) a b x y) x
     (subst (λ (given : Option (List ℕ)). ReachesPast (λ b. Reaches (Some m) (next b) s) (input_of name given) s)
     same p.2) q.2
-one_end m (Judges Says next) s t none (inl p) (inl q) x y = one_end m next s t none.1 p.1 q.1 x y
-one_end m (Judges Says next) s t none (inl p) (inr q) x y = absurd (none.0.alike None (Some q.0) p.0 q.1)
-one_end m (Judges Says next) s t none (inr p) (inl q) x y = absurd (none.0.alike (Some p.0) None p.1 q.0)
-one_end {A} m (Judges Says next) s t none (inr p) (inr q) x y =
+one_end m (Judges Says next) s t single (inl p) (inl q) x y = one_end m next s t single.1 p.1 q.1 x y
+one_end m (Judges Says next) s t single (inl p) (inr q) x y = absurd (single.0 None (Some q.0) p.0 q.1)
+one_end m (Judges Says next) s t single (inr p) (inl q) x y = absurd (single.0 (Some p.0) None p.1 q.0)
+one_end {A} m (Judges Says next) s t single (inr p) (inr q) x y =
     subst (λ (k : Stop A). EndAlike k t) (sym p.2)
-    (subst (λ (k : Stop A). EndAlike (AtRefusal p.0) k) (sym q.2) (none.0.alike (Some p.0) (Some q.0) p.1 q.1))
+    (subst (λ (k : Stop A). EndAlike (AtRefusal p.0) k) (sym q.2) (single.0 (Some p.0) (Some q.0) p.1 q.1))
 
-pub one_end_first : {A : Type 0} (m : Files) (reading : Reading A) (s t : Stop A) → RefusesWordsFirst reading
-    → Reaches (Some m) reading s → Reaches (Some m) reading t → IsLast s → IsLast t → EndAlike s t
-one_end_first m (Done task) s t first a b x y = end_one s t (AtTask task) a b x
-one_end_first m (Refuses refusal) s t first a b x y = end_one s t (AtRefusal refusal) a b x
-one_end_first m (Reads name next) s t first a b x y = one_end m (Reads name next) s t first a b x y
-one_end_first m (Judges Says next) s t first a b x y = one_end m (Judges Says next) s t first a b x y
+no_words_one : {A : Type 0} (reading : Reading A) → RefusesNoWords reading → HasOneEnd reading
+no_words_one (Done task) none = tt
+no_words_one (Refuses refusal) none = tt
+no_words_one (Reads name next) none = λ bytes. no_words_one (next bytes) (none bytes)
+no_words_one (Judges Says next) none = (none.0.alike, no_words_one next none.1)
+
+-- what refuses words first has one end
+pub first_one : {A : Type 0} (reading : Reading A) → RefusesWordsFirst reading → HasOneEnd reading
+first_one (Done task) first = tt
+first_one (Refuses refusal) first = tt
+first_one (Reads name next) first = λ bytes. no_words_one (next bytes) (first bytes)
+first_one (Judges Says next) first = (first.0.alike, no_words_one next first.1)
 
 pub unless_no_words : {A : Type 0} (found : Option Refusal) (next : Reading A)
     → ((refusal : Refusal) → found ≡ Some refusal → status_of_refusal refusal ≢ 2) → RefusesNoWords next

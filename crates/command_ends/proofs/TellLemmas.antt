@@ -1,5 +1,5 @@
 -- What an end and its explanation say of the status.
-use Rattle.std.proofs.Common.{◌≡◌, ◌≢◌, ◌⊎◌, inl, inr, ℕ, ◌<◌, ◌≤◌, List, Option, Some, None, Ok, Err, length, subst}
+use Rattle.std.proofs.Common.{◌≡◌, ◌≢◌, ◌⊎◌, inl, inr, ℕ, ◌<◌, ◌≤◌, List, Option, Some, None, length, subst}
 use Rattle.std.proofs.Common.{refl, ap, sym, ◌∙◌, arith}
 use Rattle.mm_base.specs.Counts.{Rose}
 use Rattle.mm_base.specs.Disk.{DiskView}
@@ -17,7 +17,7 @@ use Rattle.command_ends.specs.declared.cause.Cause.TheVariants.{OutOfMemory}
 use Rattle.command_ends.specs.declared.cause.Refusal.{Refusal}
 use Rattle.command_ends.specs.declared.cause.Refusal.TheVariants.{Words, Absent, BadInput, Limit}
 use Rattle.command_ends.specs.declared.cause.WordsRefusal.{WordsRefusal}
-use Rattle.command_ends.proofs.ReadingLemmas.{RefusesWordsFirst, IsLast, EndAlike, first_kept, one_end_first}
+use Rattle.command_ends.proofs.ReadingLemmas.{HasOneEnd, RefusesWordsFirst, IsLast, EndAlike, first_kept, one_end}
 use Rattle.command_ends.proofs.ReadingLemmas.{words_first}
 
 -- the words' refusal, where the status is 2
@@ -76,6 +76,7 @@ module _ {A N : Type 0} (work : A → Work N) (reading : Reading A) (old : Outsi
         ended = mid;
         ends = ends;
         explains = c.explains other;
+        more = c.counts.grows;
       }
 
   pub tells_stopped : (answer : Option Cause) (status : ℕ) → Ends work reading old (outside disk mid net) answer
@@ -90,10 +91,12 @@ module _ {A N : Type 0} (work : A → Work N) (reading : Reading A) (old : Outsi
         count = s.2;
         front = s.3;
         cut = s.4;
+        more = c.counts.grows;
       }
 
   -- what holds at the statuses by themselves
   pub record Tells (status : ℕ) : Type 0 where
+    pub words : status ≡ 2 → (w : WordsRefusal) × Reaches old.disk.files reading (AtRefusal (Words w))
     pub usage : status ≡ 2 → RefusesWordsFirst reading → (w : WordsRefusal) × (refused_first reading ≡ Some (Words w))
     pub absent : status ≡ 3 → Rose old.disk.absences disk.absences
     pub read_fault : status ≡ 6 → Rose old.disk.read_faults disk.read_faults
@@ -102,10 +105,10 @@ module _ {A N : Type 0} (work : A → Work N) (reading : Reading A) (old : Outsi
     pub keeps : status ≢ 0 → status ≢ 7 → status ≢ 9 → KeepsFiles old.disk disk
     pub by_words : (refusal : Refusal) → refused_first reading ≡ Some refusal → (status ≡ status_of_refusal refusal)
         ⊎ (status ≡ 9)
-    pub by_files : (m : Files) (refusal : Refusal) → RefusesWordsFirst reading → old.disk.files ≡ Some m
+    pub by_files : (m : Files) (refusal : Refusal) → HasOneEnd reading → old.disk.files ≡ Some m
         → Reaches (Some m) reading (AtRefusal refusal) → ¬ Rose old.disk.read_faults disk.read_faults
         → (status ≡ status_of_refusal refusal) ⊎ (status ≡ 9)
-    pub complete : (m : Files) (task : A) → RefusesWordsFirst reading → old.disk.files ≡ Some m
+    pub complete : (m : Files) (task : A) → HasOneEnd reading → old.disk.files ≡ Some m
         → Reaches (Some m) reading (AtTask task) → IsFaultless work task old (outside disk out net)
         → (status ≡ 0) ⊎ (status ≡ 9)
 
@@ -115,15 +118,15 @@ module _ {A N : Type 0} (work : A → Work N) (reading : Reading A) (old : Outsi
   status_at wanted status cause e (inr nine) = inr nine
 
   -- where the files lead is where they are told to
-  one : (m : Files) (stop wanted : Stop A) → RefusesWordsFirst reading → old.disk.files ≡ Some m
+  one : (m : Files) (stop wanted : Stop A) → HasOneEnd reading → old.disk.files ≡ Some m
       → Reaches old.disk.files reading stop → Reaches (Some m) reading wanted → IsLast stop → IsLast wanted
       → EndAlike stop wanted
-  one m stop wanted first told r w x y =
-      one_end_first m reading stop wanted first (subst (λ (f : Option Files). Reaches f reading stop) told r) w x y
+  one m stop wanted single told r w x y =
+      one_end m reading stop wanted single (subst (λ (f : Option Files). Reaches f reading stop) told r) w x y
 
-  same_task : (m : Files) (task led : A) → RefusesWordsFirst reading → old.disk.files ≡ Some m
+  same_task : (m : Files) (task led : A) → HasOneEnd reading → old.disk.files ≡ Some m
       → Reaches (Some m) reading (AtTask task) → Reaches old.disk.files reading (AtTask led) → led ≡ task
-  same_task m task led first told w r = one m (AtTask led) (AtTask task) first told r w tt tt
+  same_task m task led single told w r = one m (AtTask led) (AtTask task) single told r w tt tt
 
   -- and nothing is refused
   led_first : (refusal : Refusal) (led : A) → refused_first reading ≡ Some refusal
@@ -131,12 +134,13 @@ module _ {A N : Type 0} (work : A → Work N) (reading : Reading A) (old : Outsi
   led_first refusal led e read =
       let no : AtTask led ≡ AtRefusal refusal = first_kept old.disk.files reading (AtTask led) refusal e read in cc no
 
-  led_told : (m : Files) (refusal : Refusal) (led : A) → RefusesWordsFirst reading → old.disk.files ≡ Some m
+  led_told : (m : Files) (refusal : Refusal) (led : A) → HasOneEnd reading → old.disk.files ≡ Some m
       → Reaches (Some m) reading (AtRefusal refusal) → Reaches old.disk.files reading (AtTask led) → ⊥
-  led_told m refusal led first told w r = one m (AtTask led) (AtRefusal refusal) first told r w tt tt
+  led_told m refusal led single told w r = one m (AtTask led) (AtRefusal refusal) single told r w tt tt
 
   tells_none : Ends work reading old (outside disk mid net) None → Tells 0
   tells_none ends = record {
+    words = λ e. absurd (omega arith);
     usage = λ e _. absurd (omega arith);
     absent = λ e. absurd (omega arith);
     read_fault = λ e. absurd (omega arith);
@@ -144,14 +148,17 @@ module _ {A N : Type 0} (work : A → Work N) (reading : Reading A) (old : Outsi
     net_fault = λ e. absurd (omega arith);
     keeps = λ a _ _. absurd (a refl);
     by_words = λ refusal e. absurd (led_first refusal ends.finishes.task e ends.finishes.read);
-    by_files = λ m refusal first told e _. absurd
-        (led_told m refusal ends.finishes.task first told e ends.finishes.read);
-    complete = λ m task first told e _. inl refl;
+    by_files = λ m refusal single told e _. absurd
+        (led_told m refusal ends.finishes.task single told e ends.finishes.read);
+    complete = λ m task single told e _. inl refl;
   }
 
   tells_refused : (refusal : Refusal) → Ends work reading old (outside disk mid net) (Some (Refused refusal))
       → Tells (status_of_refusal refusal)
   tells_refused refusal ends = record {
+    words = λ two.
+        let w = words_of refusal two in
+        (w.0, subst (λ (r : Refusal). Reaches old.disk.files reading (AtRefusal r)) w.1 ends.first);
     usage = λ two first.
         let w = words_of refusal two in
         (w.0, words_first old.disk.files reading refusal first ends.first two ∙ ap Some w.1);
@@ -165,14 +172,15 @@ module _ {A N : Type 0} (work : A → Work N) (reading : Reading A) (old : Outsi
         first_kept old.disk.files reading (AtRefusal refusal) wanted e ends.first in
         let same_refusal : refusal ≡ wanted = cc same in
         inl (ap status_of_refusal same_refusal);
-    by_files = λ m wanted first told e _.
-        inl (one m (AtRefusal refusal) (AtRefusal wanted) first told ends.first e tt tt);
-    complete = λ m task first told e _. absurd
-        (one m (AtRefusal refusal) (AtTask task) first told ends.first e tt tt);
+    by_files = λ m wanted single told e _.
+        inl (one m (AtRefusal refusal) (AtRefusal wanted) single told ends.first e tt tt);
+    complete = λ m task single told e _. absurd
+        (one m (AtRefusal refusal) (AtTask task) single told ends.first e tt tt);
   }
 
   tells_read_fault : (name : List ℕ) → Ends work reading old (outside disk mid net) (Some (ReadFault name)) → Tells 6
   tells_read_fault name ends = record {
+    words = λ e. absurd (omega arith);
     usage = λ e _. absurd (omega arith);
     absent = λ e. absurd (omega arith);
     read_fault = λ e. ends.rose;
@@ -181,12 +189,13 @@ module _ {A N : Type 0} (work : A → Work N) (reading : Reading A) (old : Outsi
     keeps = λ _ _ _. ends.unchanged.keeps;
     by_words = λ refusal e. absurd (let no : AtFile name ≡ AtRefusal refusal =
         first_kept old.disk.files reading (AtFile name) refusal e ends.next in cc no);
-    by_files = λ m refusal first told e calm. absurd (calm ends.rose);
-    complete = λ m task first told e faultless. absurd (faultless.read ends.rose);
+    by_files = λ m refusal single told e calm. absurd (calm ends.rose);
+    complete = λ m task single told e faultless. absurd (faultless.read ends.rose);
   }
 
   tells_write_fault : (name : List ℕ) → Ends work reading old (outside disk mid net) (Some (WriteFault name)) → Tells 7
   tells_write_fault name ends = record {
+    words = λ e. absurd (omega arith);
     usage = λ e _. absurd (omega arith);
     absent = λ e. absurd (omega arith);
     read_fault = λ e. absurd (omega arith);
@@ -194,14 +203,15 @@ module _ {A N : Type 0} (work : A → Work N) (reading : Reading A) (old : Outsi
     net_fault = λ e. absurd (omega arith);
     keeps = λ _ b _. absurd (b refl);
     by_words = λ refusal e. absurd (led_first refusal ends.partly.finishes.task e ends.partly.finishes.read);
-    by_files = λ m refusal first told e calm. absurd
-        (led_told m refusal ends.partly.finishes.task first told e ends.partly.finishes.read);
-    complete = λ m task first told e faultless. absurd (faultless.write ends.rose);
+    by_files = λ m refusal single told e calm. absurd
+        (led_told m refusal ends.partly.finishes.task single told e ends.partly.finishes.read);
+    complete = λ m task single told e faultless. absurd (faultless.write ends.rose);
   }
 
   tells_out_fault : mid.faults ≤ out.faults → Ends work reading old (outside disk mid net) (Some OutFault) → Tells 7
   tells_out_fault more ends =
       let rose : Rose old.out.faults out.faults = Rose-before _ _ _ ends.rose more in record {
+        words = λ e. absurd (omega arith);
         usage = λ e _. absurd (omega arith);
         absent = λ e. absurd (omega arith);
         read_fault = λ e. absurd (omega arith);
@@ -209,18 +219,19 @@ module _ {A N : Type 0} (work : A → Work N) (reading : Reading A) (old : Outsi
         net_fault = λ e. absurd (omega arith);
         keeps = λ _ b _. absurd (b refl);
         by_words = λ refusal e. absurd (led_first refusal ends.partly.finishes.task e ends.partly.finishes.read);
-        by_files = λ m refusal first told e calm. absurd
-            (led_told m refusal ends.partly.finishes.task first told e ends.partly.finishes.read);
-        complete = λ m task first told e faultless.
+        by_files = λ m refusal single told e calm. absurd
+            (led_told m refusal ends.partly.finishes.task single told e ends.partly.finishes.read);
+        complete = λ m task single told e faultless.
             let some : 0 < length ends.partly.output.printed = let short = ends.partly.short in omega arith in
             let f = ends.partly.finishes in
             let gives = subst (λ (t : A). (work t).gives old.net net ends.partly.output)
-            (same_task m task f.task first told e f.read) f.gives in
+            (same_task m task f.task single told e f.read) f.gives in
             absurd (faultless.print ends.partly.output gives some rose);
       }
 
   tells_net_fault : Ends work reading old (outside disk mid net) (Some NetFault) → Tells 8
   tells_net_fault ends = record {
+    words = λ e. absurd (omega arith);
     usage = λ e _. absurd (omega arith);
     absent = λ e. absurd (omega arith);
     read_fault = λ e. absurd (omega arith);
@@ -228,16 +239,17 @@ module _ {A N : Type 0} (work : A → Work N) (reading : Reading A) (old : Outsi
     net_fault = λ _. (ends.stopped.task, ends.rose);
     keeps = λ _ _ _. ends.stopped.keeps;
     by_words = λ refusal e. absurd (led_first refusal ends.stopped.task e ends.stopped.read);
-    by_files = λ m refusal first told e _. absurd
-        (led_told m refusal ends.stopped.task first told e ends.stopped.read);
-    complete = λ m task first told e faultless.
+    by_files = λ m refusal single told e _. absurd
+        (led_told m refusal ends.stopped.task single told e ends.stopped.read);
+    complete = λ m task single told e faultless.
         let rose = subst (λ (t : A). (work t).faulted old.net net)
-        (same_task m task ends.stopped.task first told e ends.stopped.read) ends.rose in
+        (same_task m task ends.stopped.task single told e ends.stopped.read) ends.rose in
         absurd (faultless.net rose);
   }
 
   pub tells_memory : Tells 9
   tells_memory = record {
+    words = λ e. absurd (omega arith);
     usage = λ e _. absurd (omega arith);
     absent = λ e. absurd (omega arith);
     read_fault = λ e. absurd (omega arith);
@@ -245,8 +257,8 @@ module _ {A N : Type 0} (work : A → Work N) (reading : Reading A) (old : Outsi
     net_fault = λ e. absurd (omega arith);
     keeps = λ _ _ c. absurd (c refl);
     by_words = λ refusal e. inr refl;
-    by_files = λ m refusal first told e calm. inr refl;
-    complete = λ m task first told e faultless. inr refl;
+    by_files = λ m refusal single told e calm. inr refl;
+    complete = λ m task single told e faultless. inr refl;
   }
 
   tells_own : (answer : Option Cause) → mid.faults ≤ out.faults → Ends work reading old (outside disk mid net) answer

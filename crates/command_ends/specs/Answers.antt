@@ -23,7 +23,8 @@ abbrev pub Explains : Option Cause → SinkView → SinkView → Type 0
 Explains None old new = new ≡ old
 Explains (Some cause) old new = Writes (line_of cause) old new
 
--- The command ended by an answer, whose status this is, and then the answer was explained.
+-- The command ended by an answer, whose status this is, and then the answer was explained. The faults of `out` never
+-- fell meanwhile.
 pub record Answers {A N : Type 0} (work : A → Work N) (reading : Reading A) (old new : Outside N) (status : ℕ) :
     Type 0 where
   pub answer : Option Cause
@@ -31,9 +32,10 @@ pub record Answers {A N : Type 0} (work : A → Work N) (reading : Reading A) (o
   pub ended : SinkView
   pub ends : Ends work reading old (outside new.disk ended new.net) answer
   pub explains : Explains answer ended new.out
+  pub more : ended.faults ≤ new.out.faults
 
 -- The command ended for a cause, and a front of its line was written: not all of it where the cause isn't want of
--- memory.
+-- memory. The faults of `out` never fell meanwhile.
 pub record StopsShort {A N : Type 0} (work : A → Work N) (reading : Reading A) (old new : Outside N) : Type 0
   where
     pub cause : Cause
@@ -42,6 +44,7 @@ pub record StopsShort {A N : Type 0} (work : A → Work N) (reading : Reading A)
     pub count : ℕ
     pub front : new.out.written ≡ sending (take count (line_of cause)) ended.written
     pub cut : cause ≢ OutOfMemory → count < length (line_of cause)
+    pub more : ended.faults ≤ new.out.faults
 
 -- No fault was counted: in reading, in writing, in printing where the task prints, and of the net where it serves.
 pub record IsFaultless {A N : Type 0} (work : A → Work N) (task : A) (old new : Outside N) : Type 0 where

@@ -1,5 +1,5 @@
 -- How a command ends, by its cause, before the cause is explained. `work task` is what a task does.
-use Rattle.std.specs.Prelude.{◌≡◌, ◌<◌, ℕ, take, List, Option, Some, None, length}
+use Rattle.std.specs.Prelude.{◌≡◌, ◌<◌, ℕ, take, [], Option, Some, None, length}
 use Rattle.mm_base.specs.Counts.{Rose}
 use Rattle.mm_base.specs.Disk.{DiskView}
 use Rattle.mm_base.specs.Files.{Files}
@@ -82,7 +82,8 @@ pub record HasWriteFault {A N : Type 0} (work : A → Work N) (reading : Reading
   pub partly : IsPartlyWritten work reading old new name
   pub rose : Rose old.disk.write_faults new.disk.write_faults
 
--- A front of the text was printed, and not all of it. No file is changed.
+-- Each file has its text, no other file is changed, and a front of the text was printed, and not all of it. Where the
+-- output has no files no fault of writing is counted.
 pub record IsPartlyPrinted {A N : Type 0} (work : A → Work N) (reading : Reading A) (old new : Outside N) : Type 0
   where
     pub output : Output
@@ -90,7 +91,8 @@ pub record IsPartlyPrinted {A N : Type 0} (work : A → Work N) (reading : Readi
     pub count : ℕ
     pub short : count < length output.printed
     pub front : new.out.written ≡ sending (take count output.printed) old.out.written
-    pub keeps : KeepsFiles old.disk new.disk
+    pub written : new.disk.files ≡ holding_all output.files old.disk.files
+    pub faults : output.files ≡ [] → new.disk.write_faults ≡ old.disk.write_faults
 
 pub record HasOutFault {A N : Type 0} (work : A → Work N) (reading : Reading A) (old new : Outside N) : Type 0 where
   pub partly : IsPartlyPrinted work reading old new

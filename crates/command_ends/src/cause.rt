@@ -59,7 +59,7 @@ pub enum Cause {
     WriteFault(Text),
     /// Writing the text that the command prints failed.
     OutFault,
-    /// Listening for connections, or accepting one, failed.
+    /// Listening for connections, or accepting or finishing one, failed.
     NetFault,
     OutOfMemory,
 }
