@@ -1,5 +1,6 @@
 // The command `replay`: its words, its store, and the connections that it serves.
 ghost use Rattle.std.specs.Prelude.{◌≡◌, ℕ, List, Some, Ok, Err, IfOk, IfErr, map, string_bytes};
+ghost use Rattle.mm_base.specs.Port.{KeepsPort};
 ghost use Rattle.mm_base.specs.Sink.{CountsSinkFaults};
 ghost use Rattle.replay_server.specs.Servings.{IsServing};
 ghost use Rattle.command_ends.specs.Answers.{CountsDisk, cause_in};
@@ -43,6 +44,7 @@ fn serve_job<R: Threads + Wait + Sync, P: Port, Q: Pace + Sync>(
         (P.view port.old) (P.view port.new) (Ok n)) }
     ensures stopped { IfErr result (λ cause. StopsAsServing store.now (Some job.now.site) P.Conn.view
         job.now.connections (P.view port.old) (P.view port.new) cause) }
+    ensures port_counts { KeepsPort (P.view port.old) (P.view port.new) }
 {
     match serve(
         rt,
@@ -74,6 +76,7 @@ fn replay<R: Threads + Wait + Sync, D: Disk, O: Sink, P: Port, Q: Pace + Sync>(
         (outside (D.view disk.new) (O.view out.new) (P.view port.new)) (cause_in result) }
     ensures counts { CountsDisk (D.view disk.old) (D.view disk.new) }
     ensures out_counts { CountsSinkFaults (O.view out.old) (O.view out.new) }
+    ensures port_counts { KeepsPort (P.view port.old) (P.view port.new) }
 {
     let store = load_store(alloc, disk, job.store)?;
     let served = serve_job(rt, alloc, job, &store, port, pace)?;
@@ -97,6 +100,7 @@ pub fn answer_replay<R: Threads + Wait + Sync, D: Disk, O: Sink, P: Port, Q: Pac
         (outside (D.view disk.new) (O.view out.new) (P.view port.new)) (cause_in result) }
     ensures counts { CountsDisk (D.view disk.old) (D.view disk.new) }
     ensures out_counts { CountsSinkFaults (O.view out.old) (O.view out.new) }
+    ensures port_counts { KeepsPort (P.view port.old) (P.view port.new) }
 {
     match read_replay(alloc, words)? {
         Some(job) => replay(rt, alloc, &job, disk, out, port, pace),

@@ -6,7 +6,7 @@ use Rattle.mm_base.specs.Link.{LinkView}
 use Rattle.mm_base.specs.Port.{PortView}
 use Rattle.command_ends.specs.Causes.{Text}
 use Rattle.command_ends.proofs.MapLemmas.{first_mapped}
-use Rattle.command_ends.proofs.ReadingLemmas.{RefusesWordsFirst}
+use Rattle.command_ends.proofs.ReadingLemmas.{HasOneEnd, RefusesWordsFirst, first_one}
 use Rattle.command_make.specs.Make.{make_words}
 use Rattle.command_make.proofs.MakeLemmas.{make_words_first}
 use Rattle.command_replay.specs.Replay.{replay_words}
@@ -39,6 +39,10 @@ command_first Unknown words = tt
 pub reading_first : (words : List Text) → RefusesWordsFirst (reading_of words)
 reading_first [] = tt
 reading_first (word ∷ words) = command_first (command_of word) words
+
+-- and files that are told lead to one end
+pub reading_one : (words : List Text) → HasOneEnd (reading_of words)
+reading_one words = first_one (reading_of words) (reading_first words)
 
 -- a fault of the net is one that the port counted
 pub port_rose : {C : Type 0} (view : C → LinkView) (task : Task) (old new : PortView C)

@@ -2,6 +2,7 @@
 ghost use Rattle.std.specs.Prelude.{◌≡◌, ◌≢◌, ◌⊎◌, Some, None, map, string_bytes};
 ghost use Rattle.mm_base.specs.Counts.{Rose};
 ghost use Rattle.mm_base.specs.Files.{Files};
+ghost use Rattle.mm_base.specs.Port.{KeepsPort};
 ghost use Rattle.mm_base.specs.Sink.{CountsSinkFaults};
 ghost use Rattle.command_ends.specs.Answers.{Answers, CountsDisk, IsFaultless, StopsShort, cause_in};
 ghost use Rattle.command_ends.specs.Causes.{status_of_refusal};
@@ -43,6 +44,7 @@ fn answer<R: Threads + Wait + Sync, D: Disk, O: Sink, P: Port, Q: Pace + Sync>(
         → P.view port.new ≡ P.view port.old }
     ensures counts { CountsDisk (D.view disk.old) (D.view disk.new) }
     ensures out_counts { CountsSinkFaults (O.view out.old) (O.view out.new) }
+    ensures port_counts { KeepsPort (P.view port.old) (P.view port.new) }
 {
     let [word, words @ ..] = words else {
         return Err(Cause::usage());
@@ -132,6 +134,7 @@ pub fn mm_main<R: Threads + Wait + Sync, D: Disk + Send, O: Sink, P: Port + Send
 
     ensures counts { CountsDisk (D.view disk.old) (D.view disk.new) }
     ensures out_counts { CountsSinkFaults (O.view out.old) (O.view out.new) }
+    ensures port_counts { KeepsPort (P.view port.old) (P.view port.new) }
 {
     let answer = answer(rt, alloc, words, disk, out, port, pace);
     conclude(answer, out)

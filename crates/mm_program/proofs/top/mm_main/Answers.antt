@@ -3,7 +3,7 @@ use Rattle.mm_base.proofs.Then.{CountsFaults-then}
 use Rattle.command_ends.specs.Answers.{cause_in}
 use Rattle.command_ends.proofs.TellLemmas.{tells, tells_answered, tells_done, tells_stopped}
 use Rattle.mm_program.specs.Tasks.{work}
-use Rattle.mm_program.proofs.TopLemmas.{port_rose, reading_first}
+use Rattle.mm_program.proofs.TopLemmas.{port_rose, reading_first, reading_one}
 use Rattle.mm_program.proofs.top.mm_main.Goals as goal
 
 pub returns-clause-done : goal.returns-clause-done
@@ -76,14 +76,14 @@ returns-clause-by_files g c =
     let t = tells (work g.P.Conn.Link.view) _ _ _ _ (g.O.Sink.view c.answer-answer.new.out)
     (g.O.Sink.view c.conclude.new.out)
     (cause_in c.answer-answer.result) c.conclude.result c.answer-answer.ensures.ends c.conclude.ensures in
-    λ m refusal. t.by_files m refusal (reading_first (map string_bytes c.args.words.now))
+    λ m refusal. t.by_files m refusal (reading_one (map string_bytes c.args.words.now))
 
 pub returns-clause-complete : goal.returns-clause-complete
 returns-clause-complete g c =
     let t = tells (work g.P.Conn.Link.view) _ _ _ _ (g.O.Sink.view c.answer-answer.new.out)
     (g.O.Sink.view c.conclude.new.out)
     (cause_in c.answer-answer.result) c.conclude.result c.answer-answer.ensures.ends c.conclude.ensures in
-    λ m task. t.complete m task (reading_first (map string_bytes c.args.words.now))
+    λ m task. t.complete m task (reading_one (map string_bytes c.args.words.now))
 
 pub returns-clause-out_counts : goal.returns-clause-out_counts
 returns-clause-out_counts g c = CountsFaults-then c.answer-answer.ensures.out_counts c.conclude.ensures.counts
