@@ -6,6 +6,7 @@
 #![tactic(auto)]
 
 mod channel;
+mod feeds;
 mod receiver;
 mod rule;
 mod sender;
@@ -13,5 +14,6 @@ mod sender;
 mod tests;
 
 pub use channel::{open, settle};
+pub use feeds::{FeedEnd, Feeds};
 pub use receiver::Receiver;
 pub use sender::Sender;

@@ -1,11 +1,15 @@
 //! A channel in one thread and between two, and the types that may cross threads.
-ghost use Rattle.std.specs.Prelude.{◌≡◌, ◌≤◌};
+ghost use Rattle.std.specs.Prelude.{◌≡◌, ◌≤◌, ◌∷◌, []};
 ghost use Rattle.packet_record.specs.declared.item.FlowEnd.TheVariants.{Open};
 ghost use Rattle.packet_record.specs.Streams.{no_items};
 ghost use Rattle.mark_channel.specs.Ends.{IsSameEnd};
+ghost use Rattle.mark_channel.specs.Feedings.{HasSentRows};
 
-use crate::{Receiver, Sender, open, settle};
-use packet_record::{Item, Packet, Timed};
+use crate::{FeedEnd, Feeds, Receiver, Sender, open, settle};
+use mm_base::OutOfMemory;
+use packet_record::{Direction, Item, Packet, Row, Timed};
+use std::alloc::Global;
+use std::slice;
 use std::sync::Wait;
 use std::sync::atomic::{AtomicU64, Ordering};
 use std::test::Fail;
@@ -162,6 +166,79 @@ fn holds_its_capacity_and_one_waits(rt: HostRuntime) -> Result<(), Fail> {
         settle(sender, receiver);
         assert_eq!(rt; held, full);
         assert_eq!(rt; came, 1000);
+    }
+    Ok(())
+}
+
+// Sends the row's packet where it goes in this direction and enters up to the horizon, and then the end.
+fn send_row<R: Wait>(rt: &R, to: &mut Sender, direction: Direction, horizon: u64, row: &Row)
+    requires empty { to.old.flow ≡ no_items }
+    requires within { to.old.horizon ≡ horizon }
+    ensures sent { HasSentRows direction horizon (row.now ∷ []) to.new.flow }
+    ensures same { IsSameEnd to.old to.new }
+{
+    if row.direction == direction && row.timed.moment <= horizon {
+        to.send(rt, Item::Packet(row.timed));
+    }
+    to.send(rt, Item::End);
+}
+
+// One row, and all that is fed.
+#[derive(Drop)]
+struct OneRow {
+    row: Row,
+}
+
+impl Feeds for OneRow {
+    ghost use Rattle.std.specs.Prelude.{◌∷◌, []};
+
+    ghost fed_rows = { λ s. s.row ∷ [] };
+
+    fn rows(&self) -> &[Row] {
+        slice::from_ref(&self.row)
+    }
+
+    fn feed<R: Threads + Wait + Sync>(
+        &mut self,
+        rt: &R,
+        horizon: u64,
+        up: &mut Sender,
+        down: &mut Sender,
+    ) -> FeedEnd {
+        send_row(rt, up, Direction::Up, horizon, &self.row);
+        send_row(rt, down, Direction::Down, horizon, &self.row);
+        FeedEnd::Ended
+    }
+}
+
+// Feeds two channels, and counts what each of them carried before its end.
+fn feed_two<F: Feeds, R: Threads + Wait + Sync>(
+    rt: &R,
+    alloc: Global,
+    feeds: &mut F,
+) -> Result<(FeedEnd, u32, u32), OutOfMemory> {
+    let (mut up, mut up_end) = open(alloc, 64, 20)?;
+    let (mut down, mut down_end) = open(alloc, 64, 20)?;
+    let end = feeds.feed(rt, 20, &mut up, &mut down);
+    let went_up = receive_all(rt, &mut up_end);
+    let went_down = receive_all(rt, &mut down_end);
+    settle(up, up_end);
+    settle(down, down_end);
+    Ok((end, went_up, went_down))
+}
+
+#[test]
+fn feeds_its_row_in_its_direction(rt: HostRuntime) -> Result<(), Fail> {
+    for (direction, up, down) in [(Direction::Up, 1, 0), (Direction::Down, 0, 1)] {
+        let mut feeds = OneRow {
+            row: Row {
+                direction,
+                timed: timed(0, 20),
+            },
+        };
+        assert_eq!(rt; feeds.rows().len(), 1);
+        let counts = feed_two(&rt, rt.alloc(), &mut feeds)?;
+        assert_eq!(rt; counts, (FeedEnd::Ended, up, down));
     }
     Ok(())
 }
