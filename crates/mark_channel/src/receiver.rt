@@ -1,14 +1,16 @@
 //! The receiving end.
-ghost use Rattle.std.specs.Prelude.{◌≡◌, ◌++◌, ◌∷◌, []};
+ghost use Rattle.std.specs.Prelude.{◌≡◌, ◌++◌, ◌∷◌, [], IfSome, IfNone};
 ghost use Rattle.packet_record.specs.declared.item.FlowEnd.TheVariants.{Open};
 ghost use Rattle.packet_record.specs.Streams.{after, MayFollow, IsUpTo};
-ghost use Rattle.mark_channel.specs.Ends.{IsSameEnd};
+ghost use Rattle.mark_channel.specs.Ends.{IsSameEnd, MayPass, with_item};
 
+use crate::LOOKS;
 use crate::rule::{Got, InOrder, View};
 use crossbeam_channel::{Pass, RuledReceiver};
 use packet_record::Item;
 use std::marker::Model;
 use std::sync::Wait;
+use std::thread::yield_now;
 
 /// The receiving end of a channel. Contracts see the stream of what was received, its items, the horizon and the
 /// channel.
@@ -42,11 +44,33 @@ impl Receiver {
         ensures items { self.new.items ≡ self.old.items ++ result ∷ [] }
         ensures same { IsSameEnd self.old self.new }
     {
+        for _ in 0..LOOKS {
+            if let Some(item) = self.receive_at_once(rt) {
+                return item;
+            }
+            yield_now();
+        }
         for _ in rt.forever() {
-            if let Ok(item) = self.end.recv_as::<Got, R>(rt, &mut self.pass) {
+            if let Some(item) = self.receive_asleep(rt) {
                 return item;
             }
         }
         unreachable!()
+    }
+
+    // Takes the first item, where there is one now.
+    fn receive_at_once<R: Wait>(&mut self, rt: &R) -> Option<Item>
+        ensures got { IfSome result (λ item. MayPass self.old item × (self.new ≡ with_item self.old item)) }
+        ensures kept { IfNone result (self.new ≡ self.old) }
+    {
+        self.end.try_recv_as::<Got, R>(rt, &mut self.pass).ok()
+    }
+
+    // Sleeps until there is an item, and takes it. None where the sender is gone and nothing is left.
+    fn receive_asleep<R: Wait>(&mut self, rt: &R) -> Option<Item>
+        ensures got { IfSome result (λ item. MayPass self.old item × (self.new ≡ with_item self.old item)) }
+        ensures kept { IfNone result (self.new ≡ self.old) }
+    {
+        self.end.recv_as::<Got, R>(rt, &mut self.pass).ok()
     }
 }

@@ -1,13 +1,15 @@
 //! The sending end.
-ghost use Rattle.std.specs.Prelude.{◌≡◌, ◌++◌, ◌∷◌, []};
+ghost use Rattle.std.specs.Prelude.{◌≡◌, ◌++◌, ◌∷◌, [], IsTrue, IsFalse};
 ghost use Rattle.packet_record.specs.Streams.{after, MayFollow, IsUpTo};
-ghost use Rattle.mark_channel.specs.Ends.{IsSameEnd};
+ghost use Rattle.mark_channel.specs.Ends.{IsSameEnd, MayPass, with_item};
 
+use crate::LOOKS;
 use crate::rule::{InOrder, Sent, View};
 use crossbeam_channel::{Pass, RuledSender};
 use packet_record::Item;
 use std::marker::Model;
 use std::sync::Wait;
+use std::thread::yield_now;
 
 /// The sending end of a channel. Contracts see the stream of what was sent, its items, the horizon and the channel.
 #[derive(Drop)]
@@ -40,11 +42,39 @@ impl Sender {
         ensures items { self.new.items ≡ self.old.items ++ item ∷ [] }
         ensures same { IsSameEnd self.old self.new }
     {
+        for _ in 0..LOOKS {
+            if self.send_at_once(rt, item) {
+                return;
+            }
+            yield_now();
+        }
         for _ in rt.forever() {
-            if let Ok(()) = self.end.send_as::<Sent, R>(rt, &mut self.pass, item) {
+            if self.send_asleep(rt, item) {
                 return;
             }
         }
         unreachable!()
+    }
+
+    // Sends the item where there is room now. Whether it did.
+    fn send_at_once<R: Wait>(&mut self, rt: &R, item: Item) -> bool
+        requires { MayPass self.old item }
+        ensures sent { IsTrue result → self.new ≡ with_item self.old item }
+        ensures kept { IsFalse result → self.new ≡ self.old }
+    {
+        self.end
+            .try_send_as::<Sent, R>(rt, &mut self.pass, item)
+            .is_ok()
+    }
+
+    // Sleeps until there is room, and sends the item. False where the receiver is gone.
+    fn send_asleep<R: Wait>(&mut self, rt: &R, item: Item) -> bool
+        requires { MayPass self.old item }
+        ensures sent { IsTrue result → self.new ≡ with_item self.old item }
+        ensures kept { IsFalse result → self.new ≡ self.old }
+    {
+        self.end
+            .send_as::<Sent, R>(rt, &mut self.pass, item)
+            .is_ok()
     }
 }
