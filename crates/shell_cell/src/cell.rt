@@ -55,13 +55,21 @@ pub fn open(
     };
     let drain = table.shared.split_seat::<Part>(&mut seat);
     let cell = ShellCell {
-        turns: TurnTable { table },
+        turns: TurnTable::new(table),
     };
     let taking = DrainSeat {
         seat: drain,
         seen: 0,
     };
     Ok((cell, FeedSeat { seat }, taking))
+}
+
+// The turn word that a seat keeps, which kept `seen`: this one where there was nothing to take.
+fn seen_after(answer: Taken, seen: u64, word: u64) -> u64 {
+    match answer {
+        Taken::NotYet { .. } => word,
+        Taken::Item(_) | Taken::Again { .. } => seen,
+    }
 }
 
 impl ShellCell {
@@ -138,12 +146,11 @@ impl ShellCell {
             Ok(answer) => {
                 let call = Call::Drains(DrainCall::Takes(most, answer));
                 self.turns.spend::<Brand>(&mut seat.seat, word, state, call);
-                seat.seen = word + 1;
+                seat.seen = seen_after(answer, seat.seen, word + 1);
                 Ok(answer)
             }
             Err(_) => {
                 self.turns.give_up(&mut seat.seat, word, state);
-                seat.seen = word - 1;
                 Err(OutOfMemory)
             }
         }
@@ -160,20 +167,15 @@ impl ShellCell {
         let (word, mut state) = self.turns.claim(rt, &mut seat.seat);
         state.break_off();
         self.turns.spend::<Brand>(&mut seat.seat, word, state, Call::Drains(DrainCall::Breaks));
-        seat.seen = word + 1;
     }
 
-    /// Sleeps until a feed was released since the seat's last take. It may return early, and takes no
-    /// memory.
+    /// Waits until a feed was released since the seat's last take, where that answered `NotYet`. It may return
+    /// early, and takes no memory.
     pub fn wait<R: Wait>(&self, rt: &R, seat: &mut DrainSeat)
         requires own { seat.old.cell ≡ self.now }
         ensures same { seat.new ≡ seat.old }
     {
-        let shared = &self.turns.table.shared;
-        let word = shared.peek(0);
-        if word.wrapping_sub(seat.seen) <= 1 {
-            shared.park(rt, 0, (word % (1 << 32)) as u32);
-        }
+        self.turns.wait_past(rt, seat.seen);
     }
 
     /// Gives the state back, once both seats are here again: what the history of their turns leaves of the
@@ -189,7 +191,7 @@ impl ShellCell {
         ensures stands { Stands result }
     {
         let ShellCell { turns } = self;
-        let TurnTable { table } = turns;
+        let TurnTable { table, sleepers: _ } = turns;
         let FeedSeat { seat: mut whole } = feed;
         let DrainSeat { seat, seen: _ } = drain;
         table.shared.join_seat::<Part>(&mut whole, seat);

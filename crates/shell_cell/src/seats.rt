@@ -28,7 +28,7 @@ impl Model for FeedSeat {
 #[derive(Drop)]
 pub struct DrainSeat {
     pub(crate) seat: Seat<Slot, View>,
-    /// The turn word as this seat left it last.
+    /// The turn word as this seat left it when it last found nothing to take.
     pub(crate) seen: u64,
 }
 

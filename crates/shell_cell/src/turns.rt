@@ -1,5 +1,5 @@
 //! How a turn is taken and given back.
-ghost use Rattle.std.specs.Prelude.{◌≡◌, ◌+◌, ◌<◌, ◌^◌, ◌⊎◌, [], None};
+ghost use Rattle.std.specs.Prelude.{◌≡◌, ◌+◌, ◌%◌, ◌<◌, ◌^◌, ◌⊎◌, [], None, IsTrue, IfSome, IfNone};
 ghost use Rattle.shell_cell.specs.declared.view.Role.TheVariants.{Feeder, Drain};
 ghost use Rattle.shell_cell.specs.Rule.{IsTaken, MaySpend, MayGiveUp, IsAbove, number_in, with_turn, without_note};
 
@@ -9,16 +9,41 @@ use atomic_table::{Seat, Table};
 use shell_state::ShellState;
 use std::alloc::Global;
 use std::sync::Wait;
+use std::sync::atomic::{AtomicU64, Ordering};
+use std::thread::yield_now;
+
+// How often a call that finds the turn taken, or nothing to take, gives way and looks again before it sleeps.
+const LOOKS: u32 = 30;
 
 /// Word 0 is the turn: twice the number of turns that were spent, and one more while a seat holds it.
 /// Slot 0 is the state, which is out while a seat holds the turn.
 #[derive(Drop)]
 pub struct TurnTable {
     pub(crate) table: Table<Slot, View, Opening, Turns, Global>,
+    // How many threads sleep on the word, or are about to.
+    pub(crate) sleepers: AtomicU64,
     ghost sized: { (table.shared.table_id.words ≡ 1) × (table.shared.table_id.slots ≡ 1) },
 }
 
+// Whether the turn is free, where the word is this one. The last turn that the word can count is never free.
+fn is_free(word: u64) -> bool
+    ensures { IsTrue result → (word % 2 ≡ 0) × (word + 2 < 2 ^ 64) }
+{
+    word % 2 == 0 && word < u64::MAX - 1
+}
+
 impl TurnTable {
+    // Nobody sleeps.
+    pub(crate) fn new(table: Table<Slot, View, Opening, Turns, Global>) -> TurnTable
+        requires { (table.shared.table_id.words ≡ 1) × (table.shared.table_id.slots ≡ 1) }
+        ensures { result.table ≡ table }
+    {
+        TurnTable {
+            table,
+            sleepers: AtomicU64::new(0),
+        }
+    }
+
     // Waits for the turn, and takes the state out. The word is then odd.
     // After 2^63 - 1 turns it waits for ever.
     pub(crate) fn claim<R: Wait>(&self, rt: &R, seat: &mut Seat<Slot, View>) -> (u64, ShellState)
@@ -29,22 +54,81 @@ impl TurnTable {
         ensures word { result.0 + 1 < 2 ^ 64 }
         ensures taken { IsTaken seat.old.me result.0 result.1 seat.new.me }
     {
-        let shared = &self.table.shared;
-        for _ in rt.forever() {
-            let word = shared.peek(0);
-            if word % 2 == 0 && word < u64::MAX - 1 {
-                let found = shared.compare_exchange::<Claim>(seat, 0, word, word + 1);
-                if found == word {
-                    let Some(state) = shared.exchange(seat, 0, None) else {
-                        unreachable!()
-                    };
-                    return (word + 1, state);
-                }
-            } else {
-                shared.park(rt, 0, (word % (1 << 32)) as u32);
+        for _ in 0..LOOKS {
+            if let Some(claimed) = self.claim_at_once(seat) {
+                return claimed;
             }
+            yield_now();
+        }
+        for _ in rt.forever() {
+            if let Some(claimed) = self.claim_at_once(seat) {
+                return claimed;
+            }
+            self.sleep_while_taken(rt);
         }
         unreachable!()
+    }
+
+    // Takes the turn where it is free now, and the state out. None where it isn't free.
+    fn claim_at_once(&self, seat: &mut Seat<Slot, View>) -> Option<(u64, ShellState)>
+        requires own { seat.old.table_id ≡ self.now.table.shared.table_id }
+        requires role { (seat.old.me.0.role ≡ Feeder) ⊎ (seat.old.me.0.role ≡ Drain) }
+        requires carries { seat.old.me.1 ≡ [] }
+        ensures own { (seat.new.table_id ≡ seat.old.table_id) × (seat.new.id ≡ seat.old.id) }
+        ensures taken { IfSome result (λ r. (r.0 + 1 < 2 ^ 64) × IsTaken seat.old.me r.0 r.1 seat.new.me) }
+        ensures kept { IfNone result (seat.new.me ≡ seat.old.me) }
+    {
+        let shared = &self.table.shared;
+        let word = shared.peek(0);
+        if !is_free(word) {
+            return None;
+        }
+        let found = shared.compare_exchange::<Claim>(seat, 0, word, word + 1);
+        if found != word {
+            return None;
+        }
+        let Some(state) = shared.exchange(seat, 0, None) else {
+            unreachable!()
+        };
+        Some((word + 1, state))
+    }
+
+    // Sleeps while the turn is taken. It may return early.
+    fn sleep_while_taken<R: Wait>(&self, rt: &R) {
+        let word = self.table.shared.peek(0);
+        if !is_free(word) {
+            self.sleep_at(rt, word);
+        }
+    }
+
+    // Waits until the word isn't this one, nor the next, which a turn has that isn't spent yet. It may return early.
+    pub(crate) fn wait_past<R: Wait>(&self, rt: &R, seen: u64) {
+        for _ in 0..LOOKS {
+            if self.table.shared.peek(0).wrapping_sub(seen) > 1 {
+                return;
+            }
+            yield_now();
+        }
+        let word = self.table.shared.peek(0);
+        if word.wrapping_sub(seen) <= 1 {
+            self.sleep_at(rt, word);
+        }
+    }
+
+    // Sleeps while the word is this one, until the turn is given back. It may return early. The count is raised first,
+    // and whoever gives the turn back writes the word before it reads the count: so it sees this sleeper, or the word
+    // has changed before the sleep begins.
+    fn sleep_at<R: Wait>(&self, rt: &R, word: u64) {
+        self.sleepers.fetch_add(1, Ordering::SeqCst);
+        self.table.shared.park(rt, 0, (word % (1 << 32)) as u32);
+        self.sleepers.fetch_sub(1, Ordering::SeqCst);
+    }
+
+    // Wakes who sleeps, if anyone does.
+    fn wake_sleepers(&self) {
+        if self.sleepers.load(Ordering::SeqCst) > 0 {
+            self.table.shared.wake_all(0);
+        }
     }
 
     // Gives the turn back, which was spent on the call. The call is for the proof alone.
@@ -67,7 +151,7 @@ impl TurnTable {
             unreachable!()
         };
         self.table.shared.store::<Spend<J>>(seat, 0, word + 1);
-        self.table.shared.wake_all(0);
+        self.wake_sleepers();
     }
 
     // Gives the turn back, with the state as it was.
@@ -81,6 +165,6 @@ impl TurnTable {
             unreachable!()
         };
         self.table.shared.store::<GiveUp>(seat, 0, word - 1);
-        self.table.shared.wake_all(0);
+        self.wake_sleepers();
     }
 }
