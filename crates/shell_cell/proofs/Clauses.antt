@@ -1,5 +1,5 @@
 -- What the calls of a cell leave of their seats.
-use Rattle.std.proofs.Common.{◌≡◌, Bool, true, false, ℕ, suc, ◌<◌, [], ◌∷◌, ◌++◌, ◌||◌, Option, Some, refl, sym, ap}
+use Rattle.std.proofs.Common.{◌≡◌, Bool, true, false, ℕ, suc, ◌<◌, [], ◌∷◌, ◌++◌, ◌||◌, refl, sym, ap}
 use Rattle.std.proofs.Common.{◌∙◌, subst, ◌⊎◌, inl, ⊎_elim}
 use Rattle.std.specs.Prelude.{All}
 use Rattle.atomic_table.specs.Seated.{TableId}
@@ -21,7 +21,7 @@ use Rattle.shell_cell.specs.declared.view.DrainCall.TheVariants.{Takes}
 use Rattle.shell_cell.specs.declared.view.View.{View}
 use Rattle.shell_cell.specs.declared.view.Role.TheVariants.{Feeder, Drain}
 use Rattle.shell_cell.specs.declared.view.Call.TheVariants.{Feeds, Drains}
-use Rattle.shell_cell.specs.History.{IsPast, fed_flow, taken_flow, flow_after, MayFeed, after_drain}
+use Rattle.shell_cell.specs.History.{fed_flow, taken_flow, flow_after, MayFeed, after_drain}
 use Rattle.shell_cell.specs.Rule.{Place, IsTaken, with_turn, without_note, broken_in, broken_by, number_in, IsAbove}
 use Rattle.shell_cell.specs.Seats.{FeedView, DrainView, feed_seat, drain_seat, MayFeedAt, SpendsFeed, FindsBroken, Fed}
 use Rattle.shell_cell.specs.Seats.{SpendsDrain, Found, Took, MayGive, HasHistory}
@@ -200,27 +200,19 @@ one_knows : (f d : Bool) → (f ≡ true) ⊎ (d ≡ true) → (f || d) ≡ true
 one_knows true d knows = refl
 one_knows false d knows = ⊎_elim (λ f. absurd (cc)) (λ e. e) knows
 
-closes_here : (x : State) (id id' : TableId) (f d : View) (y : State) → Closed x f d (Some y)
+closes_here : (x : State) (id id' : TableId) (f d : View) (y : State) → Closed x f d y
     → Closes x (feed_seat id f) (drain_seat id' d) y
-closes_here x id id' f d y end =
-    let same : end.state ≡ y = some_same (sym end.is) in
-    let past : IsPast x f.fed d.drained end.turns y = subst (IsPast x f.fed d.drained end.turns) same end.past
-    in record {
-      history = (end.turns, past);
-      fed = past.fed_is;
-      taken = past.taken_is;
-      horizon = past.horizon;
-      spec = past.spec;
-      broken = λ knows. ap (λ (s : State). s.broken) (sym same) ∙ end.right (one_knows f.broken d.broken knows);
-    }
-  where
-    some_same : {a b : State} → Some a ≡ Some b → a ≡ b
-    some_same {a} {b} e = cc
+closes_here x id id' f d y end = record {
+  history = (end.turns, end.past);
+  fed = end.past.fed_is;
+  taken = end.past.taken_is;
+  horizon = end.past.horizon;
+  spec = end.past.spec;
+  broken = λ knows. end.right (one_knows f.broken d.broken knows);
+}
 
-pub close_shows : (x x' : State) (id id' : TableId) (f d : View) (feed : FeedView) (drain : DrainView)
-    (found : Option State) (y : State) → x ≡ x' → feed_seat id f ≡ feed → drain_seat id' d ≡ drain
-    → Closed x f d found → found ≡ Some y
-    → Closes x' feed drain y
-close_shows x x' id id' f d feed drain found y same fed drained end is =
+pub close_shows : (x x' : State) (id id' : TableId) (f d : View) (feed : FeedView) (drain : DrainView) (y : State)
+    → x ≡ x' → feed_seat id f ≡ feed → drain_seat id' d ≡ drain → Closed x f d y → Closes x' feed drain y
+close_shows x x' id id' f d feed drain y same fed drained end =
     subst (λ (t : State × (FeedView × DrainView)). Closes t.0 t.1.0 t.1.1 y) (λ k. (same k, (fed k, drained k)))
-    (closes_here x id id' f d y (subst (Closed x f d) is end))
+    (closes_here x id id' f d y end)

@@ -37,7 +37,7 @@ use Rattle.shell_cell.proofs.Seating.{SitsAt, feeder_sits, drain_sits, whole_sit
 use Rattle.shell_cell.proofs.Seating.{feeder_holds, drain_holds, none_hold}
 
 abbrev St : Type 0
-St = TableState (Option State) View
+St = TableState State View
 
 module _ (x : State) where
   abbrev word : St → ℕ
@@ -94,7 +94,7 @@ module _ (x : State) where
   -- the feeder takes the turn
   feeder_claims : (s : St) (r : Kept x s) (id new : ℕ) (me : Place) → get_elem? s.views id ≡ some me.0
       → me.0.role ≡ Feeder → r.holder ≡ nobody → new ≡ 2 * r.turns + 1
-      → Kept x (stepped s 0 new id me.1 (with_note me.0 (Some (note s r))) (takes 0 (Some r.left)))
+      → Kept x (stepped s 0 new id me.1 (with_note me.0 (Some (note s r))) (takes 0 r.left))
   feeder_claims s r id new me at role free up = let sits = feeder_at s r id me.0 at role in record {
     stage = shared;
     holder = feeder;
@@ -112,12 +112,12 @@ module _ (x : State) where
         ∙ (λ k. with_note (sits.view_is k) (Some (note s r)) ∷ view Drain x [] r.drained r.drain_found
         (drain_note (free k) (note s r)) ∷ []);
     words = ap (λ (l : List ℕ). set l 0 new) r.words ∙ ap (λ (n : ℕ). n ∷ []) up;
-    homes = ap (λ (l : List (mathlib.Core.Option.Option (Option State))). set l 0 none) r.homes;
+    homes = ap (λ (l : List (mathlib.Core.Option.Option State)). set l 0 none) r.homes;
   }
 
   drain_claims : (s : St) (r : Kept x s) (id new : ℕ) (me : Place) → get_elem? s.views id ≡ some me.0
       → me.0.role ≡ Drain → r.holder ≡ nobody → new ≡ 2 * r.turns + 1
-      → Kept x (stepped s 0 new id me.1 (with_note me.0 (Some (note s r))) (takes 0 (Some r.left)))
+      → Kept x (stepped s 0 new id me.1 (with_note me.0 (Some (note s r))) (takes 0 r.left))
   drain_claims s r id new me at role free up = let sits = drain_at s r id me.0 at role in record {
     stage = shared;
     holder = drain;
@@ -135,16 +135,16 @@ module _ (x : State) where
         ∙ (λ k. view Feeder x r.fed [] r.feeder_found (feeder_note (free k) (note s r)) ∷ with_note (sits.view_is k)
         (Some (note s r)) ∷ []);
     words = ap (λ (l : List ℕ). set l 0 new) r.words ∙ ap (λ (n : ℕ). n ∷ []) up;
-    homes = ap (λ (l : List (mathlib.Core.Option.Option (Option State))). set l 0 none) r.homes;
+    homes = ap (λ (l : List (mathlib.Core.Option.Option State)). set l 0 none) r.homes;
   }
 
-  home_is : (s : St) (r : Kept x s) → r.holder ≡ nobody → get_elem? s.homes 0 ≡ some (some (Some r.left))
+  home_is : (s : St) (r : Kept x s) → r.holder ≡ nobody → get_elem? s.homes 0 ≡ some (some r.left)
   home_is s r free = rw (r.homes, free) refl
 
   -- what the taken state has in common with the view
   claimed : (s : St) (r : Kept x s) (id : ℕ) (me : Place) (w : ℕ) → get_elem? s.views id ≡ some me.0
       → (me.0.role ≡ Feeder) ⊎ (me.0.role ≡ Drain) → r.holder ≡ nobody → w ≡ word s
-      → Claimed me w (with_note me.0 (Some (note s r)), (0, Some r.left) ∷ me.1)
+      → Claimed me w (with_note me.0 (Some (note s r)), (0, r.left) ∷ me.1)
   claimed s r id me w at role free is = record {
     spent = r.turns;
     state = r.left;
@@ -178,10 +178,10 @@ module _ (x : State) where
       (ap (λ (z : ℕ). z % 2) hit ∙ even) in
       let now : word s ≡ 2 * r.turns = is ∙ ap (λ (h : Holder). word_of h r.turns) free in (
         with_note me.0 (Some (note s r)),
-        takes 0 (Some r.left),
+        takes 0 r.left,
         home_is s r free,
         subst (λ b. Kept x (stepped s 0 (either b new (word s)) id me.1 (with_note me.0 (Some (note s r)))
-            (takes 0 (Some r.left)))) (sym (eq-eqb (word s) old hit))
+            (takes 0 r.left))) (sym (eq-eqb (word s) old hit))
             (⊎_elim (λ f. feeder_claims s r id new me at f free (omega arith))
             (λ d. drain_claims s r id new me at d free (omega arith)) role),
         ((λ _. claimed s r id me (word s) at role free refl), λ not. absurd (not hit)),
@@ -195,11 +195,11 @@ module _ (x : State) where
         ((λ hit. absurd (miss hit)), λ _. refl),
       ))
 
-  abbrev put : State → List (ℕ × Option State) → List (ℕ × Option State)
-  put y cs = (0, Some y) ∷ cs
+  abbrev put : State → List (ℕ × State) → List (ℕ × State)
+  put y cs = (0, y) ∷ cs
 
   -- the feeder gives the turn back: then n turns are spent, and the state at home is y
-  feeder_frees : (s : St) (r : Kept x s) (id new n : ℕ) (v w : View) (cs : List (ℕ × Option State)) (y : State)
+  feeder_frees : (s : St) (r : Kept x s) (id new n : ℕ) (v w : View) (cs : List (ℕ × State)) (y : State)
       (fed : List FeedTurn) (found : Bool)
       → get_elem? s.views id ≡ some v → v.role ≡ Feeder → r.holder ≡ feeder → new ≡ 2 * n → IsPast x fed r.drained n y
       → w ≡ view Feeder x fed [] found None
@@ -222,10 +222,10 @@ module _ (x : State) where
         views = set_feeder s.views r.stage r.fed r.drained _ _ _ _ id w r.views sits.stage_is sits.place_is
             ∙ (λ k. is k ∷ view Drain x [] r.drained r.drain_found (drain_note (mine k) (note s r)) ∷ []);
         words = ap (λ (l : List ℕ). set l 0 new) r.words ∙ ap (λ (n : ℕ). n ∷ []) up;
-        homes = ap (λ (l : List (mathlib.Core.Option.Option (Option State))). set l 0 (some (Some y))) r.homes;
+        homes = ap (λ (l : List (mathlib.Core.Option.Option State)). set l 0 (some y)) r.homes;
       }
 
-  drain_frees : (s : St) (r : Kept x s) (id new n : ℕ) (v w : View) (cs : List (ℕ × Option State)) (y : State)
+  drain_frees : (s : St) (r : Kept x s) (id new n : ℕ) (v w : View) (cs : List (ℕ × State)) (y : State)
       (drained : List DrainTurn) (found : Bool)
       → get_elem? s.views id ≡ some v → v.role ≡ Drain → r.holder ≡ drain → new ≡ 2 * n → IsPast x r.fed drained n y
       → w ≡ view Drain x [] drained found None
@@ -248,7 +248,7 @@ module _ (x : State) where
         views = set_drain s.views r.stage r.fed r.drained _ _ _ _ id w r.views sits.stage_is sits.place_is
             ∙ (λ k. view Feeder x r.fed [] r.feeder_found (feeder_note (mine k) (note s r)) ∷ is k ∷ []);
         words = ap (λ (l : List ℕ). set l 0 new) r.words ∙ ap (λ (n : ℕ). n ∷ []) up;
-        homes = ap (λ (l : List (mathlib.Core.Option.Option (Option State))). set l 0 (some (Some y))) r.homes;
+        homes = ap (λ (l : List (mathlib.Core.Option.Option State)). set l 0 (some y)) r.homes;
       }
 
   -- a seat whose view has a note holds the turn, and the note is right
@@ -288,7 +288,7 @@ module _ (x : State) where
         drained_is = ap (λ (u : View). u.drained) sits.view_is;
       }
 
-  feeder_gives_up : (s : St) (r : Kept x s) (id new : ℕ) (v : View) (cs : List (ℕ × Option State)) (m : Note)
+  feeder_gives_up : (s : St) (r : Kept x s) (id new : ℕ) (v : View) (cs : List (ℕ × State)) (m : Note)
       → get_elem? s.views id ≡ some v → v.role ≡ Feeder → v.note ≡ Some m → new ≡ 2 * m.spent
       → Kept x (stepped s 0 new id (put m.state cs) (without_note v) gives)
   feeder_gives_up s r id new v cs m at role has up = let mine = feeder_mine s r id v m at role has in
@@ -299,7 +299,7 @@ module _ (x : State) where
       ((ap broken_in has ∙ ap (λ (y : State). y.broken) (sym mine.state)) k) None)
       (λ b. b) r.drain_right)
 
-  drain_gives_up : (s : St) (r : Kept x s) (id new : ℕ) (v : View) (cs : List (ℕ × Option State)) (m : Note)
+  drain_gives_up : (s : St) (r : Kept x s) (id new : ℕ) (v : View) (cs : List (ℕ × State)) (m : Note)
       → get_elem? s.views id ≡ some v → v.role ≡ Drain → v.note ≡ Some m → new ≡ 2 * m.spent
       → Kept x (stepped s 0 new id (put m.state cs) (without_note v) gives)
   drain_gives_up s r id new v cs m at role has up = let mine = drain_mine s r id v m at role has in
@@ -339,7 +339,7 @@ module _ (x : State) where
       subst P (λ i. (sym mine.fed_is i, sym mine.drained_is i, sym up i))
       (All-nil _, all_drained r.fed r.drained r.turns r.past.history.numbered)
 
-  feeder_spends : (s : St) (r : Kept x s) (id new : ℕ) (item : Item) (v : View) (cs : List (ℕ × Option State))
+  feeder_spends : (s : St) (r : Kept x s) (id new : ℕ) (item : Item) (v : View) (cs : List (ℕ × State))
       (m : Note) → get_elem? s.views id ≡ some v → v.role ≡ Feeder → v.note ≡ Some m → MayFeed m.state item
       → new ≡ 2 * m.spent + 2
       → Kept x (stepped s 0 new id (put (after_feed m.state item) cs) (with_turn v (Feeds item)) gives)
@@ -363,7 +363,7 @@ module _ (x : State) where
         above_feeder s r v m (number_in v.note) mine number,
       )
 
-  drain_spends : (s : St) (r : Kept x s) (id new : ℕ) (call : DrainCall) (v : View) (cs : List (ℕ × Option State))
+  drain_spends : (s : St) (r : Kept x s) (id new : ℕ) (call : DrainCall) (v : View) (cs : List (ℕ × State))
       (m : Note) → get_elem? s.views id ≡ some v → v.role ≡ Drain → v.note ≡ Some m → Answers m.state call
       → new ≡ 2 * m.spent + 2
       → Kept x (stepped s 0 new id (put (after_drain m.state call) cs) (with_turn v (Drains call)) gives)
@@ -398,20 +398,20 @@ module _ (x : State) where
   pub spends_turn : (call : Call) (slots id word new : ℕ) (me : Place) → IsDone call me word → new ≡ word + 1
       → Allows (Kept x) slots id me 0 (λ _. new) (λ _. spends call (step slots 0 new 0 none) me new)
   spends_turn call slots id word new me done up = let odd = done.odd in
-      subst (λ (cs : List (ℕ × Option State)). Allows (Kept x) slots id (me.0, cs) 0 (λ _. new)
+      subst (λ (cs : List (ℕ × State)). Allows (Kept x) slots id (me.0, cs) 0 (λ _. new)
       (λ _. spends call (step slots 0 new 0 none) (me.0, cs) new)) (sym done.carried)
       (spends_call call slots id new me.0 done.note done.has (omega arith) done.made)
 
   pub undoes_turn : (slots id word new : ℕ) (me : Place) → IsUndone me word → new + 1 ≡ word
       → Allows (Kept x) slots id me 0 (λ _. new) (λ _. gives_up (step slots 0 new 0 none) me new)
   undoes_turn slots id word new me undone up = let odd = undone.odd in
-      subst (λ (cs : List (ℕ × Option State)). Allows (Kept x) slots id (me.0, cs) 0 (λ _. new)
+      subst (λ (cs : List (ℕ × State)). Allows (Kept x) slots id (me.0, cs) 0 (λ _. new)
       (λ _. gives_up (step slots 0 new 0 none) (me.0, cs) new)) (sym undone.carried)
       (gives_turn_up slots id new me.0 undone.note undone.role undone.has (omega arith))
 
   -- the table at the start
   pub opens : x.fed ≡ no_items → x.taken ≡ no_items
-      → Kept x (opening (0 ∷ []) (Some x ∷ []) (view Whole x [] [] false None))
+      → Kept x (opening (0 ∷ []) (x ∷ []) (view Whole x [] [] false None))
   opens fed taken = record {
     stage = whole;
     holder = nobody;
@@ -502,7 +502,7 @@ module _ (x : State) where
   one_found true d b first second e = first refl
   one_found false d b first second e = second e
 
-  pub ends : (id : ℕ) (v : View) (words : List ℕ) (slots : List (Option State)) → v.role ≡ Joined
+  pub ends : (id : ℕ) (v : View) (words : List ℕ) (slots : List State) → v.role ≡ Joined
       → Final (Seen (Kept x) id v) words slots → IsEnd x v slots
   ends id v words slots role final = let s = final.0 in let r = final.1.0 in
       let sits = joined_sits r.stage x r.fed r.drained _ _ _ _ id v
@@ -513,5 +513,5 @@ module _ (x : State) where
         past = subst (λ (u : View). IsPast x u.fed u.drained r.turns r.left) (sym sits.view_is) r.past;
         right = λ knows. one_found r.feeder_found r.drain_found r.left.broken r.feeder_right r.drain_right
             (ap (λ (u : View). u.broken) (sym sits.view_is) ∙ knows);
-        found = final.4 0 (Some r.left) (home_is s r free);
+        found = final.4 0 r.left (home_is s r free);
       }

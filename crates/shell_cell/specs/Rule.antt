@@ -68,8 +68,8 @@ word_of feeder n = 2 * n + 1
 word_of drain n = 2 * n + 1
 
 -- the slot is at home while the turn is free
-abbrev pub home_of : Holder → State → mathlib.Core.Option.Option (Option State)
-home_of nobody y = some (Some y)
+abbrev pub home_of : Holder → State → mathlib.Core.Option.Option State
+home_of nobody y = some y
 home_of feeder y = none
 home_of drain y = none
 
@@ -79,7 +79,7 @@ Settles shared holder = Unit {0}
 Settles whole holder = holder ≡ nobody
 Settles joined holder = holder ≡ nobody
 
-pub record Kept (x : State) (s : TableState (Option State) View) : Type 0 where
+pub record Kept (x : State) (s : TableState State View) : Type 0 where
   pub stage : Stage
   pub holder : Holder
   pub turns : ℕ
@@ -98,7 +98,7 @@ pub record Kept (x : State) (s : TableState (Option State) View) : Type 0 where
   pub homes : s.homes ≡ home_of holder left ∷ []
 
 abbrev pub Place : Type 0
-Place = Me (Option State) View
+Place = Me State View
 
 abbrev pub with_note : View → Option Note → View
 with_note v m = view v.role v.opening v.fed v.drained v.broken m
@@ -108,7 +108,7 @@ pub record Claimed (before : Place) (word : ℕ) (after : Place) : Type 0 where
   pub spent : ℕ
   pub state : State
   pub even : word ≡ 2 * spent
-  pub holds : after ≡ (with_note before.0 (Some (note_of spent state)), (0, Some state) ∷ before.1)
+  pub holds : after ≡ (with_note before.0 (Some (note_of spent state)), (0, state) ∷ before.1)
   pub fed_is : before.0.role ≡ Feeder → state.fed ≡ fed_flow before.0.fed
   pub taken_is : before.0.role ≡ Drain → state.taken ≡ taken_flow before.0.drained
   pub broken : before.0.broken ≡ true → state.broken ≡ true
@@ -116,7 +116,7 @@ pub record Claimed (before : Place) (word : ℕ) (after : Place) : Type 0 where
   pub spec : state.spec ≡ before.0.opening.spec
 
 -- the word was as expected, and then the seat has the turn; or nothing changed
-abbrev pub claims : Step (Option State) → Place → ℕ → Place → Type 0
+abbrev pub claims : Step State → Place → ℕ → Place → Type 0
 claims st m r m' = (r ≡ st.first → Claimed m r m') × (r ≢ st.first → m' ≡ m)
 
 -- whether the noted state is broken
@@ -129,7 +129,7 @@ abbrev pub without_note : View → View
 without_note v = view v.role v.opening v.fed v.drained (broken_in v.note) None
 
 -- the turn is given back, and none is spent
-abbrev pub gives_up : Step (Option State) → Place → ℕ → Place → Type 0
+abbrev pub gives_up : Step State → Place → ℕ → Place → Type 0
 gives_up st m r m' = m' ≡ (without_note m.0, rest m.1)
 
 abbrev pub number_in : Option Note → ℕ
@@ -157,7 +157,7 @@ abbrev pub IsAbove : View → ℕ → Type 0
 IsAbove v k = All (λ (t : FeedTurn). t.number < k) v.fed × All (λ (t : DrainTurn). t.number < k) v.drained
 
 -- the turn is given back, and was spent on this call
-abbrev pub spends : Call → Step (Option State) → Place → ℕ → Place → Type 0
+abbrev pub spends : Call → Step State → Place → ℕ → Place → Type 0
 spends call st m r m' = (m' ≡ (with_turn m.0 call, rest m.1)) × IsAbove m.0 (number_in m.0.note)
 
 -- one seat's view is cut in two
@@ -176,55 +176,41 @@ abbrev pub IsMade : Call → Role → State → Type 0
 IsMade (Feeds item) role y = (role ≡ Feeder) × MayFeed y item
 IsMade (Drains call) role y = (role ≡ Drain) × Answers y call
 
--- the seat has the turn, and the state that the call leaves is back in the slot
+-- the seat has the turn, and in the slot is the state that the call leaves
 pub record IsDone (call : Call) (m : Place) (word : ℕ) : Type 0 where
   pub note : Note
   pub has : m.0.note ≡ Some note
   pub odd : word ≡ 2 * note.spent + 1
   pub made : IsMade call m.0.role note.state
-  pub carried : m.1 ≡ (0, Some (after_call call note.state)) ∷ []
+  pub carried : m.1 ≡ (0, after_call call note.state) ∷ []
 
--- the seat has the turn, and the state that it found is back in the slot
+-- the seat has the turn, and in the slot is the state that it found
 pub record IsUndone (m : Place) (word : ℕ) : Type 0 where
   pub note : Note
   pub has : m.0.note ≡ Some note
   pub odd : word ≡ 2 * note.spent + 1
   pub role : (m.0.role ≡ Feeder) ⊎ (m.0.role ≡ Drain)
-  pub carried : m.1 ≡ (0, Some note.state) ∷ []
+  pub carried : m.1 ≡ (0, note.state) ∷ []
 
 -- what the joined seat and the slots say when the table is closed
-pub record IsEnd (x : State) (v : View) (slots : List (Option State)) : Type 0 where
+pub record IsEnd (x : State) (v : View) (slots : List State) : Type 0 where
   pub turns : ℕ
   pub left : State
   pub past : IsPast x v.fed v.drained turns left
   pub right : v.broken ≡ true → left.broken ≡ true
-  pub found : get_elem? slots 0 ≡ some (Some left)
+  pub found : get_elem? slots 0 ≡ some left
 
--- the seat has taken the turn, and the state out of the slot
+-- the seat has taken the turn, and the slot with this state
 pub record IsTaken (before : Place) (word : ℕ) (y : State) (after : Place) : Type 0 where
   pub spent : ℕ
   pub odd : word ≡ 2 * spent + 1
-  pub holds : after ≡ (with_note before.0 (Some (note_of spent y)), (0, None) ∷ [])
+  pub holds : after ≡ (with_note before.0 (Some (note_of spent y)), (0, y) ∷ [])
   pub fed_is : before.0.role ≡ Feeder → y.fed ≡ fed_flow before.0.fed
   pub taken_is : before.0.role ≡ Drain → y.taken ≡ taken_flow before.0.drained
   pub broken : before.0.broken ≡ true → y.broken ≡ true
   pub horizon : y.horizon ≡ before.0.opening.horizon
   pub spec : y.spec ≡ before.0.opening.spec
 
--- the seat may give the turn back with this state, and spends it on the call
-pub record MaySpend (call : Call) (m : Place) (word : ℕ) (y : State) : Type 0 where
-  pub note : Note
-  pub has : m.0.note ≡ Some note
-  pub odd : word ≡ 2 * note.spent + 1
-  pub made : IsMade call m.0.role note.state
-  pub leaves : y ≡ after_call call note.state
-  pub carried : m.1 ≡ (0, None) ∷ []
-
--- the seat may give the turn back with the state that it found
-pub record MayGiveUp (m : Place) (word : ℕ) (y : State) : Type 0 where
-  pub note : Note
-  pub has : m.0.note ≡ Some note
-  pub odd : word ≡ 2 * note.spent + 1
-  pub role : (m.0.role ≡ Feeder) ⊎ (m.0.role ≡ Drain)
-  pub leaves : y ≡ note.state
-  pub carried : m.1 ≡ (0, None) ∷ []
+-- the same with whatever state there is
+abbrev pub HasTaken : Place → ℕ → Place → Type 0
+HasTaken before word after = (y : State) × IsTaken before word y after

@@ -49,7 +49,7 @@ pub fn open(
 {
     let key = Snapshot::of(&state);
     let mut slots = Vec::new(alloc);
-    slots.push(Some(state))?;
+    slots.push(state)?;
     let Ok((table, mut seat)) = Table::new(alloc, &[0], slots, &key) else {
         return Err(OutOfMemory);
     };
@@ -101,19 +101,20 @@ impl ShellCell {
         ensures breaks { item ≡ Broken → IsOk result }
         ensures same { IsSameSeat seat.old seat.new }
     {
-        let (word, mut state) = self.turns.claim(rt, &mut seat.seat);
+        let word = self.turns.claim(rt, &mut seat.seat);
+        let state = seat.seat.slot_mut(&self.turns.table.shared, 0);
         if state.is_broken() {
-            self.turns.give_up(&mut seat.seat, word, state);
+            self.turns.give_up(&mut seat.seat, word);
             return Ok(());
         }
         match state.feed(item) {
             Ok(()) => {
                 let call = Call::Feeds(item);
-                self.turns.spend::<Brand>(&mut seat.seat, word, state, call);
+                self.turns.spend::<Brand>(&mut seat.seat, word, call);
                 Ok(())
             }
             Err(_) => {
-                self.turns.give_up(&mut seat.seat, word, state);
+                self.turns.give_up(&mut seat.seat, word);
                 Err(OutOfMemory)
             }
         }
@@ -140,17 +141,18 @@ impl ShellCell {
         ensures err { OnErr result (seat.new ≡ seat.old) }
         ensures same { IsSameSeat seat.old seat.new }
     {
-        let (word, mut state) = self.turns.claim(rt, &mut seat.seat);
+        let word = self.turns.claim(rt, &mut seat.seat);
+        let state = seat.seat.slot_mut(&self.turns.table.shared, 0);
         state.stands();
         match state.take(most) {
             Ok(answer) => {
                 let call = Call::Drains(DrainCall::Takes(most, answer));
-                self.turns.spend::<Brand>(&mut seat.seat, word, state, call);
+                self.turns.spend::<Brand>(&mut seat.seat, word, call);
                 seat.seen = seen_after(answer, seat.seen, word + 1);
                 Ok(answer)
             }
             Err(_) => {
-                self.turns.give_up(&mut seat.seat, word, state);
+                self.turns.give_up(&mut seat.seat, word);
                 Err(OutOfMemory)
             }
         }
@@ -164,9 +166,11 @@ impl ShellCell {
         ensures broken { seat.new.broken ≡ true }
         ensures same { IsSameSeat seat.old seat.new }
     {
-        let (word, mut state) = self.turns.claim(rt, &mut seat.seat);
+        let word = self.turns.claim(rt, &mut seat.seat);
+        let state = seat.seat.slot_mut(&self.turns.table.shared, 0);
         state.break_off();
-        self.turns.spend::<Brand>(&mut seat.seat, word, state, Call::Drains(DrainCall::Breaks));
+        self.turns
+            .spend::<Brand>(&mut seat.seat, word, Call::Drains(DrainCall::Breaks));
     }
 
     /// Waits until a feed was released since the seat's last take, where that answered `NotYet`. It may return
@@ -196,9 +200,7 @@ impl ShellCell {
         let DrainSeat { seat, seen: _ } = drain;
         table.shared.join_seat::<Part>(&mut whole, seat);
         let mut closed = table.close_with(whole);
-        let Some(state) = closed.take(0) else {
-            unreachable!()
-        };
+        let state = closed.take(0);
         closed.free();
         state.stands();
         state

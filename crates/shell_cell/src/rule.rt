@@ -5,8 +5,8 @@ use shell_state::ShellState;
 use std::marker::{Brand, PhantomData};
 use std::snapshot::Snapshot;
 
-/// The slot is the shell's state, or `None` while a seat works on it.
-pub type Slot = Option<ShellState>;
+/// The slot is the shell's state. The seat that has the turn works on it where it is.
+pub type Slot = ShellState;
 
 /// The key is the state that the cell was opened with.
 pub type Opening = Snapshot<ShellState>;

@@ -1,12 +1,11 @@
 //! How a turn is taken and given back.
 ghost use Rattle.std.specs.Prelude.{◌≡◌, ◌+◌, ◌%◌, ◌<◌, ◌^◌, ◌⊎◌, [], None, IsTrue, IfSome, IfNone};
 ghost use Rattle.shell_cell.specs.declared.view.Role.TheVariants.{Feeder, Drain};
-ghost use Rattle.shell_cell.specs.Rule.{IsTaken, MaySpend, MayGiveUp, IsAbove, number_in, with_turn, without_note};
+ghost use Rattle.shell_cell.specs.Rule.{HasTaken, IsDone, IsUndone, IsAbove, number_in, with_turn, without_note};
 
 use crate::rule::{Claim, GiveUp, Opening, Slot, Spend, Spending, Turns};
 use crate::view::{Call, View};
 use atomic_table::{Seat, Table};
-use shell_state::ShellState;
 use std::alloc::Global;
 use std::sync::Wait;
 use std::sync::atomic::{AtomicU64, Ordering};
@@ -16,7 +15,7 @@ use std::thread::yield_now;
 const LOOKS: u32 = 30;
 
 /// Word 0 is the turn: twice the number of turns that were spent, and one more while a seat holds it.
-/// Slot 0 is the state, which is out while a seat holds the turn.
+/// Slot 0 is the state, which the seat that holds the turn has.
 #[derive(Drop)]
 pub struct TurnTable {
     pub(crate) table: Table<Slot, View, Opening, Turns, Global>,
@@ -44,38 +43,38 @@ impl TurnTable {
         }
     }
 
-    // Waits for the turn, and takes the state out. The word is then odd.
+    // Waits for the turn, and takes it with the state's slot. The word is then odd.
     // After 2^63 - 1 turns it waits for ever.
-    pub(crate) fn claim<R: Wait>(&self, rt: &R, seat: &mut Seat<Slot, View>) -> (u64, ShellState)
+    pub(crate) fn claim<R: Wait>(&self, rt: &R, seat: &mut Seat<Slot, View>) -> u64
         requires own { seat.old.table_id ≡ self.now.table.shared.table_id }
         requires role { (seat.old.me.0.role ≡ Feeder) ⊎ (seat.old.me.0.role ≡ Drain) }
         requires carries { seat.old.me.1 ≡ [] }
         ensures own { (seat.new.table_id ≡ seat.old.table_id) × (seat.new.id ≡ seat.old.id) }
-        ensures word { result.0 + 1 < 2 ^ 64 }
-        ensures taken { IsTaken seat.old.me result.0 result.1 seat.new.me }
+        ensures word { result + 1 < 2 ^ 64 }
+        ensures taken { HasTaken seat.old.me result seat.new.me }
     {
         for _ in 0..LOOKS {
-            if let Some(claimed) = self.claim_at_once(seat) {
-                return claimed;
+            if let Some(word) = self.claim_at_once(seat) {
+                return word;
             }
             yield_now();
         }
         for _ in rt.forever() {
-            if let Some(claimed) = self.claim_at_once(seat) {
-                return claimed;
+            if let Some(word) = self.claim_at_once(seat) {
+                return word;
             }
             self.sleep_while_taken(rt);
         }
         unreachable!()
     }
 
-    // Takes the turn where it is free now, and the state out. None where it isn't free.
-    fn claim_at_once(&self, seat: &mut Seat<Slot, View>) -> Option<(u64, ShellState)>
+    // Takes the turn where it is free now, with the state's slot. None where it isn't free.
+    fn claim_at_once(&self, seat: &mut Seat<Slot, View>) -> Option<u64>
         requires own { seat.old.table_id ≡ self.now.table.shared.table_id }
         requires role { (seat.old.me.0.role ≡ Feeder) ⊎ (seat.old.me.0.role ≡ Drain) }
         requires carries { seat.old.me.1 ≡ [] }
         ensures own { (seat.new.table_id ≡ seat.old.table_id) × (seat.new.id ≡ seat.old.id) }
-        ensures taken { IfSome result (λ r. (r.0 + 1 < 2 ^ 64) × IsTaken seat.old.me r.0 r.1 seat.new.me) }
+        ensures taken { IfSome result (λ word. (word + 1 < 2 ^ 64) × HasTaken seat.old.me word seat.new.me) }
         ensures kept { IfNone result (seat.new.me ≡ seat.old.me) }
     {
         let shared = &self.table.shared;
@@ -87,10 +86,7 @@ impl TurnTable {
         if found != word {
             return None;
         }
-        let Some(state) = shared.exchange(seat, 0, None) else {
-            unreachable!()
-        };
-        Some((word + 1, state))
+        Some(word + 1)
     }
 
     // Sleeps while the turn is taken. It may return early.
@@ -132,38 +128,26 @@ impl TurnTable {
     }
 
     // Gives the turn back, which was spent on the call. The call is for the proof alone.
-    pub(crate) fn spend<J: Spending>(
-        &self,
-        seat: &mut Seat<Slot, View>,
-        word: u64,
-        state: ShellState,
-        _call: Call,
-    )
+    pub(crate) fn spend<J: Spending>(&self, seat: &mut Seat<Slot, View>, word: u64, _call: Call)
         requires own { seat.old.table_id ≡ self.now.table.shared.table_id }
         requires word { word + 1 < 2 ^ 64 }
         requires call { J.call ≡ _call }
-        requires spends { MaySpend _call seat.old.me word state }
+        requires spends { IsDone _call seat.old.me word }
         ensures own { (seat.new.table_id ≡ seat.old.table_id) × (seat.new.id ≡ seat.old.id) }
         ensures spent { seat.new.me ≡ (with_turn seat.old.me.0 _call, []) }
         ensures above { IsAbove seat.old.me.0 (number_in seat.old.me.0.note) }
     {
-        let None = self.table.shared.exchange(seat, 0, Some(state)) else {
-            unreachable!()
-        };
         self.table.shared.store::<Spend<J>>(seat, 0, word + 1);
         self.wake_sleepers();
     }
 
-    // Gives the turn back, with the state as it was.
-    pub(crate) fn give_up(&self, seat: &mut Seat<Slot, View>, word: u64, state: ShellState)
+    // Gives the turn back, with the state as it was found.
+    pub(crate) fn give_up(&self, seat: &mut Seat<Slot, View>, word: u64)
         requires own { seat.old.table_id ≡ self.now.table.shared.table_id }
-        requires gives { MayGiveUp seat.old.me word state }
+        requires gives { IsUndone seat.old.me word }
         ensures own { (seat.new.table_id ≡ seat.old.table_id) × (seat.new.id ≡ seat.old.id) }
         ensures given { seat.new.me ≡ (without_note seat.old.me.0, []) }
     {
-        let None = self.table.shared.exchange(seat, 0, Some(state)) else {
-            unreachable!()
-        };
         self.table.shared.store::<GiveUp>(seat, 0, word - 1);
         self.wake_sleepers();
     }

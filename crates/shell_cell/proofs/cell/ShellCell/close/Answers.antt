@@ -1,4 +1,4 @@
-use Rattle.std.proofs.Common.{rules, ◌≡◌, Some, ap}
+use Rattle.std.proofs.Common.{rules, ap}
 use Rattle.shell_cell.specs.Rule.{Place}
 use Rattle.shell_cell.specs.Seats.{Cell}
 use Rattle.shell_cell.proofs.Keeps.{unites}
@@ -15,19 +15,12 @@ join_seat-requires c = (
   unites _ _ _ _ _ c.feed.invariant.role c.feed.invariant.free c.drain.invariant.free,
 )
 
-pub unreachable-requires : goal.unreachable-requires
-unreachable-requires c =
-    let end = closes _ _ c.join_seat.new.seat.me c.feed.inside.seat.me.0 c.drain.inside.seat.me.0 _ _ _
-    (ap (λ (p : Place). p.0) c.join_seat.ensures.2) c.close_with-closed.ensures.values.2 c.take.ensures.value in
-    let some : c.take.result ≡ Some end.state = end.is in
-    let none = c.in_default.is in cc
-
 pub returns : goal.returns
 returns c =
     let end = closes _ _ c.join_seat.new.seat.me c.feed.inside.seat.me.0 c.drain.inside.seat.me.0 _ _ _
-    (ap (λ (p : Place). p.0) c.join_seat.ensures.2) c.close_with-closed.ensures.values.2 c.take.ensures.value in
-    let shows = close_shows _ _ _ _ _ _ _ _ _ _ (ap (λ (s : Cell). s.opening) c.self.view_is) c.feed.view_is
-    c.drain.view_is end c.in-Some.is in
+    (ap (λ (p : Place). p.0) c.join_seat.ensures.2) c.close_with-closed.ensures.values.2 c.take-state.ensures.value in
+    let shows = close_shows _ _ _ _ _ _ _ _ _ (ap (λ (s : Cell). s.opening) c.self.view_is) c.feed.view_is
+    c.drain.view_is end in
     record {
       history = shows.history;
       fed = shows.fed;

@@ -1,6 +1,5 @@
 use Rattle.std.proofs.Common.{rules, refl}
 use Rattle.shell_cell.proofs.Keeps.{claims_turn}
-use Rattle.shell_cell.proofs.Calls.{has_slot}
 use Rattle.shell_cell.proofs.turns.TurnTable.claim_at_once.Goals as goal
 
 pub compare_exchange-found-requires : goal.compare_exchange-found-requires
@@ -9,6 +8,3 @@ compare_exchange-found-requires c = (
   search rules,
   claims_turn _ _ _ _ _ _ c.requires.role (search rules) refl,
 )
-
-pub exchange-requires : goal.exchange-requires
-exchange-requires c = (search rules, has_slot _ _ _ (c.compare_exchange-found.ensures.2.0 c.if-found-word.false))
