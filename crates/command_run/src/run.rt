@@ -18,14 +18,17 @@ ghost use Rattle.command_run.specs.PassedViews.{passed_lists};
 ghost use Rattle.command_run.specs.View.{run_values};
 
 use crate::inputs::{load_order, load_schedule, load_traces};
-use crate::passing::{Passed, pass_packets};
+use crate::passing::{Passed, Way, pass_packets};
 use crate::run_files::write_files;
 use crate::run_job::{RunJob, read_run};
 use command_ends::{Cause, Limit, Refusal, WordsRefusal, first_taken};
 use mm_base::limits::{HOUR, MOST_OPPORTUNITIES};
-use mm_base::{Disk, OutOfMemory, Text};
+use mm_base::{Disk, OutOfMemory, Pace, Text};
 use nest_spec::{Nest, NestError, NestWords, build, read_nest};
 use std::alloc::Global;
+use std::marker::Sync;
+use std::sync::Wait;
+use std::thread::Threads;
 use trace_reader::Trace;
 
 // Why the words of the shells are no nest.
@@ -148,11 +151,13 @@ fn load_nest<D: Disk>(
 
 // The run of a job's inputs. Its nest and its schedule are let go before any file is written, but for the traces of
 // links whose logs have a name.
-fn run_packets<D: Disk>(
+fn run_packets<R: Threads + Wait + Sync, D: Disk, Q: Pace + Sync>(
+    rt: &R,
     alloc: Global,
     job: &RunJob<'_>,
     words: NestWords,
     disk: &mut D,
+    pace: &Q,
 ) -> Result<Passed, Cause>
     requires { job.now.until ≤ 3600000 }
     ensures found { IfOk result (λ run. FinishesOnly GivesRun (run_inputs (run_values job.now) words)
@@ -164,30 +169,44 @@ fn run_packets<D: Disk>(
     let nest = load_nest(alloc, job, words, disk)?;
     let order = load_order(alloc, disk, job.order)?;
     let schedule = load_schedule(alloc, disk, job.schedule)?;
-    Ok(pass_packets(alloc, &nest, &schedule, order)?)
+    let way = Way::new(job.plain, order);
+    Ok(pass_packets(rt, alloc, &nest, &schedule, way, pace)?)
 }
 
 // Runs the job: its inputs are read, its packets pass the nest, and then its logs and its fates are written.
-fn run<D: Disk>(alloc: Global, job: &RunJob<'_>, disk: &mut D) -> Result<(), Cause>
+fn run<R: Threads + Wait + Sync, D: Disk, Q: Pace + Sync>(
+    rt: &R,
+    alloc: Global,
+    job: &RunJob<'_>,
+    disk: &mut D,
+    pace: &Q,
+) -> Result<(), Cause>
     ensures ends { (out : SinkView) → Ends (only GivesRun) (run_reading (run_values job.now))
         (offline (D.view disk.old) out) (offline (D.view disk.new) out) (cause_in result) }
     ensures counts { CountsDisk (D.view disk.old) (D.view disk.new) }
 {
     let words = read_words(alloc, job)?;
-    let run = run_packets(alloc, job, words, disk)?;
+    let run = run_packets(rt, alloc, job, words, disk, pace)?;
     write_files(alloc, disk, job.out, run)
 }
 
-/// Does what the words after `run` say: passes the packets of a schedule through a nest of shells, shell by shell or by
-/// single steps in the order that a file states, and writes the logs that the shells' words name and then the fates of
-/// the packets. Nothing is printed, and no net is touched.
-pub fn answer_run<D: Disk>(alloc: Global, words: &[String], disk: &mut D) -> Result<(), Cause>
+/// Does what the words after `run` say: passes the packets of a schedule through a nest of shells, and writes the logs
+/// that the shells' words name and then the fates of the packets. They pass over threads, with `--plain` shell by shell,
+/// and with `--order` by single steps in the order that a file states. The pace is asked before the turns of the
+/// threads. Nothing is printed, and no net is touched.
+pub fn answer_run<R: Threads + Wait + Sync, D: Disk, Q: Pace + Sync>(
+    rt: &R,
+    alloc: Global,
+    words: &[String],
+    disk: &mut D,
+    pace: &Q,
+) -> Result<(), Cause>
     ensures ends { (out : SinkView) → Ends (only GivesRun) (run_words (map string_bytes words.now))
         (offline (D.view disk.old) out) (offline (D.view disk.new) out) (cause_in result) }
     ensures counts { CountsDisk (D.view disk.old) (D.view disk.new) }
 {
     match read_run(alloc, words)? {
-        Some(job) => run(alloc, &job, disk),
+        Some(job) => run(rt, alloc, &job, disk, pace),
         None => Err(Cause::usage()),
     }
 }

@@ -83,8 +83,13 @@ fn write_fates<D: Disk>(
     file_written(alloc, name, written)
 }
 
-// Writes the files of a run shell by shell.
-fn write_run<D: Disk>(alloc: Global, disk: &mut D, out: &str, run: NestRun) -> Result<(), Cause>
+// Writes the files of a run whose logs are made in pieces.
+fn write_in_pieces<D: Disk>(
+    alloc: Global,
+    disk: &mut D,
+    out: &str,
+    run: NestRun,
+) -> Result<(), Cause>
     ensures ok { OnOk result ((D.view disk.new).files ≡ holding_all (run_files out.now run) (D.view disk.old).files) }
     ensures stopped { IfErr result (λ cause. StopsWriting (run_files out.now run) (D.view disk.old) (D.view disk.new)
         cause) }
@@ -95,8 +100,8 @@ fn write_run<D: Disk>(alloc: Global, disk: &mut D, out: &str, run: NestRun) -> R
     write_fates(alloc, disk, out, fates.as_slice())
 }
 
-// Writes the files of a run in an order.
-fn write_ordered<D: Disk>(
+// Writes the files of a run whose logs are whole.
+fn write_whole<D: Disk>(
     alloc: Global,
     disk: &mut D,
     out: &str,
@@ -126,7 +131,7 @@ pub(crate) fn write_files<D: Disk>(
     ensures only_writes { OnlyWrites (D.view disk.old) (D.view disk.new) }
 {
     match run {
-        Passed::ByShells(run) => write_run(alloc, disk, out, run),
-        Passed::InOrder(run) => write_ordered(alloc, disk, out, &run),
+        Passed::InPieces(run) => write_in_pieces(alloc, disk, out, run),
+        Passed::Whole(run) => write_whole(alloc, disk, out, &run),
     }
 }

@@ -1,7 +1,11 @@
 // `run` over files in memory.
 use crate::answer_run;
+use mm_base::NoPace;
 use std::alloc::Global;
+use std::marker::Sync;
+use std::sync::Wait;
 use std::test::Fail;
+use std::thread::Threads;
 use test_outside::{TestOutside, words_of};
 
 mod failing;
@@ -18,8 +22,12 @@ struct Left<'a> {
     files: &'a [(&'a str, &'a str)],
 }
 
+// The options of each way in which packets pass a nest, the last of which takes the schedule's bytes for an order.
+const WAYS: [&str; 3] = ["", "--plain", "--order s"];
+
 // Whether the words, over a disk with these files, whose call of this number fails, leave this.
-fn leaves(
+fn leaves<R: Threads + Wait + Sync>(
+    rt: &R,
     alloc: Global,
     words: &str,
     files: &[(&str, &str)],
@@ -28,6 +36,6 @@ fn leaves(
 ) -> Result<bool, Fail> {
     let words = words_of(alloc, words)?;
     let mut outside = TestOutside::new(alloc, files, fails, &[])?;
-    let answer = answer_run(alloc, &words, &mut outside.disk);
+    let answer = answer_run(rt, alloc, &words, &mut outside.disk, &NoPace);
     Ok(outside.ends_with(answer, left.status, left.line, left.files))
 }

@@ -49,6 +49,13 @@ fn each_command_does_its_job(rt: HostRuntime) -> Result<(), Fail> {
     let summary = "packets 3\ndeparted 3\ndropped 0\ninside 0\nunsent 0\nbytes 2524\nlast 26\n";
     for (words, fails, status, printed, fates) in [
         (
+            "run --until 100 --schedule s --out f -- mm-delay 20",
+            0,
+            0,
+            "",
+            "1 up departed 25\n",
+        ),
+        (
             "run --until 100 --schedule s --out f --plain -- mm-delay 20",
             0,
             0,

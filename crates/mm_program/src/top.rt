@@ -50,7 +50,7 @@ fn answer<R: Threads + Wait + Sync, D: Disk, O: Sink, P: Port, Q: Pace + Sync>(
         return Err(Cause::usage());
     };
     match read_command(word.as_str()) {
-        Command::Run => answer_run(alloc, words, disk),
+        Command::Run => answer_run(rt, alloc, words, disk, pace),
         Command::Report => answer_report(alloc, words, disk, out),
         Command::Make => answer_make(alloc, words, out),
         Command::Replay => answer_replay(rt, alloc, words, disk, out, port, pace),
@@ -65,8 +65,9 @@ fn answer<R: Threads + Wait + Sync, D: Disk, O: Sink, P: Port, Q: Pace + Sync>(
 ///
 /// `run --until MS --schedule FILE --out FILE [--seed N] [--plain] [--order FILE] -- SHELLS` passes the packets of a
 /// schedule through a nest of 1 to 8 shells up to the horizon `MS` in milliseconds, and writes the logs that the
-/// shells' words name and then the fates of the packets. With `--order` it goes by single steps in the order that the
-/// bytes of a file state, whatever they are, and writes the same; beside `--plain` that has no job. `report --log FILE`
+/// shells' words name and then the fates of the packets. They pass over threads, with `--plain` shell by shell, and with
+/// `--order` by single steps in the order that the bytes of a file state, whatever they are; the same is written in each
+/// way, and both options together have no job. `report --log FILE`
 /// prints the report of a log, or `empty`. `make --number N --packets COUNT` prints the summary of a run of 1 to
 /// 1,000,000 packets that is made of a number, up to ten digits of it. `record --client FILE --server FILE --out FILE
 /// [--port N]` writes the store of the two byte streams of a connection. `match --store FILE --request FILE [--port N]`

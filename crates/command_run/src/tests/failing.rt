@@ -1,43 +1,120 @@
 // Disks that fail.
 use super::{Left, leaves};
+use std::alloc::Global;
+use std::marker::Sync;
+use std::sync::Wait;
 use std::test::Fail;
+use std::thread::Threads;
 use test_outside::ABSENT;
+
+// A run whose disk fails at a call: which, the status and the line, and what the files `u`, `d` and `f` hold then.
+type Failing = (
+    u64,
+    u8,
+    &'static str,
+    &'static str,
+    &'static str,
+    &'static str,
+);
+
+// The first line of a log, which is appended by itself.
+const FIRST: &str = "# base timestamp: 0\n";
+
+const UP: &str = "# base timestamp: 0\n1 # 1504\n1 + 1504\n2 # 1504\n2 - 1504 1\n";
+
+const DOWN: &str = "# base timestamp: 0\n1 # 1504\n2 # 1504\n";
+
+// The calls are: a size and a read for each of `t`, `x` and `s`, a creation for each of `u`, `d` and `f`, an append for
+// the first line of `u` and of `d`, and one for the lines of each file.
+const ONE_LINK: [Failing; 15] = [
+    (1, 6, "mm: read fault t\n", ABSENT, ABSENT, ABSENT),
+    (2, 6, "mm: read fault t\n", ABSENT, ABSENT, ABSENT),
+    (3, 6, "mm: read fault x\n", ABSENT, ABSENT, ABSENT),
+    (4, 6, "mm: read fault x\n", ABSENT, ABSENT, ABSENT),
+    (5, 6, "mm: read fault s\n", ABSENT, ABSENT, ABSENT),
+    (6, 6, "mm: read fault s\n", ABSENT, ABSENT, ABSENT),
+    (7, 7, "mm: write fault u\n", ABSENT, ABSENT, ABSENT),
+    (8, 7, "mm: write fault u\n", "", ABSENT, ABSENT),
+    (9, 7, "mm: write fault u\n", FIRST, ABSENT, ABSENT),
+    (10, 7, "mm: write fault d\n", UP, ABSENT, ABSENT),
+    (11, 7, "mm: write fault d\n", UP, "", ABSENT),
+    (12, 7, "mm: write fault d\n", UP, FIRST, ABSENT),
+    (13, 7, "mm: write fault f\n", UP, DOWN, ABSENT),
+    (14, 7, "mm: write fault f\n", UP, DOWN, ""),
+    (15, 0, "", UP, DOWN, "1 up departed 2\n"),
+];
+
+// Whether a run of these words leaves, at each failing call, what is stated.
+fn fails_in_turn<R: Threads + Wait + Sync>(
+    rt: &R,
+    alloc: Global,
+    words: &str,
+    files: &[(&str, &str)],
+    failing: &[Failing],
+) -> Result<bool, Fail> {
+    for (call, status, line, u, d, f) in failing {
+        let left = Left {
+            status: *status,
+            line,
+            files: &[("u", u), ("d", d), ("f", f)],
+        };
+        if !leaves(rt, alloc, words, files, &[*call], &left)? {
+            return Ok(false);
+        }
+    }
+    Ok(true)
+}
 
 #[test]
 fn each_call_of_the_disk_fails_in_turn(rt: HostRuntime) -> Result<(), Fail> {
     let alloc = rt.alloc();
-    let words = "--until 2 --schedule s --out f -- mm-link t x --downlink-log=d --uplink-log=u";
-    let up = "# base timestamp: 0\n1 # 1504\n1 + 1504\n2 # 1504\n2 - 1504 1\n";
-    let down = "# base timestamp: 0\n1 # 1504\n2 # 1504\n";
-    let fates = "1 up departed 2\n";
-    let first = "# base timestamp: 0\n";
+    let nest = "-- mm-link t x --downlink-log=d --uplink-log=u";
     let files = [("t", "1\n"), ("x", "1\n"), ("s", "1 up 1504\n")];
-    // The calls are: a size and a read for each of `t`, `x` and `s`, a creation for each of `u`, `d` and `f`, an
-    // append for the first line of `u` and of `d`, and one for the lines of each file.
-    for (call, status, line, u, d, f) in [
-        (1, 6, "mm: read fault t\n", ABSENT, ABSENT, ABSENT),
-        (2, 6, "mm: read fault t\n", ABSENT, ABSENT, ABSENT),
-        (3, 6, "mm: read fault x\n", ABSENT, ABSENT, ABSENT),
-        (4, 6, "mm: read fault x\n", ABSENT, ABSENT, ABSENT),
-        (5, 6, "mm: read fault s\n", ABSENT, ABSENT, ABSENT),
-        (6, 6, "mm: read fault s\n", ABSENT, ABSENT, ABSENT),
-        (7, 7, "mm: write fault u\n", ABSENT, ABSENT, ABSENT),
-        (8, 7, "mm: write fault u\n", "", ABSENT, ABSENT),
-        (9, 7, "mm: write fault u\n", first, ABSENT, ABSENT),
-        (10, 7, "mm: write fault d\n", up, ABSENT, ABSENT),
-        (11, 7, "mm: write fault d\n", up, "", ABSENT),
-        (12, 7, "mm: write fault d\n", up, first, ABSENT),
-        (13, 7, "mm: write fault f\n", up, down, ABSENT),
-        (14, 7, "mm: write fault f\n", up, down, ""),
-        (15, 0, "", up, down, fates),
-    ] {
-        let left = Left {
-            status,
-            line,
-            files: &[("u", u), ("d", d), ("f", f)],
-        };
-        let is_left = leaves(alloc, words, &files, &[call], &left)?;
-        assert!(rt; is_left, "at call {call}");
+    for way in ["", "--plain"] {
+        let words = format!(in alloc; "--until 2 --schedule s --out f {way} {nest}")?;
+        let fails = fails_in_turn(&rt, alloc, words.as_str(), &files, &ONE_LINK)?;
+        assert!(rt; fails, "at {words}");
     }
+    Ok(())
+}
+
+const LINK_UP: &str =
+    "# base timestamp: 0\n0 + 100\n1 # 1504\n1 - 100 1\n2 # 1504\n3 # 1504\n4 # 1504\n";
+
+const LINK_DOWN: &str = "# base timestamp: 0\n2 # 1504\n2 + 100\n4 # 1504\n4 - 100 2\n";
+
+// A delay before the link changes no call of the disk.
+const DELAY_AND_LINK: [Failing; 15] = [
+    (1, 6, "mm: read fault t\n", ABSENT, ABSENT, ABSENT),
+    (2, 6, "mm: read fault t\n", ABSENT, ABSENT, ABSENT),
+    (3, 6, "mm: read fault v\n", ABSENT, ABSENT, ABSENT),
+    (4, 6, "mm: read fault v\n", ABSENT, ABSENT, ABSENT),
+    (5, 6, "mm: read fault s\n", ABSENT, ABSENT, ABSENT),
+    (6, 6, "mm: read fault s\n", ABSENT, ABSENT, ABSENT),
+    (7, 7, "mm: write fault u\n", ABSENT, ABSENT, ABSENT),
+    (8, 7, "mm: write fault u\n", "", ABSENT, ABSENT),
+    (9, 7, "mm: write fault u\n", FIRST, ABSENT, ABSENT),
+    (10, 7, "mm: write fault d\n", LINK_UP, ABSENT, ABSENT),
+    (11, 7, "mm: write fault d\n", LINK_UP, "", ABSENT),
+    (12, 7, "mm: write fault d\n", LINK_UP, FIRST, ABSENT),
+    (13, 7, "mm: write fault f\n", LINK_UP, LINK_DOWN, ABSENT),
+    (14, 7, "mm: write fault f\n", LINK_UP, LINK_DOWN, ""),
+    (
+        15,
+        0,
+        "",
+        LINK_UP,
+        LINK_DOWN,
+        "1 up departed 3\n2 down departed 4\n",
+    ),
+];
+
+#[test]
+fn threads_stop_at_each_failing_call(rt: HostRuntime) -> Result<(), Fail> {
+    let words =
+        "--until 4 --schedule s --out f -- mm-delay 2 mm-link t v --uplink-log=u --downlink-log=d";
+    let files = [("t", "1\n"), ("v", "2\n"), ("s", "0 up 100\n0 down 100\n")];
+    let fails = fails_in_turn(&rt, rt.alloc(), words, &files, &DELAY_AND_LINK)?;
+    assert!(rt; fails);
     Ok(())
 }

@@ -3,7 +3,7 @@ ghost use Rattle.std.specs.Prelude.{◌^◌, ◌-◌, None, false};
 
 use crate::answer_run;
 use command_ends::conclude;
-use mm_base::{Disk, DiskError, MemSink};
+use mm_base::{Disk, DiskError, MemSink, NoPace};
 use std::alloc::Global;
 use std::test::Fail;
 use test_outside::words_of;
@@ -51,7 +51,8 @@ fn files_past_their_size_are_refused(rt: HostRuntime) -> Result<(), Fail> {
         let words = format!(in alloc; "--until 9 --schedule s --out f {back}")?;
         let words = words_of(alloc, words.as_str())?;
         let mut out = MemSink::new(alloc, Vec::new(alloc));
-        let status = conclude(answer_run(alloc, &words, &mut LargeDisk), &mut out);
+        let answer = answer_run(&rt, alloc, &words, &mut LargeDisk, &NoPace);
+        let status = conclude(answer, &mut out);
         assert!(rt;
             status == 5 && out.written() == line.as_bytes(),
             "at {line}"

@@ -1,13 +1,16 @@
 // Runs by the bytes of a file.
 use super::{Left, leaves};
 use crate::answer_run;
-use mm_base::save;
+use mm_base::{NoPace, save};
 use std::alloc::{AllocError, Global};
+use std::marker::Sync;
+use std::sync::Wait;
 use std::test::Fail;
+use std::thread::Threads;
 use test_outside::{ABSENT, TestOutside, words_of};
 
 // Whether a run by an order of these bytes leaves the fates of the composition.
-fn leaves_by(alloc: Global, order: &[u8]) -> Result<bool, Fail> {
+fn leaves_by<R: Threads + Wait + Sync>(rt: &R, alloc: Global, order: &[u8]) -> Result<bool, Fail> {
     let words = "--until 100 --schedule s --out f --order o -- mm-delay 10 mm-link t t";
     let words = words_of(alloc, words)?;
     let files = [("t", "4\n"), ("s", "0 up 100\n0 down 100\n")];
@@ -15,7 +18,7 @@ fn leaves_by(alloc: Global, order: &[u8]) -> Result<bool, Fail> {
     if save(&mut outside.disk, "o", order).is_err() {
         return Ok(false);
     }
-    let answer = answer_run(alloc, &words, &mut outside.disk);
+    let answer = answer_run(rt, alloc, &words, &mut outside.disk, &NoPace);
     let fates = "1 up departed 14\n2 down departed 12\n";
     Ok(outside.ends_with(answer, 0, "", &[("f", fates)]))
 }
@@ -34,7 +37,7 @@ fn any_bytes_are_an_order(rt: HostRuntime) -> Result<(), Fail> {
     let alloc = rt.alloc();
     let all = all_bytes(alloc)?;
     for order in [&[], [0; 3].as_slice(), all.as_slice()] {
-        assert!(rt; leaves_by(alloc, order)?, "at {} bytes", order.len());
+        assert!(rt; leaves_by(&rt, alloc, order)?, "at {} bytes", order.len());
     }
     Ok(())
 }
@@ -64,7 +67,7 @@ fn an_order_is_read_before_the_schedule(rt: HostRuntime) -> Result<(), Fail> {
             line,
             files: &[("u", u)],
         };
-        let is_left = leaves(alloc, words, &files, &[call], &left)?;
+        let is_left = leaves(&rt, alloc, words, &files, &[call], &left)?;
         assert!(rt; is_left, "at call {call}");
     }
     Ok(())

@@ -1,7 +1,10 @@
 // What runs refuse.
 use super::{Left, leaves};
 use std::alloc::Global;
+use std::marker::Sync;
+use std::sync::Wait;
 use std::test::Fail;
+use std::thread::Threads;
 use test_outside::ABSENT;
 
 #[test]
@@ -46,6 +49,7 @@ fn shell_words_are_refused(rt: HostRuntime) -> Result<(), Fail> {
             files: &[("f", ABSENT)],
         };
         let is_left = leaves(
+            &rt,
             alloc,
             words.as_str(),
             &[("t", "1\n"), ("s", "")],
@@ -300,7 +304,11 @@ const REFUSALS: [Refusal; 28] = [
     },
 ];
 
-fn is_refused(alloc: Global, refusal: &Refusal) -> Result<bool, Fail> {
+fn is_refused<R: Threads + Wait + Sync>(
+    rt: &R,
+    alloc: Global,
+    refusal: &Refusal,
+) -> Result<bool, Fail> {
     let words = format!(in alloc; "{} {}", refusal.front, refusal.back)?;
     let files = [("t", refusal.trace), ("s", refusal.schedule)];
     let left = Left {
@@ -313,13 +321,13 @@ fn is_refused(alloc: Global, refusal: &Refusal) -> Result<bool, Fail> {
             ("s", refusal.schedule),
         ],
     };
-    leaves(alloc, words.as_str(), &files, &[], &left)
+    leaves(rt, alloc, words.as_str(), &files, &[], &left)
 }
 
 #[test]
 fn refusals_have_their_status_and_line(rt: HostRuntime) -> Result<(), Fail> {
     for (at, refusal) in REFUSALS.iter().enumerate() {
-        assert!(rt; is_refused(rt.alloc(), refusal)?, "row {at}");
+        assert!(rt; is_refused(&rt, rt.alloc(), refusal)?, "row {at}");
     }
     Ok(())
 }

@@ -1,121 +1,150 @@
 // What runs write.
-use super::{Left, leaves};
+use super::{Left, WAYS, leaves};
+use std::alloc::Global;
+use std::marker::Sync;
+use std::sync::Wait;
 use std::test::Fail;
+use std::thread::Threads;
 use test_outside::ABSENT;
 
+// The last words, the texts of the trace and of the schedule, and those of the fates and of the log `u`.
+type Written = (
+    &'static str,
+    &'static str,
+    &'static str,
+    &'static str,
+    &'static str,
+);
+
+const WRITTEN: [Written; 15] = [
+    (
+        "100 -- mm-delay 20",
+        "",
+        "5 up 100\n",
+        "1 up departed 25\n",
+        ABSENT,
+    ),
+    (
+        "0100 --seed=7 -- mm-delay 020",
+        "",
+        "80 up 100\n81 up 100\n101 up 100\n",
+        "1 up departed 100\n2 up inside 1\n3 up unsent\n",
+        ABSENT,
+    ),
+    ("100 -- mm-delay 20", "", "", "", ABSENT),
+    (
+        "15 -- mm-link t t --uplink-log=u",
+        "0\n5\n",
+        "",
+        "",
+        "# base timestamp: 0\n0 # 1504\n5 # 1504\n5 # 1504\n10 # 1504\n10 # 1504\n15 # 1504\n15 # 1504\n",
+    ),
+    (
+        "2 -- mm-link t t --uplink-log u",
+        "1\n",
+        "0 up 500\n0 up 500\n0 up 500\n0 up 500\n",
+        "1 up departed 1\n2 up departed 1\n3 up departed 1\n4 up departed 2\n",
+        "# base timestamp: 0\n0 + 500\n0 + 500\n0 + 500\n0 + 500\n1 # 1504\n1 - 500 1\n1 - 500 1\n1 - 500 1\n2 # 1504\n2 - 500 2\n",
+    ),
+    (
+        "50 -- mm-link t t --once",
+        "3\n3\n",
+        "0 up 1504\n0 up 1504\n0 up 1504\n",
+        "1 up departed 3\n2 up departed 3\n3 up inside 1\n",
+        ABSENT,
+    ),
+    (
+        "10 -- mm-link t t --uplink-log=u --uplink-queue=droptail --uplink-queue-args=bytes=250",
+        "10\n",
+        "0 up 100\n0 up 200\n0 up 150\n",
+        "1 up departed 10\n2 up dropped 1 0\n3 up departed 10\n",
+        "# base timestamp: 0\n0 + 100\n0 + 200\n0 d 1 200\n0 + 150\n10 # 1504\n10 - 100 10\n10 - 150 10\n",
+    ),
+    (
+        "3 -- mm-link t t --uplink-log=u --uplink-queue=drophead --uplink-queue-args=packets=2",
+        "1\n",
+        "0 up 1000\n0 up 1000\n1 up 800\n1 up 800\n1 up 700\n",
+        "1 up departed 1\n2 up departed 2\n3 up dropped 1 1\n4 up departed 2\n5 up departed 3\n",
+        "# base timestamp: 0\n0 + 1000\n0 + 1000\n1 # 1504\n1 - 1000 1\n1 + 800\n1 + 800\n1 + 700\n1 d 1 800\n2 # 1504\n2 - 1000 2\n2 - 800 1\n3 # 1504\n3 - 700 2\n",
+    ),
+    (
+        "10 -- mm-link t t --uplink-log=u --uplink-queue=drophead --uplink-queue-args=bytes=250",
+        "10\n",
+        "0 up 100\n0 up 200\n0 up 300\n",
+        "1 up dropped 1 0\n2 up dropped 1 0\n3 up dropped 1 0\n",
+        "# base timestamp: 0\n0 + 100\n0 + 200\n0 d 1 100\n0 + 300\n0 d 2 500\n10 # 1504\n",
+    ),
+    (
+        "9 -- mm-loss uplink 1",
+        "",
+        "4 up 60\n4 down 60\n",
+        "1 up dropped 1 4\n2 down departed 4\n",
+        ABSENT,
+    ),
+    (
+        "9 -- mm-loss uplink 0",
+        "",
+        "4 up 60\n4 down 60\n",
+        "1 up departed 4\n2 down departed 4\n",
+        ABSENT,
+    ),
+    (
+        "100 -- mm-delay 10 mm-link t t",
+        "4\n",
+        "0 up 100\n0 down 100\n",
+        "1 up departed 14\n2 down departed 12\n",
+        ABSENT,
+    ),
+    (
+        "60000 -- mm-delay 20 mm-link t t --uplink-queue=droptail --uplink-queue-args=packets=100",
+        "1\n",
+        "0 up 60\n40 down 1500\n40 down 1500\n",
+        "1 up departed 21\n2 down departed 61\n3 down departed 62\n",
+        ABSENT,
+    ),
+    (
+        "4 -- mm-link t t --uplink-log=u",
+        "# mm-trace 2\n1 500\n2 3000\n",
+        "0 up 1504\n0 up 1504\n",
+        "1 up departed 2\n2 up departed 2\n",
+        "# base timestamp: 0\n0 + 1504\n0 + 1504\n1 # 500\n2 # 3000\n2 - 1504 2\n2 - 1504 2\n3 # 500\n4 # 3000\n",
+    ),
+    (
+        "20 -- mm-link t t",
+        "007",
+        "05 down 0100",
+        "1 down departed 7\n",
+        ABSENT,
+    ),
+];
+
+// Whether a run in this way writes this.
+fn is_written<R: Threads + Wait + Sync>(
+    rt: &R,
+    alloc: Global,
+    way: &str,
+    written: &Written,
+) -> Result<bool, Fail> {
+    let (words, trace, schedule, fates, log) = *written;
+    let words = format!(in alloc; "--schedule s --out=f {way} --until {words}")?;
+    let files = [("t", trace), ("s", schedule)];
+    let left = Left {
+        status: 0,
+        line: "",
+        files: &[("f", fates), ("u", log)],
+    };
+    leaves(rt, alloc, words.as_str(), &files, &[], &left)
+}
+
 #[test]
-fn logs_and_fates_are_written(rt: HostRuntime) -> Result<(), Fail> {
-    let alloc = rt.alloc();
-    for (words, trace, schedule, fates, log) in [
-        (
-            "100 --plain -- mm-delay 20",
-            "",
-            "5 up 100\n",
-            "1 up departed 25\n",
-            ABSENT,
-        ),
-        (
-            "0100 --seed=7 -- mm-delay 020",
-            "",
-            "80 up 100\n81 up 100\n101 up 100\n",
-            "1 up departed 100\n2 up inside 1\n3 up unsent\n",
-            ABSENT,
-        ),
-        ("100 -- mm-delay 20", "", "", "", ABSENT),
-        (
-            "15 -- mm-link t t --uplink-log=u",
-            "0\n5\n",
-            "",
-            "",
-            "# base timestamp: 0\n0 # 1504\n5 # 1504\n5 # 1504\n10 # 1504\n10 # 1504\n15 # 1504\n15 # 1504\n",
-        ),
-        (
-            "2 -- mm-link t t --uplink-log u",
-            "1\n",
-            "0 up 500\n0 up 500\n0 up 500\n0 up 500\n",
-            "1 up departed 1\n2 up departed 1\n3 up departed 1\n4 up departed 2\n",
-            "# base timestamp: 0\n0 + 500\n0 + 500\n0 + 500\n0 + 500\n1 # 1504\n1 - 500 1\n1 - 500 1\n1 - 500 1\n2 # 1504\n2 - 500 2\n",
-        ),
-        (
-            "50 -- mm-link t t --once",
-            "3\n3\n",
-            "0 up 1504\n0 up 1504\n0 up 1504\n",
-            "1 up departed 3\n2 up departed 3\n3 up inside 1\n",
-            ABSENT,
-        ),
-        (
-            "10 -- mm-link t t --uplink-log=u --uplink-queue=droptail --uplink-queue-args=bytes=250",
-            "10\n",
-            "0 up 100\n0 up 200\n0 up 150\n",
-            "1 up departed 10\n2 up dropped 1 0\n3 up departed 10\n",
-            "# base timestamp: 0\n0 + 100\n0 + 200\n0 d 1 200\n0 + 150\n10 # 1504\n10 - 100 10\n10 - 150 10\n",
-        ),
-        (
-            "3 -- mm-link t t --uplink-log=u --uplink-queue=drophead --uplink-queue-args=packets=2",
-            "1\n",
-            "0 up 1000\n0 up 1000\n1 up 800\n1 up 800\n1 up 700\n",
-            "1 up departed 1\n2 up departed 2\n3 up dropped 1 1\n4 up departed 2\n5 up departed 3\n",
-            "# base timestamp: 0\n0 + 1000\n0 + 1000\n1 # 1504\n1 - 1000 1\n1 + 800\n1 + 800\n1 + 700\n1 d 1 800\n2 # 1504\n2 - 1000 2\n2 - 800 1\n3 # 1504\n3 - 700 2\n",
-        ),
-        (
-            "10 -- mm-link t t --uplink-log=u --uplink-queue=drophead --uplink-queue-args=bytes=250",
-            "10\n",
-            "0 up 100\n0 up 200\n0 up 300\n",
-            "1 up dropped 1 0\n2 up dropped 1 0\n3 up dropped 1 0\n",
-            "# base timestamp: 0\n0 + 100\n0 + 200\n0 d 1 100\n0 + 300\n0 d 2 500\n10 # 1504\n",
-        ),
-        (
-            "9 -- mm-loss uplink 1",
-            "",
-            "4 up 60\n4 down 60\n",
-            "1 up dropped 1 4\n2 down departed 4\n",
-            ABSENT,
-        ),
-        (
-            "9 -- mm-loss uplink 0",
-            "",
-            "4 up 60\n4 down 60\n",
-            "1 up departed 4\n2 down departed 4\n",
-            ABSENT,
-        ),
-        (
-            "100 -- mm-delay 10 mm-link t t",
-            "4\n",
-            "0 up 100\n0 down 100\n",
-            "1 up departed 14\n2 down departed 12\n",
-            ABSENT,
-        ),
-        (
-            "60000 -- mm-delay 20 mm-link t t --uplink-queue=droptail --uplink-queue-args=packets=100",
-            "1\n",
-            "0 up 60\n40 down 1500\n40 down 1500\n",
-            "1 up departed 21\n2 down departed 61\n3 down departed 62\n",
-            ABSENT,
-        ),
-        (
-            "4 -- mm-link t t --uplink-log=u",
-            "# mm-trace 2\n1 500\n2 3000\n",
-            "0 up 1504\n0 up 1504\n",
-            "1 up departed 2\n2 up departed 2\n",
-            "# base timestamp: 0\n0 + 1504\n0 + 1504\n1 # 500\n2 # 3000\n2 - 1504 2\n2 - 1504 2\n3 # 500\n4 # 3000\n",
-        ),
-        (
-            "20 -- mm-link t t",
-            "007",
-            "05 down 0100",
-            "1 down departed 7\n",
-            ABSENT,
-        ),
-    ] {
-        let words = format!(in alloc; "--schedule s --out=f --until {words}")?;
-        let files = [("t", trace), ("s", schedule)];
-        let left = Left {
-            status: 0,
-            line: "",
-            files: &[("f", fates), ("u", log)],
-        };
-        let is_left = leaves(alloc, words.as_str(), &files, &[], &left)?;
-        assert!(rt; is_left, "at {words}");
+fn logs_and_fates_are_written_in_each_way(rt: HostRuntime) -> Result<(), Fail> {
+    for way in WAYS {
+        for (at, written) in WRITTEN.iter().enumerate() {
+            assert!(rt;
+                is_written(&rt, rt.alloc(), way, written)?,
+                "row {at} by {way}"
+            );
+        }
     }
     Ok(())
 }
@@ -134,9 +163,9 @@ fn a_log_of_many_pieces_is_written_whole(rt: HostRuntime) -> Result<(), Fail> {
         files: &[("u", log.as_str())],
     };
     let files = [("t", "1\n"), ("s", "")];
-    for order in ["", "--order s"] {
-        let words = format!(in alloc; "--until 5000 --schedule s --out f {order} {link}")?;
-        let is_left = leaves(alloc, words.as_str(), &files, &[], &left)?;
+    for way in WAYS {
+        let words = format!(in alloc; "--until 5000 --schedule s --out f {way} {link}")?;
+        let is_left = leaves(&rt, alloc, words.as_str(), &files, &[], &left)?;
         assert!(rt; is_left, "at {words}");
     }
     Ok(())

@@ -1,7 +1,7 @@
 use Rattle.std.proofs.Common.{◌∙◌}
 use Rattle.nest_plain.specs.Unwritten.{unwritten}
 use Rattle.command_run.proofs.OutputLemmas.{fates_stop, fates_written}
-use Rattle.command_run.proofs.run_files.write_run.Goals as goal
+use Rattle.command_run.proofs.run_files.write_in_pieces.Goals as goal
 
 pub returns-clause-ok : goal.returns-clause-ok
 returns-clause-ok g c =

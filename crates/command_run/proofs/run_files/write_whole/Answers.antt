@@ -1,6 +1,6 @@
 use Rattle.nest_spec.specs.RunViews.{all_named}
 use Rattle.command_run.proofs.OutputLemmas.{fates_stop, fates_written}
-use Rattle.command_run.proofs.run_files.write_ordered.Goals as goal
+use Rattle.command_run.proofs.run_files.write_whole.Goals as goal
 
 pub returns-clause-ok : goal.returns-clause-ok
 returns-clause-ok g c =
