@@ -133,6 +133,7 @@ pub fn mm_main<R: Threads + Wait + Sync, D: Disk + Send, O: Sink, P: Port + Send
         (outside (D.view disk.new) (O.view out.new) (P.view port.new))
         → (result ≡ 0) ⊎ (result ≡ 9) }
 
+    // No count falls, and those of a disk, an `out` or a port that never fails stand still.
     ensures counts { CountsDisk (D.view disk.old) (D.view disk.new) }
     ensures out_counts { CountsSinkFaults (O.view out.old) (O.view out.new) }
     ensures port_counts { KeepsPort (P.view port.old) (P.view port.new) }
