@@ -7,7 +7,7 @@ ghost use Rattle.command_run.specs.PassedViews.{passed_lists};
 use mm_base::{Bytes, OutOfMemory, Pace};
 use nest_core::run_order;
 use nest_plain::{NestRun, run_nest};
-use nest_runner::run_threads;
+use nest_runner::run_nest_threads;
 use nest_spec::{Nest, RunResult};
 use packet_record::Schedule;
 use std::alloc::Global;
@@ -55,7 +55,10 @@ pub(crate) fn pass_packets<R: Threads + Wait + Sync, Q: Pace + Sync>(
     ensures once { OnOk result (HaveOneFate nest.now schedule.now) }
 {
     match way {
-        Way::Threads => Ok(Passed::Whole(run_threads(rt, alloc, nest, schedule, pace)?)),
+        Way::Threads => {
+            let run = run_nest_threads(rt, alloc, nest, schedule, pace)?;
+            Ok(Passed::InPieces(run))
+        }
         Way::ShellByShell => Ok(Passed::InPieces(run_nest(alloc, nest, schedule)?)),
         Way::Steps(order) => Ok(Passed::Whole(run_order(alloc, nest, schedule, order.as_slice())?)),
     }

@@ -31,7 +31,8 @@ impl Model for NestRun {
 }
 
 impl NestRun {
-    pub(crate) fn new(fates: Vec<FateRow>, logs: Vec<UnwrittenLog>) -> Self
+    /// The run with these fates and logs.
+    pub fn new(fates: Vec<FateRow>, logs: Vec<UnwrittenLog>) -> Self
         ensures { result ≡ record { fates = fates.items; logs = unwritten logs.items } }
     {
         NestRun { fates, logs }

@@ -1,5 +1,5 @@
 -- The states of stages that were closed one after another.
-use Rattle.std.proofs.Common.{◌≡◌, ◌∙◌, ap, sym, ℕ, List, [], ◌∷◌, ◌++◌, map, refl}
+use Rattle.std.proofs.Common.{◌≡◌, ap, ℕ, List, [], ◌∷◌, ◌++◌, map, refl}
 use Rattle.packet_record.specs.declared.packet.Timed.{Timed}
 use Rattle.packet_record.specs.declared.item.FlowEnd.TheVariants.{Ended}
 use Rattle.shell_core.specs.declared.spec.DirSpec.{DirSpec}

@@ -1,11 +1,19 @@
 -- A chain of stages that is one longer, and one whose workers ran.
-use Rattle.std.proofs.Common.{◌≡◌, ◌∙◌, ap, sym, subst, ℕ, List, [], ◌∷◌, ◌++◌, map, refl}
+use Rattle.std.proofs.Common.{◌≡◌, ◌∙◌, ap, sym, subst, ℕ, List, [], ◌∷◌, ◌++◌, refl}
+use Rattle.packet_record.specs.declared.packet.Direction.{Direction}
+use Rattle.packet_record.specs.declared.packet.Row.{Row}
+use Rattle.packet_record.specs.declared.packet.Timed.{Timed}
+use Rattle.packet_record.specs.Rows.{entering}
 use Rattle.mark_channel.specs.Ends.{Channel}
+use Rattle.shell_state.specs.States.{State}
+use Rattle.nest_spec.specs.Nests.{NestParts, directions_of}
+use Rattle.nest_spec.specs.Passed.{HavePassed}
 use Rattle.shell_core.specs.declared.spec.DirSpec.{DirSpec}
 use Rattle.nest_runner.specs.declared.stage.Stage.{Stage}
 use Rattle.nest_runner.specs.declared.lane.Lane.{Lane}
-use Rattle.nest_runner.specs.Stages.{AllFresh, AllSame, IsFresh}
-use Rattle.nest_runner.specs.Lanes.{AllOwn, IsSameLane, IsWired, Linked, specs_of}
+use Rattle.nest_runner.specs.Stages.{AllDone, AllFresh, AllSame, IsFresh}
+use Rattle.nest_runner.specs.Lanes.{AllEnded, AllOwn, HasCarried, HasEnded, HasRun, IsSameLane, IsWired, Linked}
+use Rattle.nest_runner.specs.Lanes.{specs_of}
 
 abbrev pub IsOwn : ℕ → Stage → Type 0
 IsOwn h s = (s.feed.cell ≡ s.cell) × (s.drain.cell ≡ s.cell) × (s.cell.opening.horizon ≡ h)
@@ -58,6 +66,7 @@ specs-same (s ∷ ss) (t ∷ ts) same =
 pub still_wired : (h : ℕ) (specs : List DirSpec) (old new : Lane) → IsWired h specs old → IsSameLane old new
     → IsWired h specs new
 still_wired h specs old new wired same = record {
+  within = same.0.0 ∙ wired.within;
   linked = Linked-same _ _ _ _ _ _ same.0.1 same.1.1.1 same.1.0 wired.linked;
   own = AllOwn-same h _ _ same.1.0 wired.own;
   specs_are = specs-same _ _ same.1.0 ∙ wired.specs_are;
@@ -67,3 +76,26 @@ pub specs-snoc : (stages : List Stage) (s : Stage) (rest : List DirSpec)
     → specs_of (stages ++ s ∷ []) ++ rest ≡ specs_of stages ++ (s.cell.opening.spec ∷ rest)
 specs-snoc [] s rest = refl
 specs-snoc (x ∷ xs) s rest = ap (λ (l : List DirSpec). x.cell.opening.spec ∷ l) (specs-snoc xs s rest)
+
+-- what was carried came to its end everywhere
+all_ended : (stages : List Stage) → AllDone stages → AllEnded stages
+all_ended [] all = tt
+all_ended (s ∷ ss) all = (all.0.received, all.0.sent.0, ap (λ f. f.end) all.0.sent.1 ∙ all.0.sent.0, all_ended ss all.1)
+
+pub carried_ended : (packets : List Timed) (lane : Lane) → HasCarried packets lane → HasEnded lane
+carried_ended packets lane has = record {
+  sent = has.over;
+  stages = all_ended lane.path.stages.items has.done.0;
+  collected = has.done.1;
+}
+
+-- the states of a lane's cells are those of the nest's shells, through which the rows went
+pub run_passed : (d : Direction) (nest : NestParts) (rows : List Row) (lane : Lane) (states : List State)
+    → HasRun d nest rows lane
+    → HavePassed lane.head.horizon (specs_of lane.path.stages.items) lane.head.flow.packets states
+    → HavePassed nest.horizon (directions_of d nest) (entering d nest.horizon rows) states
+run_passed d nest rows lane states run passed =
+    subst (λ (l : List Timed). HavePassed nest.horizon (directions_of d nest) l states) run.carried.sent
+    (subst (λ (l : List DirSpec). HavePassed nest.horizon l lane.head.flow.packets states) run.wired.specs_are
+    (subst (λ (h : ℕ). HavePassed h (specs_of lane.path.stages.items) lane.head.flow.packets states) run.wired.within
+    passed))

@@ -52,16 +52,16 @@ impl Lane {
     }
 
     /// Settles the channels and closes the cells of a direction whose workers have ended: the states of its shells.
-    pub fn close(self, alloc: Global, horizon: u64) -> Result<Vec<ShellState>, OutOfMemory>
+    pub fn close(self, alloc: Global) -> Result<Vec<ShellState>, OutOfMemory>
         requires linked { Linked self.head.channel self.path.stages.items self.path.last.channel }
-        requires own { AllOwn horizon self.path.stages.items }
+        requires own { AllOwn self.head.horizon self.path.stages.items }
         requires done { AllDone self.path.stages.items }
-        ensures { IfOk result (λ states. HavePassed horizon (specs_of self.path.stages.items) self.head.flow.packets
-            states.items) }
+        ensures { IfOk result (λ states. HavePassed self.head.horizon (specs_of self.path.stages.items)
+            self.head.flow.packets states.items) }
     {
         let Lane { head, path } = self;
         let Path { stages, last } = path;
-        close_stages(alloc, horizon, head, stages, last)
+        close_stages(alloc, head, stages, last)
     }
 }
 
@@ -121,15 +121,14 @@ fn open_stage(
 // Settles each channel and closes each cell: the states.
 fn close_stages(
     alloc: Global,
-    _horizon: u64,
     head: Sender,
     stages: Vec<Stage>,
     last: Receiver,
 ) -> Result<Vec<ShellState>, OutOfMemory>
     requires linked { Linked head.channel stages.items last.channel }
-    requires own { AllOwn _horizon stages.items }
+    requires own { AllOwn head.horizon stages.items }
     requires done { AllDone stages.items }
-    ensures { IfOk result (λ states. HavePassed _horizon (specs_of stages.items) head.flow.packets states.items) }
+    ensures { IfOk result (λ states. HavePassed head.horizon (specs_of stages.items) head.flow.packets states.items) }
 {
     let mut states = Vec::with_capacity(alloc, stages.len())?;
     let mut to = head;

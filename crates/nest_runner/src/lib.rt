@@ -9,6 +9,7 @@ mod collecting;
 mod draining;
 mod ends;
 mod feeding;
+mod gathering;
 mod lane;
 mod run;
 mod sourcing;
@@ -18,4 +19,4 @@ mod stages;
 mod tests;
 pub mod work;
 
-pub use run::run_threads;
+pub use run::{run_nest_threads, run_threads};

@@ -6,23 +6,23 @@ ghost use Rattle.packet_record.specs.declared.packet.Direction.TheVariants.{Up, 
 ghost use Rattle.packet_record.specs.Rows.{Rises, entering};
 ghost use Rattle.packet_record.specs.Streams.{no_items};
 ghost use Rattle.mark_channel.specs.Ends.{IsSameEnd};
-ghost use Rattle.nest_spec.specs.Nests.{directions_of, result_of};
+ghost use Rattle.nest_spec.specs.Nests.{result_of};
 ghost use Rattle.nest_spec.specs.Once.{HaveOneFate};
-ghost use Rattle.nest_spec.specs.Passed.{HavePassed};
 ghost use Rattle.nest_runner.specs.Ends.{IfEnded};
-ghost use Rattle.nest_runner.specs.Lanes.{HasCarried, IsDonePath, IsFreshLane, IsFreshPath, IsSameLane, IsSamePath};
-ghost use Rattle.nest_runner.specs.Lanes.{IsWired};
+ghost use Rattle.nest_runner.specs.Lanes.{HasCarried, HasEnded, HasRun, IsDonePath, IsFreshLane, IsFreshPath};
+ghost use Rattle.nest_runner.specs.Lanes.{IsSameLane, IsSamePath};
 ghost use Rattle.nest_runner.specs.Stages.{AllDone, AllFresh, AllSame};
 
 use crate::collecting::collector;
 use crate::ends::WorkEnd;
+use crate::gathering::gather;
 use crate::lane::{Lane, Path};
 use crate::sourcing::source;
 use crate::stages::stages;
 use mm_base::{OutOfMemory, Pace, Role};
-use nest_spec::{Nest, RunResult, gather};
+use nest_plain::NestRun;
+use nest_spec::{Nest, RunResult};
 use packet_record::{Direction, Row, Schedule};
-use shell_state::ShellState;
 use std::alloc::Global;
 use std::marker::Sync;
 use std::sync::Wait;
@@ -33,8 +33,24 @@ const MOST: u32 = 256;
 
 /// Runs the schedule through the nest over threads: a source, a feeder and a drain for each direction of each shell,
 /// and a collector for each direction, beside each other. The result, if it returns, is that of the composition of the
-/// shells, for every order in which the threads get their turns. The pace is asked before the turns of the threads.
-/// `OutOfMemory` is want of memory, in any thread.
+/// shells, for every order in which the threads get their turns. The logs aren't written out. The pace is asked before
+/// the turns of the threads. `OutOfMemory` is want of memory, in any thread.
+pub fn run_nest_threads<Q: Pace + Sync, R: Threads + Wait + Sync>(
+    rt: &R,
+    alloc: Global,
+    nest: &Nest,
+    schedule: &Schedule,
+    pace: &Q,
+) -> Result<NestRun, OutOfMemory>
+    ensures value { IfOk result (λ r. r ≡ result_of nest.now schedule.now) }
+    ensures once { OnOk result (HaveOneFate nest.now schedule.now) }
+{
+    let rows = schedule.rows();
+    let (up, down) = run_rows(rt, alloc, nest, rows, pace)?;
+    gather_lanes(alloc, nest, schedule, up, down)
+}
+
+/// Runs the schedule through the nest as `run_nest_threads` does, and writes the logs out.
 pub fn run_threads<Q: Pace + Sync, R: Threads + Wait + Sync>(
     rt: &R,
     alloc: Global,
@@ -45,40 +61,49 @@ pub fn run_threads<Q: Pace + Sync, R: Threads + Wait + Sync>(
     ensures value { IfOk result (λ r. r ≡ result_of nest.now schedule.now) }
     ensures once { OnOk result (HaveOneFate nest.now schedule.now) }
 {
+    run_nest_threads(rt, alloc, nest, schedule, pace)?.into_result()
+}
+
+// The result of lanes through which the rows of a schedule went.
+fn gather_lanes(
+    alloc: Global,
+    nest: &Nest,
+    schedule: &Schedule,
+    up: Lane,
+    down: Lane,
+) -> Result<NestRun, OutOfMemory>
+    requires up { HasRun Up nest.now schedule.now up }
+    requires down { HasRun Down nest.now schedule.now down }
+    ensures value { IfOk result (λ r. r ≡ result_of nest.now schedule.now) }
+    ensures once { OnOk result (HaveOneFate nest.now schedule.now) }
+{
+    let up = up.close(alloc)?;
+    let down = down.close(alloc)?;
+    gather(alloc, nest, schedule, up, down)
+}
+
+// Runs rows through both directions of a nest: their lanes, where every stream in them came to its end. After an item
+// `Broken` in any of them there are none.
+fn run_rows<Q: Pace + Sync, R: Threads + Wait + Sync>(
+    rt: &R,
+    alloc: Global,
+    nest: &Nest,
+    rows: &[Row],
+    pace: &Q,
+) -> Result<(Lane, Lane), OutOfMemory>
+    requires rises { Rises 0 rows.now }
+    ensures ended { IfOk result (λ lanes. HasEnded lanes.0 × HasEnded lanes.1) }
+    ensures up { IfOk result (λ lanes. HasRun Up nest.now rows.now lanes.0) }
+    ensures down { IfOk result (λ lanes. HasRun Down nest.now rows.now lanes.1) }
+{
     let mut up = Lane::open(alloc, nest, Direction::Up)?;
     let mut down = Lane::open(alloc, nest, Direction::Down)?;
-    let rows = schedule.rows();
-    let end = run_lanes(
-        rt,
-        rows,
-        nest.horizon(),
-        &mut up,
-        &mut down,
-        nest.shells(),
-        pace,
-    );
+    let shells = nest.shells();
+    let end = run_lanes(rt, rows, nest.horizon(), &mut up, &mut down, shells, pace);
     let WorkEnd::Ended = end else {
         return Err(OutOfMemory);
     };
-    let up = states_of(alloc, nest, Direction::Up, rows, up)?;
-    let down = states_of(alloc, nest, Direction::Down, rows, down)?;
-    gather(alloc, nest, rows, up.as_slice(), down.as_slice())
-}
-
-// The states of a direction's shells, through which these rows have gone.
-fn states_of(
-    alloc: Global,
-    nest: &Nest,
-    _direction: Direction,
-    _rows: &[Row],
-    lane: Lane,
-) -> Result<Vec<ShellState>, OutOfMemory>
-    requires wired { IsWired nest.now.horizon (directions_of _direction nest.now) lane }
-    requires carried { HasCarried (entering _direction nest.now.horizon _rows.now) lane }
-    ensures { IfOk result (λ states. HavePassed nest.now.horizon (directions_of _direction nest.now)
-        (entering _direction nest.now.horizon _rows.now) states.items) }
-{
-    lane.close(alloc, nest.horizon())
+    Ok((up, down))
 }
 
 // Runs the source beside the paths of both directions.
@@ -113,8 +138,10 @@ fn run_lanes<Q: Pace + Sync, R: Threads + Wait + Sync>(
                 × (up_head.now.items ≡ []) × (down_head.now.items ≡ [])
                 × (up_head.now.horizon ≡ horizon) × (down_head.now.horizon ≡ horizon)
                 × Rises 0 rows.now × IsSync R.row × IsSync Q.row }
-            ensures up { up_head.exit.now.flow.packets ≡ entering Up horizon rows.entry.now }
-            ensures down { down_head.exit.now.flow.packets ≡ entering Down horizon rows.entry.now }
+            ensures up { (up_head.exit.now.flow.packets ≡ entering Up horizon rows.entry.now)
+                × (up_head.exit.now.flow.end ≡ IsOver) }
+            ensures down { (down_head.exit.now.flow.packets ≡ entering Down horizon rows.entry.now)
+                × (down_head.exit.now.flow.end ≡ IsOver) }
             ensures same { IsSameEnd up_head.entry.now up_head.exit.now
                 × IsSameEnd down_head.entry.now down_head.exit.now }
         { source(rt, rows, horizon, up_head, down_head, pace) },

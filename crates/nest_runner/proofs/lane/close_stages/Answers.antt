@@ -13,7 +13,7 @@ use Rattle.nest_runner.proofs.lane.close_stages.Goals as goal
 pub loop-stage-preserved : goal.loop-stage-preserved
 loop-stage-preserved c =
     let i = c.loop-stage.invariant in
-    let h = c.args._horizon in
+    let h = c.args.head.horizon in
     let rest = into_iter_items c.next.new.self in
     let packets = c.args.head.flow.packets in
     let state = c.close_stage-state.result.0 in

@@ -9,7 +9,7 @@ use Rattle.nest_runner.proofs.lane.close_stages.Given as goal
 abbrev pub invariant-loop-stage : goal.invariant-loop-stage
 invariant-loop-stage l = AllDone (into_iter_items l.stage-iterator)
     × Linked l.to.channel (into_iter_items l.stage-iterator) l.fn.last.channel
-    × AllOwn l._horizon (into_iter_items l.stage-iterator)
-    × HavePassed l._horizon (does l.states.items) l.fn.head.flow.packets l.states.items
+    × AllOwn l.fn.head.horizon (into_iter_items l.stage-iterator)
+    × HavePassed l.fn.head.horizon (does l.states.items) l.fn.head.flow.packets l.states.items
     × (l.to.flow.packets ≡ passed_on l.fn.head.flow.packets l.states.items)
     × (does l.states.items ++ specs_of (into_iter_items l.stage-iterator) ≡ specs_of l.fn.stages.items)

@@ -1,4 +1,4 @@
-use Rattle.std.proofs.Common.{◌≡◌, ◌∙◌, length, ap, sym, arith, List}
+use Rattle.std.proofs.Common.{◌≡◌, ◌∙◌, length, ap, arith, List}
 use Rattle.std.proofs.lemmas.List.{length-map}
 use Rattle.shell_core.specs.declared.spec.DirSpec.{DirSpec}
 use Rattle.nest_spec.specs.declared.shell.ShellDirection.{ShellDirection}

@@ -1,0 +1,17 @@
+use Rattle.std.proofs.Common.{◌∙◌, ap}
+use Rattle.shell_core.specs.Shells.{whole_lost}
+use Rattle.nest_spec.specs.Fates.{fated}
+use Rattle.nest_spec.specs.Marks.{passed}
+use Rattle.nest_runner.proofs.gathering.gather_shell.Goals as goal
+
+pub returns-clause-fates : goal.returns-clause-fates
+returns-clause-fates c = λ f e.
+    let n = c.args.shell.number in
+    let s = c.args.state in
+    let rows = c.args.marking.now.rows in
+    let gave = c.in_ok-departed.ensures in
+    let lost = c.as_slice.ensures.value ∙ gave.lost in
+    let held = c.as_slice-2.ensures.value ∙ gave.held in
+    c.pass.ensures.fates f e
+    ∙ ap (λ l. fated (passed n l c.as_slice-2.result.now f) rows) lost
+    ∙ ap (λ l. fated (passed n (whole_lost s.spec s.horizon s.fed.packets) l f) rows) held
