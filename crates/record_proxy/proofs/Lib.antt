@@ -1,0 +1,6 @@
+pub mod BreakLemmas
+pub mod HistoryLemmas
+pub mod TextLemmas
+pub mod PairLemmas
+pub mod FrameSteps
+pub mod StandLemmas

@@ -1,0 +1,16 @@
+use Rattle.record_proxy.specs.Progress.{taken_of}
+use Rattle.record_proxy.proofs.TextLemmas.{begun}
+use Rattle.record_proxy.proofs.StandLemmas.{due_stands, server_left, server_full}
+use Rattle.record_proxy.proofs.taking.take_of_server.Goals as goal
+
+pub returns-then-talk-clause-goes_on : goal.returns-then-talk-clause-goes_on
+returns-then-talk-clause-goes_on g c =
+    λ port start client before records m p due needs.
+    server_left start client _ p.whole (begun m p.interim) (taken_of c.args.talk.now) (due_stands p m due) port before
+    records p.records_are needs c.if-talk.true
+
+pub returns-then-talk-ge-MOST-clause-goes_on : goal.returns-then-talk-ge-MOST-clause-goes_on
+returns-then-talk-ge-MOST-clause-goes_on g c =
+    λ port start client before records m p due needs.
+    server_full start client _ p.whole (begun m p.interim) (taken_of c.args.talk.now) (due_stands p m due) port before
+    records p.records_are needs c.if-talk.false c.if-talk-ge-MOST.true

@@ -1,0 +1,19 @@
+// How connections end.
+
+/// How a proxied connection ended.
+#[derive(Clone, Copy, Debug, PartialEq, Eq)]
+pub enum ProxyEnd {
+    /// The client's input ended between requests, or an answer was given whose request or response closes.
+    Closed,
+    /// There is no request in the client's rest, and never will be; or its input ended within one.
+    BadRequest,
+    /// There is no response in the server's rest, and never will be; or its input ended within one, or before one that
+    /// is due.
+    BadResponse,
+    /// At a fault of the client's link.
+    ClientFault,
+    /// At a fault of the server's link.
+    ServerFault,
+    /// More bytes are needed of a side from which 67,108,864 were taken.
+    Full,
+}

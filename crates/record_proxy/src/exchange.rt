@@ -1,0 +1,184 @@
+// The steps of an exchange.
+ghost use Rattle.std.specs.Prelude.{◌≡◌, ◌≢◌, ◌<◌, ◌≤◌, ◌++◌, ◌||◌, ℕ, List, Option, None, Some, Ok, length, IfNone};
+ghost use Rattle.std.specs.Prelude.{IfSome};
+ghost use Rattle.http_frame.specs.Messages.{MayStop};
+ghost use Rattle.http_frame.specs.Runs.{IsRequestOf, IsResponseOf};
+ghost use Rattle.mm_base.specs.Link.{LinkBytes, CountsLinkFaults};
+ghost use Rattle.record_store.specs.declared.record.Record.{Record as RecordValue};
+ghost use Rattle.record_proxy.specs.Links.{Links, HasFaultCause, links};
+ghost use Rattle.record_proxy.specs.Progress.{Progress, GoesOn, to_do};
+
+use crate::ends::ProxyEnd;
+use crate::giving::give;
+use crate::taking::{refused, take_of_client, take_of_server};
+use crate::talk::Talk;
+use http_frame::{FrameFault, Request, Step};
+use mm_base::{Link, OutOfMemory};
+use record_store::{Record, Store};
+
+fn either(request: bool, response: bool) -> bool
+    ensures { result ≡ (request || response) }
+{
+    request || response
+}
+
+/// Passes a whole request on to the server.
+fn pass_request<L: Link>(
+    talk: &mut Talk,
+    server: &mut L,
+    request: Request,
+) -> Option<Result<ProxyEnd, OutOfMemory>>
+    ensures goes_on { (port : ℕ) (start : Links) (client : Option LinkBytes) (before records : List RecordValue)
+        (unread : List ℕ)
+        → IsRequestOf request → talk.old.due ≡ None → unread ≡ request.bytes ++ talk.old.requests.unread
+        → Progress port start (links client (L.view server.old).told) before records
+        (record talk.old { requests = record talk.old.requests { unread = unread } })
+        → GoesOn port start (links client (L.view server.new).told) before records talk.new result }
+    ensures same { talk.new ≡ record talk.old { due = talk.new.due } }
+    ensures counts { CountsLinkFaults (L.view server.old) (L.view server.new) }
+    ensures cause { IfSome result (HasFaultCause ProxyEnd.ServerFault (L.view server.old) (L.view server.new)) }
+    ensures client_cause { IfSome result (λ r. r ≢ Ok ProxyEnd.ClientFault) }
+{
+    if let Err(error) = give(server, request.bytes.as_slice()) {
+        return Some(refused(ProxyEnd::ServerFault, error));
+    }
+    talk.due = Some(request);
+    None
+}
+
+/// Passes the next whole request on, or takes more bytes of the client.
+fn ask<A: Link, B: Link>(
+    talk: &mut Talk,
+    client: &mut A,
+    server: &mut B,
+    buf: &mut [u8],
+) -> Option<Result<ProxyEnd, OutOfMemory>>
+    requires { 0 < length buf.old }
+    ensures goes_on { (port : ℕ) (start : Links) (before records : List RecordValue)
+        → Progress port start (links (A.view client.old).told (B.view server.old).told) before records talk.old
+        → talk.old.due ≡ None
+        → GoesOn port start (links (A.view client.new).told (B.view server.new).told) before records talk.new result }
+    ensures less { IfNone result (to_do talk.new < to_do talk.old) }
+    ensures client_counts { CountsLinkFaults (A.view client.old) (A.view client.new) }
+    ensures server_counts { CountsLinkFaults (B.view server.old) (B.view server.new) }
+    ensures client_cause { IfSome result (HasFaultCause ProxyEnd.ClientFault (A.view client.old) (A.view client.new)) }
+    ensures server_cause { IfSome result (HasFaultCause ProxyEnd.ServerFault (B.view server.old) (B.view server.new)) }
+{
+    match talk.requests.next() {
+        Ok(Step::Message(request)) => pass_request(talk, server, request),
+        Ok(Step::More) => take_of_client(talk, client, buf),
+        Err(FrameFault::Frame(_)) => Some(Ok(ProxyEnd::BadRequest)),
+        Err(FrameFault::OutOfMemory) => Some(Err(OutOfMemory)),
+    }
+}
+
+/// Passes a whole response on to the client, and adds the record where it is final.
+fn pass_response<L: Link>(
+    talk: &mut Talk,
+    client: &mut L,
+    exchange: Record,
+    store: &mut Store,
+) -> Option<Result<ProxyEnd, OutOfMemory>>
+    requires port { exchange.port ≤ 65535 }
+    requires request { IsRequestOf exchange.request }
+    requires response { IsResponseOf exchange.request.head.head_only exchange.response }
+    ensures goes_on { (start : Links) (server : Option LinkBytes) (before : List RecordValue) (unread : List ℕ)
+        (is : IsResponseOf exchange.request.head.head_only exchange.response)
+        → MayStop is.is.framing talk.old.server_ended talk.old.responses.unread
+        → talk.old.due ≡ None → unread ≡ exchange.response.bytes ++ talk.old.responses.unread
+        → Progress exchange.port start (links (L.view client.old).told server) before store.old
+        (record talk.old { due = Some exchange.request; responses = record talk.old.responses { unread = unread } })
+        → GoesOn exchange.port start (links (L.view client.new).told server) before store.new talk.new result }
+    ensures same { talk.new ≡ record talk.old { due = talk.new.due } }
+    ensures counts { CountsLinkFaults (L.view client.old) (L.view client.new) }
+    ensures cause { IfSome result (HasFaultCause ProxyEnd.ClientFault (L.view client.old) (L.view client.new)) }
+    ensures server_cause { IfSome result (λ r. r ≢ Ok ProxyEnd.ServerFault) }
+{
+    if let Err(error) = give(client, exchange.response.bytes.as_slice()) {
+        return Some(refused(ProxyEnd::ClientFault, error));
+    }
+    if exchange.response.head.status < 200 {
+        talk.due = Some(exchange.request);
+        return None;
+    }
+    let closes = either(exchange.request.head.closes, exchange.response.head.closes);
+    if let Err(error) = store.add(exchange) {
+        return Some(Err(error));
+    }
+    if closes {
+        return Some(Ok(ProxyEnd::Closed));
+    }
+    None
+}
+
+/// Passes the next whole response to a request on, or takes more bytes of the server.
+fn answer<A: Link, B: Link>(
+    talk: &mut Talk,
+    client: &mut A,
+    server: &mut B,
+    buf: &mut [u8],
+    request: Request,
+    port: u16,
+    store: &mut Store,
+) -> Option<Result<ProxyEnd, OutOfMemory>>
+    requires room { 0 < length buf.old }
+    requires request { IsRequestOf request }
+    requires tied { talk.old.responses.ended ≡ talk.old.server_ended }
+    ensures goes_on { (start : Links) (before : List RecordValue)
+        → Progress port start (links (A.view client.old).told (B.view server.old).told) before store.old
+        (record talk.old { due = Some request })
+        → talk.old.due ≡ None
+        → GoesOn port start (links (A.view client.new).told (B.view server.new).told) before store.new talk.new
+        result }
+    ensures less { IfNone result (to_do talk.new < to_do talk.old) }
+    ensures client_counts { CountsLinkFaults (A.view client.old) (A.view client.new) }
+    ensures server_counts { CountsLinkFaults (B.view server.old) (B.view server.new) }
+    ensures client_cause { IfSome result (HasFaultCause ProxyEnd.ClientFault (A.view client.old) (A.view client.new)) }
+    ensures server_cause { IfSome result (HasFaultCause ProxyEnd.ServerFault (B.view server.old) (B.view server.new)) }
+{
+    match talk.responses.next(request.head.head_only) {
+        Ok(Step::Message(response)) => {
+            let exchange = Record {
+                port,
+                request,
+                response,
+            };
+            pass_response(talk, client, exchange, store)
+        }
+        Ok(Step::More) => {
+            talk.due = Some(request);
+            take_of_server(talk, server, buf)
+        }
+        Err(FrameFault::Frame(_)) => Some(Ok(ProxyEnd::BadResponse)),
+        Err(FrameFault::OutOfMemory) => Some(Err(OutOfMemory)),
+    }
+}
+
+/// Passes the next message on that is due; or ends the connection, where there is none and never will be; or takes more
+/// bytes.
+pub fn step<A: Link, B: Link>(
+    talk: &mut Talk,
+    client: &mut A,
+    server: &mut B,
+    buf: &mut [u8],
+    port: u16,
+    store: &mut Store,
+) -> Option<Result<ProxyEnd, OutOfMemory>>
+    requires room { 0 < length buf.old }
+    requires due { IfSome talk.old.due IsRequestOf }
+    requires tied { talk.old.responses.ended ≡ talk.old.server_ended }
+    ensures goes_on { (start : Links) (before : List RecordValue)
+        → Progress port start (links (A.view client.old).told (B.view server.old).told) before store.old talk.old
+        → GoesOn port start (links (A.view client.new).told (B.view server.new).told) before store.new talk.new
+        result }
+    ensures less { IfNone result (to_do talk.new < to_do talk.old) }
+    ensures client_counts { CountsLinkFaults (A.view client.old) (A.view client.new) }
+    ensures server_counts { CountsLinkFaults (B.view server.old) (B.view server.new) }
+    ensures client_cause { IfSome result (HasFaultCause ProxyEnd.ClientFault (A.view client.old) (A.view client.new)) }
+    ensures server_cause { IfSome result (HasFaultCause ProxyEnd.ServerFault (B.view server.old) (B.view server.new)) }
+{
+    match talk.due.take() {
+        None => ask(talk, client, server, buf),
+        Some(request) => answer(talk, client, server, buf, request, port, store),
+    }
+}

@@ -1,0 +1,76 @@
+// A proxied connection, from its first byte to its end.
+ghost use Rattle.std.specs.Prelude.{◌≡◌, ◌<◌, length, IfOk, vec_len};
+ghost use Rattle.mm_base.specs.Link.{CountsLinkFaults};
+ghost use Rattle.record_proxy.specs.Links.{IsStored, HasFaultCause, links};
+
+use crate::ends::ProxyEnd;
+use crate::exchange::step;
+use crate::talk::Talk;
+use mm_base::{Link, OutOfMemory};
+use record_store::Store;
+use std::alloc::Global;
+
+/// How many bytes a read asks for at most.
+const PIECE: usize = 65_536;
+
+/// Goes on step by step, until the connection ends.
+fn converse<A: Link, B: Link>(
+    alloc: Global,
+    client: &mut A,
+    server: &mut B,
+    buf: &mut [u8],
+    port: u16,
+    store: &mut Store,
+) -> Result<ProxyEnd, OutOfMemory>
+    requires { 0 < length buf.old }
+    ensures stored { IsStored port (links (A.view client.old).told (B.view server.old).told)
+        (links (A.view client.new).told (B.view server.new).told) store.old store.new result }
+    ensures client_counts { CountsLinkFaults (A.view client.old) (A.view client.new) }
+    ensures server_counts { CountsLinkFaults (B.view server.old) (B.view server.new) }
+    ensures client_cause { HasFaultCause ProxyEnd.ClientFault (A.view client.old) (A.view client.new) result }
+    ensures server_cause { HasFaultCause ProxyEnd.ServerFault (B.view server.old) (B.view server.new) result }
+{
+    let mut talk = Talk::new(alloc);
+    'steps: loop {
+        if let Some(end) = step(&mut talk, client, server, buf, port, store) {
+            return end;
+        }
+    }
+}
+
+/// So many bytes of 0.
+fn zeros(alloc: Global, count: usize) -> Result<Vec<u8>, OutOfMemory>
+    ensures { IfOk result (λ v. vec_len v ≡ count) }
+{
+    Ok(vec![in alloc; 0u8; count]?)
+}
+
+/// Passes the bytes of one connection between a client and a server unchanged, and adds what passed to the store, with
+/// the site at that port. It does one exchange after the other: it reads one whole request (RFC 9112), gives it to the
+/// server, reads responses until one with a status of 200 or more, gives each whole one to the client, and adds the
+/// record.
+///
+/// `Closed`: the client's input ended between requests, or an answer was given whose request or response closes
+/// (RFC 9112, section 9.3). `BadRequest`, `BadResponse`: that side's rest is refused, or its input ended within a
+/// message, or before a response that is due. `ClientFault`, `ServerFault`: only where that link's faults rose. `Full`:
+/// more bytes are needed of a side from which 67,108,864 were taken. After `OutOfMemory`, which is want of memory, the
+/// store has the records of the exchanges before.
+pub fn proxy_conn<A: Link, B: Link>(
+    alloc: Global,
+    client: &mut A,
+    server: &mut B,
+    port: u16,
+    store: &mut Store,
+) -> Result<ProxyEnd, OutOfMemory>
+    ensures stored { IsStored port (links (A.view client.old).told (B.view server.old).told)
+        (links (A.view client.new).told (B.view server.new).told) store.old store.new result }
+    ensures client_counts { CountsLinkFaults (A.view client.old) (A.view client.new) }
+    ensures server_counts { CountsLinkFaults (B.view server.old) (B.view server.new) }
+    ensures client_cause { HasFaultCause ProxyEnd.ClientFault (A.view client.old) (A.view client.new) result }
+    ensures server_cause { HasFaultCause ProxyEnd.ServerFault (B.view server.old) (B.view server.new) result }
+{
+    match zeros(alloc, PIECE) {
+        Ok(mut buf) => converse(alloc, client, server, buf.as_mut_slice(), port, store),
+        Err(error) => Err(error),
+    }
+}
