@@ -4,3 +4,4 @@ pub mod TextLemmas
 pub mod PairLemmas
 pub mod FrameSteps
 pub mod StandLemmas
+pub mod ServingLemmas

@@ -4,3 +4,7 @@ pub mod Ends
 pub mod Links
 pub mod Giving
 pub mod Progress
+pub mod Dialers
+pub mod MemDialers
+pub mod Servings
+pub mod Passing

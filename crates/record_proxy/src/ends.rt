@@ -17,3 +17,12 @@ pub enum ProxyEnd {
     /// More bytes are needed of a side from which 67,108,864 were taken.
     Full,
 }
+
+/// Why a serving of a proxy stopped early.
+#[derive(Clone, Copy, Debug, PartialEq, Eq)]
+pub enum ProxyError {
+    /// The port can't be listened at, or a client couldn't be accepted, or not be finished.
+    Port,
+    /// For want of memory.
+    OutOfMemory,
+}

@@ -1,0 +1,42 @@
+use Rattle.std.proofs.Common.{◌≡◌, ◌∙◌, ◌<◌, ◌≤◌, ◌+◌, ◌-◌, [], ◌∷◌, ◌++◌, length, length-append, ap, refl, rules, arith}
+use Rattle.replay_server.specs.Tallies.{total}
+use Rattle.record_proxy.specs.Passing.{plus}
+use Rattle.record_proxy.specs.Servings.{counted_as, net}
+use Rattle.record_proxy.proofs.ServingLemmas.{passage_of, serves_none, serves_push, tally_push}
+use Rattle.record_proxy.proofs.serving.serve.Goals as goal
+
+pub clients-init : goal.clients-init
+clients-init g c = record {
+  so_far = record {
+    passages = [];
+    serves = serves_none c.args.site g.P.Conn.Link.view g.X.Conn.Link.view _ _ _ _ c.in_default.ensures.keeps
+        c.in_default.ensures.finished c.in_default.ensures.accepted;
+    counts = c.nothing-served.ensures;
+    few = omega arith;
+    within = let none = ap total c.nothing-served.ensures in omega (arith, none);
+  };
+  few = c.requires;
+}
+
+pub clients-preserved : goal.clients-preserved
+clients-preserved g c =
+    let so_far = c.clients.invariant.so_far in
+    let ps = so_far.passages in
+    let one = c.in-Ok.ensures.one in
+    let p = passage_of one in
+    let asked = g.P.Port.view c.accept.new.self in
+    let told : (asked.accepted ≡ (g.P.Port.view c.clients.port).accepted + 1) = search rules in
+    record {
+      so_far = record {
+        passages = ps ++ p ∷ [];
+        serves = serves_push c.args.site g.P.Conn.Link.view g.X.Conn.Link.view _ _ _ asked _ _ _ ps so_far.serves told
+            c.in-Ok-Some.ensures.finished c.in-Ok-Some.ensures.keeps _ one;
+        counts = c.with_end-served.ensures.one ∙ ap (λ n. plus n (counted_as c.in-Ok.end)) so_far.counts
+            ∙ tally_push ps p c.in-Ok.end one.dials.end_is;
+        few = let some = c.clients-test.true in let few = so_far.few in omega (arith, some, few, length-append ps (p
+            ∷ []));
+        within = let a = so_far.within in let b = c.with_end-served.ensures.within in omega (arith, a, b, length-append
+            ps (p ∷ []));
+      };
+      few = c.clients.invariant.few;
+    }

@@ -1,0 +1,17 @@
+use Rattle.std.proofs.Common.{◌≡◌, ◌≤◌, ◌+◌, length}
+use Rattle.replay_server.specs.Tallies.{total}
+use Rattle.mm_base.specs.Port.{KeepsPort}
+use Rattle.record_proxy.specs.Servings.{Passage, net}
+use Rattle.record_proxy.specs.Passing.{ServesSoFar}
+use Rattle.record_proxy.proofs.serving.serve.Given as goal
+
+abbrev pub invariant-clients : goal.invariant-clients
+invariant-clients g l = record {
+  so_far : ServesSoFar l.site g.P.Conn.Link.view g.X.Conn.Link.view (net (g.P.Port.view l.fn.port)
+      (g.X.Dialer.view l.fn.dialer)) (net (g.P.Port.view l.port) (g.X.Dialer.view l.dialer)) l.fn.store l.store l.served
+      l.left l.most;
+  few : l.most ≤ 64;
+}
+
+abbrev pub decreases-clients : goal.decreases-clients
+decreases-clients g l = l.left

@@ -1,0 +1,14 @@
+-- A dialer as its callers see it, and what its calls change.
+use Rattle.std.specs.Prelude.{◌≤◌, ℕ, List, Option}
+
+pub record DialerView (C : Type 0) : Type 0 where
+  -- the finished connections, where the dialer tells them
+  pub finished : Option (List C)
+  -- how many connections it has given
+  pub dialed : ℕ
+  -- how many calls have failed
+  pub faults : ℕ
+
+-- The faults never fall.
+abbrev pub CountsDials : {C : Type 0} → DialerView C → DialerView C → Type 0
+CountsDials old new = old.faults ≤ new.faults

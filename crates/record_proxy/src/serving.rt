@@ -1,0 +1,197 @@
+// A proxy: clients one after the other, and a connection dialed for each.
+ghost use Rattle.std.specs.Prelude.{◌≡◌, ◌<◌, ◌≤◌, ◌+◌, ◌∷◌, [], Option, Ok, Err, IfOk, IsOk};
+ghost use Rattle.mm_base.specs.Counts.{Rose};
+ghost use Rattle.mm_base.specs.Link.{IsFresh};
+ghost use Rattle.mm_base.specs.Port.{KeepsPort};
+ghost use Rattle.replay_server.specs.Tallies.{total};
+ghost use Rattle.record_proxy.specs.Passing.{Dials, EndsWith, Joins, ServesOne, plus};
+ghost use Rattle.record_proxy.specs.Servings.{ServingSays, counted_as, net, no_ends};
+
+use crate::dialer::Dialer;
+use crate::ends::{ProxyEnd, ProxyError};
+use crate::proxy::proxy_conn;
+use mm_base::{EndError, Link, OutOfMemory, Port};
+use record_store::Store;
+use replay_server::Served;
+use std::alloc::Global;
+
+/// No connection.
+fn nothing() -> Served
+    ensures { result ≡ no_ends }
+{
+    Served {
+        closed: 0,
+        bad: 0,
+        broken: 0,
+        full: 0,
+    }
+}
+
+/// One end more. None: the dialer failed.
+fn with_end(end: Option<ProxyEnd>, n: Served) -> Served
+    requires { total n < 64 }
+    ensures one { result ≡ plus n (counted_as end) }
+    ensures within { total result ≤ total n + 1 }
+{
+    let mut n = n;
+    match end {
+        Some(ProxyEnd::Closed) => n.closed += 1,
+        Some(ProxyEnd::BadRequest | ProxyEnd::BadResponse) => n.bad += 1,
+        Some(ProxyEnd::ClientFault | ProxyEnd::ServerFault) | None => n.broken += 1,
+        Some(ProxyEnd::Full) => n.full += 1,
+    }
+    n
+}
+
+/// What a refusal of the port is to a serving.
+fn refused(error: EndError) -> ProxyError
+    ensures { result ≡ ProxyError.Port → error ≡ EndError.Failed }
+{
+    match error {
+        EndError::Failed => ProxyError::Port,
+        EndError::OutOfMemory => ProxyError::OutOfMemory,
+    }
+}
+
+/// How a connection ended, by how the two sides did and what finishing the dialed one answered. None: that failed.
+fn ended(
+    end: Result<ProxyEnd, OutOfMemory>,
+    done: Result<(), EndError>,
+) -> Result<Option<ProxyEnd>, OutOfMemory>
+    ensures { IfOk result (λ counted. (found : ProxyEnd) × (end ≡ Ok found) × EndsWith found done counted) }
+{
+    match end {
+        Ok(end) => match done {
+            Ok(()) => Ok(Some(end)),
+            Err(EndError::Failed) => Ok(None),
+            Err(EndError::OutOfMemory) => Err(OutOfMemory),
+        },
+        Err(error) => Err(error),
+    }
+}
+
+/// Says to both sides that nothing further will be given.
+fn part<A: Link, B: Link>(client: &mut A, server: &mut B)
+    ensures client { A.view client.new ≡ A.view client.old }
+    ensures server { B.view server.new ≡ B.view server.old }
+{
+    client.close_output();
+    server.close_output();
+}
+
+/// Passes what a client and a dialed connection say, and finishes that one. None: the dialer failed.
+fn join<A: Link, X: Dialer>(
+    alloc: Global,
+    site: u16,
+    client: &mut A,
+    server: X::Conn,
+    dialer: &mut X,
+    store: &mut Store,
+) -> Result<Option<ProxyEnd>, OutOfMemory>
+    requires client_fresh { IsFresh (A.view client.old) }
+    requires server_fresh { IsFresh (X.Conn.view server) }
+    ensures { IfOk result (λ end. Joins site X.Conn.view (A.view client.new) (X.view dialer.old) (X.view dialer.new)
+        store.old store.new end) }
+{
+    let mut server = server;
+    let end = proxy_conn(alloc, client, &mut server, site, store);
+    part(client, &mut server);
+    let done = dialer.finish(server);
+    ended(end, done)
+}
+
+/// Dials for a client, and passes what the two say. None: the dialer failed.
+fn pass<A: Link, X: Dialer>(
+    alloc: Global,
+    site: u16,
+    client: &mut A,
+    dialer: &mut X,
+    store: &mut Store,
+) -> Result<Option<ProxyEnd>, OutOfMemory>
+    requires { IsFresh (A.view client.old) }
+    ensures { IfOk result (λ end. Dials site X.Conn.view (A.view client.new) (X.view dialer.old) (X.view dialer.new)
+        store.old store.new end) }
+{
+    match dialer.dial(site) {
+        Ok(server) => join(alloc, site, client, server, dialer, store),
+        Err(EndError::Failed) => Ok(None),
+        Err(EndError::OutOfMemory) => Err(OutOfMemory),
+    }
+}
+
+/// What a client's passage is to a serving, by how it ended and what finishing the client answered.
+fn served(
+    end: Result<Option<ProxyEnd>, OutOfMemory>,
+    done: Result<(), EndError>,
+) -> Result<Option<ProxyEnd>, ProxyError>
+    ensures ok { IfOk result (λ counted. (end ≡ Ok counted) × IsOk done) }
+    ensures port { result ≡ Err ProxyError.Port → done ≡ Err EndError.Failed }
+{
+    match end {
+        Ok(end) => match done {
+            Ok(()) => Ok(end),
+            Err(error) => Err(refused(error)),
+        },
+        Err(_) => Err(ProxyError::OutOfMemory),
+    }
+}
+
+/// Serves a client that was accepted, and finishes it.
+fn serve_client<P: Port, X: Dialer>(
+    alloc: Global,
+    site: u16,
+    client: P::Conn,
+    port: &mut P,
+    dialer: &mut X,
+    store: &mut Store,
+) -> Result<Option<ProxyEnd>, ProxyError>
+    requires { IsFresh (P.Conn.view client) }
+    ensures one { IfOk result (λ end. ServesOne site P.Conn.view X.Conn.view (net (P.view port.old) (X.view dialer.old))
+        (net (P.view port.new) (X.view dialer.new)) store.old store.new end) }
+    ensures keeps { KeepsPort (P.view port.old) (P.view port.new) }
+    ensures cause { result ≡ Err ProxyError.Port → Rose (P.view port.old).faults (P.view port.new).faults }
+{
+    let mut client = client;
+    let end = pass(alloc, site, &mut client, dialer, store);
+    let done = port.finish(client);
+    served(end, done)
+}
+
+/// Listens at the port of this number, and serves up to `most` clients, one after the other: for each a connection to
+/// the site's port is dialed, both pass through (`proxy_conn`), and both are finished. It stops after so many, or where
+/// the port has no more. A client for which the dialer fails is counted as broken.
+///
+/// `Port` comes only where a fault of the port was counted: it can't be listened at, or a client can't be accepted or
+/// finished.
+pub fn serve<P: Port, X: Dialer>(
+    alloc: Global,
+    number: u16,
+    site: u16,
+    most: u32,
+    port: &mut P,
+    dialer: &mut X,
+    store: &mut Store,
+) -> Result<Served, ProxyError>
+    requires { most ≤ 64 }
+    ensures serving { ServingSays site P.Conn.view X.Conn.view most (net (P.view port.old) (X.view dialer.old))
+        (net (P.view port.new) (X.view dialer.new)) store.old store.new result }
+    ensures keeps { KeepsPort (P.view port.old) (P.view port.new) }
+{
+    if let Err(error) = port.listen(number) {
+        return Err(refused(error));
+    }
+    let mut served = nothing();
+    let mut left = most;
+    'clients: while left > 0 {
+        match port.accept() {
+            Ok(Some(client)) => match serve_client(alloc, site, client, port, dialer, store) {
+                Ok(end) => served = with_end(end, served),
+                Err(error) => return Err(error),
+            },
+            Ok(None) => return Ok(served),
+            Err(error) => return Err(refused(error)),
+        }
+        left -= 1;
+    }
+    Ok(served)
+}

@@ -1,0 +1,74 @@
+// A dialer of TCP on this machine alone. It tells no content.
+ghost use Rattle.std.specs.Prelude.{◌≡◌, ◌≤◌, ◌<◌, ◌-◌, ◌^◌, None, OnOk};
+ghost use Rattle.mm_base.specs.Counts.{Rose};
+
+use crate::dialer::Dialer;
+use mm_base::{EndError, TcpLink};
+use std::io::{self, ErrorKind};
+use std::net::{Ipv4Addr, Net, SocketAddr, TcpListener, TcpStream};
+
+/// A dialer of TCP at the address 127.0.0.1. It tells no content. Each error but want of memory is counted as a fault: a
+/// port at which nobody listens, or one more connection than a `u64` counts.
+#[derive(Drop)]
+pub struct TcpDialer<R: Net<Stream = TcpStream, Listener = TcpListener> + Drop> {
+    rt: R,
+    dialed: u64,
+    faults: u64,
+}
+
+impl<R: Net<Stream = TcpStream, Listener = TcpListener> + Drop> TcpDialer<R> {
+    /// A dialer over the runtime's network, which has given no connection.
+    pub fn new(rt: R) -> Self
+        ensures { (result.dialed ≡ 0) × (result.faults ≡ 0) }
+    {
+        TcpDialer {
+            rt,
+            dialed: 0,
+            faults: 0,
+        }
+    }
+
+    // Counts a fault, unless memory was wanting.
+    fn refuse(&mut self, error: io::Error) -> EndError
+        ensures failed { result ≡ EndError.Failed → Rose self.old.faults self.new.faults }
+        ensures grows { self.old.faults ≤ self.new.faults }
+        ensures dialed { self.new.dialed ≡ self.old.dialed }
+    {
+        if error.kind() == ErrorKind::OutOfMemory {
+            return EndError::OutOfMemory;
+        }
+        self.faults = self.faults.saturating_add(1);
+        EndError::Failed
+    }
+
+    // A stream to a port of this machine, where it can still be counted.
+    fn stream_to(&self, number: u16) -> io::Result<TcpStream>
+        ensures { OnOk result (self.now.dialed < 2 ^ 64 - 1) }
+    {
+        if self.dialed == u64::MAX {
+            return Err(io::Error::from(ErrorKind::Unsupported));
+        }
+        TcpStream::connect(&self.rt, SocketAddr::from((Ipv4Addr::LOCALHOST, number)))
+    }
+}
+
+impl<R: Net<Stream = TcpStream, Listener = TcpListener> + Drop> Dialer for TcpDialer<R> {
+    type Conn = TcpLink;
+
+    ghost view = { λ d. record { finished = None; dialed = d.dialed; faults = d.faults } };
+
+    fn dial(&mut self, number: u16) -> Result<TcpLink, EndError> {
+        match self.stream_to(number) {
+            Ok(stream) => {
+                self.dialed += 1;
+                Ok(TcpLink::new(stream))
+            }
+            Err(error) => Err(self.refuse(error)),
+        }
+    }
+
+    fn finish(&mut self, conn: TcpLink) -> Result<(), EndError> {
+        conn.end();
+        Ok(())
+    }
+}
