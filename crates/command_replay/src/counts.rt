@@ -31,7 +31,7 @@ fn text_of(alloc: Global, served: Served) -> Result<Bytes, OutOfMemory>
 }
 
 /// Prints how many connections ended in each way.
-pub(crate) fn print_served<O: Sink>(alloc: Global, served: Served, out: &mut O) -> Result<(), Cause>
+pub fn print_served<O: Sink>(alloc: Global, served: Served, out: &mut O) -> Result<(), Cause>
     ensures ok { OnOk result ((O.view out.new).written ≡ sending (served_line served) (O.view out.old).written) }
     ensures stopped { IfErr result (λ cause. StopsPrinting (served_line served) (O.view out.old) (O.view out.new)
         cause) }

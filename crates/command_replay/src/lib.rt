@@ -8,4 +8,5 @@ mod replay;
 mod tests;
 mod words;
 
+pub use counts::print_served;
 pub use replay::answer_replay;

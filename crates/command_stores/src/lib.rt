@@ -15,3 +15,4 @@ mod tests;
 pub use matching::answer_match;
 pub use migrating::answer_migrate;
 pub use recording::answer_record;
+pub use store_file::write_store;

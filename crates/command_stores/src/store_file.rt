@@ -52,7 +52,7 @@ fn save_store<D: Disk>(
 }
 
 /// Writes the file of a store, in form 2.
-pub(crate) fn write_store<D: Disk>(
+pub fn write_store<D: Disk>(
     alloc: Global,
     disk: &mut D,
     name: &str,

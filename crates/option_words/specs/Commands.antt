@@ -173,3 +173,30 @@ merge_from _ = None
 
 abbrev pub merge_texts : List Text → Option MergeTexts
 merge_texts words = option_and_then merge_from (givens merge_table words)
+
+-- ---- `mm-record --port PORT --to TO --connections CONNECTIONS --out OUT`
+
+pub record ProxyTexts : Type 0 where
+  pub port : Text
+  pub to : Text
+  pub connections : Text
+  pub out : Text
+
+abbrev pub proxy_table : List Opt
+proxy_table = valued (codes "port") ∷ valued (codes "to") ∷ valued (codes "connections") ∷ valued (codes "out") ∷ []
+
+-- those that must be there are
+unfoldable pub proxy_with : Option Text → Option Text → Option Text → Option Text → Option ProxyTexts
+proxy_with port to connections out = do
+  given_port ← port
+  given_to ← to
+  given_connections ← connections
+  given_out ← out
+  Some (record { port = given_port; to = given_to; connections = given_connections; out = given_out })
+
+abbrev pub proxy_from : List (Option Text) → Option ProxyTexts
+proxy_from (port ∷ to ∷ connections ∷ out ∷ []) = proxy_with port to connections out
+proxy_from _ = None
+
+abbrev pub proxy_texts : List Text → Option ProxyTexts
+proxy_texts words = option_and_then proxy_from (givens proxy_table words)

@@ -3,7 +3,7 @@ use Rattle.std.specs.Prelude.{option_map}
 use Rattle.option_words.specs.Options.{Opt}
 use Rattle.option_words.specs.RunApp.{RunTexts}
 use Rattle.option_words.specs.Commands.{ReportTexts, MakeTexts, RecordTexts, MatchTexts, MigrateTexts, ReplayTexts}
-use Rattle.option_words.specs.Commands.{MergeTexts}
+use Rattle.option_words.specs.Commands.{MergeTexts, ProxyTexts}
 use Rattle.option_words.specs.declared.table.OptionSpec.{OptionSpec}
 use Rattle.option_words.specs.declared.run.RunWords.{RunWords}
 use Rattle.option_words.specs.declared.report.ReportWords.{ReportWords}
@@ -13,6 +13,7 @@ use Rattle.option_words.specs.declared.matching.MatchWords.{MatchWords}
 use Rattle.option_words.specs.declared.migrate.MigrateWords.{MigrateWords}
 use Rattle.option_words.specs.declared.replay.ReplayWords.{ReplayWords}
 use Rattle.option_words.specs.declared.merge.MergeWords.{MergeWords}
+use Rattle.option_words.specs.declared.proxying.ProxyWords.{ProxyWords}
 
 abbrev pub opt : OptionSpec → Opt
 opt o = record { name = o.name.now; takes_value = o.takes_value }
@@ -62,3 +63,6 @@ merge_texts_of w = record {
   out = w.out.now;
   seed = option_map (λ s. s.now) w.seed;
 }
+
+abbrev pub proxy_texts_of : ProxyWords → ProxyTexts
+proxy_texts_of w = record { port = w.port.now; to = w.to.now; connections = w.connections.now; out = w.out.now }

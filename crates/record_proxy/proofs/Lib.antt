@@ -5,3 +5,4 @@ pub mod PairLemmas
 pub mod FrameSteps
 pub mod StandLemmas
 pub mod ServingLemmas
+pub mod CommandLemmas

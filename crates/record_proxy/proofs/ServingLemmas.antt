@@ -1,9 +1,8 @@
 -- Clients that are served one after the other.
-use Rattle.std.proofs.Common.{◌≡◌, ◌∙◌, ◌<◌, ◌≤◌, inl, inr, ℕ, ◌+◌, ◌-◌, ◌^◌, List, [], ◌∷◌, ◌++◌, length, map, Option}
+use Rattle.std.proofs.Common.{◌≡◌, ◌∙◌, ◌<◌, ◌≤◌, inl, inr, ℕ, ◌+◌, ◌-◌, ◌^◌, List, [], ◌∷◌, ◌++◌, map, Option}
 use Rattle.std.proofs.Common.{Some, None, Ok, Err, refl, sym, ap, subst, append_assoc, append-nil, length-append, arith}
-use Rattle.std.specs.Prelude.{◌⊎◌, All, Result, IsErrOf, sum_by}
+use Rattle.std.specs.Prelude.{Result, IsErrOf, sum_by}
 use Rattle.std.specs.List.{flat_map}
-use Rattle.std.specs.Option.{option_map}
 use Rattle.std.specs.Result.{IfOk}
 use Rattle.std.proofs.lemmas.List.{map-append}
 use Rattle.std.proofs.lemmas.Grind.{flat_map-append}
@@ -15,16 +14,16 @@ use Rattle.mm_base.specs.Link.{LinkView, IsFresh}
 use Rattle.mm_base.specs.Port.{PortView, KeepsPort, after_finish}
 use Rattle.mm_base.specs.declared.errors.EndError.{EndError}
 use Rattle.mm_base.specs.declared.errors.EndError.TheVariants.{Failed, OutOfMemory as NoMemory}
-use Rattle.mm_base.proofs.Then.{CountsFaults-none, CountsFaults-then}
+use Rattle.mm_base.proofs.Then.{CountsFaults-then}
 use Rattle.record_store.specs.declared.record.Record.{Record}
 use Rattle.replay_server.specs.declared.ends.Served.{Served}
-use Rattle.replay_server.specs.Tallies.{total}
 use Rattle.record_proxy.specs.Dialers.{DialerView}
 use Rattle.record_proxy.specs.Links.{IsStored, HasFaultCause, links}
-use Rattle.record_proxy.specs.Passing.{Dials, EndsWith, Joins, ServesOne, ServesSoFar, plus}
-use Rattle.record_proxy.specs.Servings.{IsJoined, IsDialed, Dialed, NotDialed, GivenUp, Joined, Passage, Net, Serves, IsServed}
-use Rattle.record_proxy.specs.Servings.{Rises, RisesFor, tally, counted_as, end_of, lost_of, dials_of, servers_of, added_of}
-use Rattle.record_proxy.specs.Servings.{finished_with, no_ends, net}
+use Rattle.record_proxy.specs.Passing.{Dials, EndsWith, Joins, ServesOne, plus}
+use Rattle.record_proxy.specs.Servings.{IsJoined, IsDialed, Dialed, NotDialed, GivenUp, Joined, Passage, Net, Serves}
+use Rattle.record_proxy.specs.Servings.{Rises, RisesFor, tally, counted_as, end_of, lost_of, dials_of, servers_of}
+use Rattle.record_proxy.specs.Servings.{added_of}
+use Rattle.record_proxy.specs.Servings.{finished_with, net}
 use Rattle.record_proxy.specs.declared.ends.ProxyEnd.{ProxyEnd}
 use Rattle.record_proxy.specs.declared.ends.ProxyEnd.TheVariants.{ClientFault, ServerFault}
 
@@ -215,11 +214,18 @@ module _ {C X : Type 0} (site : ℕ) (client_view : C → LinkView) (server_view
       record {
         each = All-push (λ (q : Passage C X). IsDialed site server_view (client_view q.client) q.dialed) ps p s.each
             one.dials.is;
-        accepted = let a = s.accepted in let b = one.accepted in omega (arith, a, b, accepted, length-append ps
-            (p ∷ []));
+        accepted = let a = s.accepted in let b = one.accepted in omega (
+          arith,
+          a,
+          b,
+          accepted,
+          length-append ps
+              (p ∷ []),
+        );
         finished = one.finished ∙ ap (finished_with (one.client ∷ [])) (kept ∙ s.finished)
             ∙ finished_more (map (λ (q : Passage C X). q.client) ps) (one.client ∷ []) old.port.finished
-            ∙ ap (λ l. finished_with l old.port.finished) (sym (map-append (λ (q : Passage C X). q.client) ps (p ∷ [])));
+            ∙ ap (λ l. finished_with l old.port.finished)
+            (sym (map-append (λ (q : Passage C X). q.client) ps (p ∷ [])));
         dialed = let a = s.dialed in let b = one.dials.count in omega (
           arith,
           a,

@@ -8,3 +8,5 @@ pub mod Dialers
 pub mod MemDialers
 pub mod Servings
 pub mod Passing
+pub mod Proxying
+pub mod View

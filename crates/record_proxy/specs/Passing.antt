@@ -1,13 +1,14 @@
 -- For proofs: what one client's passage does to the dialer and to the store.
 use Rattle.std.specs.Prelude.{◌≡◌, ◌≤◌, ℕ, ◌+◌, ◌++◌, List, [], ◌∷◌, length, Option, Some, None, Result, Ok, Err}
 use Rattle.mm_base.specs.Link.{LinkView}
-use Rattle.mm_base.specs.Port.{PortView, KeepsPort}
+use Rattle.mm_base.specs.Port.{KeepsPort}
 use Rattle.mm_base.specs.declared.errors.EndError.{EndError}
 use Rattle.mm_base.specs.declared.errors.EndError.TheVariants.{Failed, OutOfMemory}
 use Rattle.record_store.specs.declared.record.Record.{Record}
 use Rattle.replay_server.specs.declared.ends.Served.{Served}
 use Rattle.record_proxy.specs.Dialers.{DialerView}
-use Rattle.record_proxy.specs.Servings.{Dialed, IsDialed, Passage, RisesFor, Net, added_of, servers_of, dials_of, end_of}
+use Rattle.record_proxy.specs.Servings.{Dialed, IsDialed, Passage, RisesFor, Net, added_of, servers_of, dials_of}
+use Rattle.record_proxy.specs.Servings.{end_of}
 use Rattle.record_proxy.specs.Servings.{Serves, finished_with, tally}
 use Rattle.replay_server.specs.Tallies.{total}
 use Rattle.record_proxy.specs.declared.ends.ProxyEnd.{ProxyEnd}

@@ -23,7 +23,8 @@ pub record IsJoined (port : ℕ) (client server : LinkView) (added : List Record
   pub server_first : LinkView
   pub client_fresh : IsFresh client_first
   pub server_fresh : IsFresh server_first
-  pub proxied : IsProxied port (links client_first.told server_first.told) (links client.told server.told) added (Ok end)
+  pub proxied : IsProxied port (links client_first.told server_first.told) (links client.told server.told) added
+      (Ok end)
   pub client_fault : end ≡ ClientFault → 0 < client.faults
   pub server_fault : end ≡ ServerFault → 0 < server.faults
 

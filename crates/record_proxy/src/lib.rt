@@ -1,17 +1,23 @@
 //! A proxy that records what passes between clients and one site.
 #![tactic(auto)]
 
+mod command;
 mod dialer;
 mod ends;
 mod exchange;
 mod giving;
+mod job;
 mod mem_dialer;
 mod proxy;
 mod serving;
-mod talk;
 mod taking;
+mod talk;
 mod tcp_dialer;
+#[cfg(test)]
+mod tests;
+mod words;
 
+pub use command::proxy_main;
 pub use dialer::Dialer;
 pub use ends::{ProxyEnd, ProxyError};
 pub use mem_dialer::MemDialer;

@@ -13,8 +13,8 @@ use mm_base::{EndError, MemLink, MemPort, Port};
 use std::alloc::Global;
 use std::marker::Model;
 
-/// A dialer in memory, which gives links in memory in their order. It tells its finished links, counts its calls from 1,
-/// and fails those that its list names, and a `dial` where no link is left.
+/// A dialer in memory, which gives links in memory in their order. It tells its finished links, counts its calls from
+/// 1, and fails those that its list names, and a `dial` where no link is left.
 #[derive(Drop)]
 pub struct MemDialer {
     links: MemPort,

@@ -7,8 +7,8 @@ use mm_base::{EndError, TcpLink};
 use std::io::{self, ErrorKind};
 use std::net::{Ipv4Addr, Net, SocketAddr, TcpListener, TcpStream};
 
-/// A dialer of TCP at the address 127.0.0.1. It tells no content. Each error but want of memory is counted as a fault: a
-/// port at which nobody listens, or one more connection than a `u64` counts.
+/// A dialer of TCP at the address 127.0.0.1. It tells no content. Each error but want of memory is counted as a
+/// fault: a port at which nobody listens, or one more connection than a `u64` counts.
 #[derive(Drop)]
 pub struct TcpDialer<R: Net<Stream = TcpStream, Listener = TcpListener> + Drop> {
     rt: R,

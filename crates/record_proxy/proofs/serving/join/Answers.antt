@@ -1,4 +1,4 @@
-use Rattle.std.proofs.Common.{Ok, subst}
+use Rattle.std.proofs.Common.{subst}
 use Rattle.std.specs.Prelude.{Result}
 use Rattle.mm_base.specs.declared.errors.OutOfMemory.{OutOfMemory}
 use Rattle.record_proxy.specs.Links.{IsStored, HasFaultCause, links}

@@ -1,7 +1,7 @@
-use Rattle.std.proofs.Common.{◌≡◌, ◌∙◌, ◌<◌, ◌≤◌, ◌+◌, ◌-◌, [], ◌∷◌, ◌++◌, length, length-append, ap, refl, rules, arith}
+use Rattle.std.proofs.Common.{◌≡◌, ◌∙◌, ◌+◌, [], ◌∷◌, ◌++◌, length-append, ap, rules, arith}
 use Rattle.replay_server.specs.Tallies.{total}
 use Rattle.record_proxy.specs.Passing.{plus}
-use Rattle.record_proxy.specs.Servings.{counted_as, net}
+use Rattle.record_proxy.specs.Servings.{counted_as}
 use Rattle.record_proxy.proofs.ServingLemmas.{passage_of, serves_none, serves_push, tally_push}
 use Rattle.record_proxy.proofs.serving.serve.Goals as goal
 
@@ -33,10 +33,20 @@ clients-preserved g c =
             c.in-Ok-Some.ensures.finished c.in-Ok-Some.ensures.keeps _ one;
         counts = c.with_end-served.ensures.one ∙ ap (λ n. plus n (counted_as c.in-Ok.end)) so_far.counts
             ∙ tally_push ps p c.in-Ok.end one.dials.end_is;
-        few = let some = c.clients-test.true in let few = so_far.few in omega (arith, some, few, length-append ps (p
-            ∷ []));
-        within = let a = so_far.within in let b = c.with_end-served.ensures.within in omega (arith, a, b, length-append
-            ps (p ∷ []));
+        few = let some = c.clients-test.true in let few = so_far.few in omega (
+          arith,
+          some,
+          few,
+          length-append ps (p
+              ∷ []),
+        );
+        within = let a = so_far.within in let b = c.with_end-served.ensures.within in omega (
+          arith,
+          a,
+          b,
+          length-append
+              ps (p ∷ []),
+        );
       };
       few = c.clients.invariant.few;
     }

@@ -1,7 +1,5 @@
-use Rattle.std.proofs.Common.{◌≡◌, ◌≤◌, ◌+◌, length}
-use Rattle.replay_server.specs.Tallies.{total}
-use Rattle.mm_base.specs.Port.{KeepsPort}
-use Rattle.record_proxy.specs.Servings.{Passage, net}
+use Rattle.std.proofs.Common.{◌≤◌}
+use Rattle.record_proxy.specs.Servings.{net}
 use Rattle.record_proxy.specs.Passing.{ServesSoFar}
 use Rattle.record_proxy.proofs.serving.serve.Given as goal
 

@@ -1,0 +1,86 @@
+-- How `mm-record` ends, from what its serving did.
+use Rattle.std.proofs.Common.{arith, List, [], Option, Some, None, Err, refl, sym, subst}
+use Rattle.mm_base.specs.Disk.{DiskView, OnlyReads}
+use Rattle.mm_base.specs.Files.{Files}
+use Rattle.mm_base.specs.Link.{LinkView}
+use Rattle.mm_base.specs.Sink.{SinkView}
+use Rattle.record_store.specs.declared.record.Record.{Record}
+use Rattle.replay_server.specs.declared.ends.Served.{Served}
+use Rattle.command_ends.specs.Causes.{Text}
+use Rattle.command_ends.specs.Ends.{Ends, Finishes, IsStopped, Serving, outside}
+use Rattle.command_ends.specs.declared.cause.Cause.{Cause}
+use Rattle.command_ends.specs.declared.cause.Cause.TheVariants.{NetFault, OutOfMemory}
+use Rattle.command_ends.proofs.EndLemmas.{keeps_all}
+use Rattle.command_ends.proofs.ReadingLemmas.{HasOneEnd, RefusesWordsFirst, asked_first}
+use Rattle.command_ends.specs.Readings.{asked}
+use Rattle.record_proxy.specs.Proxying.{ProxyJob, StopsAsProxy, cause_of, proxy_job_of, proxy_output, proxy_reading}
+use Rattle.record_proxy.specs.Proxying.{proxy_words, proxy_work}
+use Rattle.record_proxy.specs.Servings.{Net, IsServed, ServingSays}
+use Rattle.record_proxy.specs.declared.ends.ProxyError.{ProxyError}
+use Rattle.record_proxy.specs.declared.ends.ProxyError.TheVariants as errors
+
+-- words are refused before anything is done
+pub proxy_words_first : (words : List Text) → RefusesWordsFirst (proxy_words words)
+proxy_words_first words = asked_first (proxy_job_of words) proxy_reading (λ job. tt)
+
+pub reads_nothing : (disk : DiskView) → OnlyReads disk disk
+reads_nothing disk = record {
+  same_files = refl;
+  asks = omega arith;
+  reads = omega arith;
+  writes = refl;
+  lacks = omega arith;
+  steady = λ never. (never, refl);
+}
+
+job_one : (found : Option ProxyJob) → HasOneEnd (asked found proxy_reading)
+job_one None = tt
+job_one (Some job) = tt
+
+-- the words lead to one end
+pub proxy_words_one : (words : List Text) → HasOneEnd (proxy_words words)
+proxy_words_one words = job_one (proxy_job_of words)
+
+module _ {C X : Type 0} (client_view : C → LinkView) (server_view : X → LinkView) (job : ProxyJob) (told : Option Files)
+    (old new : Net C X) where
+  pub finishes : (records : List Record) (n : Served)
+      → IsServed job.site client_view server_view job.connections old new [] records n
+      → Finishes (proxy_work client_view server_view) (proxy_reading job) told old new (proxy_output job.out records n)
+  finishes records n serving = record {
+    task = job;
+    read = refl;
+    gives = record { records = records; served = n; serving = serving; output_is = refl };
+  }
+
+module _ {C X : Type 0} (client_view : C → LinkView) (server_view : X → LinkView) (job : ProxyJob) (disk : DiskView)
+    (out : SinkView) (old new : Net C X) where
+  stops_for : (cause : Cause) → StopsAsProxy client_view server_view job.site job.connections old new cause
+      → IsStopped (proxy_work client_view server_view) (proxy_reading job) (outside disk out old)
+      (outside disk out new) cause
+  stops_for cause stopped = record {
+    task = job;
+    read = refl;
+    stops = stopped;
+    keeps = keeps_all disk;
+    silent = refl;
+  }
+
+  ends_for : (e : ProxyError) (store : List Record)
+      → ServingSays job.site client_view server_view job.connections old new [] store (Err e)
+      → Ends (proxy_work client_view server_view) (proxy_reading job) (outside disk out old) (outside disk out new)
+      (Some (cause_of e))
+  ends_for errors.Port store s = record {
+    stopped = stops_for NetFault (record { error = errors.Port; cause_is = refl; store = store; serving = s });
+    rose = s;
+  }
+  ends_for errors.OutOfMemory store s =
+      Serving (stops_for OutOfMemory
+      (record { error = errors.OutOfMemory; cause_is = refl; store = store; serving = s }))
+
+  pub ends_serving : (cause : Cause) → StopsAsProxy client_view server_view job.site job.connections old new cause
+      → Ends (proxy_work client_view server_view) (proxy_reading job) (outside disk out old) (outside disk out new)
+      (Some cause)
+  ends_serving cause stopped =
+      subst (λ (k : Cause). Ends (proxy_work client_view server_view) (proxy_reading job) (outside disk out old)
+      (outside disk out new) (Some k)) (sym stopped.cause_is)
+      (ends_for stopped.error stopped.store stopped.serving)

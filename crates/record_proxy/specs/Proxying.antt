@@ -1,0 +1,95 @@
+-- What `mm-record` is asked for, and what it does with its port and its dialer.
+use Rattle.std.specs.Prelude.{◌≡◌, ℕ, List, [], Option, Some, None, Err, ◌&&◌, nat_le, option_and_then}
+use Rattle.std.specs.Prelude.{if◌then◌else◌}
+use Rattle.mm_base.specs.Counts.{Rose}
+use Rattle.mm_base.specs.Link.{LinkView}
+use Rattle.mm_base.specs.Numbers.{decimal_of}
+use Rattle.record_store.specs.declared.record.Record.{Record}
+use Rattle.replay_server.specs.declared.ends.Served.{Served}
+use Rattle.option_words.specs.Commands.{ProxyTexts, proxy_texts}
+use Rattle.option_words.specs.Givens.{◌>>=◌}
+use Rattle.command_ends.specs.Causes.{Text}
+use Rattle.command_ends.specs.Outputs.{Output}
+use Rattle.command_ends.specs.Readings.{Reading, Done, asked}
+use Rattle.command_ends.specs.Works.{Work}
+use Rattle.command_ends.specs.declared.cause.Cause.{Cause}
+use Rattle.command_ends.specs.declared.cause.Cause.TheVariants.{NetFault, OutOfMemory}
+use Rattle.command_replay.specs.Replay.{served_line}
+use Rattle.command_stores.specs.Written.{store_file}
+use Rattle.record_proxy.specs.Servings.{Net, IsServed, ServingSays}
+use Rattle.record_proxy.specs.declared.ends.ProxyError.{ProxyError}
+use Rattle.record_proxy.specs.declared.ends.ProxyError.TheVariants as errors
+
+-- the port to listen at, the site's port, how many clients are served, and the name of the store's file
+pub record ProxyJob : Type 0 where
+  pub port : ℕ
+  pub site : ℕ
+  pub connections : ℕ
+  pub out : Text
+
+abbrev pub between : ℕ → ℕ → ℕ → Option ℕ
+between least most number = if nat_le least number && nat_le number most then Some number else None
+
+-- the number that a text stands for, if it is a decimal within these
+unfoldable pub number_between : ℕ → ℕ → Text → Option ℕ
+number_between least most text = do
+  number ← decimal_of text
+  between least most number
+
+-- the numbers are within their ranges
+unfoldable pub proxy_job_with : ProxyTexts → Option ProxyJob
+proxy_job_with texts = do
+  port ← number_between 1 65535 texts.port
+  site ← number_between 1 65535 texts.to
+  connections ← number_between 0 64 texts.connections
+  Some (record { port = port; site = site; connections = connections; out = texts.out })
+
+-- the job of the words
+unfoldable pub proxy_job_of : List Text → Option ProxyJob
+proxy_job_of words = option_and_then proxy_job_with (proxy_texts words)
+
+-- No file is read.
+abbrev pub proxy_reading : ProxyJob → Reading ProxyJob
+proxy_reading job = Done job
+
+-- the words after the program's name
+abbrev pub proxy_words : List Text → Reading ProxyJob
+proxy_words words = asked (proxy_job_of words) proxy_reading
+
+-- Why a serving stopped.
+abbrev pub cause_of : ProxyError → Cause
+cause_of errors.Port = NetFault
+cause_of errors.OutOfMemory = OutOfMemory
+
+-- the file of the records, and then the line of how the connections ended
+abbrev pub proxy_output : Text → List Record → Served → Output
+proxy_output out records served = record { files = store_file out records; printed = served_line served }
+
+module _ {C X : Type 0} (client_view : C → LinkView) (server_view : X → LinkView) where
+  -- A serving stopped for this cause.
+  pub record StopsAsProxy (site most : ℕ) (old new : Net C X) (cause : Cause) : Type 0 where
+    pub error : ProxyError
+    pub cause_is : cause ≡ cause_of error
+    pub store : List Record
+    pub serving : ServingSays site client_view server_view most old new [] store (Err error)
+
+  module _ (job : ProxyJob) (old new : Net C X) where
+    -- The clients of the job were served, from no records on; the records of all are written, and it is printed how
+    -- they ended.
+    pub record GivesProxy (output : Output) : Type 0 where
+      pub records : List Record
+      pub served : Served
+      pub serving : IsServed job.site client_view server_view job.connections old new [] records served
+      pub output_is : output ≡ proxy_output job.out records served
+
+    -- The serving stopped by itself.
+    abbrev pub StopsProxy : Cause → Type 0
+    StopsProxy cause = StopsAsProxy job.site job.connections old new cause
+
+-- what a job does with its port and its dialer, of whose connections this is seen
+abbrev pub proxy_work : {C X : Type 0} → (C → LinkView) → (X → LinkView) → ProxyJob → Work (Net C X)
+proxy_work client_view server_view job = record {
+  gives = λ old new output. GivesProxy client_view server_view job old new output;
+  stops = λ old new cause. StopsProxy client_view server_view job old new cause;
+  faulted = λ old new. Rose old.port.faults new.port.faults;
+}

@@ -1,0 +1,175 @@
+// The program `mm-record`: its words, the clients that it serves, the store that it writes and the line that it prints.
+ghost use Rattle.std.specs.Prelude.{◌≡◌, ◌≢◌, ◌⊎◌, [], Some, IfOk, IfErr, OnErr, map, string_bytes};
+ghost use Rattle.mm_base.specs.Counts.{Rose};
+ghost use Rattle.mm_base.specs.Files.{Files};
+ghost use Rattle.mm_base.specs.Port.{KeepsPort};
+ghost use Rattle.mm_base.specs.Sink.{CountsSinkFaults};
+ghost use Rattle.command_ends.specs.Answers.{Answers, CountsDisk, IsFaultless, StopsShort, cause_in};
+ghost use Rattle.command_ends.specs.Causes.{status_of_refusal};
+ghost use Rattle.command_ends.specs.Ends.{Ends, IsDone, KeepsFiles, outside};
+ghost use Rattle.command_ends.specs.Readings.{Reaches, AtTask, refused_first};
+ghost use Rattle.command_ends.specs.declared.cause.Refusal.{Refusal};
+ghost use Rattle.command_ends.specs.declared.cause.Refusal.TheVariants.{Words};
+ghost use Rattle.command_ends.specs.declared.cause.WordsRefusal.{WordsRefusal};
+ghost use Rattle.record_proxy.specs.Proxying.{ProxyJob as JobValue, StopsAsProxy, cause_of, proxy_reading, proxy_words};
+ghost use Rattle.record_proxy.specs.Proxying.{proxy_work};
+ghost use Rattle.record_proxy.specs.Servings.{IsServed, net};
+ghost use Rattle.record_proxy.specs.View.{proxy_values};
+
+use crate::dialer::Dialer;
+use crate::ends::ProxyError;
+use crate::job::ProxyJob;
+use crate::serving::serve;
+use crate::words::read_proxy;
+use command_ends::{Cause, conclude};
+use command_replay::print_served;
+use command_stores::write_store;
+use mm_base::{Disk, Port, Sink};
+use record_store::Store;
+use replay_server::Served;
+use std::alloc::Global;
+
+// Why a serving stopped.
+fn cause_of(error: ProxyError) -> Cause
+    ensures { result ≡ cause_of error }
+{
+    match error {
+        ProxyError::Port => Cause::NetFault,
+        ProxyError::OutOfMemory => Cause::OutOfMemory,
+    }
+}
+
+// Serves the clients of a job, and adds the records of what they say to the store.
+fn serve_job<P: Port, X: Dialer>(
+    alloc: Global,
+    job: &ProxyJob<'_>,
+    port: &mut P,
+    dialer: &mut X,
+    store: &mut Store,
+) -> Result<Served, Cause>
+    requires { store.old ≡ [] }
+    ensures served { IfOk result (λ n. IsServed job.now.site P.Conn.view X.Conn.view job.now.connections
+        (net (P.view port.old) (X.view dialer.old)) (net (P.view port.new) (X.view dialer.new)) [] store.new n) }
+    ensures stopped { IfErr result (λ cause. StopsAsProxy P.Conn.view X.Conn.view job.now.site job.now.connections
+        (net (P.view port.old) (X.view dialer.old)) (net (P.view port.new) (X.view dialer.new)) cause) }
+    ensures keeps { KeepsPort (P.view port.old) (P.view port.new) }
+{
+    match serve(
+        alloc,
+        job.port,
+        job.site,
+        job.connections,
+        port,
+        dialer,
+        store,
+    ) {
+        Ok(served) => Ok(served),
+        Err(error) => Err(cause_of(error)),
+    }
+}
+
+// Does the job: its clients are served, the records are written, and then it is printed how they ended.
+fn record<D: Disk, O: Sink, P: Port, X: Dialer>(
+    alloc: Global,
+    job: &ProxyJob<'_>,
+    disk: &mut D,
+    out: &mut O,
+    port: &mut P,
+    dialer: &mut X,
+) -> Result<(), Cause>
+    ensures ends { Ends (proxy_work P.Conn.view X.Conn.view) (proxy_reading (proxy_values job.now))
+        (outside (D.view disk.old) (O.view out.old) (net (P.view port.old) (X.view dialer.old)))
+        (outside (D.view disk.new) (O.view out.new) (net (P.view port.new) (X.view dialer.new))) (cause_in result) }
+    ensures keeps { KeepsPort (P.view port.old) (P.view port.new) }
+    ensures counts { CountsDisk (D.view disk.old) (D.view disk.new) }
+    ensures out_counts { CountsSinkFaults (O.view out.old) (O.view out.new) }
+{
+    let mut store = Store::new(alloc);
+    let served = serve_job(alloc, job, port, dialer, &mut store)?;
+    write_store(alloc, disk, job.out, &store)?;
+    print_served(alloc, served, out)
+}
+
+// Does what the words say.
+fn answer<D: Disk, O: Sink, P: Port, X: Dialer>(
+    alloc: Global,
+    words: &[String],
+    disk: &mut D,
+    out: &mut O,
+    port: &mut P,
+    dialer: &mut X,
+) -> Result<(), Cause>
+    ensures ends { Ends (proxy_work P.Conn.view X.Conn.view) (proxy_words (map string_bytes words.now))
+        (outside (D.view disk.old) (O.view out.old) (net (P.view port.old) (X.view dialer.old)))
+        (outside (D.view disk.new) (O.view out.new) (net (P.view port.new) (X.view dialer.new))) (cause_in result) }
+    ensures keeps { KeepsPort (P.view port.old) (P.view port.new) }
+    ensures counts { CountsDisk (D.view disk.old) (D.view disk.new) }
+    ensures out_counts { CountsSinkFaults (O.view out.old) (O.view out.new) }
+{
+    match read_proxy(alloc, words)? {
+        Some(job) => record(alloc, &job, disk, out, port, dialer),
+        None => Err(Cause::usage()),
+    }
+}
+
+/// Does what the words after the program's name say, and answers the exit status.
+///
+/// `--port N --to N --connections N --out FILE` listens at a port of 1 to 65,535, accepts 0 to 64 clients one after the
+/// other, dials the site's port for each, passes what the two say unchanged, and finishes both. Then it writes the
+/// store of all exchanges, recorded from the site's port, in the order of acceptance, and prints how the connections
+/// ended, as
+/// `closed C bad B broken K full F`. A connection for which the dialer fails is counted as broken.
+///
+/// 0: it is done. 2: the words have no job. 7: writing the store, or printing on `out`, failed. 8: the port can't be
+/// listened at, or a client can't be accepted or finished. 9: memory was wanting. A status other than 0 is explained by
+/// one line on `out`, but for a fault of `out` itself.
+pub fn proxy_main<D: Disk, O: Sink, P: Port, X: Dialer>(
+    alloc: Global,
+    words: &[String],
+    disk: &mut D,
+    out: &mut O,
+    port: &mut P,
+    dialer: &mut X,
+) -> u8
+    // 0: the store is written and the line printed, and nothing else is changed.
+    ensures done { result ≡ 0 → IsDone (proxy_work P.Conn.view X.Conn.view) (proxy_words (map string_bytes words.now))
+        (outside (D.view disk.old) (O.view out.old) (net (P.view port.old) (X.view dialer.old)))
+        (outside (D.view disk.new) (O.view out.new) (net (P.view port.new) (X.view dialer.new))) }
+
+    // Each status has its cause, what it leaves of the file, and its line.
+    ensures answered { result ≢ 9 → Answers (proxy_work P.Conn.view X.Conn.view)
+        (proxy_words (map string_bytes words.now))
+        (outside (D.view disk.old) (O.view out.old) (net (P.view port.old) (X.view dialer.old)))
+        (outside (D.view disk.new) (O.view out.new) (net (P.view port.new) (X.view dialer.new))) result }
+    ensures stopped { result ≡ 9 → StopsShort (proxy_work P.Conn.view X.Conn.view)
+        (proxy_words (map string_bytes words.now))
+        (outside (D.view disk.old) (O.view out.old) (net (P.view port.old) (X.view dialer.old)))
+        (outside (D.view disk.new) (O.view out.new) (net (P.view port.new) (X.view dialer.new))) }
+
+    // 2 comes by the words alone, 7 and 8 only where the disk, `out` or the port counted it. At 2 and at 8 no file is
+    // changed.
+    ensures usage { result ≡ 2 → ((w : WordsRefusal)
+        × (refused_first (proxy_words (map string_bytes words.now)) ≡ Some (Words w))) }
+    ensures write_fault { result ≡ 7 → Rose (D.view disk.old).write_faults (D.view disk.new).write_faults
+        ⊎ Rose (O.view out.old).faults (O.view out.new).faults }
+    ensures net_fault { result ≡ 8 → Rose (P.view port.old).faults (P.view port.new).faults }
+    ensures keeps { result ≢ 0 → result ≢ 7 → result ≢ 9 → KeepsFiles (D.view disk.old) (D.view disk.new) }
+
+    // Words that refuse give their status. A job gives 0, unless a fault is counted.
+    ensures by_words { (refusal : Refusal)
+        → refused_first (proxy_words (map string_bytes words.now)) ≡ Some refusal
+        → (result ≡ status_of_refusal refusal) ⊎ (result ≡ 9) }
+    ensures complete { (m : Files) (job : JobValue) → (D.view disk.old).files ≡ Some m
+        → Reaches (Some m) (proxy_words (map string_bytes words.now)) (AtTask job)
+        → IsFaultless (proxy_work P.Conn.view X.Conn.view) job
+        (outside (D.view disk.old) (O.view out.old) (net (P.view port.old) (X.view dialer.old)))
+        (outside (D.view disk.new) (O.view out.new) (net (P.view port.new) (X.view dialer.new)))
+        → (result ≡ 0) ⊎ (result ≡ 9) }
+
+    ensures port_counts { KeepsPort (P.view port.old) (P.view port.new) }
+    ensures counts { CountsDisk (D.view disk.old) (D.view disk.new) }
+    ensures out_counts { CountsSinkFaults (O.view out.old) (O.view out.new) }
+{
+    let answer = answer(alloc, words, disk, out, port, dialer);
+    conclude(answer, out)
+}
