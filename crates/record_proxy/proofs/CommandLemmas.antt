@@ -1,20 +1,25 @@
 -- How `mm-record` ends, from what its serving did.
-use Rattle.std.proofs.Common.{arith, List, [], Option, Some, None, Err, refl, sym, subst}
+use Rattle.std.specs.Prelude.{◌⊎◌}
+use Rattle.std.proofs.Common.{◌≡◌, inl, inr, ℕ, ap, arith, List, [], Option, Some, None, Err, refl, sym, subst}
 use Rattle.mm_base.specs.Disk.{DiskView, OnlyReads}
 use Rattle.mm_base.specs.Files.{Files}
 use Rattle.mm_base.specs.Link.{LinkView}
 use Rattle.mm_base.specs.Sink.{SinkView}
 use Rattle.record_store.specs.declared.record.Record.{Record}
 use Rattle.replay_server.specs.declared.ends.Served.{Served}
-use Rattle.command_ends.specs.Causes.{Text}
-use Rattle.command_ends.specs.Ends.{Ends, Finishes, IsStopped, Serving, outside}
+use Rattle.command_ends.specs.Causes.{Text, status_by, status_of_refusal}
+use Rattle.command_ends.specs.Ends.{Ends, Outside, Finishes, IsStopped, Serving, outside}
 use Rattle.command_ends.specs.declared.cause.Cause.{Cause}
-use Rattle.command_ends.specs.declared.cause.Cause.TheVariants.{NetFault, OutOfMemory}
+use Rattle.command_ends.specs.declared.cause.Cause.TheVariants.{NetFault, OutFault, OutOfMemory, ReadFault}
+use Rattle.command_ends.specs.declared.cause.Cause.TheVariants.{Refused, WriteFault}
+use Rattle.command_ends.specs.declared.cause.Refusal.{Refusal}
+use Rattle.command_ends.specs.declared.cause.Refusal.TheVariants.{Words}
+use Rattle.command_ends.specs.declared.cause.WordsRefusal.TheVariants.{Usage}
 use Rattle.command_ends.proofs.EndLemmas.{keeps_all}
 use Rattle.command_ends.proofs.ReadingLemmas.{HasOneEnd, RefusesWordsFirst, asked_first}
-use Rattle.command_ends.specs.Readings.{asked}
+use Rattle.command_ends.specs.Readings.{Reaches, Stop, AtTask, AtRefusal, AtFile, asked}
 use Rattle.record_proxy.specs.Proxying.{ProxyJob, StopsAsProxy, cause_of, proxy_job_of, proxy_output, proxy_reading}
-use Rattle.record_proxy.specs.Proxying.{proxy_words, proxy_work}
+use Rattle.record_proxy.specs.Proxying.{IsProxyStatus, proxy_words, proxy_work}
 use Rattle.record_proxy.specs.Servings.{Net, IsServed, ServingSays}
 use Rattle.record_proxy.specs.declared.ends.ProxyError.{ProxyError}
 use Rattle.record_proxy.specs.declared.ends.ProxyError.TheVariants as errors
@@ -84,3 +89,42 @@ module _ {C X : Type 0} (client_view : C → LinkView) (server_view : X → Link
       subst (λ (k : Cause). Ends (proxy_work client_view server_view) (proxy_reading job) (outside disk out old)
       (outside disk out new) (Some k)) (sym stopped.cause_is)
       (ends_for stopped.error stopped.store stopped.serving)
+
+-- ---- statuses
+
+reaches_usage : (found : Option ProxyJob) (told : Option Files) (refusal : Refusal)
+    → Reaches told (asked found proxy_reading) (AtRefusal refusal) → refusal ≡ Words Usage
+reaches_usage None told refusal e = ap (refusal_in refusal) e
+  where
+    refusal_in : Refusal → Stop ProxyJob → Refusal
+    refusal_in other (AtRefusal r) = r
+    refusal_in other (AtTask job) = other
+    refusal_in other (AtFile name) = other
+reaches_usage (Some job) told refusal e = absurd (cc e)
+
+reaches_no_file : (found : Option ProxyJob) (told : Option Files) (name : Text)
+    → Reaches told (asked found proxy_reading) (AtFile name) → ⊥
+reaches_no_file None told name e = cc e
+reaches_no_file (Some job) told name e = cc e
+
+module _ {C X : Type 0} (client_view : C → LinkView) (server_view : X → LinkView) (words : List Text)
+    (old new : Outside (Net C X)) where
+  pub ends_status : (answer : Option Cause)
+      → Ends (proxy_work client_view server_view) (proxy_words words) old new answer
+      → IsProxyStatus (status_by answer)
+  ends_status None ends = inl (inl refl)
+  ends_status (Some (Refused refusal)) ends =
+      inl (inr (ap status_of_refusal (reaches_usage (proxy_job_of words) old.disk.files refusal ends.first)))
+  ends_status (Some (ReadFault name)) ends =
+      absurd (reaches_no_file (proxy_job_of words) old.disk.files name ends.next)
+  ends_status (Some (WriteFault name)) ends = inr (inl (inl refl))
+  ends_status (Some OutFault) ends = inr (inl (inl refl))
+  ends_status (Some NetFault) ends = inr (inl (inr refl))
+  ends_status (Some OutOfMemory) ends = inr (inr refl)
+
+pub proxy_status : (status : ℕ) (answer : Option Cause) → IsProxyStatus (status_by answer)
+    → (status ≡ status_by answer) ⊎ (status ≡ 9) → IsProxyStatus status
+proxy_status status answer is which = elim which [
+  | inl own ↦ subst IsProxyStatus (sym own) is
+  | inr nine ↦ inr (inr nine)
+]

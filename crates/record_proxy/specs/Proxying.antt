@@ -1,5 +1,5 @@
 -- What `mm-record` is asked for, and what it does with its port and its dialer.
-use Rattle.std.specs.Prelude.{◌≡◌, ℕ, List, [], Option, Some, None, Err, ◌&&◌, nat_le, option_and_then}
+use Rattle.std.specs.Prelude.{◌≡◌, ◌⊎◌, ℕ, List, [], Option, Some, None, Err, ◌&&◌, nat_le, option_and_then}
 use Rattle.std.specs.Prelude.{if◌then◌else◌}
 use Rattle.mm_base.specs.Counts.{Rose}
 use Rattle.mm_base.specs.Link.{LinkView}
@@ -93,3 +93,8 @@ proxy_work client_view server_view job = record {
   stops = λ old new cause. StopsProxy client_view server_view job old new cause;
   faulted = λ old new. Rose old.port.faults new.port.faults;
 }
+
+-- the statuses of the program
+abbrev pub IsProxyStatus : ℕ → Type 0
+IsProxyStatus status =
+    ((status ≡ 0) ⊎ (status ≡ 2)) ⊎ (((status ≡ 7) ⊎ (status ≡ 8)) ⊎ (status ≡ 9))

@@ -12,7 +12,7 @@ ghost use Rattle.command_ends.specs.declared.cause.Refusal.{Refusal};
 ghost use Rattle.command_ends.specs.declared.cause.Refusal.TheVariants.{Words};
 ghost use Rattle.command_ends.specs.declared.cause.WordsRefusal.{WordsRefusal};
 ghost use Rattle.record_proxy.specs.Proxying.{ProxyJob as JobValue, StopsAsProxy, cause_of, proxy_reading, proxy_words};
-ghost use Rattle.record_proxy.specs.Proxying.{proxy_work};
+ghost use Rattle.record_proxy.specs.Proxying.{IsProxyStatus, proxy_work};
 ghost use Rattle.record_proxy.specs.Servings.{IsServed, net};
 ghost use Rattle.record_proxy.specs.View.{proxy_values};
 
@@ -54,15 +54,7 @@ fn serve_job<P: Port, X: Dialer>(
         (net (P.view port.old) (X.view dialer.old)) (net (P.view port.new) (X.view dialer.new)) cause) }
     ensures keeps { KeepsPort (P.view port.old) (P.view port.new) }
 {
-    match serve(
-        alloc,
-        job.port,
-        job.site,
-        job.connections,
-        port,
-        dialer,
-        store,
-    ) {
+    match serve(alloc, job, port, dialer, store) {
         Ok(served) => Ok(served),
         Err(error) => Err(cause_of(error)),
     }
@@ -147,13 +139,15 @@ pub fn proxy_main<D: Disk, O: Sink, P: Port, X: Dialer>(
         (outside (D.view disk.new) (O.view out.new) (net (P.view port.new) (X.view dialer.new))) }
 
     // 2 comes by the words alone, 7 and 8 only where the disk, `out` or the port counted it. At 2 and at 8 no file is
-    // changed.
+    // changed. No other status comes but 0 and 9.
     ensures usage { result ≡ 2 → ((w : WordsRefusal)
         × (refused_first (proxy_words (map string_bytes words.now)) ≡ Some (Words w))) }
     ensures write_fault { result ≡ 7 → Rose (D.view disk.old).write_faults (D.view disk.new).write_faults
         ⊎ Rose (O.view out.old).faults (O.view out.new).faults }
     ensures net_fault { result ≡ 8 → Rose (P.view port.old).faults (P.view port.new).faults }
     ensures keeps { result ≢ 0 → result ≢ 7 → result ≢ 9 → KeepsFiles (D.view disk.old) (D.view disk.new) }
+
+    ensures statuses { IsProxyStatus result }
 
     // Words that refuse give their status. A job gives 0, unless a fault is counted.
     ensures by_words { (refusal : Refusal)

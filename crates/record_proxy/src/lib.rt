@@ -19,7 +19,7 @@ mod words;
 
 pub use command::proxy_main;
 pub use dialer::Dialer;
-pub use ends::{ProxyEnd, ProxyError};
+pub use ends::ProxyEnd;
 pub use mem_dialer::MemDialer;
 pub use proxy::proxy_conn;
 pub use tcp_dialer::TcpDialer;

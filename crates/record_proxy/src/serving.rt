@@ -9,6 +9,7 @@ ghost use Rattle.record_proxy.specs.Servings.{ServingSays, counted_as, net, no_e
 
 use crate::dialer::Dialer;
 use crate::ends::{ProxyEnd, ProxyError};
+use crate::job::ProxyJob;
 use crate::proxy::proxy_conn;
 use mm_base::{EndError, Link, OutOfMemory, Port};
 use record_store::Store;
@@ -157,34 +158,32 @@ fn serve_client<P: Port, X: Dialer>(
     served(end, done)
 }
 
-/// Listens at the port of this number, and serves up to `most` clients, one after the other: for each a connection to
-/// the site's port is dialed, both pass through (`proxy_conn`), and both are finished. It stops after so many, or where
-/// the port has no more. A client for which the dialer fails is counted as broken.
+/// Listens at the port of a job, and serves up to as many clients as it says, one after the other: for each a
+/// connection to the site's port is dialed, both pass through (`proxy_conn`), and both are finished. It stops after
+/// so many, or where the port has no more. A client for which the dialer fails is counted as broken.
 ///
 /// `Port` comes only where a fault of the port was counted: it can't be listened at, or a client can't be accepted or
 /// finished.
 pub fn serve<P: Port, X: Dialer>(
     alloc: Global,
-    number: u16,
-    site: u16,
-    most: u32,
+    job: &ProxyJob<'_>,
     port: &mut P,
     dialer: &mut X,
     store: &mut Store,
 ) -> Result<Served, ProxyError>
-    requires { most ≤ 64 }
-    ensures serving { ServingSays site P.Conn.view X.Conn.view most (net (P.view port.old) (X.view dialer.old))
-        (net (P.view port.new) (X.view dialer.new)) store.old store.new result }
+    ensures serving { ServingSays job.now.site P.Conn.view X.Conn.view job.now.connections
+        (net (P.view port.old) (X.view dialer.old)) (net (P.view port.new) (X.view dialer.new)) store.old store.new
+        result }
     ensures keeps { KeepsPort (P.view port.old) (P.view port.new) }
 {
-    if let Err(error) = port.listen(number) {
+    if let Err(error) = port.listen(job.port) {
         return Err(refused(error));
     }
     let mut served = nothing();
-    let mut left = most;
+    let mut left = job.connections;
     'clients: while left > 0 {
         match port.accept() {
-            Ok(Some(client)) => match serve_client(alloc, site, client, port, dialer, store) {
+            Ok(Some(client)) => match serve_client(alloc, job.site, client, port, dialer, store) {
                 Ok(end) => served = with_end(end, served),
                 Err(error) => return Err(error),
             },

@@ -3,7 +3,7 @@ use Rattle.mm_base.proofs.Then.{CountsFaults-then}
 use Rattle.command_ends.specs.Answers.{cause_in}
 use Rattle.command_ends.proofs.TellLemmas.{tells, tells_answered, tells_done, tells_stopped}
 use Rattle.record_proxy.specs.Proxying.{proxy_work}
-use Rattle.record_proxy.proofs.CommandLemmas.{proxy_words_first, proxy_words_one}
+use Rattle.record_proxy.proofs.CommandLemmas.{ends_status, proxy_status, proxy_words_first, proxy_words_one}
 use Rattle.record_proxy.proofs.command.proxy_main.Goals as goal
 
 pub returns-clause-done : goal.returns-clause-done
@@ -65,3 +65,10 @@ returns-clause-complete g c =
 
 pub returns-clause-out_counts : goal.returns-clause-out_counts
 returns-clause-out_counts g c = CountsFaults-then c.answer-answer.ensures.out_counts c.conclude.ensures.counts
+
+pub returns-clause-statuses : goal.returns-clause-statuses
+returns-clause-statuses g c =
+    proxy_status c.conclude.result (cause_in c.answer-answer.result)
+    (ends_status g.P.Conn.Link.view g.X.Conn.Link.view (map string_bytes c.args.words.now) _ _
+    (cause_in c.answer-answer.result) c.answer-answer.ensures.ends)
+    c.conclude.ensures.status_is

@@ -9,13 +9,13 @@ pub clients-init : goal.clients-init
 clients-init g c = record {
   so_far = record {
     passages = [];
-    serves = serves_none c.args.site g.P.Conn.Link.view g.X.Conn.Link.view _ _ _ _ c.in_default.ensures.keeps
+    serves = serves_none c.args.job.now.site g.P.Conn.Link.view g.X.Conn.Link.view _ _ _ _ c.in_default.ensures.keeps
         c.in_default.ensures.finished c.in_default.ensures.accepted;
     counts = c.nothing-served.ensures;
     few = omega arith;
     within = let none = ap total c.nothing-served.ensures in omega (arith, none);
   };
-  few = c.requires;
+  few = c.args.job.now.few;
 }
 
 pub clients-preserved : goal.clients-preserved
@@ -29,7 +29,8 @@ clients-preserved g c =
     record {
       so_far = record {
         passages = ps ++ p ∷ [];
-        serves = serves_push c.args.site g.P.Conn.Link.view g.X.Conn.Link.view _ _ _ asked _ _ _ ps so_far.serves told
+        serves = serves_push c.args.job.now.site g.P.Conn.Link.view g.X.Conn.Link.view _ _ _ asked _ _ _ ps
+            so_far.serves told
             c.in-Ok-Some.ensures.finished c.in-Ok-Some.ensures.keeps _ one;
         counts = c.with_end-served.ensures.one ∙ ap (λ n. plus n (counted_as c.in-Ok.end)) so_far.counts
             ∙ tally_push ps p c.in-Ok.end one.dials.end_is;
