@@ -1,5 +1,5 @@
 -- What reading the front of a schedule's text has come to.
-use Rattle.std.specs.Prelude.{ℕ, List, ◌++◌, IsSome}
+use Rattle.std.specs.Prelude.{ℕ, List, [], ◌++◌, IsSome}
 use Rattle.mm_base.specs.Lines.{lines_of}
 use Rattle.packet_record.specs.Gathered.{Gathered, Awaits}
 
@@ -19,3 +19,7 @@ IsRefused read = IsSome read.gathered.refused
 -- This text was read: whatever follows it, only that is still to come.
 abbrev pub HasRead : List ℕ → PartRead → Type 0
 HasRead text read = (rest : List ℕ) → IsLeft (text ++ rest) rest read
+
+-- This text was read to its end: nothing is still to come.
+abbrev pub HasReadAll : List ℕ → PartRead → Type 0
+HasReadAll text read = Awaits (lines_of text) [] read.gathered

@@ -1,6 +1,8 @@
 // The rows of a schedule, gathered line by line.
 ghost use Rattle.std.specs.Prelude.{◌≡◌, ◌≢◌, ◌≤◌, ◌∷◌, ℕ, List, [], None, Some, IfSome, is_some, IfOk, IfErr, OnOk};
 ghost use Rattle.std.specs.Prelude.{MatchResult};
+ghost use mathlib.Core.List.{IsPrefix};
+ghost use Rattle.packet_record.specs.Orders.{IsSchedule};
 ghost use Rattle.packet_record.specs.Said.{said_of};
 ghost use Rattle.packet_record.specs.Schedules.{AreRows, first_fault};
 
@@ -34,6 +36,14 @@ impl Model for ScheduleRows {
 impl ScheduleRows {
     ghost use Rattle.packet_record.specs.Gathered.{none_gathered, refusing, Awaits};
 
+    // The rows of the lines so far.
+    pub(crate) fn rows(&self) -> &[Row]
+        ensures rows { result.now ≡ self.now.rows }
+        ensures schedule { IsSchedule self.now.rows }
+    {
+        self.rows.as_slice()
+    }
+
     // No rows, with room for so many.
     pub(crate) fn with_room(alloc: Global, most: usize) -> Result<Self, OutOfMemory>
         ensures { IfOk result (λ r. r ≡ none_gathered) }
@@ -55,6 +65,7 @@ impl ScheduleRows {
         ensures err { IfErr result (λ e. (all rest : List (List ℕ)) (line : List ℕ) → said_of line ≡ says
             → Awaits all (line ∷ rest) self.old
             → Awaits all rest (refusing e self.new)) }
+        ensures grows { IsPrefix self.old.rows self.new.rows }
     {
         let row = row_of(self.rows.len() as u32, self.low, says)?;
         self.rows.push(row)?;
@@ -66,8 +77,9 @@ impl ScheduleRows {
     #[inline]
     pub(crate) fn take(&mut self, says: Option<(u64, Direction, u64)>)
         requires within { IfSome says (λ s. s.0 ≤ GREATEST_MOMENT) }
-        ensures { (all rest : List (List ℕ)) (line : List ℕ) → said_of line ≡ says
+        ensures left { (all rest : List (List ℕ)) (line : List ℕ) → said_of line ≡ says
             → Awaits all (line ∷ rest) self.old → Awaits all rest self.new }
+        ensures grows { IsPrefix self.old.rows self.new.rows }
     {
         if self.is_refused() {
             return;
@@ -97,6 +109,8 @@ impl ScheduleRows {
         ensures exact { (all : List (List ℕ)) → Awaits all [] self → MatchResult result
             (λ _. first_fault 1 0 all ≡ None)
             (λ e. (e ≢ ScheduleError.OutOfMemory) → first_fault 1 0 all ≡ Some e) }
+        ensures rows { IfOk result (λ rows. (rows ≡ self.rows) × (self.refused ≡ None)) }
+        ensures refused { IfErr result (λ e. self.refused ≡ Some e) }
     {
         match self.refused {
             Some(fault) => Err(fault),

@@ -1,14 +1,16 @@
 // A schedule read from its text piece by piece.
 ghost use Rattle.std.specs.Prelude.{◌≡◌, ◌≢◌, ◌≤◌, ◌<◌, ◌∷◌, ◌++◌, ◌+◌, ◌-◌, ◌/◌, ℕ, List, [], length, take, None};
-ghost use Rattle.std.specs.Prelude.{Some, true, IfSome, IfNone, IfOk, IfErr, MatchResult};
+ghost use Rattle.std.specs.Prelude.{Some, true, IfSome, IfNone, IfOk, IfErr, MatchResult, is_some};
+ghost use mathlib.Core.List.{IsPrefix};
 ghost use Rattle.mm_base.specs.Lines.{is_one_line, lines_of};
+ghost use Rattle.packet_record.specs.Orders.{IsSchedule};
 ghost use Rattle.packet_record.specs.Schedules.{IsScheduleText, first_fault};
 ghost use Rattle.packet_record.specs.declared.packet.Row.{Row as RowValue};
 
 use crate::cut::cut_line;
 use crate::gathering::ScheduleRows;
 use crate::line::{read_line, split_line};
-use crate::{Schedule, ScheduleError};
+use crate::{Row, Schedule, ScheduleError};
 use mm_base::limits::MOST_LINES;
 use mm_base::{Bytes, OutOfMemory, PieceReader};
 use std::alloc::Global;
@@ -39,12 +41,12 @@ impl Model for ScheduleText {
 }
 
 impl ScheduleText {
-    ghost use Rattle.packet_record.specs.Gathered.{Awaits};
-    ghost use Rattle.packet_record.specs.PartsRead.{HasRead, IsLeft};
+    ghost use Rattle.packet_record.specs.PartsRead.{HasRead, HasReadAll, IsLeft};
 
     /// Nothing is read so far. Room is made for the rows of a text of so many bytes.
     pub fn new(alloc: Global, bytes: usize) -> Result<Self, OutOfMemory>
-        ensures { IfOk result (λ text. HasRead [] text) }
+        ensures read { IfOk result (λ text. HasRead [] text) }
+        ensures none { IfOk result (λ text. text.gathered.rows ≡ []) }
     {
         Ok(ScheduleText {
             rows: ScheduleRows::with_room(alloc, most_rows(bytes))?,
@@ -52,10 +54,26 @@ impl ScheduleText {
         })
     }
 
+    /// The rows of the lines so far. They stay as more is read, and more may follow.
+    pub fn rows(&self) -> &[Row]
+        ensures rows { result.now ≡ self.now.gathered.rows }
+        ensures schedule { IsSchedule self.now.gathered.rows }
+    {
+        self.rows.rows()
+    }
+
+    /// Whether a line was refused, or memory was wanting.
+    pub fn is_refused(&self) -> bool
+        ensures { result ≡ is_some self.now.gathered.refused }
+    {
+        self.rows.is_refused()
+    }
+
     // Keeps a part of a line.
     fn keep(&mut self, part: &[u8])
         requires { is_one_line part.now ≡ true }
-        ensures { (whole rest : List ℕ) → IsLeft whole (part.now ++ rest) self.old → IsLeft whole rest self.new }
+        ensures left { (whole rest : List ℕ) → IsLeft whole (part.now ++ rest) self.old → IsLeft whole rest self.new }
+        ensures grows { IsPrefix self.old.gathered.rows self.new.gathered.rows }
     {
         if self.rows.is_refused() {
             return;
@@ -69,7 +87,9 @@ impl ScheduleText {
     // Reads the last part of a line, which a line feed follows.
     fn end_line(&mut self, part: &[u8])
         requires { is_one_line part.now ≡ true }
-        ensures { (whole rest : List ℕ) → IsLeft whole (part.now ++ 10 ∷ rest) self.old → IsLeft whole rest self.new }
+        ensures left { (whole rest : List ℕ) → IsLeft whole (part.now ++ 10 ∷ rest) self.old
+            → IsLeft whole rest self.new }
+        ensures grows { IsPrefix self.old.gathered.rows self.new.gathered.rows }
     {
         if self.kept.is_empty() {
             self.rows.take(read_line(part));
@@ -88,6 +108,7 @@ impl ScheduleText {
             → IsLeft whole (after.now ++ rest) self.new) }
         ensures shorter { IfSome result (λ after. length after.now < length text.now) }
         ensures none { IfNone result ((self.new ≡ self.old) × (is_one_line text.now ≡ true)) }
+        ensures grows { IsPrefix self.old.gathered.rows self.new.gathered.rows }
     {
         if self.kept.is_empty() {
             if let Some((says, after)) = split_line(text) {
@@ -100,25 +121,39 @@ impl ScheduleText {
         Some(after)
     }
 
-    // What all lines gave, where the text is read: the last one may have no line feed.
-    fn into_rows(self) -> ScheduleRows
-        ensures { (text : List ℕ) → HasRead text self → Awaits (lines_of text) [] result }
+    /// The text ends here: its last line may have no line feed.
+    pub fn end(&mut self)
+        ensures all { (text : List ℕ) → HasRead text self.old → HasReadAll text self.new }
+        ensures grows { IsPrefix self.old.gathered.rows self.new.gathered.rows }
     {
-        let ScheduleText { mut rows, kept } = self;
-        if !kept.is_empty() {
-            rows.take(read_line(kept.as_slice()));
+        if self.kept.is_empty() {
+            return;
         }
-        rows
+        self.rows.take(read_line(self.kept.as_slice()));
+        self.kept.clear();
+    }
+
+    /// The schedule of the text that was read to its end, or its first refusal.
+    pub fn into_schedule(self) -> Result<Schedule, ScheduleError>
+        ensures found { (text : List ℕ) → HasReadAll text self → IfOk result (λ rows. IsScheduleText text rows) }
+        ensures exact { (text : List ℕ) → HasReadAll text self → MatchResult result
+            (λ _. first_fault 1 0 (lines_of text) ≡ None)
+            (λ e. (e ≢ ScheduleError.OutOfMemory) → first_fault 1 0 (lines_of text) ≡ Some e) }
+        ensures rows { IfOk result (λ rows. (rows ≡ self.gathered.rows) × (self.gathered.refused ≡ None)) }
+        ensures refused { IfErr result (λ e. self.gathered.refused ≡ Some e) }
+    {
+        self.rows.finish()
     }
 
     /// The schedule of the text that was read, or its first refusal, as `read_schedule` answers for the text.
-    pub fn finish(self) -> Result<Schedule, ScheduleError>
+    pub fn finish(mut self) -> Result<Schedule, ScheduleError>
         ensures found { (text : List ℕ) → HasRead text self → IfOk result (λ rows. IsScheduleText text rows) }
         ensures exact { (text : List ℕ) → HasRead text self → MatchResult result
             (λ _. first_fault 1 0 (lines_of text) ≡ None)
             (λ e. (e ≢ ScheduleError.OutOfMemory) → first_fault 1 0 (lines_of text) ≡ Some e) }
     {
-        self.into_rows().finish()
+        self.end();
+        self.into_schedule()
     }
 }
 
@@ -131,6 +166,7 @@ impl PieceReader for ScheduleText {
     /// none can be wanting.
     fn push(&mut self, piece: &[u8])
         ensures read { (text : List ℕ) → HasRead text self.old → HasRead (text ++ piece.now) self.new }
+        ensures grows { IsPrefix self.old.gathered.rows self.new.gathered.rows }
         ensures settled { IsRefused self.old → self.new ≡ self.old }
     {
         if self.rows.is_refused() {

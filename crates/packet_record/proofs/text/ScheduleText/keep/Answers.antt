@@ -35,8 +35,8 @@ invariant_of-self-else-is_err c =
       );
     }
 
-pub returns-else-is_err : goal.returns-else-is_err
-returns-else-is_err c = λ whole rest left.
+pub returns-else-is_err-clause-left : goal.returns-else-is_err-clause-left
+returns-else-is_err-clause-left c = λ whole rest left.
     let kept = c.self.inside.kept in
     let part = c.args.part.now in
     let inside = subst (IsLeft whole (part ++ rest)) (sym c.self.view_is) left in
@@ -46,8 +46,8 @@ returns-else-is_err c = λ whole rest left.
     (sym (added ∙ ap (λ l. kept ++ l) front))
     (enough_kept (lines_of whole) kept part rest c.self.inside.rows c.self.invariant.one_line c.requires inside)
 
-pub returns-then-is_refused : goal.returns-then-is_refused
-returns-then-is_refused c = λ whole rest left.
+pub returns-then-is_refused-clause-left : goal.returns-then-is_refused-clause-left
+returns-then-is_refused-clause-left c = λ whole rest left.
     let refused = sym c.is_refused.ensures ∙ c.if-is_refused.true in
     let inside = subst (IsLeft whole (c.args.part.now ++ rest)) (sym c.self.view_is) left in
     subst (IsLeft whole rest) c.self.view_is

@@ -16,4 +16,4 @@ returns-in-Some-clause-some c = λ whole rest left.
     let next = next_line all c.self.inside.kept read.0 more c.self.inside.rows none read.2
     (subst (λ t. Awaits all (lines_of (c.self.inside.kept ++ t)) c.self.inside.rows) cut inside) in
     subst (λ k. Awaits all (lines_of (k ++ more)) c.take.new.self) (sym none)
-    (c.take.ensures all (lines_of more) read.0 read.3 next)
+    (c.take.ensures.left all (lines_of more) read.0 read.3 next)
