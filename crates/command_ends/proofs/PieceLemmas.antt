@@ -1,59 +1,21 @@
--- Pieces of a file that are read one after another.
-use Rattle.std.proofs.Common.{ℕ, ◌+◌, ◌≤◌, List, [], ◌++◌, Option, Some, length, take, refl, ap, sym, subst, ◌∙◌}
-use Rattle.std.proofs.Common.{append_assoc, arith, length-append}
-use Rattle.std.proofs.lemmas.List.{append-nil, take_all}
-use Rattle.mm_base.specs.Files.{Files, IfHeld, file}
+-- An input that was read in pieces.
+use Rattle.std.proofs.Common.{ℕ, List, Option, Some, ap, sym, ◌∙◌}
+use Rattle.mm_base.specs.Files.{Files, file}
 use Rattle.mm_base.proofs.FilesLemmas.{is_held}
-use Rattle.mm_base.proofs.Pieces.{take-append-take}
+use Rattle.file_pieces.specs.Pieces.{WholeIsRead}
 use Rattle.command_ends.specs.Causes.{Text}
-use Rattle.command_ends.specs.Stops.{FrontIsRead, HasSize, InputIsRead, PieceIsRead}
+use Rattle.command_ends.specs.Stops.{InputIsRead, IsInput}
 
-module _ {R : Type 0} (has_read : List ℕ → R → Type 0) (told : Option Files) (name : Text) where
-  pub none_read : (read : R) → FrontIsRead has_read told name 0 read read
-  none_read read = record {
-    bytes = [];
-    few = omega arith;
-    held = λ _ _ _ _. refl;
-    goes_on = λ text has. subst (λ (t : List ℕ). has_read t read) (sym (append-nil text)) has;
-  }
-
-  pub more_read : (at n : ℕ) (old mid new : R) → FrontIsRead has_read told name at old mid
-      → PieceIsRead has_read told name at n mid new
-      → FrontIsRead has_read told name (at + n) old new
-  more_read at n old mid new front piece = record {
-    bytes = front.bytes ++ piece.bytes;
-    few = omega (arith, length-append front.bytes piece.bytes, front.few, piece.long);
-    held = λ m whole t h.
-        ap (λ l. l ++ piece.bytes) (front.held m whole t h) ∙ ap (λ l. take at whole ++ l) (piece.held m whole t h)
-        ∙ take-append-take whole at n;
-    goes_on = λ text has. subst (λ (t : List ℕ). has_read t new) (append_assoc text front.bytes piece.bytes)
-        (piece.goes_on (text ++ front.bytes) (front.goes_on text has));
-  }
-
-  -- the file ended before the size
-  pub all_read : (at size : ℕ) (old new : R) → FrontIsRead has_read told name at old new → at ≤ size
-      → IfHeld told name (λ whole. length whole ≤ at)
-      → FrontIsRead has_read told name size old new
-  all_read at size old new front le end = record {
-    bytes = front.bytes;
-    few = omega (arith, front.few);
-    held = λ m whole t h.
-        let all = end m whole t h in
-        front.held m whole t h ∙ take_all at whole all ∙ sym (take_all size whole (omega arith));
-    goes_on = front.goes_on;
-  }
-
-  -- all of an input was read
-  pub input_read : (size : ℕ) (old new : R) → HasSize told name size → FrontIsRead has_read told name size old new
-      → InputIsRead has_read told name old new
-  input_read size old new has front = record {
-    bytes = front.bytes;
-    input = record {
-      held = λ m t.
-          let there = is_held (file m name) (has.there m t) in
-          let long = has.held m there.0 t there.1 in
-          there.1 ∙ ap Some (sym (front.held m there.0 t there.1 ∙ take_all size there.0 (omega arith)));
-      few = let few = front.few in let most = has.few in omega arith;
-    };
-    goes_on = front.goes_on;
-  }
+-- a file of these bytes is an input
+pub whole_input : {R : Type 0} (has_read : List ℕ → R → Type 0) (told : Option Files) (name : Text) (old new : R)
+    → WholeIsRead has_read told name old new → InputIsRead has_read told name old new
+whole_input has_read told name old new whole = record {
+  bytes = whole.bytes;
+  input = record {
+    held = λ m t.
+        let there = is_held (file m name) (whole.there m t) in
+        there.1 ∙ ap Some (sym (whole.held m there.0 t there.1));
+    few = whole.few;
+  };
+  goes_on = whole.goes_on;
+}

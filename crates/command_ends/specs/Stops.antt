@@ -1,9 +1,10 @@
 -- What the bodies of commands answer: where reading, writing or printing came, and why it stopped.
-use Rattle.std.specs.Prelude.{◌≡◌, ◌⊎◌, ◌≤◌, ◌<◌, ◌++◌, ℕ, take, drop, List, Option, Some, Result, Ok, Err, OnOk, OnErr}
+use Rattle.std.specs.Prelude.{◌≡◌, ◌⊎◌, ◌≤◌, ◌<◌, ℕ, take, List, Option, Some, Result, Ok, Err, OnOk, OnErr}
 use Rattle.std.specs.Prelude.{IsErrOf, length}
 use Rattle.mm_base.specs.Counts.{Rose}
 use Rattle.mm_base.specs.Disk.{DiskView}
-use Rattle.mm_base.specs.Files.{Files, IfHeld, IsThere}
+use Rattle.mm_base.specs.Files.{Files}
+use Rattle.file_pieces.specs.Pieces.{GoesOnBy}
 use Rattle.mm_base.specs.Sink.{SinkView, CountsSinkFaults, sending}
 use Rattle.mm_base.specs.declared.errors.EndError.{EndError}
 use Rattle.mm_base.specs.declared.errors.EndError.TheVariants.{Failed}
@@ -54,33 +55,6 @@ pub data StopsReading {A : Type 0} (reading : Reading A) (old new : DiskView) (c
 abbrev pub ReadsOn : {A T : Type 0} → Reading A → (T → Reading A) → DiskView → DiskView → Result T Cause → Type 0
 ReadsOn reading next old new (Ok value) = Leads old.files reading (next value)
 ReadsOn reading next old new (Err cause) = StopsReading reading old new cause
-
--- the size of an input
-pub record HasSize (told : Option Files) (name : Text) (size : ℕ) : Type 0 where
-  pub there : IsThere told name
-  pub held : IfHeld told name (λ bytes. size ≡ length bytes)
-  pub few : size ≤ 67108864
-
--- these bytes were read after those before
-abbrev pub GoesOnBy : {R : Type 0} → (List ℕ → R → Type 0) → List ℕ → R → R → Type 0
-GoesOnBy has_read bytes old new = (text : List ℕ) → has_read text old → has_read (text ++ bytes) new
-
--- So many bytes of a file were read from this place on, none only at its end.
-pub record PieceIsRead {R : Type 0} (has_read : List ℕ → R → Type 0) (told : Option Files) (name : Text) (at read : ℕ)
-    (old new : R) : Type 0 where
-  pub bytes : List ℕ
-  pub long : length bytes ≡ read
-  pub held : IfHeld told name (λ whole. bytes ≡ take read (drop at whole))
-  pub end : read ≡ 0 → IfHeld told name (λ whole. length whole ≤ at)
-  pub goes_on : GoesOnBy has_read bytes old new
-
--- The first bytes of a file were read, up to this size.
-pub record FrontIsRead {R : Type 0} (has_read : List ℕ → R → Type 0) (told : Option Files) (name : Text) (size : ℕ)
-    (old new : R) : Type 0 where
-  pub bytes : List ℕ
-  pub few : length bytes ≤ size
-  pub held : IfHeld told name (λ whole. bytes ≡ take size whole)
-  pub goes_on : GoesOnBy has_read bytes old new
 
 -- All bytes of an input were read.
 pub record InputIsRead {R : Type 0} (has_read : List ℕ → R → Type 0) (told : Option Files) (name : Text)

@@ -25,8 +25,8 @@ impl PrintLine for FateRow {
     }
 }
 
-// Puts the text of a fate, of at most 39 bytes, in front.
-fn put_fate(out: &mut LineBuffer, fate: Fate)
+/// Puts the text of a fate, of at most 39 bytes, in front.
+pub fn put_fate(out: &mut LineBuffer, fate: Fate)
     requires { length out.old + 41 ≤ 147456 }
     ensures bytes { out.new ≡ fate_text fate ++ out.old }
     ensures length { length out.new ≤ length out.old + 39 }

@@ -20,7 +20,7 @@ mod shell_words;
 
 pub use error::NestError;
 pub use fate::{Fate, FateRow};
-pub use fates_text::print_fates;
+pub use fates_text::{print_fates, put_fate};
 pub use gathering::gather;
 pub use marking::Marking;
 pub use naming::in_nest_order;

@@ -1,6 +1,6 @@
 use Rattle.std.proofs.Common.{◌≤◌, take, drop, ap, sym, ◌∙◌, arith}
 use Rattle.std.proofs.lemmas.List.{length-take, take-take}
-use Rattle.command_ends.proofs.inputs.push_piece.Goals as goal
+use Rattle.file_pieces.proofs.pieces.read_piece.Goals as goal
 
 pub returns-clause-piece : goal.returns-clause-piece
 returns-clause-piece g c =
@@ -9,12 +9,10 @@ returns-clause-piece g c =
     let buf = c.read_at.new.buf in
     let le : n ≤ read = omega (arith) in
     record {
-      bytes = take n buf;
       long = omega (arith, length-take n buf, c.in_ok-read.ensures.within);
       held = λ m whole told held.
           sym (take-take n read buf le) ∙ ap (take n) (c.in_ok-read.ensures.bytes m whole told held)
           ∙ take-take n read (drop c.args.at whole) le;
       end = λ none m whole told held. let e = c.in_ok-read.ensures.end m whole told held
           in e.1 (omega arith) c.requires.some;
-      goes_on = c.push.ensures;
     }

@@ -1,0 +1,43 @@
+-- What was read of a file, piece by piece.
+use Rattle.std.specs.Prelude.{◌≡◌, ◌≤◌, ◌++◌, ℕ, take, drop, List, Option, length}
+use Rattle.mm_base.specs.Files.{Files, IfHeld, IsThere}
+
+-- the size of a file that may be read
+pub record HasSize (told : Option Files) (name : List ℕ) (size : ℕ) : Type 0 where
+  pub there : IsThere told name
+  pub held : IfHeld told name (λ bytes. size ≡ length bytes)
+  pub few : size ≤ 67108864
+
+-- these bytes were read after those before
+abbrev pub GoesOnBy : {R : Type 0} → (List ℕ → R → Type 0) → List ℕ → R → R → Type 0
+GoesOnBy has_read bytes old new = (text : List ℕ) → has_read text old → has_read (text ++ bytes) new
+
+-- These are so many bytes of a file, from this place on, none only at its end.
+pub record IsPiece (told : Option Files) (name : List ℕ) (at read : ℕ) (bytes : List ℕ) : Type 0 where
+  pub long : length bytes ≡ read
+  pub held : IfHeld told name (λ whole. bytes ≡ take read (drop at whole))
+  pub end : read ≡ 0 → IfHeld told name (λ whole. length whole ≤ at)
+
+-- So many bytes of a file were read from this place on.
+pub record PieceIsRead {R : Type 0} (has_read : List ℕ → R → Type 0) (told : Option Files) (name : List ℕ)
+    (at read : ℕ) (old new : R) : Type 0 where
+  pub bytes : List ℕ
+  pub are : IsPiece told name at read bytes
+  pub goes_on : GoesOnBy has_read bytes old new
+
+-- The first bytes of a file were read, up to this size.
+pub record FrontIsRead {R : Type 0} (has_read : List ℕ → R → Type 0) (told : Option Files) (name : List ℕ) (size : ℕ)
+    (old new : R) : Type 0 where
+  pub bytes : List ℕ
+  pub few : length bytes ≤ size
+  pub held : IfHeld told name (λ whole. bytes ≡ take size whole)
+  pub goes_on : GoesOnBy has_read bytes old new
+
+-- All bytes of a file were read.
+pub record WholeIsRead {R : Type 0} (has_read : List ℕ → R → Type 0) (told : Option Files) (name : List ℕ)
+    (old new : R) : Type 0 where
+  pub bytes : List ℕ
+  pub few : length bytes ≤ 67108864
+  pub there : IsThere told name
+  pub held : IfHeld told name (λ whole. bytes ≡ whole)
+  pub goes_on : GoesOnBy has_read bytes old new

@@ -1,0 +1,35 @@
+// How many bytes a file has, before it is read.
+ghost use Rattle.std.specs.Prelude.{◌≡◌, ◌<◌, ℕ, length, IfOk, IsErrOf};
+ghost use Rattle.mm_base.specs.Counts.{Rose};
+ghost use Rattle.mm_base.specs.Files.{IfHeld, IfThere, IsAbsent, IsThere};
+ghost use Rattle.mm_base.specs.Disk.{OnlyReads};
+ghost use Rattle.file_pieces.specs.Pieces.{HasSize};
+
+use mm_base::limits::MOST_FILE_BYTES;
+use mm_base::{Disk, LoadError};
+
+/// How many bytes a file has, at most 67,108,864. None of them is read.
+///
+/// `TooLong` comes where the disk says that it has more, and has its size. `Absent` comes where the disk has no such
+/// file, and `Failed` where it failed, each counted by the disk.
+pub fn size_within<D: Disk>(disk: &mut D, name: &str) -> Result<u64, LoadError>
+    ensures size { IfOk result (λ size. HasSize (D.view disk.old).files name.now size) }
+    ensures too_long { (size : ℕ) → IsErrOf result (LoadError.TooLong size)
+        → (67108864 < size) × IsThere (D.view disk.old).files name.now
+        × IfHeld (D.view disk.old).files name.now (λ bytes. size ≡ length bytes) }
+    ensures absent { IsErrOf result LoadError.Absent → IsAbsent (D.view disk.old).files name.now }
+    ensures only_reads { OnlyReads (D.view disk.old) (D.view disk.new) }
+    ensures unread { (D.view disk.new).reads ≡ (D.view disk.old).reads }
+    ensures no_absence { IfThere (D.view disk.old).files name.now
+        ((D.view disk.new).absences ≡ (D.view disk.old).absences) }
+    ensures failed_cause { IsErrOf result LoadError.Failed
+        → Rose (D.view disk.old).read_faults (D.view disk.new).read_faults }
+    ensures absent_cause { IsErrOf result LoadError.Absent
+        → Rose (D.view disk.old).absences (D.view disk.new).absences }
+{
+    let size = disk.size(name)?;
+    if size > MOST_FILE_BYTES {
+        return Err(LoadError::TooLong { size });
+    }
+    Ok(size)
+}
