@@ -1,5 +1,6 @@
 //! One who feeds both directions of a run.
 ghost use Rattle.std.specs.Prelude.{◌≡◌, ◌≢◌, List};
+ghost use Rattle.std.specs.Thread.{IsSync};
 ghost use Rattle.packet_record.specs.declared.item.FlowEnd.TheVariants.{Open};
 ghost use Rattle.packet_record.specs.declared.packet.Direction.TheVariants.{Up, Down};
 ghost use Rattle.packet_record.specs.declared.packet.Row.{Row as RowValue};
@@ -45,6 +46,7 @@ pub trait Feeds {
         up: &mut Sender,
         down: &mut Sender,
     ) -> FeedEnd
+        requires shared { IsSync R.row }
         requires empty { (up.old.flow ≡ no_items) × (down.old.flow ≡ no_items) }
         requires within { (up.old.horizon ≡ horizon) × (down.old.horizon ≡ horizon) }
         ensures rows { fed_rows self.new ≡ fed_rows self.old }

@@ -2,6 +2,8 @@
 use Rattle.std.specs.Prelude.{◌≡◌}
 use Rattle.packet_record.specs.declared.item.FlowEnd.TheVariants.{Ended as IsOver}
 use Rattle.packet_record.specs.declared.item.Stream.{Stream}
+use Rattle.mark_channel.specs.declared.feeds.FeedEnd.{FeedEnd}
+use Rattle.mark_channel.specs.declared.feeds.FeedEnd.TheVariants as feed_ends
 use Rattle.nest_runner.specs.declared.ends.WorkEnd.{WorkEnd}
 use Rattle.nest_runner.specs.declared.ends.WorkEnd.TheVariants.{Ended, Broken, OutOfMemory}
 
@@ -32,3 +34,8 @@ worse Broken OutOfMemory = OutOfMemory
 -- what was taken is at its end, and all of it was sent
 abbrev pub IsPassedOn : Stream → Stream → Type 0
 IsPassedOn taken sent = (taken.end ≡ IsOver) × (sent ≡ taken)
+
+-- how one who feeds ended, as a worker
+abbrev pub end_of_feed : FeedEnd → WorkEnd
+end_of_feed feed_ends.Ended = Ended
+end_of_feed feed_ends.OutOfMemory = OutOfMemory

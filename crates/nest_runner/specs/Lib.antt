@@ -1,3 +1,5 @@
 pub mod Ends
 pub mod Lanes
+pub mod Sent
 pub mod Stages
+pub mod Streaming

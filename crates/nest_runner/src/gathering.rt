@@ -6,10 +6,11 @@ ghost use Rattle.packet_record.specs.declared.item.FlowEnd.TheVariants.{Ended};
 ghost use Rattle.packet_record.specs.declared.packet.Direction.TheVariants.{Up, Down};
 ghost use Rattle.packet_record.specs.declared.packet.Row.{Row as RowValue};
 ghost use Rattle.packet_record.specs.declared.packet.Timed.{Timed as TimedValue};
-ghost use Rattle.packet_record.specs.Rows.{entering};
+ghost use Rattle.packet_record.specs.Rows.{AreApart, entering};
 ghost use Rattle.shell_core.specs.Shells.{IsBuilt, whole_inside, whole_lost, whole_out};
 ghost use Rattle.shell_core.specs.Wholes.{IsLink};
 ghost use Rattle.nest_spec.specs.declared.fate.Fate.{Fate as FateValue};
+ghost use Rattle.nest_spec.specs.declared.fate.Fate.TheVariants.{Unsent};
 ghost use Rattle.nest_spec.specs.Fates.{fated};
 ghost use Rattle.nest_spec.specs.Links.{AreBuilt, NamedAreLinks, specs_in};
 ghost use Rattle.nest_spec.specs.Marks.{ids_of, marked_through, passed};
@@ -22,7 +23,7 @@ ghost use Rattle.nest_plain.specs.Unwritten.{unwritten_log};
 use mm_base::OutOfMemory;
 use nest_plain::{NestRun, UnwrittenLog};
 use nest_spec::{Marking, Named, Nest, ShellDirection, in_nest_order};
-use packet_record::{Direction, Schedule, Timed};
+use packet_record::{Direction, Timed};
 use shell_core::Passage;
 use shell_state::ShellState;
 use std::alloc::Global;
@@ -131,26 +132,26 @@ fn gather_direction(
     Ok(logs)
 }
 
-// The result of a run: the fate of each row, and the logs of the nest that have a name. The states are those of the
-// nest's shells in passing order, each of which was fed what the one before it passed on, the first the direction's
-// rows up to the horizon, and was taken to its end.
+// The result of a run: the fate of each row of a marking, and the logs of the nest that have a name. The states are
+// those of the nest's shells in passing order, each of which was fed what the one before it passed on, the first the
+// direction's rows up to the horizon, and was taken to its end.
 pub(crate) fn gather(
     alloc: Global,
     nest: &Nest,
-    schedule: &Schedule,
+    marking: Marking<'_>,
     up: Vec<ShellState>,
     down: Vec<ShellState>,
 ) -> Result<NestRun, OutOfMemory>
+    requires apart { AreApart marking.rows }
+    requires unsent { marking.fates ≡ fated (λ _. Unsent) marking.rows }
     requires up { HavePassed nest.now.horizon (directions_of Up nest.now)
-        (entering Up nest.now.horizon schedule.now) up.items }
+        (entering Up nest.now.horizon marking.rows) up.items }
     requires down { HavePassed nest.now.horizon (directions_of Down nest.now)
-        (entering Down nest.now.horizon schedule.now) down.items }
-    ensures value { IfOk result (λ r. r ≡ result_of nest.now schedule.now) }
-    ensures once { OnOk result (HaveOneFate nest.now schedule.now) }
+        (entering Down nest.now.horizon marking.rows) down.items }
+    ensures value { IfOk result (λ r. r ≡ result_of nest.now marking.entry.rows) }
+    ensures once { OnOk result (HaveOneFate nest.now marking.entry.rows) }
 {
-    // What holds of every schedule: no two of its rows have one number.
-    schedule.rows();
-    let mut marking = Marking::of_schedule(alloc, schedule)?;
+    let mut marking = marking;
     let up = gather_direction(alloc, &mut marking, nest, Direction::Up, up)?;
     let down = gather_direction(alloc, &mut marking, nest, Direction::Down, down)?;
     let logs = in_nest_order(alloc, up, down)?;

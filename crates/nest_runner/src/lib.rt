@@ -5,18 +5,26 @@
 //! the shells. Nothing is promised of when a run returns, of fairness, or that two threads ran at once.
 #![tactic(auto)]
 
+mod begun;
 mod collecting;
 mod draining;
 mod ends;
 mod feeding;
+mod feeds;
 mod gathering;
 mod lane;
 mod run;
 mod sourcing;
 mod stage;
 mod stages;
+mod stream;
+mod stream_error;
+mod streaming;
 #[cfg(test)]
 mod tests;
 pub mod work;
 
+pub use feeds::{run_feeds, run_nest_feeds};
 pub use run::{run_nest_threads, run_threads};
+pub use stream::{run_nest_stream, run_stream};
+pub use stream_error::StreamError;

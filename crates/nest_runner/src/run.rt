@@ -1,11 +1,13 @@
 // A run of a nest over threads.
-ghost use Rattle.std.specs.Prelude.{◌≡◌, ◌≤◌, [], length, OnOk, IfOk};
+ghost use Rattle.std.specs.Prelude.{◌≡◌, ◌≢◌, ◌≤◌, [], length, OnOk, IfOk};
 ghost use Rattle.std.specs.Thread.{IsSync};
-ghost use Rattle.packet_record.specs.declared.item.FlowEnd.TheVariants.{Ended as IsOver};
+ghost use Rattle.packet_record.specs.declared.item.FlowEnd.TheVariants.{Open, Ended as IsOver};
 ghost use Rattle.packet_record.specs.declared.packet.Direction.TheVariants.{Up, Down};
-ghost use Rattle.packet_record.specs.Rows.{Rises, entering};
+ghost use Rattle.packet_record.specs.Rows.{AreApart, Rises, entering};
 ghost use Rattle.packet_record.specs.Streams.{no_items};
 ghost use Rattle.mark_channel.specs.Ends.{IsSameEnd};
+ghost use Rattle.nest_spec.specs.declared.fate.Fate.TheVariants.{Unsent};
+ghost use Rattle.nest_spec.specs.Fates.{fated};
 ghost use Rattle.nest_spec.specs.Nests.{result_of};
 ghost use Rattle.nest_spec.specs.Once.{HaveOneFate};
 ghost use Rattle.nest_runner.specs.Ends.{IfEnded};
@@ -13,15 +15,17 @@ ghost use Rattle.nest_runner.specs.Lanes.{HasCarried, HasEnded, HasRun, IsDonePa
 ghost use Rattle.nest_runner.specs.Lanes.{IsSameLane, IsSamePath};
 ghost use Rattle.nest_runner.specs.Stages.{AllDone, AllFresh, AllSame};
 
+use crate::begun::Begun;
 use crate::collecting::collector;
 use crate::ends::WorkEnd;
 use crate::gathering::gather;
 use crate::lane::{Lane, Path};
 use crate::sourcing::source;
-use crate::stages::stages;
+use crate::stages::run_stages;
+use mark_channel::Sender;
 use mm_base::{OutOfMemory, Pace, Role};
 use nest_plain::NestRun;
-use nest_spec::{Nest, RunResult};
+use nest_spec::{Marking, Nest, RunResult};
 use packet_record::{Direction, Row, Schedule};
 use std::alloc::Global;
 use std::marker::Sync;
@@ -34,7 +38,8 @@ const MOST: u32 = 256;
 /// Runs the schedule through the nest over threads: a source, a feeder and a drain for each direction of each shell,
 /// and a collector for each direction, beside each other. The result, if it returns, is that of the composition of the
 /// shells, for every order in which the threads get their turns. The logs aren't written out. The pace is asked before
-/// the turns of the threads. `OutOfMemory` is want of memory, in any thread.
+/// the turns of the threads. `OutOfMemory` is want of memory, in any thread or for a thread: the source sends nothing
+/// before all others have begun, and where one can't begin beside the others it breaks the run off.
 pub fn run_nest_threads<Q: Pace + Sync, R: Threads + Wait + Sync>(
     rt: &R,
     alloc: Global,
@@ -64,8 +69,28 @@ pub fn run_threads<Q: Pace + Sync, R: Threads + Wait + Sync>(
     run_nest_threads(rt, alloc, nest, schedule, pace)?.into_result()
 }
 
+// The result of lanes through which the rows of a marking went.
+pub(crate) fn gather_marked(
+    alloc: Global,
+    nest: &Nest,
+    marking: Marking<'_>,
+    up: Lane,
+    down: Lane,
+) -> Result<NestRun, OutOfMemory>
+    requires apart { AreApart marking.rows }
+    requires unsent { marking.fates ≡ fated (λ _. Unsent) marking.rows }
+    requires up { HasRun Up nest.now marking.rows up }
+    requires down { HasRun Down nest.now marking.rows down }
+    ensures value { IfOk result (λ r. r ≡ result_of nest.now marking.entry.rows) }
+    ensures once { OnOk result (HaveOneFate nest.now marking.entry.rows) }
+{
+    let up = up.close(alloc)?;
+    let down = down.close(alloc)?;
+    gather(alloc, nest, marking, up, down)
+}
+
 // The result of lanes through which the rows of a schedule went.
-fn gather_lanes(
+pub(crate) fn gather_lanes(
     alloc: Global,
     nest: &Nest,
     schedule: &Schedule,
@@ -77,9 +102,10 @@ fn gather_lanes(
     ensures value { IfOk result (λ r. r ≡ result_of nest.now schedule.now) }
     ensures once { OnOk result (HaveOneFate nest.now schedule.now) }
 {
-    let up = up.close(alloc)?;
-    let down = down.close(alloc)?;
-    gather(alloc, nest, schedule, up, down)
+    // What holds of every schedule: no two of its rows have one number.
+    schedule.rows();
+    let marking = Marking::of_schedule(alloc, schedule)?;
+    gather_marked(alloc, nest, marking, up, down)
 }
 
 // Runs rows through both directions of a nest: their lanes, where every stream in them came to its end. After an item
@@ -131,20 +157,10 @@ fn run_lanes<Q: Pace + Sync, R: Threads + Wait + Sync>(
         head: down_head,
         path: down_path,
     } = down;
-    let (_, end) = join_mut(
+    let begun = Begun::new(shells);
+    // The paths stand first, since they go on only once the source does.
+    let (passed, sent) = join_mut(
         rt,
-        &mut ||
-            requires { (up_head.now.flow ≡ no_items) × (down_head.now.flow ≡ no_items)
-                × (up_head.now.items ≡ []) × (down_head.now.items ≡ [])
-                × (up_head.now.horizon ≡ horizon) × (down_head.now.horizon ≡ horizon)
-                × Rises 0 rows.now × IsSync R.row × IsSync Q.row }
-            ensures up { (up_head.exit.now.flow.packets ≡ entering Up horizon rows.entry.now)
-                × (up_head.exit.now.flow.end ≡ IsOver) }
-            ensures down { (down_head.exit.now.flow.packets ≡ entering Down horizon rows.entry.now)
-                × (down_head.exit.now.flow.end ≡ IsOver) }
-            ensures same { IsSameEnd up_head.entry.now up_head.exit.now
-                × IsSameEnd down_head.entry.now down_head.exit.now }
-        { source(rt, rows, horizon, up_head, down_head, pace) },
         &mut || -> WorkEnd
             requires { IsFreshPath up_path.now × IsFreshPath down_path.now
                 × (length up_path.now.stages.items ≤ 8) × (length down_path.now.stages.items ≤ 8)
@@ -152,18 +168,58 @@ fn run_lanes<Q: Pace + Sync, R: Threads + Wait + Sync>(
             ensures done { IfEnded result (IsDonePath up_path.exit.now × IsDonePath down_path.exit.now) }
             ensures same { IsSamePath up_path.entry.now up_path.exit.now
                 × IsSamePath down_path.entry.now down_path.exit.now }
-        { run_paths(rt, up_path, down_path, shells, pace) },
+        { run_paths(rt, up_path, down_path, shells, pace, &begun) },
+        &mut || -> WorkEnd
+            requires { (up_head.now.flow ≡ no_items) × (down_head.now.flow ≡ no_items)
+                × (up_head.now.items ≡ []) × (down_head.now.items ≡ [])
+                × (up_head.now.horizon ≡ horizon) × (down_head.now.horizon ≡ horizon)
+                × Rises 0 rows.now × IsSync R.row × IsSync Q.row }
+            ensures up { IfEnded result ((up_head.exit.now.flow.packets ≡ entering Up horizon rows.entry.now)
+                × (up_head.exit.now.flow.end ≡ IsOver)) }
+            ensures down { IfEnded result ((down_head.exit.now.flow.packets ≡ entering Down horizon rows.entry.now)
+                × (down_head.exit.now.flow.end ≡ IsOver)) }
+            ensures same { IsSameEnd up_head.entry.now up_head.exit.now
+                × IsSameEnd down_head.entry.now down_head.exit.now }
+        { run_source(rt, rows, horizon, up_head, down_head, pace, &begun) },
     );
-    end
+    sent.worse(passed)
+}
+
+// Runs the source once all other workers have begun. Where they can't it breaks both directions off.
+fn run_source<Q: Pace, R: Wait>(
+    rt: &R,
+    rows: &[Row],
+    horizon: u64,
+    up: &mut Sender,
+    down: &mut Sender,
+    pace: &Q,
+    begun: &Begun,
+) -> WorkEnd
+    requires empty { (up.old.flow ≡ no_items) × (down.old.flow ≡ no_items) }
+    requires none { (up.old.items ≡ []) × (down.old.items ≡ []) }
+    requires horizon { (up.old.horizon ≡ horizon) × (down.old.horizon ≡ horizon) }
+    requires rises { Rises 0 rows.now }
+    ensures up { IfEnded result ((up.new.flow.packets ≡ entering Up horizon rows.now) × (up.new.flow.end ≡ IsOver)) }
+    ensures down { IfEnded result ((down.new.flow.packets ≡ entering Down horizon rows.now)
+        × (down.new.flow.end ≡ IsOver)) }
+    ensures over { (up.new.flow.end ≢ Open) × (down.new.flow.end ≢ Open) }
+    ensures same { IsSameEnd up.old up.new × IsSameEnd down.old down.new }
+{
+    if begun.wait(rt, up, down).is_err() {
+        return WorkEnd::OutOfMemory;
+    }
+    source(rt, rows, horizon, up, down, pace);
+    WorkEnd::Ended
 }
 
 // Runs the paths of both directions beside each other.
-fn run_paths<Q: Pace + Sync, R: Threads + Wait + Sync>(
+pub(crate) fn run_paths<Q: Pace + Sync, R: Threads + Wait + Sync>(
     rt: &R,
     up: &mut Path,
     down: &mut Path,
     shells: u32,
     pace: &Q,
+    begun: &Begun,
 ) -> WorkEnd
     requires fresh { IsFreshPath up.old × IsFreshPath down.old }
     requires few { (length up.old.stages.items ≤ 8) × (length down.old.stages.items ≤ 8) }
@@ -176,23 +232,24 @@ fn run_paths<Q: Pace + Sync, R: Threads + Wait + Sync>(
             requires { IsFreshPath up.now × (length up.now.stages.items ≤ 8) × IsSync R.row × IsSync Q.row }
             ensures done { IfEnded result (IsDonePath up.exit.now) }
             ensures same { IsSamePath up.entry.now up.exit.now }
-        { run_path(rt, up, true, shells, pace) },
+        { run_path(rt, up, true, shells, pace, begun) },
         &mut || -> WorkEnd
             requires { IsFreshPath down.now × (length down.now.stages.items ≤ 8) × IsSync R.row × IsSync Q.row }
             ensures done { IfEnded result (IsDonePath down.exit.now) }
             ensures same { IsSamePath down.entry.now down.exit.now }
-        { run_path(rt, down, false, 1, pace) },
+        { run_path(rt, down, false, 1, pace, begun) },
     );
     up_end.worse(down_end)
 }
 
-// Runs the stages of a direction beside its collector.
+// Runs the stages of a direction beside its collector. Each worker is counted as it begins.
 fn run_path<Q: Pace + Sync, R: Threads + Wait + Sync>(
     rt: &R,
     path: &mut Path,
     up: bool,
     first: u32,
     pace: &Q,
+    begun: &Begun,
 ) -> WorkEnd
     requires fresh { IsFreshPath path.old }
     requires few { length path.old.stages.items ≤ 8 }
@@ -207,12 +264,15 @@ fn run_path<Q: Pace + Sync, R: Threads + Wait + Sync>(
             requires { (last.now.flow ≡ no_items) × IsSync R.row × IsSync Q.row }
             ensures ended { IfEnded result (last.exit.now.flow.end ≡ IsOver) }
             ensures same { IsSameEnd last.entry.now last.exit.now }
-        { collector(rt, last, Role::Collector { up }, pace) },
+        {
+            begun.raise();
+            collector(rt, last, Role::Collector { up }, pace)
+        },
         &mut || -> WorkEnd
             requires { AllFresh list.now × (length list.now ≤ 8) × IsSync R.row × IsSync Q.row }
             ensures ended { IfEnded result (AllDone list.exit.now) }
             ensures same { AllSame list.entry.now list.exit.now }
-        { stages(rt, list, up, first, MOST, pace) },
+        { run_stages(rt, list, up, first, MOST, pace, begun) },
     );
     collected.worse(passed)
 }

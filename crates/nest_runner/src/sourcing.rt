@@ -1,16 +1,38 @@
 // The source: what the lines of a schedule send in both directions.
-ghost use Rattle.std.specs.Prelude.{◌≡◌, ◌≤◌, ◌++◌, ◌∷◌, [], option_to_list};
+ghost use Rattle.std.specs.Prelude.{◌≡◌, ◌≤◌, ◌++◌, ◌∷◌, List, [], option_to_list};
 ghost use Rattle.packet_record.specs.declared.item.FlowEnd.TheVariants.{Open, Ended as IsOver};
 ghost use Rattle.packet_record.specs.declared.packet.Direction.TheVariants.{Up, Down};
+ghost use Rattle.packet_record.specs.declared.packet.Row.{Row as RowValue};
 ghost use Rattle.packet_record.specs.Rows.{Rises, entering};
 ghost use Rattle.packet_record.specs.Sources.{source_item, source_items, sent_after};
 ghost use Rattle.packet_record.specs.Streams.{no_items};
 ghost use Rattle.mark_channel.specs.Ends.{IsSameEnd};
+ghost use Rattle.nest_runner.specs.Sent.{HasSent};
 
 use mark_channel::Sender;
 use mm_base::{Pace, Role};
 use packet_record::{Direction, Item, Row, source_item};
 use std::sync::Wait;
+
+// What a source has sent: the items of so many rows, and the greatest moment in each direction.
+#[derive(Clone, Copy)]
+pub(crate) struct Sent {
+    pub rows: u64,
+    pub up: u64,
+    pub down: u64,
+}
+
+impl Sent {
+    pub(crate) fn new() -> Self
+        ensures { (result.up ≡ 0) × (result.down ≡ 0) }
+    {
+        Sent {
+            rows: 0,
+            up: 0,
+            down: 0,
+        }
+    }
+}
 
 /// Sends what each row gives in both directions up to the horizon in milliseconds, row by row, and first the packet
 /// where a row gives a packet and a mark; then the end. The pace is asked before the items of each row, with the row's
@@ -33,56 +55,90 @@ pub fn source<Q: Pace, R: Wait>(
     ensures down_flow { (down.new.flow.packets ≡ entering Down horizon rows.now) × (down.new.flow.end ≡ IsOver) }
     ensures same { IsSameEnd up.old up.new × IsSameEnd down.old down.new }
 {
-    let mut up_sent = 0;
-    let mut down_sent = 0;
-    let mut count = 0u64;
-    for row in rows {
-        count = count.saturating_add(1);
-        pace.turn(rt, Role::Source, count);
-        let sent = send_both(rt, horizon, up_sent, down_sent, row, up, down);
-        up_sent = sent.0;
-        down_sent = sent.1;
-    }
+    send_rows(rt, rows, horizon, Sent::new(), up, down, pace);
+    end_both(rt, up, down);
+}
+
+// Sends the end in both directions.
+pub(crate) fn end_both<R: Wait>(rt: &R, up: &mut Sender, down: &mut Sender)
+    requires open { (up.old.flow.end ≡ Open) × (down.old.flow.end ≡ Open) }
+    ensures items { (up.new.items ≡ up.old.items ++ Item.End ∷ [])
+        × (down.new.items ≡ down.old.items ++ Item.End ∷ []) }
+    ensures packets { (up.new.flow.packets ≡ up.old.flow.packets) × (down.new.flow.packets ≡ down.old.flow.packets) }
+    ensures over { (up.new.flow.end ≡ IsOver) × (down.new.flow.end ≡ IsOver) }
+    ensures same { IsSameEnd up.old up.new × IsSameEnd down.old down.new }
+{
     up.send(rt, Item::End);
     down.send(rt, Item::End);
 }
 
-// Sends what a row gives in both directions, first in its own, where the greatest moments that were sent in them are
-// these, and answers those that are then.
-fn send_both<R: Wait>(
+// Sends what these rows give in both directions, after the rows before them, and answers what was sent then.
+pub(crate) fn send_rows<Q: Pace, R: Wait>(
+    rt: &R,
+    rows: &[Row],
+    horizon: u64,
+    sent: Sent,
+    up: &mut Sender,
+    down: &mut Sender,
+    pace: &Q,
+) -> Sent
+    requires open { (up.old.flow.end ≡ Open) × (down.old.flow.end ≡ Open) }
+    requires sent { (up.old.flow.bound ≡ sent.up) × (down.old.flow.bound ≡ sent.down) }
+    requires horizon { (up.old.horizon ≡ horizon) × (down.old.horizon ≡ horizon) }
+    requires rises { Rises sent.up rows.now × Rises sent.down rows.now }
+    ensures up { (before : List RowValue) → HasSent Up horizon before sent.up up.old
+        → HasSent Up horizon (before ++ rows.now) result.up up.new }
+    ensures down { (before : List RowValue) → HasSent Down horizon before sent.down down.old
+        → HasSent Down horizon (before ++ rows.now) result.down down.new }
+    ensures open { (up.new.flow.end ≡ Open) × (down.new.flow.end ≡ Open) }
+    ensures sent { (up.new.flow.bound ≡ result.up) × (down.new.flow.bound ≡ result.down) }
+    ensures same { IsSameEnd up.old up.new × IsSameEnd down.old down.new }
+{
+    let mut sent = sent;
+    for row in rows {
+        let count = sent.rows.saturating_add(1);
+        pace.turn(rt, Role::Source, count);
+        sent = send_both(rt, horizon, sent, row, up, down);
+        sent.rows = count;
+    }
+    sent
+}
+
+// Sends what a row gives in both directions, first in its own, and answers the greatest moments that were sent then.
+pub(crate) fn send_both<R: Wait>(
     rt: &R,
     horizon: u64,
-    up_sent: u64,
-    down_sent: u64,
+    sent: Sent,
     row: &Row,
     up: &mut Sender,
     down: &mut Sender,
-) -> (u64, u64)
+) -> Sent
     requires open { (up.old.flow.end ≡ Open) × (down.old.flow.end ≡ Open) }
-    requires sent { (up.old.flow.bound ≡ up_sent) × (down.old.flow.bound ≡ down_sent) }
+    requires sent { (up.old.flow.bound ≡ sent.up) × (down.old.flow.bound ≡ sent.down) }
     requires horizon { (up.old.horizon ≡ horizon) × (down.old.horizon ≡ horizon) }
-    requires rises { (up_sent ≤ row.now.timed.moment) × (down_sent ≤ row.now.timed.moment) }
-    ensures sent { (up.new.flow.bound ≡ result.0) × (down.new.flow.bound ≡ result.1) }
-    ensures after { (result.0 ≡ sent_after up_sent row.now (source_item Up horizon up_sent row.now))
-        × (result.1 ≡ sent_after down_sent row.now (source_item Down horizon down_sent row.now)) }
-    ensures rises { (result.0 ≤ row.now.timed.moment) × (result.1 ≤ row.now.timed.moment) }
-    ensures items { (up.new.items ≡ up.old.items ++ option_to_list (source_item Up horizon up_sent row.now))
-        × (down.new.items ≡ down.old.items ++ option_to_list (source_item Down horizon down_sent row.now)) }
+    requires rises { (sent.up ≤ row.now.timed.moment) × (sent.down ≤ row.now.timed.moment) }
+    ensures sent { (up.new.flow.bound ≡ result.up) × (down.new.flow.bound ≡ result.down) }
+    ensures after { (result.up ≡ sent_after sent.up row.now (source_item Up horizon sent.up row.now))
+        × (result.down ≡ sent_after sent.down row.now (source_item Down horizon sent.down row.now)) }
+    ensures rises { (result.up ≤ row.now.timed.moment) × (result.down ≤ row.now.timed.moment) }
+    ensures items { (up.new.items ≡ up.old.items ++ option_to_list (source_item Up horizon sent.up row.now))
+        × (down.new.items ≡ down.old.items ++ option_to_list (source_item Down horizon sent.down row.now)) }
     ensures packets { (up.new.flow.packets ≡ up.old.flow.packets ++ entering Up horizon (row.now ∷ []))
         × (down.new.flow.packets ≡ down.old.flow.packets ++ entering Down horizon (row.now ∷ [])) }
     ensures open { (up.new.flow.end ≡ Open) × (down.new.flow.end ≡ Open) }
     ensures same { IsSameEnd up.old up.new × IsSameEnd down.old down.new }
 {
+    let rows = sent.rows;
     match row.direction {
         Direction::Up => {
-            let up_sent = send_row(rt, Direction::Up, horizon, up_sent, row, up);
-            let down_sent = send_row(rt, Direction::Down, horizon, down_sent, row, down);
-            (up_sent, down_sent)
+            let up = send_row(rt, Direction::Up, horizon, sent.up, row, up);
+            let down = send_row(rt, Direction::Down, horizon, sent.down, row, down);
+            Sent { rows, up, down }
         }
         Direction::Down => {
-            let down_sent = send_row(rt, Direction::Down, horizon, down_sent, row, down);
-            let up_sent = send_row(rt, Direction::Up, horizon, up_sent, row, up);
-            (up_sent, down_sent)
+            let down = send_row(rt, Direction::Down, horizon, sent.down, row, down);
+            let up = send_row(rt, Direction::Up, horizon, sent.up, row, up);
+            Sent { rows, up, down }
         }
     }
 }

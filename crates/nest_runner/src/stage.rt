@@ -8,6 +8,7 @@ ghost use Rattle.shell_cell.specs.Seats.{IsSameSeat};
 ghost use Rattle.nest_runner.specs.Ends.{IfEnded, IfBroken, IsPassedOn};
 ghost use Rattle.nest_runner.specs.Stages.{IsBroken, IsClosed, IsDone, IsFresh, IsSame};
 
+use crate::begun::Begun;
 use crate::draining::drain;
 use crate::ends::WorkEnd;
 use crate::feeding::feeder;
@@ -29,7 +30,7 @@ pub struct Stage {
     pub to: Sender,
 }
 
-/// Runs the two workers of a stage beside each other.
+/// Runs the two workers of a stage beside each other, each of which is counted as it begins.
 pub(crate) fn run_stage<Q: Pace + Sync, R: Threads + Wait + Sync>(
     rt: &R,
     stage: &mut Stage,
@@ -37,6 +38,7 @@ pub(crate) fn run_stage<Q: Pace + Sync, R: Threads + Wait + Sync>(
     shell: u32,
     most: u32,
     pace: &Q,
+    begun: &Begun,
 ) -> WorkEnd
     requires fresh { IsFresh stage.old }
     requires most { 1 ≤ most }
@@ -53,8 +55,20 @@ pub(crate) fn run_stage<Q: Pace + Sync, R: Threads + Wait + Sync>(
         to,
     } = stage;
     let cell = &*cell;
-    let (fed, drained) = join_mut(
+    // The drain stands first, since it goes on only once the feeder does: where no thread can be made it runs last.
+    let (drained, fed) = join_mut(
         rt,
+        &mut || -> WorkEnd
+            requires { (take.now.cell ≡ cell.now) × (take.now.flow ≡ no_items) × (to.now.flow ≡ no_items)
+                × (to.now.horizon ≡ take.now.horizon) × (1 ≤ most) }
+            ensures over { to.exit.now.flow.end ≢ Open }
+            ensures ended { IfEnded result (IsPassedOn take.exit.now.flow to.exit.now.flow) }
+            ensures broken { IfBroken result (take.exit.now.flow.end ≡ IsCut) }
+            ensures same { IsSameEnd to.entry.now to.exit.now × IsSameSeat take.entry.now take.exit.now }
+        {
+            begun.raise();
+            drain(rt, cell, take, to, Role::Drain { up, shell }, most, pace)
+        },
         &mut || -> WorkEnd
             requires { (feed.now.cell ≡ cell.now) × (feed.now.flow ≡ no_items) × (from.now.flow ≡ no_items)
                 × (feed.now.broken ≡ false) × (from.now.horizon ≡ feed.now.horizon) }
@@ -63,15 +77,10 @@ pub(crate) fn run_stage<Q: Pace + Sync, R: Threads + Wait + Sync>(
             ensures ended { IfEnded result (from.exit.now.flow.end ≡ IsOver) }
             ensures broken { IfBroken result (from.exit.now.flow.end ≡ IsCut) }
             ensures same { IsSameEnd from.entry.now from.exit.now × IsSameSeat feed.entry.now feed.exit.now }
-        { feeder(rt, cell, feed, from, Role::Feeder { up, shell }, pace) },
-        &mut || -> WorkEnd
-            requires { (take.now.cell ≡ cell.now) × (take.now.flow ≡ no_items) × (to.now.flow ≡ no_items)
-                × (to.now.horizon ≡ take.now.horizon) × (1 ≤ most) }
-            ensures over { to.exit.now.flow.end ≢ Open }
-            ensures ended { IfEnded result (IsPassedOn take.exit.now.flow to.exit.now.flow) }
-            ensures broken { IfBroken result (take.exit.now.flow.end ≡ IsCut) }
-            ensures same { IsSameEnd to.entry.now to.exit.now × IsSameSeat take.entry.now take.exit.now }
-        { drain(rt, cell, take, to, Role::Drain { up, shell }, most, pace) },
+        {
+            begun.raise();
+            feeder(rt, cell, feed, from, Role::Feeder { up, shell }, pace)
+        },
     );
     fed.worse(drained)
 }

@@ -5,6 +5,7 @@ ghost use Rattle.nest_runner.specs.Ends.{IfEnded, IfBroken};
 ghost use Rattle.nest_runner.specs.Stages.{AllClosed, AllDone, AllFresh, AllSame, IsBroken, IsClosed, IsDone, IsFresh};
 ghost use Rattle.nest_runner.specs.Stages.{IsSame, SomeBroken};
 
+use crate::begun::Begun;
 use crate::ends::WorkEnd;
 use crate::stage::{Stage, run_stage};
 use mm_base::Pace;
@@ -42,25 +43,47 @@ pub fn stages<Q: Pace + Sync, R: Threads + Wait + Sync>(
     ensures closed { AllClosed list.new }
     ensures same { AllSame list.old list.new }
 {
+    run_stages(rt, list, up, shell, most, pace, &Begun::new(0))
+}
+
+// Runs the workers of these stages as `stages` does, each of which is counted as it begins.
+pub(crate) fn run_stages<Q: Pace + Sync, R: Threads + Wait + Sync>(
+    rt: &R,
+    list: &mut [Stage],
+    up: bool,
+    shell: u32,
+    most: u32,
+    pace: &Q,
+    begun: &Begun,
+) -> WorkEnd
+    requires few { length list.old ≤ 8 }
+    requires fresh { AllFresh list.old }
+    requires most { 1 ≤ most }
+    ensures ended { IfEnded result (AllDone list.new) }
+    ensures broken { IfBroken result (SomeBroken list.new) }
+    ensures closed { AllClosed list.new }
+    ensures same { AllSame list.old list.new }
+{
     let Some((first, rest)) = list.split_first_mut() else {
         return WorkEnd::Ended;
     };
-    let (one, others) = join_mut(
+    // The later stages stand first, since they go on only once the first one does.
+    let (others, one) = join_mut(
         rt,
-        &mut || -> WorkEnd
-            requires { IsFresh first.now × (1 ≤ most) × IsSync R.row × IsSync Q.row }
-            ensures ended { IfEnded result (IsDone first.exit.now) }
-            ensures broken { IfBroken result (IsBroken first.exit.now) }
-            ensures closed { IsClosed first.exit.now }
-            ensures same { IsSame first.entry.now first.exit.now }
-        { run_stage(rt, first, up, shell, most, pace) },
         &mut || -> WorkEnd
             requires { (length rest.now ≤ 8) × AllFresh rest.now × (1 ≤ most) × IsSync R.row × IsSync Q.row }
             ensures ended { IfEnded result (AllDone rest.exit.now) }
             ensures broken { IfBroken result (SomeBroken rest.exit.now) }
             ensures closed { AllClosed rest.exit.now }
             ensures same { AllSame rest.entry.now rest.exit.now }
-        { stages(rt, rest, up, next_shell(up, shell), most, pace) },
+        { run_stages(rt, rest, up, next_shell(up, shell), most, pace, begun) },
+        &mut || -> WorkEnd
+            requires { IsFresh first.now × (1 ≤ most) × IsSync R.row × IsSync Q.row }
+            ensures ended { IfEnded result (IsDone first.exit.now) }
+            ensures broken { IfBroken result (IsBroken first.exit.now) }
+            ensures closed { IsClosed first.exit.now }
+            ensures same { IsSame first.entry.now first.exit.now }
+        { run_stage(rt, first, up, shell, most, pace, begun) },
     );
     one.worse(others)
 }
