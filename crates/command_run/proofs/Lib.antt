@@ -6,3 +6,4 @@ pub mod LogFileLemmas
 pub mod OutputLemmas
 pub mod RunLemmas
 pub mod FirstLemmas
+pub mod StreamLemmas

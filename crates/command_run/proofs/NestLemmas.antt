@@ -1,6 +1,6 @@
 -- What a run's words and traces are refused for.
 use Rattle.std.proofs.Common.{◌≡◌, ◌≢◌, inr, ℕ, ◌<◌, ◌≤◌, Bool, true, false, cond, nat_lt, List, Option, Some}
-use Rattle.std.proofs.Common.{None, refl, ap, sym, ◌∙◌, rules, tests, arith}
+use Rattle.std.proofs.Common.{None, Result, MatchResult, refl, ap, subst, sym, ◌∙◌, rules, tests, arith}
 use Rattle.trace_reader.specs.Traces.{TraceView}
 use Rattle.nest_spec.specs.Nests.{opportunities_of}
 use Rattle.nest_spec.specs.declared.shell_words.ShellWords.{ShellWords}
@@ -84,3 +84,14 @@ pub names_taken : (inputs outputs : List Text) (name : Text) (cause : Cause) →
     → RefusesText (refused_names inputs outputs) cause
 unfolding refused_names
 names_taken inputs outputs name cause e is = inr (Words (Name name), is, ap refused_name e)
+
+-- what is said of names is said of equal ones
+pub names_checked : {inputs outputs ins outs : List Text} (result : Result (Unit {0}) Cause) → inputs ≡ ins
+    → outputs ≡ outs
+    → MatchResult result (λ _. refused_names inputs outputs ≡ None)
+    (λ cause. RefusesText (refused_names inputs outputs) cause)
+    → MatchResult result (λ _. refused_names ins outs ≡ None)
+    (λ cause. RefusesText (refused_names ins outs) cause)
+names_checked result same_inputs same_outputs said =
+    subst (λ (found : Option Refusal). MatchResult result (λ _. found ≡ None) (λ cause. RefusesText found cause))
+    (λ j. refused_names (same_inputs j) (same_outputs j)) said

@@ -1,5 +1,5 @@
 -- Where a run's words and files lead, and what stops it.
-use Rattle.std.proofs.Common.{◌≡◌, ◌≢◌, ◌⊎◌, inl, inr, ℕ, List, Option, Some, None, Result, Ok, Err}
+use Rattle.std.proofs.Common.{◌≡◌, ◌≢◌, ◌⊎◌, inl, inr, ℕ, List, Option, Some, None, Result, Ok, Err, IfOk, IfErr}
 use Rattle.std.proofs.Common.{map, subst, ap, sym, ◌∙◌, arith}
 use Rattle.mm_base.specs.Disk.{DiskView, OnlyReads}
 use Rattle.mm_base.specs.Files.{Files}
@@ -23,12 +23,14 @@ use Rattle.command_ends.proofs.EndLemmas.{finishes_only}
 use Rattle.command_ends.proofs.ReadingLemmas.{found_stop, leads_text, leads_then, leads_unless, stays, stops_here}
 use Rattle.command_ends.proofs.ReadingLemmas.{leads_past, stops_at, stops_later, text_stops_before}
 use Rattle.command_run.specs.Inputs.{reading_order, reading_schedule, schedule_refusal}
-use Rattle.command_run.specs.Loaded.{HasNest, HasOrder, HasSchedule, HaveTraces, StopsAtOrder}
+use Rattle.command_run.specs.Loaded.{HasNest, HasOrder, HasRun, HasSchedule, HaveTraces, StopsAtOrder}
 use Rattle.command_run.specs.Run.{GivesRun, RunJob, RunTask, nest_with, run_files}
 use Rattle.command_run.specs.RunReading.{nest_refusal, refused_count, refused_horizon, refused_outputs, run_inputs}
 use Rattle.command_run.specs.RunReading.{run_reading, with_nest}
 use Rattle.trace_reader.specs.TraceIn.{trace_in}
 use Rattle.command_run.proofs.InputLemmas.{have_said, have_texts, leads_traces}
+use Rattle.command_run.specs.PassedViews.{passed_lists}
+use Rattle.command_run.specs.declared.passing.Passed.{Passed}
 use Rattle.command_run.proofs.NestLemmas.{count_text, count_within, horizon_text, names_there}
 
 -- a run's reading after its nest is known
@@ -199,3 +201,22 @@ run_finishes job plan nest old mid late rows run read schedule is once =
     (leads_then (schedule_next job plan nest old mid late read)
     (leads_text old.files (schedule_refusal job.schedule) job.schedule (done_with job plan has.texts) text
     held.input held.accepted)) gives
+
+-- all is read, and the packets pass
+pub passed_finishes : (job : RunJob) (plan : NestPlan) (nest : NestParts) (old mid late : DiskView)
+    (result : Result Passed Cause) → HasInputs old mid late job plan nest
+    → IfOk result (λ run. HasRun late.files job.schedule nest (passed_lists run))
+    → IfOk result (λ run. FinishesOnly GivesRun (run_inputs job plan) old.files
+    (writes (run_files job.out (passed_lists run))))
+passed_finishes job plan nest old mid late (Ok run) read has =
+    run_finishes job plan nest old mid late has.rows (passed_lists run) read (has.text, has.schedule) has.result_is
+    has.once
+passed_finishes job plan nest old mid late (Err cause) read has = tt
+
+pub passed_stops : {T : Type 0} (job : RunJob) (plan : NestPlan) (nest : NestParts) (old mid late new : DiskView)
+    (result : Result T Cause) → HasInputs old mid late job plan nest
+    → IfErr result (λ cause. StopsReading (reading_schedule job.schedule Done) late new cause)
+    → IfErr result (λ cause. StopsReading (run_inputs job plan) old new cause)
+passed_stops job plan nest old mid late new (Ok run) read stopped = tt
+passed_stops job plan nest old mid late new (Err cause) read stopped =
+    schedule_stop job plan nest old mid late new cause read stopped

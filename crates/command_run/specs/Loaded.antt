@@ -6,7 +6,8 @@ use Rattle.packet_record.specs.Schedules.{IsScheduleText}
 use Rattle.packet_record.specs.declared.packet.Row.{Row}
 use Rattle.trace_reader.specs.TraceText.{IsTraceText}
 use Rattle.trace_reader.specs.Traces.{TraceView}
-use Rattle.nest_spec.specs.Nests.{NestParts, opportunities_of}
+use Rattle.nest_spec.specs.Nests.{NestParts, RunLists, opportunities_of, result_of}
+use Rattle.nest_spec.specs.Once.{HaveOneFate}
 use Rattle.nest_spec.specs.Words.{NestPlan}
 use Rattle.command_ends.specs.Causes.{Text}
 use Rattle.command_ends.specs.Stops.{IsInput, StopsAtFile}
@@ -44,6 +45,14 @@ HasOrder told (Some name) = (bytes : List ℕ) × IsInput told name bytes
 abbrev pub StopsAtOrder : Option Text → DiskView → DiskView → Cause → Type 0
 StopsAtOrder None old new cause = cause ≡ OutOfMemory
 StopsAtOrder (Some name) old new cause = StopsAtFile name old new cause
+
+-- the schedule in a file is read, and this is the run of its rows through a nest, each of which has one fate
+pub record HasRun (told : Option Files) (name : Text) (nest : NestParts) (run : RunLists) : Type 0 where
+  pub text : List ℕ
+  pub rows : List Row
+  pub schedule : HasSchedule told name text rows
+  pub result_is : run ≡ result_of nest rows
+  pub once : HaveOneFate nest rows
 
 -- the traces of a run are read, and few enough opportunities are theirs
 pub record HasNest (told : Option Files) (job : RunJob) (plan : NestPlan) (nest : NestParts) : Type 0 where

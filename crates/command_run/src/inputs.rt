@@ -35,7 +35,7 @@ fn trace_cause(name: Text, error: TraceError) -> Cause
 }
 
 // Why the text of the schedule of this name isn't accepted.
-fn schedule_cause(name: Text, error: ScheduleError) -> Cause
+pub(crate) fn schedule_cause(name: Text, error: ScheduleError) -> Cause
     ensures { (text : List ℕ) → (error ≢ ScheduleError.OutOfMemory → first_fault 1 0 (lines_of text) ≡ Some error)
         → RefusesText (schedule_refusal name text) result }
 {
@@ -73,8 +73,9 @@ fn load_trace<D: Disk>(alloc: Global, disk: &mut D, name: &str) -> Result<Trace,
     trace_of(alloc, name, bytes.as_slice())
 }
 
-// The traces of the files of these names, each read before the next.
-pub(crate) fn load_traces<D: Disk>(
+/// The traces of the files of these names, each read before the next. The cause of what isn't read is its refusal, a
+/// fault of the disk, or want of memory.
+pub fn load_traces<D: Disk>(
     alloc: Global,
     disk: &mut D,
     names: &[Text],
@@ -141,12 +142,9 @@ fn schedule_of(alloc: Global, name: &str, text: ScheduleText) -> Result<Schedule
     }
 }
 
-// The schedule of the file of this name.
-pub(crate) fn load_schedule<D: Disk>(
-    alloc: Global,
-    disk: &mut D,
-    name: &str,
-) -> Result<Schedule, Cause>
+/// The schedule of the file of this name. The cause of what isn't read is its refusal, a fault of the disk, or want of
+/// memory.
+pub fn load_schedule<D: Disk>(alloc: Global, disk: &mut D, name: &str) -> Result<Schedule, Cause>
     ensures found { IfOk result (λ rows. ((text : List ℕ) × HasSchedule (D.view disk.old).files name.now text rows)) }
     ensures stopped { IfErr result (λ cause. StopsReading (reading_schedule name.now Done) (D.view disk.old)
         (D.view disk.new) cause) }

@@ -2,6 +2,7 @@
 #![tactic(auto)]
 
 mod inputs;
+mod nest_inputs;
 mod passing;
 mod run;
 mod run_files;
@@ -10,4 +11,8 @@ mod run_job;
 mod tests;
 mod whole_logs;
 
+pub use inputs::{load_schedule, load_traces};
+pub use nest_inputs::{check_count, check_horizon, check_outputs, names_of, nest_cause};
 pub use run::answer_run;
+pub use run_files::write_logs;
+pub use run_job::end_of_options;

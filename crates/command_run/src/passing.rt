@@ -1,15 +1,21 @@
-// The packets of a run pass its nest: over threads, shell by shell, or by single steps in an order.
-ghost use Rattle.std.specs.Prelude.{◌≡◌, IfOk, OnOk};
-ghost use Rattle.nest_spec.specs.Nests.{result_of};
-ghost use Rattle.nest_spec.specs.Once.{HaveOneFate};
+// The packets of a run pass its nest: over threads as the schedule is read, or after it shell by shell, or by single
+// steps in an order.
+ghost use Rattle.std.specs.Prelude.{IfErr, IfOk};
+ghost use Rattle.mm_base.specs.Disk.{DiskView, OnlyReads};
+ghost use Rattle.nest_runner.specs.Streaming.{HasStreamCause};
+ghost use Rattle.command_ends.specs.Readings.{Done};
+ghost use Rattle.command_ends.specs.Stops.{StopsReading};
+ghost use Rattle.command_run.specs.Inputs.{reading_schedule};
+ghost use Rattle.command_run.specs.Loaded.{HasRun};
 ghost use Rattle.command_run.specs.PassedViews.{passed_lists};
 
-use mm_base::{Bytes, OutOfMemory, Pace};
+use crate::inputs::{load_schedule, schedule_cause};
+use command_ends::{Cause, Limit, Refusal};
+use mm_base::{Bytes, Disk, Pace, Text};
 use nest_core::run_order;
 use nest_plain::{NestRun, run_nest};
-use nest_runner::run_nest_threads;
+use nest_runner::{StreamError, run_nest_stream};
 use nest_spec::{Nest, RunResult};
-use packet_record::Schedule;
 use std::alloc::Global;
 use std::marker::Sync;
 use std::sync::Wait;
@@ -42,24 +48,67 @@ pub(crate) enum Passed {
     Whole(RunResult),
 }
 
-// The result of a nest and a schedule.
-pub(crate) fn pass_packets<R: Threads + Wait + Sync, Q: Pace + Sync>(
+// Why the schedule of this name, read while its packets pass, gives no result.
+fn stream_cause(name: Text, error: StreamError) -> Cause
+    ensures { (old new : DiskView) → HasStreamCause old new name error
+        → StopsReading (reading_schedule name Done) old new result }
+{
+    match error {
+        StreamError::Absent => Cause::Refused(Refusal::Absent(name)),
+        StreamError::Failed => Cause::ReadFault(name),
+        StreamError::OutOfMemory => Cause::OutOfMemory,
+        StreamError::TooLong { .. } => Cause::limit(Limit::File(name)),
+        StreamError::Schedule(error) => schedule_cause(name, error),
+    }
+}
+
+// The result of a nest and the schedule in a file, which is read while its packets pass.
+fn stream_packets<R: Threads + Wait + Sync, D: Disk, Q: Pace + Sync>(
     rt: &R,
     alloc: Global,
     nest: &Nest,
-    schedule: &Schedule,
+    disk: &mut D,
+    name: &str,
+    pace: &Q,
+) -> Result<NestRun, Cause>
+    ensures found { IfOk result (λ run. HasRun (D.view disk.old).files name.now nest.now run) }
+    ensures stopped { IfErr result (λ cause. StopsReading (reading_schedule name.now Done) (D.view disk.old)
+        (D.view disk.new) cause) }
+    ensures only_reads { OnlyReads (D.view disk.old) (D.view disk.new) }
+{
+    match run_nest_stream(rt, alloc, nest, disk, name, pace) {
+        Ok(run) => Ok(run),
+        Err(error) => Err(stream_cause(Text::from_text(alloc, name)?, error)),
+    }
+}
+
+// The result of a nest and the schedule in a file.
+pub(crate) fn pass_packets<R: Threads + Wait + Sync, D: Disk, Q: Pace + Sync>(
+    rt: &R,
+    alloc: Global,
+    nest: &Nest,
+    disk: &mut D,
+    name: &str,
     way: Way,
     pace: &Q,
-) -> Result<Passed, OutOfMemory>
-    ensures value { IfOk result (λ run. passed_lists run ≡ result_of nest.now schedule.now) }
-    ensures once { OnOk result (HaveOneFate nest.now schedule.now) }
+) -> Result<Passed, Cause>
+    ensures found { IfOk result (λ run. HasRun (D.view disk.old).files name.now nest.now (passed_lists run)) }
+    ensures stopped { IfErr result (λ cause. StopsReading (reading_schedule name.now Done) (D.view disk.old)
+        (D.view disk.new) cause) }
+    ensures only_reads { OnlyReads (D.view disk.old) (D.view disk.new) }
 {
     match way {
         Way::Threads => {
-            let run = run_nest_threads(rt, alloc, nest, schedule, pace)?;
+            let run = stream_packets(rt, alloc, nest, disk, name, pace)?;
             Ok(Passed::InPieces(run))
         }
-        Way::ShellByShell => Ok(Passed::InPieces(run_nest(alloc, nest, schedule)?)),
-        Way::Steps(order) => Ok(Passed::Whole(run_order(alloc, nest, schedule, order.as_slice())?)),
+        Way::ShellByShell => {
+            let schedule = load_schedule(alloc, disk, name)?;
+            Ok(Passed::InPieces(run_nest(alloc, nest, &schedule)?))
+        }
+        Way::Steps(order) => {
+            let schedule = load_schedule(alloc, disk, name)?;
+            Ok(Passed::Whole(run_order(alloc, nest, &schedule, order.as_slice())?))
+        }
     }
 }

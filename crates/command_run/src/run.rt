@@ -1,6 +1,5 @@
 // The command `run`: its words, its inputs, its packets, and the files that it writes.
-ghost use Rattle.std.specs.Prelude.{◌≡◌, ◌≢◌, ◌⊎◌, ◌≤◌, ◌∷◌, ◌++◌, [], None, IfErr, IfOk, MatchResult, OnOk, length};
-ghost use Rattle.std.specs.Prelude.{map, string_bytes};
+ghost use Rattle.std.specs.Prelude.{◌≡◌, ◌≤◌, None, IfErr, IfOk, MatchResult, OnOk, map, string_bytes};
 ghost use Rattle.mm_base.specs.Disk.{DiskView, OnlyReads};
 ghost use Rattle.mm_base.specs.Sink.{SinkView};
 ghost use Rattle.command_ends.specs.Answers.{CountsDisk, cause_in};
@@ -8,59 +7,24 @@ ghost use Rattle.command_ends.specs.Ends.{Ends, FinishesOnly, offline};
 ghost use Rattle.command_ends.specs.Outputs.{writes};
 ghost use Rattle.command_ends.specs.Stops.{ReadsOn, RefusesText, StopsReading};
 ghost use Rattle.command_ends.specs.Works.{only};
-ghost use Rattle.command_ends.specs.declared.cause.Cause.TheVariants as causes;
-ghost use Rattle.nest_spec.specs.Nests.{opportunities_of};
 ghost use Rattle.command_run.specs.Loaded.{HasNest};
 ghost use Rattle.command_run.specs.Run.{GivesRun, run_files};
-ghost use Rattle.command_run.specs.RunReading.{input_names, nest_refusal, refused_count, refused_horizon};
-ghost use Rattle.command_run.specs.RunReading.{refused_outputs, run_inputs, run_reading, run_words};
+ghost use Rattle.command_run.specs.RunReading.{input_names, refused_outputs, run_inputs, run_reading, run_words};
 ghost use Rattle.command_run.specs.PassedViews.{passed_lists};
 ghost use Rattle.command_run.specs.View.{run_values};
 
-use crate::inputs::{load_order, load_schedule, load_traces};
+use crate::inputs::{load_order, load_traces};
+use crate::nest_inputs::{check_count, check_horizon, check_outputs, names_of, nest_cause};
 use crate::passing::{Passed, Way, pass_packets};
 use crate::run_files::write_files;
 use crate::run_job::{RunJob, read_run};
-use command_ends::{Cause, Limit, Refusal, WordsRefusal, first_taken};
-use mm_base::limits::{HOUR, MOST_OPPORTUNITIES};
-use mm_base::{Disk, OutOfMemory, Pace, Text};
-use nest_spec::{Nest, NestError, NestWords, build, read_nest};
+use command_ends::Cause;
+use mm_base::{Disk, OutOfMemory, Pace};
+use nest_spec::{Nest, NestWords, build, read_nest};
 use std::alloc::Global;
 use std::marker::Sync;
 use std::sync::Wait;
 use std::thread::Threads;
-use trace_reader::Trace;
-
-// Why the words of the shells are no nest.
-fn nest_cause(error: NestError) -> Cause
-    ensures { (result ≡ causes.OutOfMemory)
-        ⊎ ((error ≢ NestError.OutOfMemory) × (result ≡ causes.Refused (nest_refusal error))) }
-{
-    match error {
-        NestError::OutOfMemory => Cause::OutOfMemory,
-        _ => Cause::Refused(Refusal::Words(WordsRefusal::Nest {
-            number: error.number(),
-            place: u64::from(error.place()),
-            inner: error.inner(),
-        })),
-    }
-}
-
-// The names of these texts.
-fn names_of<'a>(
-    alloc: Global,
-    first: &'a [Text],
-    last: &'a str,
-) -> Result<Vec<&'a str>, OutOfMemory>
-    ensures { IfOk result (λ names. map (λ name. name.now) names.items ≡ first.now ++ last.now ∷ []) }
-{
-    let mut names = Vec::new(alloc);
-    for name in first {
-        names.push(name.as_str())?;
-    }
-    names.push(last)?;
-    Ok(names)
-}
 
 // The names of a run's inputs.
 fn input_names<'a>(
@@ -84,22 +48,7 @@ fn check_names(alloc: Global, job: &RunJob<'_>, nest: &NestWords) -> Result<(), 
 {
     let inputs = input_names(alloc, job, nest)?;
     let outputs = names_of(alloc, nest.logs(), job.out)?;
-    match first_taken(inputs.as_slice(), outputs.as_slice()) {
-        Some(name) => Err(Cause::taken(Text::from_text(alloc, name)?)),
-        None => Ok(()),
-    }
-}
-
-// Refuses a horizon past an hour.
-fn check_horizon(until: u64) -> Result<(), Cause>
-    ensures refused { MatchResult result (λ _. refused_horizon until ≡ None)
-        (λ cause. RefusesText (refused_horizon until) cause) }
-    ensures small { OnOk result (until ≤ 3600000) }
-{
-    if until > HOUR {
-        return Err(Cause::limit(Limit::Horizon));
-    }
-    Ok(())
+    check_outputs(alloc, inputs.as_slice(), outputs.as_slice())
 }
 
 // The nest of a run's words, where these refuse nothing.
@@ -117,20 +66,6 @@ fn read_words(alloc: Global, job: &RunJob<'_>) -> Result<NestWords, Cause>
     Ok(nest)
 }
 
-// Refuses traces with too many opportunities.
-fn check_count(job: &RunJob<'_>, words: &NestWords, traces: &[Trace]) -> Result<(), Cause>
-    requires horizon { job.now.until ≤ 3600000 }
-    requires count { length traces.now ≡ length words.now.traces }
-    ensures few { OnOk result (opportunities_of job.now.until words.now.shells traces.now ≤ 16000000) }
-    ensures refused { IfErr result (λ cause. RefusesText (refused_count job.now.until words.now.shells traces.now)
-        cause) }
-{
-    if words.opportunities(traces, job.until) > MOST_OPPORTUNITIES {
-        return Err(Cause::limit(Limit::Opportunities));
-    }
-    Ok(())
-}
-
 // The nest of these words with its traces.
 fn load_nest<D: Disk>(
     alloc: Global,
@@ -145,7 +80,7 @@ fn load_nest<D: Disk>(
     ensures only_reads { OnlyReads (D.view disk.old) (D.view disk.new) }
 {
     let traces = load_traces(alloc, disk, words.traces())?;
-    check_count(job, &words, traces.as_slice())?;
+    check_count(job.until, &words, traces.as_slice())?;
     Ok(build(alloc, words, traces, job.seed, job.until)?)
 }
 
@@ -168,9 +103,8 @@ fn run_packets<R: Threads + Wait + Sync, D: Disk, Q: Pace + Sync>(
 {
     let nest = load_nest(alloc, job, words, disk)?;
     let order = load_order(alloc, disk, job.order)?;
-    let schedule = load_schedule(alloc, disk, job.schedule)?;
     let way = Way::new(job.plain, order);
-    Ok(pass_packets(rt, alloc, &nest, &schedule, way, pace)?)
+    pass_packets(rt, alloc, &nest, disk, job.schedule, way, pace)
 }
 
 // Runs the job: its inputs are read, its packets pass the nest, and then its logs and its fates are written.
@@ -191,8 +125,8 @@ fn run<R: Threads + Wait + Sync, D: Disk, Q: Pace + Sync>(
 }
 
 /// Does what the words after `run` say: passes the packets of a schedule through a nest of shells, and writes the logs
-/// that the shells' words name and then the fates of the packets. They pass over threads, with `--plain` shell by shell,
-/// and with `--order` by single steps in the order that a file states. The pace is asked before the turns of the
+/// that the shells' words name and then the fates of the packets. They pass over threads, with `--plain` shell by
+/// shell, and with `--order` by single steps in the order that a file states. The pace is asked before the turns of the
 /// threads. Nothing is printed, and no net is touched.
 pub fn answer_run<R: Threads + Wait + Sync, D: Disk, Q: Pace + Sync>(
     rt: &R,

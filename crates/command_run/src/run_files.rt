@@ -51,8 +51,14 @@ fn write_log<D: Disk>(alloc: Global, disk: &mut D, log: UnwrittenLog) -> Result<
     file_written(alloc, name.as_str(), written)
 }
 
-// Writes the files of the logs in order, and lets each log go when its file is written.
-fn write_logs<D: Disk>(alloc: Global, disk: &mut D, logs: Vec<UnwrittenLog>) -> Result<(), Cause>
+/// Writes the files of the logs in order, and lets each log go when its file is written. Where writing stops, the files
+/// before are whole, and this one is as before or has a front of its text; the cause is a fault of the disk or want of
+/// memory.
+pub fn write_logs<D: Disk>(
+    alloc: Global,
+    disk: &mut D,
+    logs: Vec<UnwrittenLog>,
+) -> Result<(), Cause>
     ensures ok { OnOk result ((D.view disk.new).files ≡ holding_all (map log_file (unwritten logs.items))
         (D.view disk.old).files) }
     ensures stopped { IfErr result (λ cause. StopsWriting (map log_file (unwritten logs.items)) (D.view disk.old)

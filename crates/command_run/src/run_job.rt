@@ -39,8 +39,8 @@ pub(crate) fn read_run<'a>(
     }
 }
 
-// Where the first `--` stands.
-fn end_of_options(words: &[String]) -> Option<usize>
+/// Where the first `--` stands, which ends the options.
+pub fn end_of_options(words: &[String]) -> Option<usize>
     ensures place { result ≡ position (λ word. ends_options (string_bytes word)) words.now }
     ensures within { IfSome result (λ place. place < length words.now) }
 {

@@ -23,5 +23,5 @@ returns-clause-read g c =
       read.bytes,
       subst (λ (told : Option Files). IsInput told c.args.name.now read.bytes)
           c.input_size.ensures.only_reads.same_files read.input,
-      read.goes_on [] c.in_ok-text.ensures,
+      read.goes_on [] c.in_ok-text.ensures.read,
     )

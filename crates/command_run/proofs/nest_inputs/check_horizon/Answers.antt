@@ -1,5 +1,5 @@
 use Rattle.command_run.proofs.NestLemmas.{horizon_over, horizon_within}
-use Rattle.command_run.proofs.run.check_horizon.Goals as goal
+use Rattle.command_run.proofs.nest_inputs.check_horizon.Goals as goal
 
 pub returns-then-until-gt-HOUR-clause-refused : goal.returns-then-until-gt-HOUR-clause-refused
 returns-then-until-gt-HOUR-clause-refused c = horizon_over c.args.until c.limit.result c.if-until-gt-HOUR.true

@@ -1,0 +1,274 @@
+// Runs over threads some of whose turns are held.
+use super::{Left, leaves_by};
+use mm_base::{Pace, Role};
+use std::alloc::{AllocError, Global};
+use std::marker::Sync;
+use std::sync::Wait;
+use std::sync::atomic::{AtomicU64, Ordering};
+use std::test::Fail;
+use std::thread::{Threads, yield_now};
+
+// How often a turn that is held gives way before the test gives up.
+const LIMIT: u32 = 10_000_000;
+
+// How often a turn gives way further, to see that another role stays where it is.
+const FURTHER: u32 = 10_000;
+
+const UP_FEEDER: Role = Role::Feeder { up: true, shell: 1 };
+
+const UP_DRAIN: Role = Role::Drain { up: true, shell: 1 };
+
+const DOWN_FEEDER: Role = Role::Feeder {
+    up: false,
+    shell: 1,
+};
+
+const DOWN_DRAIN: Role = Role::Drain {
+    up: false,
+    shell: 1,
+};
+
+pub(super) const UP_COLLECTOR: Role = Role::Collector { up: true };
+
+// A turn of a role, which waits until another role has come to a count, and looks whether it then stays there.
+#[derive(Clone, Copy)]
+pub(super) struct Hold {
+    pub role: Role,
+    pub count: u64,
+    pub other: Role,
+    pub goal: u64,
+    pub stays: bool,
+}
+
+// The count of the last turn of each role in a nest of one shell. How often a limit was met, and how often a role went
+// on that was to stay.
+#[derive(Drop)]
+pub(super) struct Turns {
+    source: AtomicU64,
+    up_feeder: AtomicU64,
+    up_drain: AtomicU64,
+    up_collector: AtomicU64,
+    down_feeder: AtomicU64,
+    down_drain: AtomicU64,
+    down_collector: AtomicU64,
+    limits: AtomicU64,
+    early: AtomicU64,
+}
+
+impl Turns {
+    pub fn new() -> Self {
+        Turns {
+            source: AtomicU64::new(0),
+            up_feeder: AtomicU64::new(0),
+            up_drain: AtomicU64::new(0),
+            up_collector: AtomicU64::new(0),
+            down_feeder: AtomicU64::new(0),
+            down_drain: AtomicU64::new(0),
+            down_collector: AtomicU64::new(0),
+            limits: AtomicU64::new(0),
+            early: AtomicU64::new(0),
+        }
+    }
+
+    fn counter(&self, role: Role) -> &AtomicU64 {
+        match role {
+            Role::Source | Role::Connection { .. } => &self.source,
+            Role::Feeder { up: true, .. } => &self.up_feeder,
+            Role::Feeder { .. } => &self.down_feeder,
+            Role::Drain { up: true, .. } => &self.up_drain,
+            Role::Drain { .. } => &self.down_drain,
+            Role::Collector { up: true } => &self.up_collector,
+            Role::Collector { .. } => &self.down_collector,
+        }
+    }
+
+    // Where a role is.
+    pub fn count(&self, role: Role) -> u64 {
+        self.counter(role).load(Ordering::SeqCst)
+    }
+
+    // Whether a role comes to a count before the limit.
+    fn comes_to(&self, role: Role, goal: u64) -> bool {
+        for _ in 0..LIMIT {
+            if self.count(role) >= goal {
+                return true;
+            }
+            yield_now();
+        }
+        false
+    }
+
+    // Whether a role is at no greater count after it had some time.
+    fn stays_at(&self, role: Role, goal: u64) -> bool {
+        for _ in 0..FURTHER {
+            yield_now();
+        }
+        self.count(role) <= goal
+    }
+
+    // Holds a turn.
+    fn hold(&self, hold: &Hold) {
+        if !self.comes_to(hold.other, hold.goal) {
+            self.limits.fetch_add(1, Ordering::SeqCst);
+        }
+        if hold.stays && !self.stays_at(hold.other, hold.goal) {
+            self.early.fetch_add(1, Ordering::SeqCst);
+        }
+    }
+
+    // Whether no limit was met and no role went on that was to stay.
+    pub fn were_kept(&self) -> bool {
+        self.limits.load(Ordering::SeqCst) == 0 && self.early.load(Ordering::SeqCst) == 0
+    }
+}
+
+// A pace that holds these turns.
+#[derive(Drop)]
+pub(super) struct Held<'a> {
+    pub holds: &'a [Hold],
+    pub turns: Turns,
+}
+
+impl Pace for Held<'_> {
+    fn turn<R: Wait>(&self, _rt: &R, role: Role, count: u64) {
+        self.turns.counter(role).store(count, Ordering::SeqCst);
+        for hold in self.holds {
+            if hold.role == role && hold.count == count {
+                self.turns.hold(hold);
+            }
+        }
+    }
+}
+
+// Whether a run of this schedule, and a trace of one line, leaves these fates while these turns are held.
+fn is_kept<R: Threads + Wait + Sync>(
+    rt: &R,
+    alloc: Global,
+    words: &str,
+    schedule: &str,
+    holds: &[Hold],
+    fates: &str,
+) -> Result<bool, Fail> {
+    let words = format!(in alloc; "--schedule s --out f --until {words}")?;
+    let files = [("t", "5\n"), ("s", schedule)];
+    let pace = Held {
+        holds,
+        turns: Turns::new(),
+    };
+    let left = Left {
+        status: 0,
+        line: "",
+        files: &[("f", fates)],
+    };
+    let is_left = leaves_by(rt, alloc, words.as_str(), &files, &[], &pace, &left)?;
+    Ok(is_left && pace.turns.were_kept())
+}
+
+// The first turn of a role waits until another has begun.
+const fn begins_with(role: Role, other: Role) -> Hold {
+    Hold {
+        role,
+        count: 1,
+        other,
+        goal: 1,
+        stays: false,
+    }
+}
+
+#[test]
+fn four_workers_run_beside_each_other(rt: HostRuntime) -> Result<(), Fail> {
+    let workers = [UP_FEEDER, UP_DRAIN, DOWN_FEEDER, DOWN_DRAIN];
+    let mut holds = Vec::new(rt.alloc());
+    for role in workers {
+        for other in workers {
+            holds.push(begins_with(role, other))?;
+        }
+    }
+    let kept = is_kept(
+        &rt,
+        rt.alloc(),
+        "100 -- mm-delay 20",
+        "5 up 100\n6 up 100\n",
+        holds.as_slice(),
+        "1 up departed 25\n2 up departed 26\n",
+    )?;
+    assert!(rt; kept);
+    Ok(())
+}
+
+// The source waits at its third line until the up collector has a packet.
+const THIRD_LINE: Hold = Hold {
+    role: Role::Source,
+    count: 3,
+    other: UP_COLLECTOR,
+    goal: 1,
+    stays: false,
+};
+
+#[test]
+fn a_mark_lets_a_link_go_on(rt: HostRuntime) -> Result<(), Fail> {
+    let kept = is_kept(
+        &rt,
+        rt.alloc(),
+        "20 -- mm-link t t",
+        "0 up 100\n10 down 100\n15 down 100\n",
+        &[THIRD_LINE],
+        "1 up departed 5\n2 down departed 15\n3 down departed 20\n",
+    )?;
+    assert!(rt; kept);
+    Ok(())
+}
+
+// The up feeder begins once the source has begun the line after those that the channel and its own hands hold; the up
+// drain once all was fed, and the up collector once the channel behind the drain is full.
+const FULL_CHANNELS: [Hold; 3] = [
+    Hold {
+        role: UP_FEEDER,
+        count: 1,
+        other: Role::Source,
+        goal: 66,
+        stays: true,
+    },
+    Hold {
+        role: UP_DRAIN,
+        count: 1,
+        other: UP_FEEDER,
+        goal: 1_001,
+        stays: false,
+    },
+    Hold {
+        role: UP_COLLECTOR,
+        count: 1,
+        other: UP_DRAIN,
+        goal: 66,
+        stays: true,
+    },
+];
+
+// A thousand lines, one a millisecond, and their fates.
+fn thousand(alloc: Global) -> Result<(String, String), AllocError> {
+    let mut lines = String::new(alloc);
+    let mut fates = String::new(alloc);
+    for moment in 1..1_001u32 {
+        let departed = moment + 20;
+        lines.push_str(format!(in alloc; "{moment} up 100\n")?.as_str())?;
+        fates.push_str(format!(in alloc; "{moment} up departed {departed}\n")?.as_str())?;
+    }
+    Ok((lines, fates))
+}
+
+#[test]
+fn channels_hold_sixty_four_items(rt: HostRuntime) -> Result<(), Fail> {
+    let alloc = rt.alloc();
+    let (lines, fates) = thousand(alloc)?;
+    let kept = is_kept(
+        &rt,
+        alloc,
+        "2000 -- mm-delay 20",
+        lines.as_str(),
+        &FULL_CHANNELS,
+        fates.as_str(),
+    )?;
+    assert!(rt; kept);
+    Ok(())
+}
