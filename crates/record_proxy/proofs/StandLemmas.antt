@@ -24,7 +24,7 @@ use Rattle.replay_server.specs.Sessions.{IsHopeless, MayGoOn, most}
 use Rattle.record_proxy.specs.Exchanges.{Exchange, IsExchange, IsInterimTo, AllOpen, LastCloses, closes, recorded}
 use Rattle.record_proxy.specs.Courses.{Begun, IsBegun, Course, Side, Sides, course, sent, got, IsInTurn, IsPart, IsIdle}
 use Rattle.record_proxy.specs.Courses.{IsDue, IsCut, StopsAt, NeedsMore, IsFaulty}
-use Rattle.record_proxy.specs.Ends.{EndsAs, ClientReady, ServerReady}
+use Rattle.record_proxy.specs.Ends.{EndsAs, EndsShort, ClientReady, ServerReady}
 use Rattle.record_proxy.specs.Links.{Links, links, Adds, IsStored}
 use Rattle.record_proxy.specs.Giving.{Breaks}
 use Rattle.record_proxy.specs.Progress.{History, Taken, Stands, Progress, IsEndAt, begun_with, taken_of}
@@ -77,8 +77,9 @@ stored port start now client server n k client_is server_is whole are turn befor
     }
 
 -- at a refusal of a link, and for want of memory
-pub ends_cut : (A B : Type 0) (s : Sides) (whole : List Exchange) → IsCut s whole → (fault : ProxyEnd)
-    → (IsCut s whole → EndsAs A B s whole (Ok fault)) → (e : EndError) (result : Result ProxyEnd OutOfMemory)
+pub ends_cut : (A B : Type 0) (s : Sides) (whole : List Exchange) → IsCut (EndsShort B s.server.taken) s whole
+    → (fault : ProxyEnd) → (IsCut (EndsShort B s.server.taken) s whole → EndsAs A B s whole (Ok fault))
+    → (e : EndError) (result : Result ProxyEnd OutOfMemory)
     → IsEndAt fault e result → EndsAs A B s whole result
 ends_cut A B s whole x fault is_cut Failed (Ok end) is = subst (λ k. EndsAs A B s whole (Ok k)) (sym is) (is_cut x)
 ends_cut A B s whole x fault is_cut Failed (Err k) is = absurd is
@@ -87,7 +88,7 @@ ends_cut A B s whole x fault is_cut NoMemory (Err k) is = x
 
 pub adds_all : (records : List Record) (result : Result ProxyEnd OutOfMemory) → Adds records records result
 adds_all records (Ok end) = refl
-adds_all records (Err k) = ([], sym (append-nil records))
+adds_all records (Err k) = inl refl
 
 in_turn : (es : List Exchange) (b : Option Begun) → AllOpen es → IsInTurn es b
 in_turn es None x = inl x
@@ -105,8 +106,15 @@ stops_at Ended ended is Chunked after stops = tt
 stops_at Ended ended is ToEnd after stops = (is stops.0, stops.1)
 
 module _ {start now : Links} {x : Course} {t : Taken} (s : Stands start now x t) where
-  pub cut_now : IsCut (sides s.client s.server) x.whole
-  cut_now = record {
+  -- the server's input has ended
+  pub ends_short : t.server_ended ≡ true → EndsShort (IsAtEnd now.server) s.server.taken
+  ends_short is =
+      let c = s.server_is.count_is in
+      let few : t.server_taken < most = s.short is in
+      record { ended = s.ended is; few = omega (arith, c, few) }
+
+  pub cut_now : (Ended : Type 0) → IsCut Ended (sides s.client s.server) x.whole
+  cut_now Ended = record {
     begun = x.begun;
     client_rest = t.requests.unread;
     server_rest = t.responses.unread;
@@ -121,7 +129,7 @@ module _ {start now : Links} {x : Course} {t : Taken} (s : Stands start now x t)
     is_part = no_part x.begun;
   }
     where
-      no_part : (b : Option Begun) → IsPart b t.responses.unread []
+      no_part : (b : Option Begun) → IsPart Ended b t.responses.unread []
       no_part None = refl
       no_part (Some b) = inl refl
 
@@ -138,7 +146,8 @@ module _ {start now : Links} {x : Course} {t : Taken} (s : Stands start now x t)
   -- for want of memory
   pub stored_cut : (port : ℕ) (before records : List Record) → records ≡ before ++ map (recorded port) x.whole
       → (error : OutOfMemory) → IsStored port start now before records (Err error)
-  stored_cut port before records are error = stored_here port before records are (Err error) cut_now
+  stored_cut port before records are error =
+      stored_here port before records are (Err error) (cut_now (EndsShort (IsAtEnd now.server) s.server.taken))
 
 -- ---- what is due
 
@@ -290,9 +299,9 @@ module _ (start : Links) (client server : Option LinkBytes) (es : List Exchange)
     short = s.short;
   }
 
-  cut_request : (given more : List ℕ) → m.bytes ≡ given ++ more
-      → IsCut (sides s.client (side s.server.taken (s.server.given ++ given))) es
-  cut_request given more split = record {
+  cut_request : (Ended : Type 0) (given more : List ℕ) → m.bytes ≡ given ++ more
+      → IsCut Ended (sides s.client (side s.server.taken (s.server.given ++ given))) es
+  cut_request Ended given more split = record {
     begun = Some (begun m []);
     client_rest = t.requests.unread;
     server_rest = t.responses.unread;
@@ -320,8 +329,9 @@ module _ (start : Links) (client server : Option LinkBytes) (es : List Exchange)
       stored port start (links client new) s.client (side s.server.taken (s.server.given ++ b.given)) t.client_taken
       t.server_taken s.client_is (history_give s.server_is new b.given b.told) es s.are (inl s.open_ones) before records
       (map (recorded port) es) are result
-      (ends_cut (IsAtEnd client) (IsAtEnd new) s' es (cut_request b.given b.more b.split) ServerFault (λ x. x) error
-      result at)
+      (ends_cut (IsAtEnd client) (IsAtEnd new) s' es
+      (cut_request (EndsShort (IsAtEnd new) s.server.taken) b.given b.more b.split) ServerFault (λ x. x) error result
+      at)
       (adds_all (map (recorded port) es) result)
 
 -- ---- a response
@@ -331,12 +341,13 @@ module _ (start : Links) (client server : Option LinkBytes) (es : List Exchange)
     (e : unread ≡ r.bytes ++ t.responses.unread)
     (s : Stands start (links client server) (course es (Some (begun m ms))) (answering t unread)) where
   pub broken_response : (port : ℕ) (before records : List Record) → records ≡ before ++ map (recorded port) es
+      → MayStop is.is.framing t.server_ended t.responses.unread
       → (new : Option LinkBytes) → Breaks client new r.bytes → (error : EndError)
       → (result : Result ProxyEnd OutOfMemory) → IsEndAt ClientFault error result
       → IsStored port start (links new server) before records result
-  broken_response port before records are new b error result at =
+  broken_response port before records are stops new b error result at =
       let client' : Side = side s.client.taken (s.client.given ++ b.given) in
-      let cut : IsCut (sides client' s.server) es = record {
+      let cut : IsCut (EndsShort (IsAtEnd server) s.server.taken) (sides client' s.server) es = record {
         begun = Some (begun m ms);
         client_rest = t.requests.unread;
         server_rest = unread;
@@ -353,6 +364,8 @@ module _ (start : Links) (client server : Option LinkBytes) (es : List Exchange)
           after = t.responses.unread;
           is = is;
           stands = e;
+          stops = stops_at (EndsShort (IsAtEnd server) s.server.taken) t.server_ended (ends_short s) is.is.framing
+              t.responses.unread stops;
           more = b.more;
           split = b.split;
           some = b.some;
@@ -448,7 +461,7 @@ module _ (start : Links) (client server : Option LinkBytes) (es : List Exchange)
         pub final_unadded : (error : OutOfMemory) → IsStored port start (links new server) before records (Err error)
         final_unadded error =
             let turn = turn_push es last (closes last) s.open_ones refl in
-            let cut : IsCut (sides client_side s.server) whole = record {
+            let cut : IsCut (EndsShort (IsAtEnd server) s.server.taken) (sides client_side s.server) whole = record {
               begun = None;
               client_rest = t.requests.unread;
               server_rest = t.responses.unread;
@@ -465,7 +478,7 @@ module _ (start : Links) (client server : Option LinkBytes) (es : List Exchange)
             stored port start (links new server) client_side s.server t.client_taken t.server_taken
             (history_give s.client_is new r.bytes told) s.server_is whole all_whole turn before records
             (map (recorded port) es) are (Err error) cut
-            (recorded port last ∷ [], recorded_push port es last)
+            (inr (recorded port last, recorded_push port es last))
 
         pub records_push : records ++ recorded port last ∷ [] ≡ before ++ map (recorded port) whole
         records_push =
@@ -501,7 +514,8 @@ module _ (start : Links) (client server : Option LinkBytes) (es : List Exchange)
               };
               last = shut;
               final = is;
-              stops = stops_at (IsAtEnd server) t.server_ended s.ended is.is.framing t.responses.unread stops;
+              stops = stops_at (EndsShort (IsAtEnd server) s.server.taken) t.server_ended (ends_short s) is.is.framing
+                  t.responses.unread stops;
             })
             refl
 
@@ -513,14 +527,14 @@ left_so : (A B : Type 0) (s : Sides) (es : List Exchange) (rest : List ℕ) → 
     → (0 < length rest → end ≡ BadRequest) → EndsAs A B s es (Ok end)
 left_so A B s es [] idle ended few may end between within =
     subst (λ k. EndsAs A B s es (Ok k)) (sym (between refl))
-    (inr record { ended = ended; few = few; idle = idle })
+    (inr record { ends = record { ended = ended; few = few }; idle = idle })
 left_so A B s es (b ∷ bs) idle ended few may end between within =
     let some : 0 < length (b ∷ bs) = omega arith in
     subst (λ k. EndsAs A B s es (Ok k)) (sym (within some))
     record {
       rest = b ∷ bs;
       idle = idle;
-      why = inr record { ended = ended; few = few; some = some; may = may };
+      why = inr record { ends = record { ended = ended; few = few }; some = some; may = may };
     }
 
 module _ (start : Links) (client server : Option LinkBytes) (es : List Exchange) (t : Taken)
@@ -605,8 +619,8 @@ module _ (start : Links) (client server : Option LinkBytes) (es : List Exchange)
           client_fails error told result at =
               let s' = still (history_refused s.client_is client_ready new error told) in
               stored_here s' port before records are result
-              (ends_cut (IsAtEnd new) (IsAtEnd server) (sides s.client s.server) es (cut_now s') ClientFault (λ x. x)
-              error result at)
+              (ends_cut (IsAtEnd new) (IsAtEnd server) (sides s.client s.server) es
+              (cut_now s' (EndsShort (IsAtEnd server) s.server.taken)) ClientFault (λ x. x) error result at)
 
           pub client_leaves : IfSome client (λ l. l.rest ≡ []) → new ≡ option_map (after_read (Ok 0)) client
               → (end : ProxyEnd) → (t.requests.unread ≡ [] → end ≡ Closed)
@@ -676,7 +690,7 @@ module _ (start : Links) (client server : Option LinkBytes) (es : List Exchange)
           begun = b;
           rest = t.responses.unread;
           due = due_now;
-          why = inl record { ended = t.server_ended; is_ended = s.ended; faulty = faulty };
+          why = inl record { ended = t.server_ended; is_ended = ends_short s; faulty = faulty };
         }
 
     module _ (needs : NeedsMore b.request.head.head_only t.server_ended t.responses.unread) where
@@ -692,8 +706,7 @@ module _ (start : Links) (client server : Option LinkBytes) (es : List Exchange)
             rest = t.responses.unread;
             due = due_now;
             why = inr record {
-              ended = s.ended ended;
-              few = omega (arith, c, few);
+              ends = record { ended = s.ended ended; few = omega (arith, c, few) };
               needs = subst (λ e. NeedsMore b.request.head.head_only e t.responses.unread) ended needs;
             };
           }
@@ -755,8 +768,8 @@ module _ (start : Links) (client server : Option LinkBytes) (es : List Exchange)
                   short = λ h. absurd (true≢false (sym h ∙ running));
                 } in
                 stored_here s' port before records are result
-                (ends_cut (IsAtEnd client) (IsAtEnd new) (sides s.client s.server) es (cut_now s') ServerFault (λ x. x)
-                error result at)
+                (ends_cut (IsAtEnd client) (IsAtEnd new) (sides s.client s.server) es
+                (cut_now s' (EndsShort (IsAtEnd new) s.server.taken)) ServerFault (λ x. x) error result at)
 
             pub server_ends : IfSome server (λ l. l.rest ≡ []) → new ≡ option_map (after_read (Ok 0)) server
                 → Stands start (links client new) (course es (Some b))

@@ -106,24 +106,26 @@ pub record IsOver (Ended : Type 0) (s : Sides) (whole : List Exchange) : Type 0 
   pub final : IsResponseOf last.last.request.head.head_only last.last.final
   pub stops : StopsAt Ended final.is.framing server_rest
 
--- a front of the response to that request which stands next, and not all of it
-pub record IsPartOf (b : Begun) (rest part : List ℕ) : Type 0 where
+-- A front of the response to that request which stands next, and not all of it. `Ended` says that the server's input is
+-- at its end.
+pub record IsPartOf (Ended : Type 0) (b : Begun) (rest part : List ℕ) : Type 0 where
   pub next : Response
   pub after : List ℕ
   pub is : IsResponseOf b.request.head.head_only next
   pub stands : rest ≡ next.bytes ++ after
+  pub stops : StopsAt Ended is.is.framing after
   pub more : List ℕ
   pub split : next.bytes ≡ part ++ more
   pub some : 0 < length more
 
 -- none of it, or a front that isn't all
-abbrev pub IsPart : Option Begun → List ℕ → List ℕ → Type 0
-IsPart None rest part = part ≡ []
-IsPart (Some b) rest part = (part ≡ []) ⊎ IsPartOf b rest part
+abbrev pub IsPart : Type 0 → Option Begun → List ℕ → List ℕ → Type 0
+IsPart Ended None rest part = part ≡ []
+IsPart Ended (Some b) rest part = (part ≡ []) ⊎ IsPartOf Ended b rest part
 
 -- What was passed on is a front of that: of the requests any, and of the responses all whole ones so far with a part of
 -- the next.
-pub record IsCut (s : Sides) (whole : List Exchange) : Type 0 where
+pub record IsCut (Ended : Type 0) (s : Sides) (whole : List Exchange) : Type 0 where
   pub begun : Option Begun
   pub client_rest : List ℕ
   pub server_rest : List ℕ
@@ -131,7 +133,7 @@ pub record IsCut (s : Sides) (whole : List Exchange) : Type 0 where
   pub to_server : IsFront s.server.given (sent (course whole begun))
   pub part : List ℕ
   pub to_client : s.client.given ≡ got (course whole begun) ++ part
-  pub is_part : IsPart begun server_rest part
+  pub is_part : IsPart Ended begun server_rest part
 
 -- No whole response begins the rest. `ended` says that no byte follows.
 abbrev pub LacksResponse : Bool → Bool → List ℕ → Type 0

@@ -13,17 +13,20 @@ use Rattle.record_proxy.specs.declared.ends.ProxyEnd.TheVariants.{ServerFault, F
 abbrev pub to_head : Begun → Bool
 to_head b = b.request.head.head_only
 
--- The client's bytes end within a request, fewer than may be taken. They may still begin one, as far as they say.
-pub record EndsInRequest (Ended : Type 0) (taken rest : List ℕ) : Type 0 where
+-- An input is at its end, and fewer bytes were taken than may be.
+pub record EndsShort (Ended : Type 0) (taken : List ℕ) : Type 0 where
   pub ended : Ended
   pub few : length taken < most
+
+-- The client's bytes end within a request, fewer than may be taken. They may still begin one, as far as they say.
+pub record EndsInRequest (Ended : Type 0) (taken rest : List ℕ) : Type 0 where
+  pub ends : EndsShort Ended taken
   pub some : 0 < length rest
   pub may : MayGoOn rest
 
 -- The server's bytes end within a response that is due, or before it, fewer than may be taken.
 pub record EndsInResponse (Ended : Type 0) (b : Begun) (taken rest : List ℕ) : Type 0 where
-  pub ended : Ended
-  pub few : length taken < most
+  pub ends : EndsShort Ended taken
   pub needs : NeedsMore (to_head b) true rest
 
 -- No response will ever begin the server's rest. `Ended` says that its input is at its end.
@@ -33,10 +36,13 @@ pub record IsRefused (Ended : Type 0) (b : Begun) (rest : List ℕ) : Type 0 whe
   pub faulty : IsFaulty (to_head b) ended rest
 
 module _ (ClientEnded ServerEnded : Type 0) (s : Sides) (whole : List Exchange) where
+  -- the server's input ended, and fewer bytes were taken of it than may be
+  abbrev pub ServerEndsShort : Type 0
+  ServerEndsShort = EndsShort ServerEnded s.server.taken
+
   -- the client's input ended between requests
   pub record IsLeft : Type 0 where
-    pub ended : ClientEnded
-    pub few : length s.client.taken < most
+    pub ends : EndsShort ClientEnded s.client.taken
     pub idle : IsIdle s whole []
 
   -- a request is refused, or cut
@@ -50,7 +56,7 @@ module _ (ClientEnded ServerEnded : Type 0) (s : Sides) (whole : List Exchange) 
     pub begun : Begun
     pub rest : List ℕ
     pub due : IsDue s whole begun rest
-    pub why : IsRefused ServerEnded begun rest ⊎ EndsInResponse ServerEnded begun s.server.taken rest
+    pub why : IsRefused ServerEndsShort begun rest ⊎ EndsInResponse ServerEnded begun s.server.taken rest
 
   -- more bytes are needed of the client, from which as many were taken as may be
   pub record IsClientFull : Type 0 where
@@ -70,17 +76,17 @@ module _ (ClientEnded ServerEnded : Type 0) (s : Sides) (whole : List Exchange) 
   -- What was taken and given where a connection ended so, and these exchanges gave the client their whole final
   -- response. `ClientEnded` and `ServerEnded` say that an input is at its end.
   abbrev pub EndsSo : ProxyEnd → Type 0
-  EndsSo Closed = IsOver ServerEnded s whole ⊎ IsLeft
+  EndsSo Closed = IsOver ServerEndsShort s whole ⊎ IsLeft
   EndsSo BadRequest = IsBadRequest
   EndsSo BadResponse = IsBadResponse
   EndsSo Full = IsClientFull ⊎ IsServerFull
-  EndsSo ClientFault = IsCut s whole
-  EndsSo ServerFault = IsCut s whole
+  EndsSo ClientFault = IsCut ServerEndsShort s whole
+  EndsSo ServerFault = IsCut ServerEndsShort s whole
 
   -- likewise where memory was wanting
   abbrev pub EndsAs : Result ProxyEnd OutOfMemory → Type 0
   EndsAs (Ok end) = EndsSo end
-  EndsAs (Err error) = IsCut s whole
+  EndsAs (Err error) = IsCut ServerEndsShort s whole
 
 -- When a read of a link began, this held of what had been taken and given.
 pub record WhenBegun (Ready : List ℕ → List ℕ → Type 0) (s : Side) (start : ReadStart) : Type 0 where

@@ -1,5 +1,5 @@
 -- What a proxied connection does to its two links, and which records it adds.
-use Rattle.std.specs.Prelude.{◌≡◌, ◌≤◌, ℕ, List, ◌++◌, length, map, All, Option, Result, Ok, Err}
+use Rattle.std.specs.Prelude.{◌≡◌, [], ◌∷◌, ◌⊎◌, ◌≤◌, ℕ, List, ◌++◌, length, map, All, Option, Result, Ok, Err}
 use Rattle.mm_base.specs.Counts.{Rose}
 use Rattle.mm_base.specs.Link.{LinkBytes, LinkView}
 use Rattle.mm_base.specs.declared.errors.OutOfMemory.{OutOfMemory}
@@ -28,10 +28,10 @@ pub record IsUsed (Ready : List ℕ → List ℕ → Type 0) (old new : Option L
   pub few : length s.taken ≤ most
   pub prompt : All (WhenBegun Ready s) starts
 
--- These records were added: all of them, and where memory was wanting a front of them.
+-- These records were added: all of them, or where memory was wanting all but the last.
 abbrev pub Adds : List Record → List Record → Result ProxyEnd OutOfMemory → Type 0
 Adds records added (Ok end) = added ≡ records
-Adds records added (Err error) = (later : List Record) × (records ≡ added ++ later)
+Adds records added (Err error) = (added ≡ records) ⊎ ((last : Record) × (records ≡ added ++ last ∷ []))
 
 -- What a connection that ends so has done to its links, and the records that it added, with the site at that port:
 -- those of the pairs of what passed, which are the requests whose whole final response was given to the client, and all

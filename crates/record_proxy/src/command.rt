@@ -109,12 +109,12 @@ fn answer<D: Disk, O: Sink, P: Port, X: Dialer>(
 /// `--port N --to N --connections N --out FILE` listens at a port of 1 to 65,535, accepts 0 to 64 clients one after the
 /// other, dials the site's port for each, passes what the two say unchanged, and finishes both. Then it writes the
 /// store of all exchanges, recorded from the site's port, in the order of acceptance, and prints how the connections
-/// ended, as
-/// `closed C bad B broken K full F`. A connection for which the dialer fails is counted as broken.
+/// ended, as `closed C bad B broken K full F`. A connection for which the dialer fails is counted as broken.
 ///
-/// 0: it is done. 2: the words have no job. 7: writing the store, or printing on `out`, failed. 8: the port can't be
-/// listened at, or a client can't be accepted or finished. 9: memory was wanting. A status other than 0 is explained by
-/// one line on `out`, but for a fault of `out` itself.
+/// 0: it is done. 2: the words have no job. 7: writing the store failed; or printing on `out`, and then the store is
+/// whole. 8: the port can't be listened at, or a client can't be accepted or finished. 9: memory was wanting. At 2
+/// and at 8 no file is changed. A status other than 0 is explained by one line on `out`, but for a fault of `out`
+/// itself.
 pub fn proxy_main<D: Disk, O: Sink, P: Port, X: Dialer>(
     alloc: Global,
     words: &[String],

@@ -7,8 +7,8 @@ pub enum ProxyEnd {
     Closed,
     /// There is no request in the client's rest, and never will be; or its input ended within one.
     BadRequest,
-    /// There is no response in the server's rest, and never will be; or its input ended within one, or before one that
-    /// is due.
+    /// A response is due, and there is none in the server's rest, and never will be; or its input ended within it, or
+    /// before it.
     BadResponse,
     /// At a fault of the client's link.
     ClientFault,

@@ -1,9 +1,9 @@
 // A dialer in memory, which fails by a list.
-ghost use Rattle.std.specs.Prelude.{◌≡◌, ◌≤◌, ◌+◌, ◌∷◌, [], Some, IfOk, OnErr, IsErrOf, Contains};
-ghost use Rattle.mm_base.specs.Counts.{Rose};
+ghost use Rattle.std.specs.Prelude.{◌≡◌, ◌⊎◌, ◌≤◌, ◌+◌, ◌∷◌, [], Some, IfOk, OnErr, IsErrOf, IsOk, Contains};
+ghost use Rattle.mm_base.specs.Counts.{Rose, one_more};
 ghost use Rattle.mm_base.specs.Link.{IsFresh};
 ghost use Rattle.mm_base.specs.MemLink.{mem_link_view};
-ghost use Rattle.mm_base.specs.MemPort.{AllUnused};
+ghost use Rattle.mm_base.specs.MemPort.{AllUnused, IsPortCall};
 ghost use Rattle.mm_base.specs.Port.{after_finish};
 ghost use Rattle.record_proxy.specs.Dialers.{CountsDials};
 ghost use Rattle.record_proxy.specs.MemDialers.{mem_dialer_view};
@@ -63,7 +63,13 @@ impl Dialer for MemDialer {
     ghost view = { mem_dialer_view };
 
     fn dial(&mut self, _number: u16) -> Result<MemLink, EndError>
+        ensures counted { self.new.links.calls ≡ one_more self.old.links.calls }
+        ensures named { Contains self.old.links.fails self.new.links.calls → IsErrOf result EndError.Failed }
+        ensures failed { IsErrOf result EndError.Failed
+            → Contains self.old.links.fails self.new.links.calls ⊎ (self.old.links.waiting ≡ []) }
         ensures next { IfOk result (λ link. self.old.links.waiting ≡ link ∷ self.new.links.waiting) }
+        ensures none_left { self.old.links.waiting ≡ [] → ¬ IsOk result }
+        ensures kept { OnErr result (self.new.links.waiting ≡ self.old.links.waiting) }
         ensures ok { IfOk result (λ conn. (self.new.links.accepted ≡ self.old.links.accepted + 1)
             × IsFresh (mem_link_view conn)) }
         ensures err { OnErr result (self.new.links.accepted ≡ self.old.links.accepted) }
@@ -83,6 +89,7 @@ impl Dialer for MemDialer {
     }
 
     fn finish(&mut self, conn: MemLink) -> Result<(), EndError>
+        ensures call { IsPortCall self.old.links self.new.links result }
         ensures waiting { self.new.links.waiting ≡ self.old.links.waiting }
         ensures finished { Some self.new.links.finished ≡ after_finish conn result (Some self.old.links.finished) }
         ensures dialed { self.new.links.accepted ≡ self.old.links.accepted }

@@ -1,9 +1,10 @@
 // A proxy: clients one after the other, and a connection dialed for each.
-ghost use Rattle.std.specs.Prelude.{◌≡◌, ◌<◌, ◌≤◌, ◌+◌, ◌∷◌, [], Option, Ok, Err, IfOk, IsOk};
+ghost use Rattle.std.specs.Prelude.{◌≡◌, ◌<◌, ◌≤◌, ◌+◌, ◌∷◌, [], Option, Ok, Err, IfOk, IsErrOf, IsOk};
 ghost use Rattle.mm_base.specs.Counts.{Rose};
 ghost use Rattle.mm_base.specs.Link.{IsFresh};
-ghost use Rattle.mm_base.specs.Port.{KeepsPort};
+ghost use Rattle.mm_base.specs.Port.{KeepsPort, after_finish};
 ghost use Rattle.replay_server.specs.Tallies.{total};
+ghost use Rattle.record_proxy.specs.Dialers.{CountsDials};
 ghost use Rattle.record_proxy.specs.Passing.{Dials, EndsWith, Joins, ServesOne, plus};
 ghost use Rattle.record_proxy.specs.Servings.{ServingSays, counted_as, net, no_ends};
 
@@ -80,6 +81,17 @@ fn part<A: Link, B: Link>(client: &mut A, server: &mut B)
     server.close_output();
 }
 
+/// Finishes a dialed connection.
+fn finish_dialed<X: Dialer>(dialer: &mut X, server: X::Conn) -> Result<(), EndError>
+    ensures finished { (X.view dialer.new).finished ≡ after_finish server result (X.view dialer.old).finished }
+    ensures dialed { (X.view dialer.new).dialed ≡ (X.view dialer.old).dialed }
+    ensures counts { CountsDials (X.view dialer.old) (X.view dialer.new) }
+    ensures failed_cause { IsErrOf result EndError.Failed
+        → Rose (X.view dialer.old).faults (X.view dialer.new).faults }
+{
+    dialer.finish(server)
+}
+
 /// Passes what a client and a dialed connection say, and finishes that one. None: the dialer failed.
 fn join<A: Link, X: Dialer>(
     alloc: Global,
@@ -97,7 +109,7 @@ fn join<A: Link, X: Dialer>(
     let mut server = server;
     let end = proxy_conn(alloc, client, &mut server, site, store);
     part(client, &mut server);
-    let done = dialer.finish(server);
+    let done = finish_dialed(dialer, server);
     ended(end, done)
 }
 
@@ -163,7 +175,7 @@ fn serve_client<P: Port, X: Dialer>(
 /// so many, or where the port has no more. A client for which the dialer fails is counted as broken.
 ///
 /// `Port` comes only where a fault of the port was counted: it can't be listened at, or a client can't be accepted or
-/// finished.
+/// finished. `OutOfMemory` is want of memory.
 pub fn serve<P: Port, X: Dialer>(
     alloc: Global,
     job: &ProxyJob<'_>,

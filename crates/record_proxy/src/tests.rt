@@ -4,6 +4,7 @@ ghost use Rattle.mm_base.specs.MemLink.{IsUnused};
 
 mod commands;
 mod limits;
+mod watched;
 
 use crate::{Dialer, ProxyEnd, TcpDialer, proxy_conn};
 use mm_base::{Bytes, EndError, Link, MemLink, Port, TcpPort};
@@ -173,8 +174,19 @@ fn connections_pass_whole_messages(rt: HostRuntime) -> Result<(), Fail> {
     Ok(())
 }
 
+// How many of two answers, of 27 and of 40 bytes, are whole in their first so many bytes.
+fn whole_answers(given: usize) -> usize {
+    if given < 27 {
+        0
+    } else if given < 67 {
+        1
+    } else {
+        2
+    }
+}
+
 // Two exchanges, where the calls of these numbers of the client's and of the server's link fail: how it ends, and
-// whether fronts of what was said were given.
+// whether fronts of what was said were given, and there is a record of each answer that was given whole.
 fn ends_with_fails(
     alloc: Global,
     client_fails: &[u64],
@@ -188,18 +200,19 @@ fn ends_with_fails(
     let end = proxy_conn(alloc, &mut client, &mut server, 80, &mut store)?;
     let fronts = asked.as_bytes().starts_with(server.given())
         && said.as_bytes().starts_with(client.given());
-    Ok((end, fronts))
+    let recorded = store.records().len() == whole_answers(client.given().len());
+    Ok((end, fronts && recorded))
 }
 
 // The client's link is read 55 times and written twice, the server's is written twice and read 67 times.
 #[test]
 fn links_that_fail_were_given_fronts(rt: HostRuntime) -> Result<(), Fail> {
     for call in 1..80u64 {
-        let (end, fronts) = ends_with_fails(rt.alloc(), &[call], &[])?;
-        assert!(rt; fronts, "client at {call}");
+        let (end, is_well) = ends_with_fails(rt.alloc(), &[call], &[])?;
+        assert!(rt; is_well, "client at {call}");
         assert_eq!(rt; end == ProxyEnd::ClientFault, call <= 57);
-        let (end, fronts) = ends_with_fails(rt.alloc(), &[], &[call])?;
-        assert!(rt; fronts, "server at {call}");
+        let (end, is_well) = ends_with_fails(rt.alloc(), &[], &[call])?;
+        assert!(rt; is_well, "server at {call}");
         assert_eq!(rt; end == ProxyEnd::ServerFault, call <= 69);
     }
     Ok(())
@@ -221,11 +234,12 @@ fn a_connection_of_tcp_is_dialed(rt: HostRuntime) -> Result<(), Fail> {
     let end = proxy_conn(alloc, &mut client, &mut dialed, number, &mut store);
     assert_eq!(rt; end, Ok(ProxyEnd::Closed));
     assert_eq!(rt; client.given(), RESPONSE.as_bytes());
-    dialed.close_output();
+    assert_eq!(rt; site.write(b"unread"), Ok(6));
+    assert_eq!(rt; dialer.finish(dialed), Ok(()));
     let mut asked = [0u8; 64];
     assert_eq!(rt; site.read(&mut asked), Ok(27));
+    assert_eq!(rt; site.read(&mut asked), Ok(0));
     assert_eq!(rt; port.finish(site), Ok(()));
-    assert_eq!(rt; dialer.finish(dialed), Ok(()));
     Ok(())
 }
 

@@ -16,7 +16,7 @@ returns-in-Err-clause-goes_on g c =
     let x = c.args.exchange in
     λ start server before unread is stops due e p.
     broken_response start _ server p.whole (taken_of c.args.talk.now) unread x.request p.interim x.response is e
-    (due_stands p x.request refl) x.port before _ p.records_are _
+    (due_stands p x.request refl) x.port before _ p.records_are stops _
     (subst (Breaks _ _) c.as_slice.ensures c.in-Err.ensures.err) c.in-Err.error c.refused.result c.refused.ensures
 
 pub returns-then-exchange-lt200-clause-goes_on : goal.returns-then-exchange-lt200-clause-goes_on

@@ -16,7 +16,8 @@ returns g c =
     if_ok c.ended.result
     (λ end found.
     joins_so c.args.site g.X.Conn.Link.view first after (g.A.Link.view c.part.new.client) server_first server_after
-    c.part.new.server (g.X.Dialer.view c.args.dialer.now) (g.X.Dialer.view c.finish-done.new.self) c.args.store.now
+    c.part.new.server (g.X.Dialer.view c.args.dialer.now) (g.X.Dialer.view c.finish_dialed-done.new.dialer)
+    c.args.store.now
     c.proxy_conn-end.new.store found.0 c.requires.client_fresh c.requires.server_fresh
     (subst (λ (r : Result ProxyEnd OutOfMemory). IsStored c.args.site (links first.told server_first.told)
     (links after.told server_after.told) c.args.store.now c.proxy_conn-end.new.store r) found.1
@@ -25,6 +26,7 @@ returns g c =
     c.proxy_conn-end.ensures.client_cause)
     (subst (λ (r : Result ProxyEnd OutOfMemory). HasFaultCause ServerFault server_first server_after r) found.1
     c.proxy_conn-end.ensures.server_cause)
-    c.part.ensures.client c.part.ensures.server c.finish-done.result c.finish-done.ensures.finished
-    c.finish-done.ensures.dialed c.finish-done.ensures.counts c.finish-done.ensures.failed_cause end found.2)
+    c.part.ensures.client c.part.ensures.server c.finish_dialed-done.result c.finish_dialed-done.ensures.finished
+    c.finish_dialed-done.ensures.dialed c.finish_dialed-done.ensures.counts c.finish_dialed-done.ensures.failed_cause
+    end found.2)
     c.ended.ensures
