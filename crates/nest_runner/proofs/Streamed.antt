@@ -29,7 +29,8 @@ use Rattle.nest_spec.specs.Nests.{NestParts, directions_of}
 use Rattle.nest_runner.specs.declared.lane.Lane.{Lane}
 use Rattle.nest_runner.specs.Lanes.{HasRun, IsDonePath, IsSameLane, IsWired}
 use Rattle.nest_runner.specs.Sent.{HasSent}
-use Rattle.nest_runner.specs.Streaming.{AllSent, HasStreamCause, IsStreamed, of_disk, of_schedule}
+use Rattle.nest_runner.specs.Streaming.{HasStreamCause, of_disk, of_schedule}
+use Rattle.nest_runner.specs.StreamParts.{AllSent, IsStreamed}
 use Rattle.nest_runner.proofs.Chains.{still_wired}
 use Rattle.nest_runner.proofs.Sending.{all_sent, rest_of}
 

@@ -1,4 +1,5 @@
--- One direction of a run: the sender that the source has, the stages of the shells, and the receiver behind the last.
+-- For proofs: one direction of a run: the sender that the source has, the stages of the shells, and the receiver behind
+-- the last.
 use Rattle.std.specs.Prelude.{◌≡◌, ℕ, List, [], ◌∷◌, map}
 use Rattle.packet_record.specs.declared.packet.Timed.{Timed}
 use Rattle.packet_record.specs.declared.packet.Direction.{Direction}

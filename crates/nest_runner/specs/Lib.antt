@@ -3,3 +3,4 @@ pub mod Lanes
 pub mod Sent
 pub mod Stages
 pub mod Streaming
+pub mod StreamParts

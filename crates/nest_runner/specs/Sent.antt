@@ -1,4 +1,4 @@
--- What a source has sent in a direction, before the end.
+-- For proofs: what a source has sent in a direction, before the end.
 use Rattle.std.specs.Prelude.{◌≡◌, ◌++◌, ℕ, List}
 use Rattle.packet_record.specs.declared.packet.Direction.{Direction}
 use Rattle.packet_record.specs.declared.packet.Row.{Row}

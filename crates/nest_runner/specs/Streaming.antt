@@ -8,16 +8,10 @@ use Rattle.mm_base.specs.declared.errors.DiskError.{DiskError}
 use Rattle.mm_base.specs.declared.errors.DiskError.TheVariants as disk_errors
 use Rattle.mm_base.specs.declared.errors.LoadError.{LoadError}
 use Rattle.mm_base.specs.declared.errors.LoadError.TheVariants as load_errors
-use Rattle.packet_record.specs.declared.item.FlowEnd.TheVariants.{Ended as IsOver}
-use Rattle.packet_record.specs.declared.packet.Direction.{Direction}
 use Rattle.packet_record.specs.declared.packet.Row.{Row}
 use Rattle.packet_record.specs.declared.reading.ScheduleError.{ScheduleError}
 use Rattle.packet_record.specs.declared.reading.ScheduleError.TheVariants as schedule_errors
-use Rattle.packet_record.specs.PartsRead.{HasReadAll, PartRead}
-use Rattle.packet_record.specs.Rows.{entering}
 use Rattle.packet_record.specs.Schedules.{IsScheduleText, first_fault}
-use Rattle.packet_record.specs.Sources.{source_items}
-use Rattle.mark_channel.specs.Ends.{End}
 use Rattle.nest_spec.specs.Nests.{NestParts, RunLists, result_of}
 use Rattle.nest_spec.specs.Once.{HaveOneFate}
 use Rattle.nest_runner.specs.declared.stream_error.StreamError.{StreamError}
@@ -58,18 +52,6 @@ HasStreamCause old new name stream_errors.OutOfMemory = Unit {0}
 HasStreamCause old new name (stream_errors.TooLong size) = (67108864 < size) × IsThere old.files name
     × IfHeld old.files name (λ bytes. size ≡ length bytes)
 HasStreamCause old new name (stream_errors.Schedule error) = IsRefusedFor old.files name error
-
--- all bytes of the file were read as a schedule
-pub record IsStreamed (told : Option Files) (name : List ℕ) (read : PartRead) : Type 0 where
-  pub bytes : List ℕ
-  pub text : IsText told name bytes
-  pub all : HasReadAll bytes read
-
--- all that these rows give was sent in a direction, and the end
-pub record AllSent (d : Direction) (horizon : ℕ) (rows : List Row) (to : End) : Type 0 where
-  pub items : to.items ≡ source_items d horizon rows
-  pub packets : to.flow.packets ≡ entering d horizon rows
-  pub over : to.flow.end ≡ IsOver
 
 -- the error of a streamed run by that of the disk, of the size, or of the text
 abbrev pub of_disk : DiskError → StreamError

@@ -11,7 +11,8 @@ ghost use Rattle.mark_channel.specs.Ends.{IsSameEnd};
 ghost use Rattle.nest_runner.specs.Ends.{IfEnded};
 ghost use Rattle.nest_runner.specs.Lanes.{HasEnded, HasRun, IsDonePath, IsFreshLane, IsFreshPath, IsSameLane};
 ghost use Rattle.nest_runner.specs.Lanes.{IsSamePath};
-ghost use Rattle.nest_runner.specs.Streaming.{AllSent, HasStreamCause, IsScheduleOf, IsStreamed, StreamsTo};
+ghost use Rattle.nest_runner.specs.Streaming.{HasStreamCause, IsScheduleOf, StreamsTo};
+ghost use Rattle.nest_runner.specs.StreamParts.{AllSent, IsStreamed};
 
 use crate::StreamError;
 use crate::begun::Begun;

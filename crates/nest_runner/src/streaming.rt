@@ -1,15 +1,16 @@
 // The source of a schedule that is read while its packets pass the nest.
-ghost use Rattle.std.specs.Prelude.{◌≡◌, ◌≢◌, ◌≤◌, ◌<◌, ◌+◌, ◌++◌, ◌∷◌, ℕ, List, [], None, length, IfOk, OnOk, IsErrOf};
+ghost use Rattle.std.specs.Prelude.{◌≡◌, ◌≢◌, ◌≤◌, ◌<◌, ◌+◌, ◌++◌, ◌∷◌, ℕ, List, [], None, length, IfOk, OnErr, OnOk};
+ghost use Rattle.std.specs.Prelude.{IsErrOf};
 ghost use Rattle.mm_base.specs.Disk.{HasReadCause, OnlyReads};
 ghost use Rattle.mm_base.specs.Files.{IsAbsent};
 ghost use Rattle.file_pieces.specs.Pieces.{FrontIsRead, HasSize, PieceIsRead};
-ghost use Rattle.packet_record.specs.declared.item.FlowEnd.TheVariants.{Open};
+ghost use Rattle.packet_record.specs.declared.item.FlowEnd.TheVariants.{Open, Broken as IsCut};
 ghost use Rattle.packet_record.specs.declared.packet.Direction.TheVariants.{Up, Down};
 ghost use Rattle.packet_record.specs.PartsRead.{HasRead, HasReadAll};
 ghost use Rattle.packet_record.specs.Streams.{no_items};
 ghost use Rattle.mark_channel.specs.Ends.{IsSameEnd};
 ghost use Rattle.nest_runner.specs.Sent.{HasSent};
-ghost use Rattle.nest_runner.specs.Streaming.{AllSent, IsStreamed};
+ghost use Rattle.nest_runner.specs.StreamParts.{AllSent, IsStreamed};
 
 use crate::begun::Begun;
 use crate::sourcing::{Sent, end_both, send_rows};
@@ -22,7 +23,7 @@ use std::sync::Wait;
 // Sends that the stream is broken off in both directions.
 pub(crate) fn cut_both<R: Wait>(rt: &R, up: &mut Sender, down: &mut Sender)
     requires open { (up.old.flow.end ≡ Open) × (down.old.flow.end ≡ Open) }
-    ensures over { (up.new.flow.end ≢ Open) × (down.new.flow.end ≢ Open) }
+    ensures broken { (up.new.flow.end ≡ IsCut) × (down.new.flow.end ≡ IsCut) }
     ensures same { IsSameEnd up.old up.new × IsSameEnd down.old down.new }
 {
     up.send(rt, Item::Broken);
@@ -162,6 +163,7 @@ fn end_stream<Q: Pace, R: Wait>(
     ensures all { (bytes : List ℕ) → HasRead bytes text.old → HasReadAll bytes text.new }
     ensures sent { text.new.gathered.refused ≡ None → AllSent Up horizon text.new.gathered.rows up.new
         × AllSent Down horizon text.new.gathered.rows down.new }
+    ensures broken { text.new.gathered.refused ≢ None → (up.new.flow.end ≡ IsCut) × (down.new.flow.end ≡ IsCut) }
     ensures over { (up.new.flow.end ≢ Open) × (down.new.flow.end ≢ Open) }
     ensures same { IsSameEnd up.old up.new × IsSameEnd down.old down.new }
 {
@@ -202,6 +204,9 @@ pub(crate) fn stream_source<D: Disk, Q: Pace, R: Wait>(
     ensures text { OnOk result (IsStreamed (D.view disk.old).files name.now text.new) }
     ensures sent { OnOk result (text.new.gathered.refused ≡ None → AllSent Up horizon text.new.gathered.rows up.new
         × AllSent Down horizon text.new.gathered.rows down.new) }
+    ensures broken { OnOk result (text.new.gathered.refused ≢ None
+        → (up.new.flow.end ≡ IsCut) × (down.new.flow.end ≡ IsCut)) }
+    ensures failed { OnErr result ((up.new.flow.end ≡ IsCut) × (down.new.flow.end ≡ IsCut)) }
     ensures over { (up.new.flow.end ≢ Open) × (down.new.flow.end ≢ Open) }
     ensures same { IsSameEnd up.old up.new × IsSameEnd down.old down.new }
     ensures absent { IsErrOf result DiskError.Absent → IsAbsent (D.view disk.old).files name.now }

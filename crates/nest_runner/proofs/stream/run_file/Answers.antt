@@ -5,7 +5,8 @@ use Rattle.nest_runner.specs.declared.ends.WorkEnd.{WorkEnd}
 use Rattle.nest_runner.specs.declared.stream_error.StreamError.{StreamError}
 use Rattle.nest_runner.specs.Ends.{IfEnded}
 use Rattle.nest_runner.specs.Lanes.{IsDonePath}
-use Rattle.nest_runner.specs.Streaming.{AllSent, HasStreamCause}
+use Rattle.nest_runner.specs.Streaming.{HasStreamCause}
+use Rattle.nest_runner.specs.StreamParts.{AllSent}
 use Rattle.nest_runner.proofs.Chains.{carried_ended}
 use Rattle.nest_runner.proofs.Streamed.{disk_cause, ok_has, streamed_run}
 use Rattle.nest_runner.proofs.stream.run_file.Goals as goal

@@ -1,4 +1,4 @@
-use Rattle.nest_runner.specs.Streaming.{IsStreamed}
+use Rattle.nest_runner.specs.StreamParts.{IsStreamed}
 use Rattle.nest_runner.proofs.Streamed.{none_refused, on_ok, refused_streamed, some_refused, whole_streamed}
 use Rattle.nest_runner.proofs.streaming.stream_source.Goals as goal
 
