@@ -22,20 +22,23 @@ fn row(alloc: Global, client: &[u8], server: &[u8]) -> (u32, u64) {
     }
 }
 
+// The two streams, and what `row` answers.
+const PAIRS: [(&[u8], &[u8], (u32, u64)); 8] = [
+    (CLIENT, SERVER, (100, 40)),
+    (CLIENT, INTERIM, (100, 40)),
+    (CLIENT, b"", (3, 1)),
+    (b"GET / HT", SERVER, (1, 1)),
+    (CLIENT, b"HTTP/1.1 200", (2, 1)),
+    (b"", SERVER, (4, 0)),
+    (b"", b"", (200, 0)),
+    (CLIENT, b"HTTP/1.1 200 OK\r\n\r\nall the rest", (100, 31)),
+];
+
 #[test]
 fn pairs_of_one_request(rt: HostRuntime) -> Result<(), Fail> {
-    let alloc = rt.alloc();
-    assert_eq!(rt; row(alloc, CLIENT, SERVER), (100, 40));
-    assert_eq!(rt; row(alloc, CLIENT, INTERIM), (100, 40));
-    assert_eq!(rt; row(alloc, CLIENT, b""), (3, 1));
-    assert_eq!(rt; row(alloc, b"GET / HT", SERVER), (1, 1));
-    assert_eq!(rt; row(alloc, CLIENT, b"HTTP/1.1 200"), (2, 1));
-    assert_eq!(rt; row(alloc, b"", SERVER), (4, 0));
-    assert_eq!(rt; row(alloc, b"", b""), (200, 0));
-    assert_eq!(rt;
-        row(alloc, CLIENT, b"HTTP/1.1 200 OK\r\n\r\nall the rest"),
-        (100, 31)
-    );
+    for (client, server, answer) in &PAIRS {
+        assert_eq!(rt; row(rt.alloc(), client, server), *answer);
+    }
     Ok(())
 }
 
@@ -56,6 +59,14 @@ fn refusal(alloc: Global, text: &[u8]) -> (u32, u64) {
     }
 }
 
+/// What is printed of the store that is read from a text.
+fn reprinted(alloc: Global, text: &[u8]) -> Result<Bytes, Fail> {
+    let store = read_store(alloc, text)?;
+    Ok(print_store(alloc, &store)?)
+}
+
+const EMPTY: &[u8] = b"MMSTORE 2\n";
+
 #[test]
 fn prints_and_reads(rt: HostRuntime) -> Result<(), Fail> {
     let alloc = rt.alloc();
@@ -64,37 +75,37 @@ fn prints_and_reads(rt: HostRuntime) -> Result<(), Fail> {
     let text = print_store(alloc, &store)?;
     assert_eq!(rt; text.as_slice(), PRINTED);
     assert_eq!(rt; text.len(), 98);
-    let again = print_store(alloc, &read_store(alloc, PRINTED)?)?;
-    assert_eq!(rt; again.as_slice(), PRINTED);
-    let migrated = print_store(alloc, &read_store(alloc, OLD)?)?;
-    assert_eq!(rt; migrated.as_slice(), PRINTED);
+    assert_eq!(rt; reprinted(alloc, PRINTED)?.as_slice(), PRINTED);
+    assert_eq!(rt; reprinted(alloc, OLD)?.as_slice(), PRINTED);
     let empty = print_store(alloc, &Store::new(alloc))?;
-    assert_eq!(rt; empty.as_slice(), b"MMSTORE 2\n".as_slice());
+    assert_eq!(rt; empty.as_slice(), EMPTY);
     Ok(())
 }
 
+// A text, and what `refusal` answers.
+const TEXTS: [(&[u8], (u32, u64)); 13] = [
+    (b"MMSTORE 3\n", (1, 0)),
+    (b"MMSTORE 2", (1, 0)),
+    (b"MMSTORE 1\nrecord 027 40\n..", (2, 10)),
+    (b"MMSTORE 1\nrecord http 0 27 40\n", (2, 10)),
+    (b"MMSTORE 2\nrecord 27 40\n", (2, 10)),
+    (b"MMSTORE 2\nrecord ftp 0 27 40\n", (5, 10)),
+    (b"MMSTORE 2\nrecord ftp 65536 27 40\n", (2, 10)),
+    (b"MMSTORE 2\nrecord http 0 27 40", (3, 10)),
+    (b"MMSTORE 1\nrecord 0 0\n\n", (4, 1)),
+    (b"MMSTORE 1\nrecord 0 0\n.", (2, 21)),
+    (b"MMSTORE 1\nrecord 100000000 0\n\n", (2, 10)),
+    (b"MMSTORE 1\n", (100, 0)),
+    (OLD, (100, 1)),
+];
+
 #[test]
 fn refusals_of_texts(rt: HostRuntime) -> Result<(), Fail> {
-    let alloc = rt.alloc();
-    let rows: [(&[u8], (u32, u64)); 12] = [
-        (b"MMSTORE 3\n", (1, 0)),
-        (b"MMSTORE 2", (1, 0)),
-        (b"MMSTORE 1\nrecord 027 40\n..", (2, 10)),
-        (b"MMSTORE 1\nrecord http 0 27 40\n", (2, 10)),
-        (b"MMSTORE 2\nrecord 27 40\n", (2, 10)),
-        (b"MMSTORE 2\nrecord ftp 0 27 40\n", (5, 10)),
-        (b"MMSTORE 2\nrecord ftp 65536 27 40\n", (2, 10)),
-        (b"MMSTORE 2\nrecord http 0 27 40", (3, 10)),
-        (b"MMSTORE 1\nrecord 0 0\n\n", (4, 1)),
-        (b"MMSTORE 1\nrecord 0 0\n.", (2, 21)),
-        (b"MMSTORE 1\nrecord 100000000 0\n\n", (2, 10)),
-        (b"MMSTORE 1\n", (100, 0)),
-    ];
-    for (text, answer) in rows {
-        assert_eq!(rt; refusal(alloc, text), answer);
+    for (text, answer) in &TEXTS {
+        assert_eq!(rt; refusal(rt.alloc(), text), *answer);
     }
-    assert_eq!(rt; refusal(alloc, &OLD[..90]), (3, 10));
-    assert_eq!(rt; refusal(alloc, OLD), (100, 1));
+    let (front, _) = OLD.split_at(OLD.len().min(90));
+    assert_eq!(rt; refusal(rt.alloc(), front), (3, 10));
     Ok(())
 }
 
@@ -117,22 +128,34 @@ fn in_pieces(alloc: Global, store: &Store) -> Result<Bytes, Fail> {
     Ok(text)
 }
 
+const LONG_HEAD: &[u8] = b"HTTP/1.1 200 OK\r\nContent-Length: 1000\r\n\r\n";
+
+/// A response whose body is a thousand digits.
+fn long_answer(alloc: Global) -> Result<Bytes, Fail> {
+    let body = copies(alloc, b"0123456789", 100)?;
+    let mut answer = Bytes::from_slice(alloc, LONG_HEAD)?;
+    answer.append(body.as_slice())?;
+    Ok(answer)
+}
+
+/// A hundred requests and their long answers.
+fn a_hundred(alloc: Global) -> Result<Store, Fail> {
+    let client = copies(alloc, CLIENT, 100)?;
+    let answer = long_answer(alloc)?;
+    let server = copies(alloc, answer.as_slice(), 100)?;
+    Ok(pair(alloc, client.as_slice(), server.as_slice(), 80)?)
+}
+
 #[test]
 fn a_hundred_records(rt: HostRuntime) -> Result<(), Fail> {
     let alloc = rt.alloc();
-    let body = copies(alloc, b"0123456789", 100)?;
-    let head = b"HTTP/1.1 200 OK\r\nContent-Length: 1000\r\n\r\n";
-    let mut answer = Bytes::from_slice(alloc, head)?;
-    answer.append(body.as_slice())?;
-    let client = copies(alloc, CLIENT, 100)?;
-    let server = copies(alloc, answer.as_slice(), 100)?;
-    let store = pair(alloc, client.as_slice(), server.as_slice(), 80)?;
+    let store = a_hundred(alloc)?;
     assert_eq!(rt; store.records().len(), 100);
     let text = print_store(alloc, &store)?;
     assert_eq!(rt; text.len(), 10 + 100 * (23 + 27 + 1041 + 1));
     let again = read_store(alloc, text.as_slice())?;
     assert_eq!(rt; in_pieces(alloc, &again)?.as_slice(), text.as_slice());
     let none = in_pieces(alloc, &Store::new(alloc))?;
-    assert_eq!(rt; none.as_slice(), b"MMSTORE 2\n".as_slice());
+    assert_eq!(rt; none.as_slice(), EMPTY);
     Ok(())
 }
