@@ -1,9 +1,10 @@
 // Servings over ports in memory.
 ghost use Rattle.mm_base.specs.MemPort.{mem_port_view};
 
-use super::{REQUEST, RESPONSE, TWO, TWO_ANSWERS, link, store};
+use super::{REQUEST, RESPONSE, TWO, TWO_ANSWERS, counts, gives, link, store};
 use crate::{ServeError, Served, serve};
 use mm_base::{EndError, MemLink, MemPort, NoPace, Pace, Port, Role};
+use std::alloc::Global;
 use std::sync::Wait;
 use std::sync::atomic::{AtomicU64, Ordering};
 use std::test::Fail;
@@ -45,16 +46,29 @@ impl Pace for Together {
     }
 }
 
-#[test]
-fn connections_are_served_beside_each_other(rt: HostRuntime) -> Result<(), Fail> {
-    let alloc = rt.alloc();
-    let store = store(alloc, REQUEST, RESPONSE)?;
+/// A port of four connections: three of two requests, the first of which fails, and a bad one.
+fn port_of_four(alloc: Global) -> Result<MemPort, Fail> {
     let first = link(alloc, TWO, 1, &[3])?;
     let second = link(alloc, TWO, 1, &[])?;
     let third = link(alloc, "BAD\x00\n", 1, &[])?;
     let fourth = link(alloc, TWO, 1, &[])?;
     let links = vec![in alloc; first, second, third, fourth]?;
-    let mut port = MemPort::new(alloc, links, Vec::new(alloc));
+    Ok(MemPort::new(alloc, links, Vec::new(alloc)))
+}
+
+// Two are served to their end, one is bad and one fails.
+const OF_FOUR: Served = Served {
+    closed: 2,
+    bad: 1,
+    broken: 1,
+    full: 0,
+};
+
+#[test]
+fn connections_are_served_beside_each_other(rt: HostRuntime) -> Result<(), Fail> {
+    let alloc = rt.alloc();
+    let store = store(alloc, REQUEST, RESPONSE)?;
+    let mut port = port_of_four(alloc)?;
     let pace = Together {
         begun: AtomicU64::new(0),
         limits: AtomicU64::new(0),
@@ -62,41 +76,38 @@ fn connections_are_served_beside_each_other(rt: HostRuntime) -> Result<(), Fail>
     let served = serve(&rt, alloc, &store, &mut port, 80, None, 5, &pace)
         .ok()
         .ok_or("refused")?;
-    assert_eq!(rt;
-        served,
-        Served {
-            closed: 2,
-            bad: 1,
-            broken: 1,
-            full: 0
-        }
-    );
-    assert_eq!(rt; pace.limits.load(Ordering::SeqCst), 0);
+    assert_eq!(rt; served, OF_FOUR);
+    counts(&rt, pace.limits.load(Ordering::SeqCst), 0);
     assert_eq!(rt; port.finished().len(), 4);
-    assert_eq!(rt; port.finished()[0].given(), TWO_ANSWERS.as_bytes());
+    gives(&rt, port.finished()[0].given(), TWO_ANSWERS.as_bytes());
     Ok(())
 }
+
+/// A port of one connection, one of whose calls may fail.
+fn port_of_one(alloc: Global, fails: &[u64]) -> Result<MemPort, Fail> {
+    let only = link(alloc, TWO, 8, &[])?;
+    let links = vec![in alloc; only]?;
+    Ok(MemPort::new(alloc, links, fails.to_vec(alloc)?))
+}
+
+// A call of the port that fails, what the serving then answers, and how many connections are finished. The calls are
+// listening, accepting, accepting and finishing.
+const FAILS: [(u64, ServeError, u64); 4] = [
+    (1, ServeError::Listen, 0),
+    (2, ServeError::Accept, 0),
+    (3, ServeError::Accept, 1),
+    (4, ServeError::Accept, 0),
+];
 
 #[test]
 fn a_port_that_fails_stops_the_serving(rt: HostRuntime) -> Result<(), Fail> {
     let alloc = rt.alloc();
     let store = store(alloc, REQUEST, RESPONSE)?;
-    // the calls are listening, accepting, accepting and finishing
-    let rows = [
-        (1, ServeError::Listen, 0),
-        (2, ServeError::Accept, 0),
-        (3, ServeError::Accept, 1),
-        (4, ServeError::Accept, 0),
-    ];
-    for (call, error, finished) in rows {
-        let only = link(alloc, TWO, 8, &[])?;
-        let links = vec![in alloc; only]?;
-        let mut port = MemPort::new(alloc, links, vec![in alloc; call]?);
-        assert_eq!(rt;
-            serve(&rt, alloc, &store, &mut port, 80, None, 2, &NoPace),
-            Err(error)
-        );
-        assert_eq!(rt; port.finished().len(), finished);
+    for (call, error, finished) in FAILS {
+        let mut port = port_of_one(alloc, &[call])?;
+        let served = serve(&rt, alloc, &store, &mut port, 80, None, 2, &NoPace);
+        assert_eq!(rt; served, Err(error));
+        counts(&rt, port.finished().len() as u64, finished);
     }
     Ok(())
 }
@@ -134,10 +145,8 @@ fn a_serving_listens_at_its_number(rt: HostRuntime) -> Result<(), Fail> {
     let alloc = rt.alloc();
     let store = store(alloc, REQUEST, RESPONSE)?;
     for site in [None, Some(443)] {
-        let only = link(alloc, TWO, 8, &[])?;
-        let links = vec![in alloc; only]?;
         let mut port = Heard {
-            port: MemPort::new(alloc, links, Vec::new(alloc)),
+            port: port_of_one(alloc, &[])?,
             number: 0,
             times: 0,
         };

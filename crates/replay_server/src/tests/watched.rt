@@ -1,7 +1,7 @@
 // What a session does beside its bytes: the turns of its pace, and the close of its output.
 ghost use Rattle.mm_base.specs.MemLink.{mem_link_view};
 
-use super::{REQUEST, RESPONSE, TWO, link, store};
+use super::{REQUEST, RESPONSE, TWO, ends_as, link, store};
 use crate::{ConnEnd, serve_conn};
 use mm_base::{EndError, Link, MemLink, Pace, Role};
 use std::sync::Wait;
@@ -129,10 +129,8 @@ fn each_read_has_its_turn_and_each_end_closes_the_output(rt: HostRuntime) -> Res
     for (input, fails, end, reads) in ENDS {
         let turns = Turns::new();
         let mut watched = Watched::new(link(alloc, input, 1, &[fails])?, &turns);
-        assert_eq!(rt;
-            serve_conn(&rt, alloc, &store, &mut watched, None, NUMBER, &turns),
-            end
-        );
+        let ended = serve_conn(&rt, alloc, &store, &mut watched, None, NUMBER, &turns);
+        ends_as(&rt, ended, end);
         assert!(rt; watched.is_well(), "at {input}");
         assert_eq!(rt; turns.counts(), (reads, 1, 0));
     }
