@@ -222,8 +222,8 @@ const TWO: &str = "GET / HTTP/1.1\r\nHost: a\r\n\r\nGET /x HTTP/1.1\r\nHost: a\r
 const TWO_ANSWERS: &str =
     "HTTP/1.1 200 OK\r\nContent-Length: 2\r\n\r\nhiHTTP/1.1 404 Not Found\r\nContent-Length: 0\r\n\r\n";
 
-/// Whether a session fails where that call of its link fails. What the link was given is a front of the answers, and all
-/// of them where it didn't fail.
+/// Whether a session fails where that call of its link fails. What the link was given is a front of the answers, and
+/// all of them where it didn't fail.
 fn fails_at<R: Wait + Abort>(
     rt: &R,
     alloc: Global,

@@ -34,6 +34,11 @@ fn chosen(
     }
 }
 
+/// A place is what it should be. A comparison of its own keeps the proofs of the tests small.
+fn is_place(rt: &impl Abort, place: Option<usize>, wanted: Option<usize>) {
+    assert_eq!(rt; place, wanted);
+}
+
 /// A request, the port that it comes at, and the place of the record that answers it.
 type Row = (&'static [u8], Option<u16>, Option<usize>);
 
@@ -41,7 +46,7 @@ type Row = (&'static [u8], Option<u16>, Option<usize>);
 fn answers_as(rt: &impl Abort, alloc: Global, records: &Store, rows: &[Row]) -> Result<(), Fail> {
     for (text, port, place) in rows {
         let asked = request(alloc, text)?;
-        assert_eq!(rt; chosen(alloc, records, &asked, *port)?, *place);
+        is_place(rt, chosen(alloc, records, &asked, *port)?, *place);
     }
     Ok(())
 }
@@ -141,7 +146,7 @@ fn a_long_query_among_many(rt: HostRuntime) -> Result<(), Fail> {
     let alloc = rt.alloc();
     let records = long_records(alloc)?;
     let asked = request(alloc, long_request(alloc, b"b")?.as_slice())?;
-    assert_eq!(rt; chosen(alloc, &records, &asked, None)?, Some(1));
+    is_place(&rt, chosen(alloc, &records, &asked, None)?, Some(1));
     answers_as(&rt, alloc, &records, &NOT_LONG)
 }
 
@@ -171,7 +176,7 @@ fn an_index_of_many_records(rt: HostRuntime) -> Result<(), Fail> {
     let records = shuffled(alloc, 2_000)?;
     for (number, place) in PLACES {
         let asked = request(alloc, numbered(alloc, number)?.as_bytes())?;
-        assert_eq!(rt; chosen(alloc, &records, &asked, None)?, Some(place));
+        is_place(&rt, chosen(alloc, &records, &asked, None)?, Some(place));
     }
     Ok(())
 }
