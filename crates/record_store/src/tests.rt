@@ -2,6 +2,7 @@
 use crate::{Store, StorePieces, pair, print_store, read_store};
 use mm_base::Bytes;
 use std::alloc::Global;
+use std::process::Abort;
 use std::test::Fail;
 
 const CLIENT: &[u8] = b"GET / HTTP/1.1\r\nHost: a\r\n\r\n";
@@ -10,6 +11,21 @@ const SERVER: &[u8] = b"HTTP/1.1 200 OK\r\nContent-Length: 2\r\n\r\nhi";
 
 const INTERIM: &[u8] =
     b"HTTP/1.1 100 Continue\r\n\r\nHTTP/1.1 200 OK\r\nContent-Length: 2\r\n\r\nhi";
+
+/// A text is what it should be. A comparison of its own keeps the proofs of the tests small.
+fn is_text(rt: &impl Abort, text: &[u8], wanted: &[u8]) {
+    assert_eq!(rt; text, wanted);
+}
+
+/// A count is what it should be.
+fn is_count(rt: &impl Abort, count: usize, wanted: usize) {
+    assert_eq!(rt; count, wanted);
+}
+
+/// An answer is what it should be.
+fn is_answer(rt: &impl Abort, answer: (u32, u64), wanted: (u32, u64)) {
+    assert_eq!(rt; answer, wanted);
+}
 
 /// The bytes of the one response, or the number of the error and its request.
 fn row(alloc: Global, client: &[u8], server: &[u8]) -> (u32, u64) {
@@ -37,7 +53,7 @@ const PAIRS: [(&[u8], &[u8], (u32, u64)); 8] = [
 #[test]
 fn pairs_of_one_request(rt: HostRuntime) -> Result<(), Fail> {
     for (client, server, answer) in &PAIRS {
-        assert_eq!(rt; row(rt.alloc(), client, server), *answer);
+        is_answer(&rt, row(rt.alloc(), client, server), *answer);
     }
     Ok(())
 }
@@ -73,12 +89,12 @@ fn prints_and_reads(rt: HostRuntime) -> Result<(), Fail> {
     let store = pair(alloc, CLIENT, SERVER, 0)?;
     crosses(&store);
     let text = print_store(alloc, &store)?;
-    assert_eq!(rt; text.as_slice(), PRINTED);
-    assert_eq!(rt; text.len(), 98);
-    assert_eq!(rt; reprinted(alloc, PRINTED)?.as_slice(), PRINTED);
-    assert_eq!(rt; reprinted(alloc, OLD)?.as_slice(), PRINTED);
+    is_text(&rt, text.as_slice(), PRINTED);
+    is_count(&rt, text.len(), 98);
+    is_text(&rt, reprinted(alloc, PRINTED)?.as_slice(), PRINTED);
+    is_text(&rt, reprinted(alloc, OLD)?.as_slice(), PRINTED);
     let empty = print_store(alloc, &Store::new(alloc))?;
-    assert_eq!(rt; empty.as_slice(), EMPTY);
+    is_text(&rt, empty.as_slice(), EMPTY);
     Ok(())
 }
 
@@ -102,10 +118,10 @@ const TEXTS: [(&[u8], (u32, u64)); 13] = [
 #[test]
 fn refusals_of_texts(rt: HostRuntime) -> Result<(), Fail> {
     for (text, answer) in &TEXTS {
-        assert_eq!(rt; refusal(rt.alloc(), text), *answer);
+        is_answer(&rt, refusal(rt.alloc(), text), *answer);
     }
     let (front, _) = OLD.split_at(OLD.len().min(90));
-    assert_eq!(rt; refusal(rt.alloc(), front), (3, 10));
+    is_answer(&rt, refusal(rt.alloc(), front), (3, 10));
     Ok(())
 }
 
@@ -150,12 +166,12 @@ fn a_hundred(alloc: Global) -> Result<Store, Fail> {
 fn a_hundred_records(rt: HostRuntime) -> Result<(), Fail> {
     let alloc = rt.alloc();
     let store = a_hundred(alloc)?;
-    assert_eq!(rt; store.records().len(), 100);
+    is_count(&rt, store.records().len(), 100);
     let text = print_store(alloc, &store)?;
-    assert_eq!(rt; text.len(), 10 + 100 * (23 + 27 + 1041 + 1));
+    is_count(&rt, text.len(), 10 + 100 * (23 + 27 + 1041 + 1));
     let again = read_store(alloc, text.as_slice())?;
-    assert_eq!(rt; in_pieces(alloc, &again)?.as_slice(), text.as_slice());
+    is_text(&rt, in_pieces(alloc, &again)?.as_slice(), text.as_slice());
     let none = in_pieces(alloc, &Store::new(alloc))?;
-    assert_eq!(rt; none.as_slice(), EMPTY);
+    is_text(&rt, none.as_slice(), EMPTY);
     Ok(())
 }
