@@ -8,6 +8,7 @@ use std::fs;
 use std::io::{self, ErrorKind, Read, Write};
 use std::marker::{Send, Sync};
 use std::os::fd::AsRawFd;
+use std::process::Abort;
 use std::test::Fail;
 
 fn is_shared<T: Send + Sync>(_: &T) {}
@@ -44,9 +45,7 @@ fn numbers(alloc: Global, count: u64) -> Result<Vec<Number>, OutOfMemory> {
     Ok(numbers)
 }
 
-#[test]
-fn bytes_and_texts_grow_and_go_between_threads(rt: HostRuntime) -> Result<(), Fail> {
-    let alloc = rt.alloc();
+fn bytes_grow(rt: &impl Abort, alloc: Global) -> Result<(), Fail> {
     let mut bytes = Bytes::with_capacity(alloc, 2)?;
     bytes.push(b'a')?;
     bytes.reserve(3)?;
@@ -56,27 +55,35 @@ fn bytes_and_texts_grow_and_go_between_threads(rt: HostRuntime) -> Result<(), Fa
     is_shared(&bytes);
     bytes.clear();
     assert!(rt; bytes.is_empty());
-    let text = Text::from_text(alloc, "name")?;
+    Ok(())
+}
+
+#[test]
+fn bytes_and_texts_grow_and_go_between_threads(rt: HostRuntime) -> Result<(), Fail> {
+    bytes_grow(&rt, rt.alloc())?;
+    let text = Text::from_text(rt.alloc(), "name")?;
     assert_eq!(rt; text.clone()?, text);
     assert_eq!(rt; text.len(), 4);
     is_shared(&text);
     Ok(())
 }
 
+// A text, and the number that it is read as, canonical or not.
+static READ: [(&str, Option<u64>, Option<u64>); 9] = [
+    ("0", Some(0), Some(0)),
+    ("00", Some(0), None),
+    ("05", Some(5), None),
+    ("10", Some(10), Some(10)),
+    ("9999999999", Some(9999999999), Some(9999999999)),
+    ("00000000001", None, None),
+    ("", None, None),
+    ("+1", None, None),
+    ("1 ", None, None),
+];
+
 #[test]
 fn numbers_are_read_and_written(rt: HostRuntime) -> Result<(), Fail> {
-    let rows: [(&str, Option<u64>, Option<u64>); 9] = [
-        ("0", Some(0), Some(0)),
-        ("00", Some(0), None),
-        ("05", Some(5), None),
-        ("10", Some(10), Some(10)),
-        ("9999999999", Some(9999999999), Some(9999999999)),
-        ("00000000001", None, None),
-        ("", None, None),
-        ("+1", None, None),
-        ("1 ", None, None),
-    ];
-    for (text, decimal, canonical) in rows {
+    for &(text, decimal, canonical) in &READ {
         assert_eq!(rt; read_decimal(text.as_bytes()), decimal, "of {text}");
         assert_eq!(rt; read_canonical(text.as_bytes()), canonical, "of {text}");
     }
@@ -87,60 +94,94 @@ fn numbers_are_read_and_written(rt: HostRuntime) -> Result<(), Fail> {
     Ok(())
 }
 
+// The lines of a text are these.
+fn has_lines(rt: &impl Abort, text: &[u8], said: &[&[u8]]) {
+    let mut lines = Lines::new(text);
+    for line in said {
+        assert_eq!(rt; lines.next(), Some(*line));
+    }
+    assert_eq!(rt; lines.next(), None);
+}
+
 #[test]
 fn a_text_is_cut_at_each_line_feed(rt: HostRuntime) {
-    let mut lines = Lines::new(b"a\r\n\nb");
-    assert_eq!(rt; lines.next(), Some(b"a\r".as_slice()));
-    assert_eq!(rt; lines.next(), Some(b"".as_slice()));
-    assert_eq!(rt; lines.next(), Some(b"b".as_slice()));
-    assert_eq!(rt; lines.next(), None);
-    assert_eq!(rt; Lines::new(b"").next(), None);
+    has_lines(&rt, b"a\r\n\nb", &[b"a\r", b"", b"b"]);
+    has_lines(&rt, b"", &[]);
     assert_eq!(rt; Lines::new(b"a\n").count(), 1);
+}
+
+// Four calls, of which the second and the last fail.
+fn fails_twice(rt: &impl Abort, disk: &mut MemDisk) {
+    assert_eq!(rt; disk.size("s"), Ok(3));
+    assert_eq!(rt; disk.size("s"), Err(DiskError::Failed));
+    assert_eq!(rt; disk.size("t"), Err(DiskError::Absent));
+    assert_eq!(rt; disk.append("t", b"x"), Err(DiskError::Failed));
+}
+
+// A read of two bytes at most brings these.
+fn reads(rt: &impl Abort, disk: &mut MemDisk, at: u64, said: &[u8]) {
+    let mut buf = [0u8; 2];
+    assert_eq!(rt; disk.read_at("s", at, &mut buf), Ok(said.len()));
+    assert!(rt; buf.starts_with(said));
 }
 
 #[test]
 fn a_disk_in_memory_fails_by_its_list(rt: HostRuntime) -> Result<(), Fail> {
     let mut disk = disk_with(rt.alloc(), "s", b"abc", &[2, 4])?;
-    let mut buf = [0u8; 2];
-    assert_eq!(rt; disk.size("s"), Ok(3));
-    assert_eq!(rt; disk.size("s"), Err(DiskError::Failed));
-    assert_eq!(rt; disk.size("t"), Err(DiskError::Absent));
-    assert_eq!(rt; disk.append("t", b"x"), Err(DiskError::Failed));
-    assert_eq!(rt; disk.read_at("s", 1, &mut buf), Ok(2));
-    assert_eq!(rt; buf, *b"bc");
-    assert_eq!(rt; disk.read_at("s", 3, &mut buf), Ok(0));
+    fails_twice(&rt, &mut disk);
+    reads(&rt, &mut disk, 1, b"bc");
+    reads(&rt, &mut disk, 3, b"");
     assert_eq!(rt; disk.append("t", b"x"), Ok(1));
-    assert_eq!(rt; disk.file("t").ok_or("no t")?, b"x".as_slice());
+    assert_eq!(rt; disk.file("t"), Some(b"x".as_slice()));
     assert_eq!(rt; disk.create("s"), Ok(()));
-    assert_eq!(rt; disk.file("s").ok_or("no s")?, b"".as_slice());
+    assert_eq!(rt; disk.file("s"), Some(b"".as_slice()));
     assert!(rt; disk.file("u").is_none());
     Ok(())
 }
 
+// Whether a file of at most so many bytes is loaded so.
+fn loads<D: Disk>(
+    alloc: Global,
+    disk: &mut D,
+    name: &str,
+    most: u64,
+    said: Result<&[u8], LoadError>,
+) -> bool {
+    match load(alloc, disk, name, most) {
+        Ok(bytes) => said == Ok(bytes.as_slice()),
+        Err(error) => said == Err(error),
+    }
+}
+
+// Saves the file `f`, which then holds these bytes.
+fn saves(
+    rt: &impl Abort,
+    disk: &mut MemDisk,
+    bytes: &[u8],
+    said: Result<(), DiskError>,
+    held: &[u8],
+) {
+    assert_eq!(rt; save(disk, "f", bytes), said);
+    assert_eq!(rt; disk.file("f"), Some(held));
+}
+
+// A name, how many bytes are loaded at most, and what comes of it.
+static LOADS: [(&str, u64, Result<&[u8], LoadError>); 4] = [
+    ("s", 3, Ok(b"abc")),
+    ("s", 2, Err(LoadError::TooLong { size: 3 })),
+    ("t", 3, Err(LoadError::Absent)),
+    ("s", 3, Err(LoadError::Failed)),
+];
+
 #[test]
 fn files_are_loaded_and_saved_whole(rt: HostRuntime) -> Result<(), Fail> {
-    let alloc = rt.alloc();
-    let mut disk = disk_with(alloc, "s", b"abc", &[5, 9])?;
-    assert_eq!(rt;
-        load(alloc, &mut disk, "s", 3)?.as_slice(),
-        b"abc".as_slice()
-    );
-    assert_eq!(rt;
-        load(alloc, &mut disk, "s", 2).err(),
-        Some(LoadError::TooLong { size: 3 })
-    );
-    assert_eq!(rt;
-        load(alloc, &mut disk, "t", 3).err(),
-        Some(LoadError::Absent)
-    );
-    assert_eq!(rt;
-        load(alloc, &mut disk, "s", 3).err(),
-        Some(LoadError::Failed)
-    );
-    assert_eq!(rt; save(&mut disk, "f", b"12"), Ok(()));
-    assert_eq!(rt; disk.file("f").ok_or("no f")?, b"12".as_slice());
-    assert_eq!(rt; save(&mut disk, "f", b"34"), Err(DiskError::Failed));
-    assert_eq!(rt; disk.file("f").ok_or("no f")?, b"".as_slice());
+    let mut disk = disk_with(rt.alloc(), "s", b"abc", &[5, 9])?;
+    for &(name, most, said) in &LOADS {
+        let is_loaded = loads(rt.alloc(), &mut disk, name, most, said);
+        assert!(rt; is_loaded, "of {name} up to {most}");
+    }
+    saves(&rt, &mut disk, b"12", Ok(()), b"12");
+    saves(&rt, &mut disk, b"34", Err(DiskError::Failed), b"");
     Ok(())
 }
 
@@ -170,22 +211,32 @@ fn items_are_printed_line_by_line(rt: HostRuntime) -> Result<(), Fail> {
     Ok(())
 }
 
+// What the file `f` holds when these lines were to be saved in it.
+fn saved<'a>(
+    alloc: Global,
+    disk: &'a mut MemDisk,
+    items: &[Number],
+    said: Result<(), DiskError>,
+) -> Option<&'a [u8]> {
+    if save_lines(alloc, disk, "f", b"#\n", items) == said {
+        disk.file("f")
+    } else {
+        None
+    }
+}
+
 // A text of 67,202 bytes: the first line, 2048 lines and the others are written one after another.
 #[test]
 fn lines_are_saved_in_pieces(rt: HostRuntime) -> Result<(), Fail> {
     let alloc = rt.alloc();
     let items = numbers(alloc, 3200)?;
     let text = print_lines(alloc, b"#\n", items.as_slice())?;
-    let mut disk = disk_with(alloc, "f", b"before", &[8])?;
-    let saved = save_lines(alloc, &mut disk, "f", b"#\n", items.as_slice());
-    assert_eq!(rt; saved, Ok(()));
-    assert_eq!(rt; disk.file("f").ok_or("no f")?, text.as_slice());
     assert_eq!(rt; text.len(), 67202);
-    let saved = save_lines(alloc, &mut disk, "f", b"#\n", items.as_slice());
-    assert_eq!(rt; saved, Err(DiskError::Failed));
-    let front = disk.file("f").ok_or("no f")?;
-    assert_eq!(rt; front.len(), 43010);
-    assert!(rt; text.as_slice().starts_with(front));
+    let mut disk = disk_with(alloc, "f", b"before", &[8])?;
+    let whole = saved(alloc, &mut disk, items.as_slice(), Ok(()));
+    assert_eq!(rt; whole, Some(text.as_slice()));
+    let front = saved(alloc, &mut disk, items.as_slice(), Err(DiskError::Failed));
+    assert_eq!(rt; front, text.as_slice().get(..43010));
     Ok(())
 }
 
@@ -198,11 +249,9 @@ fn lines_are_appended_in_pieces(rt: HostRuntime) -> Result<(), Fail> {
     let mut disk = disk_with(alloc, "f", b"#\n", &[4])?;
     let mut lines = LineBuffer::new(alloc)?;
     let none = append_lines::<MemDisk, Number>(&mut disk, "g", &mut lines, &[]);
-    assert_eq!(rt; none, Ok(()));
-    assert_eq!(rt; disk.file("g"), None);
+    assert_eq!(rt; (none, disk.file("g")), (Ok(()), None));
     let added = append_lines(&mut disk, "f", &mut lines, items.as_slice());
-    assert_eq!(rt; added, Ok(()));
-    assert_eq!(rt; disk.file("f").ok_or("no f")?, text.as_slice());
+    assert_eq!(rt; (added, disk.file("f")), (Ok(()), Some(text.as_slice())));
     let added = append_lines(&mut disk, "g", &mut lines, items.as_slice());
     assert_eq!(rt; added, Err(DiskError::Failed));
     assert_eq!(rt; disk.file("g").ok_or("no g")?.len(), 43008);
@@ -261,6 +310,18 @@ impl Read for Halting {
     }
 }
 
+// What is called again until its third call, which isn't interrupted.
+fn third_call() -> io::Result<&'static str> {
+    let calls = Cell::new(0u8);
+    call_again(|| {
+        calls.set(calls.get().wrapping_add(1));
+        match calls.get() {
+            3 => Ok("third"),
+            _ => Err(io::Error::from(ErrorKind::Interrupted)),
+        }
+    })
+}
+
 #[test]
 fn calls_that_are_interrupted_are_made_again(rt: HostRuntime) -> Result<(), Fail> {
     let mut halting = Halting {
@@ -269,16 +330,14 @@ fn calls_that_are_interrupted_are_made_again(rt: HostRuntime) -> Result<(), Fail
     };
     let mut buf = [0u8; 4];
     assert_eq!(rt; read_once(&mut halting, &mut buf)?, 2);
-    let calls = Cell::new(0u8);
-    let answer = call_again(|| {
-        calls.set(calls.get().wrapping_add(1));
-        match calls.get() {
-            3 => Ok("third"),
-            _ => Err(io::Error::from(ErrorKind::Interrupted)),
-        }
-    });
-    assert_eq!(rt; answer?, "third");
+    assert_eq!(rt; third_call()?, "third");
     Ok(())
+}
+
+fn writes_on(rt: &impl Abort, writer: &mut Halting) {
+    let mut sink = StdSink::new(writer);
+    assert_eq!(rt; sink.write(b"cde"), Ok(2));
+    assert_eq!(rt; send_all(&mut sink, b"efg"), Ok(()));
 }
 
 #[test]
@@ -288,11 +347,7 @@ fn what_a_writer_took_is_answered(rt: HostRuntime) -> Result<(), Fail> {
         interrupts: true,
     };
     assert_eq!(rt; write_once(&mut writer, b"abc")?, 2);
-    {
-        let mut sink = StdSink::new(&mut writer);
-        assert_eq!(rt; sink.write(b"cde"), Ok(2));
-        assert_eq!(rt; send_all(&mut sink, b"efg"), Ok(()));
-    }
+    writes_on(&rt, &mut writer);
     assert_eq!(rt; writer.taken.as_slice(), b"abcdefg".as_slice());
     let mut full = [0u8; 2];
     let mut sink = StdSink::new(full.as_mut_slice());
@@ -306,18 +361,17 @@ fn real_files_are_saved_and_loaded(rt: HostRuntime) -> Result<(), Fail> {
     let mut disk = FileDisk::new(rt.clone()?);
     assert_eq!(rt; save(&mut disk, "mm_base_test_file", b"held\n"), Ok(()));
     assert_eq!(rt; disk.append("mm_base_test_file", b"more\n"), Ok(5));
-    assert_eq!(rt;
-        load(alloc, &mut disk, "mm_base_test_file", 10)?.as_slice(),
-        b"held\nmore\n".as_slice()
-    );
+    let held = Ok(b"held\nmore\n".as_slice());
+    assert!(rt; loads(alloc, &mut disk, "mm_base_test_file", 10, held));
     fs::remove_file(&rt, "mm_base_test_file")?;
-    assert_eq!(rt;
-        load(alloc, &mut disk, "mm_base_test_file", 10).err(),
-        Some(LoadError::Absent)
-    );
+    let absent = Err(LoadError::Absent);
+    assert!(rt; loads(alloc, &mut disk, "mm_base_test_file", 10, absent));
     assert_eq!(rt; disk.create(""), Err(DiskError::Failed));
     Ok(())
 }
+
+// Where a file of ten digits is read, and what four bytes at most bring.
+static PLACES: [(u64, &[u8]); 4] = [(0, b"0123"), (4, b"4567"), (8, b"89"), (10, b"")];
 
 #[test]
 fn real_files_are_read_from_any_place_and_made_anew(rt: HostRuntime) -> Result<(), Fail> {
@@ -325,16 +379,12 @@ fn real_files_are_read_from_any_place_and_made_anew(rt: HostRuntime) -> Result<(
     let mut disk = FileDisk::new(rt.clone()?);
     save(&mut disk, name, b"0123456789")?;
     let mut buf = [0u8; 4];
-    let places: [(u64, &[u8]); 4] = [(0, b"0123"), (4, b"4567"), (8, b"89"), (10, b"")];
-    for (at, bytes) in places {
+    for &(at, bytes) in &PLACES {
         let count = disk.read_at(name, at, &mut buf)?;
         assert!(rt; buf.starts_with(bytes) && count == bytes.len(), "from {at}");
     }
     save(&mut disk, name, b"ab")?;
-    assert_eq!(rt;
-        load(rt.alloc(), &mut disk, name, 10)?.as_slice(),
-        b"ab".as_slice()
-    );
+    assert!(rt; loads(rt.alloc(), &mut disk, name, 10, Ok(b"ab")));
     fs::remove_file(&rt, name)?;
     Ok(())
 }
