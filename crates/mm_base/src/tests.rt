@@ -125,6 +125,10 @@ fn reads(rt: &impl Abort, disk: &mut MemDisk, at: u64, said: &[u8]) {
     assert!(rt; buf.starts_with(said));
 }
 
+fn holds(rt: &impl Abort, disk: &MemDisk, name: &str, said: &[u8]) {
+    assert_eq!(rt; disk.file(name), Some(said));
+}
+
 #[test]
 fn a_disk_in_memory_fails_by_its_list(rt: HostRuntime) -> Result<(), Fail> {
     let mut disk = disk_with(rt.alloc(), "s", b"abc", &[2, 4])?;
@@ -132,9 +136,9 @@ fn a_disk_in_memory_fails_by_its_list(rt: HostRuntime) -> Result<(), Fail> {
     reads(&rt, &mut disk, 1, b"bc");
     reads(&rt, &mut disk, 3, b"");
     assert_eq!(rt; disk.append("t", b"x"), Ok(1));
-    assert_eq!(rt; disk.file("t"), Some(b"x".as_slice()));
+    holds(&rt, &disk, "t", b"x");
     assert_eq!(rt; disk.create("s"), Ok(()));
-    assert_eq!(rt; disk.file("s"), Some(b"".as_slice()));
+    holds(&rt, &disk, "s", b"");
     assert!(rt; disk.file("u").is_none());
     Ok(())
 }
@@ -162,7 +166,7 @@ fn saves(
     held: &[u8],
 ) {
     assert_eq!(rt; save(disk, "f", bytes), said);
-    assert_eq!(rt; disk.file("f"), Some(held));
+    holds(rt, disk, "f", held);
 }
 
 // A name, how many bytes are loaded at most, and what comes of it.
@@ -240,6 +244,21 @@ fn lines_are_saved_in_pieces(rt: HostRuntime) -> Result<(), Fail> {
     Ok(())
 }
 
+// What the file holds when these lines were to be added to it.
+fn added<'a>(
+    disk: &'a mut MemDisk,
+    name: &str,
+    lines: &mut LineBuffer,
+    items: &[Number],
+    said: Result<(), DiskError>,
+) -> Option<&'a [u8]> {
+    if append_lines(disk, name, lines, items) == said {
+        disk.file(name)
+    } else {
+        None
+    }
+}
+
 // What is appended has 3200 lines of 21 bytes, in two pieces.
 #[test]
 fn lines_are_appended_in_pieces(rt: HostRuntime) -> Result<(), Fail> {
@@ -249,12 +268,13 @@ fn lines_are_appended_in_pieces(rt: HostRuntime) -> Result<(), Fail> {
     let mut disk = disk_with(alloc, "f", b"#\n", &[4])?;
     let mut lines = LineBuffer::new(alloc)?;
     let none = append_lines::<MemDisk, Number>(&mut disk, "g", &mut lines, &[]);
-    assert_eq!(rt; (none, disk.file("g")), (Ok(()), None));
-    let added = append_lines(&mut disk, "f", &mut lines, items.as_slice());
-    assert_eq!(rt; (added, disk.file("f")), (Ok(()), Some(text.as_slice())));
-    let added = append_lines(&mut disk, "g", &mut lines, items.as_slice());
-    assert_eq!(rt; added, Err(DiskError::Failed));
-    assert_eq!(rt; disk.file("g").ok_or("no g")?.len(), 43008);
+    assert_eq!(rt; none, Ok(()));
+    assert!(rt; disk.file("g").is_none());
+    let whole = added(&mut disk, "f", &mut lines, items.as_slice(), Ok(()));
+    assert_eq!(rt; whole, Some(text.as_slice()));
+    let failed = Err(DiskError::Failed);
+    let front = added(&mut disk, "g", &mut lines, items.as_slice(), failed);
+    assert_eq!(rt; front.ok_or("no g")?.len(), 43008);
     Ok(())
 }
 
