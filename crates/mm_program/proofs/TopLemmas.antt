@@ -1,14 +1,17 @@
 -- Words of every command are refused before any file is read, and what the port counts where a command serves.
-use Rattle.std.proofs.Common.{◌≡◌, ◌≤◌, ◌-◌, List, [], ◌∷◌, length, map, take, drop, get_or, ap, sym, ◌∙◌, arith, Some}
+use Rattle.std.proofs.Common.{◌≡◌, ◌≢◌, ◌≤◌, ◌-◌, List, [], ◌∷◌, length, map, take, drop, get_or, ap, sym, ◌∙◌, arith}
+use Rattle.std.proofs.Common.{Some, refl}
 use Rattle.std.proofs.lemmas.List.{take_rest}
 use Rattle.mm_base.specs.Counts.{Rose}
 use Rattle.mm_base.specs.Link.{LinkView}
 use Rattle.mm_base.specs.Port.{PortView}
 use Rattle.command_ends.specs.Causes.{Text}
-use Rattle.command_ends.proofs.MapLemmas.{first_mapped}
+use Rattle.command_ends.proofs.MapLemmas.{first_mapped, one_end_mapped}
 use Rattle.command_ends.proofs.ReadingLemmas.{HasOneEnd, RefusesWordsFirst, first_one}
 use Rattle.command_make.specs.Make.{make_words}
 use Rattle.command_make.proofs.MakeLemmas.{make_words_first}
+use Rattle.command_merge.specs.MergeReading.{merge_words}
+use Rattle.command_merge.proofs.MergeLemmas.{merge_one}
 use Rattle.command_replay.specs.Replay.{replay_words}
 use Rattle.command_replay.proofs.ReplayLemmas.{replay_words_first}
 use Rattle.command_report.specs.ReportReading.{report_words}
@@ -21,28 +24,43 @@ use Rattle.command_stores.specs.Recording.{record_words}
 use Rattle.command_stores.proofs.FirstLemmas.{match_words_first, migrate_words_first, record_words_first}
 use Rattle.mm_program.specs.Commands.{command_of, command_reading, named_command, reading_of}
 use Rattle.mm_program.specs.Tasks.{Task, ToRun, ToReport, ToMake, ToReplay, ToRecord, ToMatch, ToMigrate, work}
+use Rattle.mm_program.specs.Tasks.{ToMerge}
 use Rattle.mm_program.specs.declared.command.Command.{Command}
 use Rattle.mm_program.specs.declared.command.Command.TheVariants.{Run, Report, Make, Replay, Record, Match, Migrate}
-use Rattle.mm_program.specs.declared.command.Command.TheVariants.{Unknown}
+use Rattle.mm_program.specs.declared.command.Command.TheVariants.{Merge, Unknown}
 
-command_first : (command : Command) (words : List Text) → RefusesWordsFirst (command_reading command words)
-command_first Run words = first_mapped ToRun (run_words words) (run_words_first words)
-command_first Report words = first_mapped ToReport (report_words words) (report_words_first words)
-command_first Make words = first_mapped ToMake (make_words words) (make_words_first words)
-command_first Record words = first_mapped ToRecord (record_words words) (record_words_first words)
-command_first Match words = first_mapped ToMatch (match_words words) (match_words_first words)
-command_first Migrate words = first_mapped ToMigrate (migrate_words words) (migrate_words_first words)
-command_first Replay words = first_mapped ToReplay (replay_words words) (replay_words_first words)
-command_first Unknown words = tt
+command_first : (command : Command) (words : List Text) → command ≢ Merge
+    → RefusesWordsFirst (command_reading command words)
+command_first Run words other = first_mapped ToRun (run_words words) (run_words_first words)
+command_first Report words other = first_mapped ToReport (report_words words) (report_words_first words)
+command_first Make words other = first_mapped ToMake (make_words words) (make_words_first words)
+command_first Record words other = first_mapped ToRecord (record_words words) (record_words_first words)
+command_first Match words other = first_mapped ToMatch (match_words words) (match_words_first words)
+command_first Migrate words other = first_mapped ToMigrate (migrate_words words) (migrate_words_first words)
+command_first Replay words other = first_mapped ToReplay (replay_words words) (replay_words_first words)
+command_first Merge words other = absurd (other refl)
+command_first Unknown words other = tt
 
--- words are refused only before any file is read
-pub reading_first : (words : List Text) → RefusesWordsFirst (reading_of words)
-reading_first [] = tt
-reading_first (word ∷ words) = command_first (command_of word) words
+-- words are refused only before any file is read, but by `merge`
+pub reading_first : (words : List Text) → named_command words ≢ Some Merge → RefusesWordsFirst (reading_of words)
+reading_first [] other = tt
+reading_first (word ∷ words) other = command_first (command_of word) words (λ is. other (ap Some is))
+
+command_one : (command : Command) (words : List Text) → HasOneEnd (command_reading command words)
+command_one Run words = first_one _ (command_first Run words (λ is. cc is))
+command_one Report words = first_one _ (command_first Report words (λ is. cc is))
+command_one Make words = first_one _ (command_first Make words (λ is. cc is))
+command_one Record words = first_one _ (command_first Record words (λ is. cc is))
+command_one Match words = first_one _ (command_first Match words (λ is. cc is))
+command_one Migrate words = first_one _ (command_first Migrate words (λ is. cc is))
+command_one Replay words = first_one _ (command_first Replay words (λ is. cc is))
+command_one Merge words = one_end_mapped ToMerge (merge_words words) (merge_one words)
+command_one Unknown words = tt
 
 -- and files that are told lead to one end
 pub reading_one : (words : List Text) → HasOneEnd (reading_of words)
-reading_one words = first_one (reading_of words) (reading_first words)
+reading_one [] = tt
+reading_one (word ∷ words) = command_one (command_of word) words
 
 -- a fault of the net is one that the port counted
 pub port_rose : {C : Type 0} (view : C → LinkView) (task : Task) (old new : PortView C)
@@ -55,6 +73,7 @@ port_rose view (ToReplay task) old new rose = rose
 port_rose view (ToRecord task) old new never = absurd never
 port_rose view (ToMatch task) old new never = absurd never
 port_rose view (ToMigrate task) old new never = absurd never
+port_rose view (ToMerge task) old new never = absurd never
 
 split_words : {S : Type 0} (f : S → Text) (all : List S) (first : S) → 1 ≤ length all → first ≡ get_or all 0 first
     → map f all ≡ f first ∷ map f (take (length all - 1) (drop 1 all))

@@ -4,6 +4,7 @@ use Rattle.mm_base.specs.Link.{LinkView}
 use Rattle.mm_base.specs.Port.{PortView}
 use Rattle.command_ends.specs.Works.{Work, only}
 use Rattle.command_make.specs.Make.{MakeJob, GivesMake}
+use Rattle.command_merge.specs.Merge.{MergeTask, GivesMerge}
 use Rattle.command_replay.specs.Replay.{ReplayTask, serve_work}
 use Rattle.command_report.specs.Report.{GivesReport}
 use Rattle.command_run.specs.Run.{RunTask, GivesRun}
@@ -20,6 +21,7 @@ pub data Task : Type 0 where
   ToRecord : RecordTask → Task
   ToMatch : MatchTask → Task
   ToMigrate : MigrateTask → Task
+  ToMerge : MergeTask → Task
 
 -- The net is a port, of whose connections this is seen.
 abbrev pub work : {C : Type 0} → (C → LinkView) → Task → Work (PortView C)
@@ -29,4 +31,5 @@ work view (ToMake job) = only GivesMake job
 work view (ToRecord task) = only GivesRecord task
 work view (ToMatch task) = only GivesMatch task
 work view (ToMigrate task) = only GivesMigrate task
+work view (ToMerge task) = only GivesMerge task
 work view (ToReplay task) = serve_work view task

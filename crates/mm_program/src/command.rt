@@ -12,6 +12,7 @@ pub(crate) enum Command {
     Match,
     Migrate,
     Replay,
+    Merge,
     Unknown,
 }
 
@@ -28,6 +29,7 @@ pub(crate) fn read_command(word: &str) -> Command
         "record" => Command::Record,
         "match" => Command::Match,
         "migrate" => Command::Migrate,
+        "merge" => Command::Merge,
         _ => Command::Unknown,
     }
 }

@@ -8,12 +8,14 @@ use std::test::Fail;
 use std::thread::Threads;
 use test_outside::{ABSENT, TestOutside, words_of};
 
-// The files that are there: a trace, a schedule whose packet is too long, another, and a log of one entry.
-const FILES: [(&str, &str); 4] = [
+// The files that are there: a trace, a schedule whose packet is too long, another, a log of one entry, and a list of
+// two senders.
+const FILES: [(&str, &str); 5] = [
     ("t", "1\n"),
     ("x", "0 up 1505\n"),
     ("s", "5 up 100\n"),
     ("l", "# base timestamp: 0\n7 + 40\n"),
+    ("m", "s\ns\n"),
 ];
 
 // Whether these words, over an `out` whose call of this number fails, have this status, and leave this on `out` and
@@ -62,6 +64,20 @@ fn each_command_does_its_job(rt: HostRuntime) -> Result<(), Fail> {
             "",
             "1 up departed 25\n",
         ),
+        (
+            "merge --until 100 --senders m --out f -- mm-delay 20",
+            0,
+            0,
+            "",
+            "1 1 up departed 25\n2 1 up departed 25\n",
+        ),
+        (
+            "merge --until 100 --senders m --out s -- mm-delay 20",
+            0,
+            2,
+            "mm: name s\n",
+            ABSENT,
+        ),
         ("report --log l", 0, 0, report, ABSENT),
         ("report --log l", 1, 7, "", ABSENT),
         ("make --number 1 --packets 3", 0, 0, summary, ABSENT),
@@ -69,7 +85,7 @@ fn each_command_does_its_job(rt: HostRuntime) -> Result<(), Fail> {
         ("", 0, 2, "mm: usage\n", ABSENT),
         ("--help", 0, 2, "mm: usage\n", ABSENT),
         ("makes --number 1 --packets 3", 0, 2, "mm: usage\n", ABSENT),
-        ("report --log m", 0, 3, "mm: absent m\n", ABSENT),
+        ("report --log n", 0, 3, "mm: absent n\n", ABSENT),
         (
             "run --until 3600001 --schedule s --out f -- mm-delay 20",
             0,

@@ -17,6 +17,7 @@ ghost use Rattle.mm_program.specs.Tasks.{Task, work};
 use crate::command::{Command, read_command};
 use command_ends::{Cause, conclude};
 use command_make::answer_make;
+use command_merge::answer_merge;
 use command_replay::answer_replay;
 use command_report::answer_report;
 use command_run::answer_run;
@@ -57,6 +58,7 @@ fn answer<R: Threads + Wait + Sync, D: Disk, O: Sink, P: Port, Q: Pace + Sync>(
         Command::Record => answer_record(alloc, words, disk),
         Command::Match => answer_match(alloc, words, disk, out),
         Command::Migrate => answer_migrate(alloc, words, disk),
+        Command::Merge => answer_merge(rt, alloc, words, disk, pace),
         Command::Unknown => Err(Cause::usage()),
     }
 }
@@ -65,16 +67,19 @@ fn answer<R: Threads + Wait + Sync, D: Disk, O: Sink, P: Port, Q: Pace + Sync>(
 ///
 /// `run --until MS --schedule FILE --out FILE [--seed N] [--plain] [--order FILE] -- SHELLS` passes the packets of a
 /// schedule through a nest of 1 to 8 shells up to the horizon `MS` in milliseconds, and writes the logs that the
-/// shells' words name and then the fates of the packets. They pass over threads, with `--plain` shell by shell, and with
-/// `--order` by single steps in the order that the bytes of a file state, whatever they are; the same is written in each
-/// way, and both options together have no job. `report --log FILE`
-/// prints the report of a log, or `empty`. `make --number N --packets COUNT` prints the summary of a run of 1 to
-/// 1,000,000 packets that is made of a number, up to ten digits of it. `record --client FILE --server FILE --out FILE
-/// [--port N]` writes the store of the two byte streams of a connection. `match --store FILE --request FILE [--port N]`
-/// prints the number of the record that answers a request, or `none`. `migrate --store FILE --out FILE` writes a store
-/// in form 2. `replay --store FILE --port N --connections N [--site-port N]` serves a store's responses to 1 to 64
-/// connections at a port of 1 to 65,535, each beside the others, asked at the site's port or else at the one that it
-/// listens at, and prints how the connections ended, as `closed C bad B broken K full F`. Nothing else has a job yet.
+/// shells' words name and then the fates of the packets. They pass over threads, with `--plain` shell by shell, and
+/// with `--order` by single steps in the order that the bytes of a file state, whatever they are; the same is written
+/// in each way, and both options together have no job. `merge --until MS --senders FILE --out FILE [--seed N] --
+/// SHELLS` passes the packets of up to 16 senders through one nest: each line of the file names the schedule of a
+/// sender, each sender has threads of its own, and the fates are written with sender and line, in the order of the
+/// merge: by moment, then sender, then line. `report --log FILE` prints the report of a log, or `empty`. `make --number
+/// N --packets COUNT` prints the summary of a run of 1 to 1,000,000 packets that is made of a number, up to ten digits
+/// of it. `record --client FILE --server FILE --out FILE [--port N]` writes the store of the two byte streams of a
+/// connection. `match --store FILE --request FILE [--port N]` prints the number of the record that answers a request,
+/// or `none`. `migrate --store FILE --out FILE` writes a store in form 2. `replay --store FILE --port N --connections N
+/// [--site-port N]` serves a store's responses to 1 to 64 connections at a port of 1 to 65,535, each beside the others,
+/// asked at the site's port or else at the one that it listens at, and prints how the connections ended, as `closed C
+/// bad B broken K full F`. Nothing else has a job.
 ///
 /// 0: it is done. 2: the words have no job, the shells' words are no nest, or an output has the name of an input or of
 /// an earlier output. 3: an input isn't there. 4: an input doesn't meet its grammar. 5: a limit is passed. 6: reading
@@ -106,10 +111,12 @@ pub fn mm_main<R: Threads + Wait + Sync, D: Disk + Send, O: Sink, P: Port + Send
         (outside (D.view disk.old) (O.view out.old) (P.view port.old))
         (outside (D.view disk.new) (O.view out.new) (P.view port.new)) }
 
-    // 2 comes by the words alone, 3, 6, 7 and 8 only where the disk, `out` or the port counted it. At 2 to 6 and at 8
-    // no file is changed. No other command than `replay` touches the port.
-    ensures usage { result ≡ 2 → ((w : WordsRefusal)
-        × (refused_first (reading_of (map string_bytes words.now)) ≡ Some (Words w))) }
+    // 2 comes by the words alone, but of `merge` also by a name on its list. 3, 6, 7 and 8 only where the disk, `out`
+    // or the port counted it. At 2 to 6 and at 8 no file is changed. No other command than `replay` touches the port.
+    ensures usage { named_command (map string_bytes words.now) ≢ Some Command.Merge → result ≡ 2
+        → ((w : WordsRefusal) × (refused_first (reading_of (map string_bytes words.now)) ≡ Some (Words w))) }
+    ensures words { result ≡ 2 → ((w : WordsRefusal)
+        × Reaches (D.view disk.old).files (reading_of (map string_bytes words.now)) (AtRefusal (Words w))) }
     ensures absent { result ≡ 3 → Rose (D.view disk.old).absences (D.view disk.new).absences }
     ensures read_fault { result ≡ 6 → Rose (D.view disk.old).read_faults (D.view disk.new).read_faults }
     ensures write_fault { result ≡ 7 → Rose (D.view disk.old).write_faults (D.view disk.new).write_faults

@@ -3,6 +3,8 @@ use Rattle.command_ends.specs.Answers.{cause_in}
 use Rattle.command_ends.specs.Ends.{outside}
 use Rattle.command_ends.proofs.MapLemmas.{ends_beside, ends_within}
 use Rattle.command_make.specs.Make.{GivesMake, make_words}
+use Rattle.command_merge.specs.Merge.{GivesMerge}
+use Rattle.command_merge.specs.MergeReading.{merge_words}
 use Rattle.command_replay.specs.Replay.{replay_words, serve_work}
 use Rattle.command_report.specs.Report.{GivesReport}
 use Rattle.command_report.specs.ReportReading.{report_words}
@@ -12,7 +14,9 @@ use Rattle.command_stores.specs.Matching.{GivesMatch, match_words}
 use Rattle.command_stores.specs.Migrating.{GivesMigrate, migrate_words}
 use Rattle.command_stores.specs.Recording.{GivesRecord, record_words}
 use Rattle.mm_program.specs.Tasks.{ToRun, ToReport, ToMake, ToReplay, ToRecord, ToMatch, ToMigrate, work}
+use Rattle.mm_program.specs.Tasks.{ToMerge}
 use Rattle.mm_program.specs.declared.command.Command.TheVariants.{Run, Report, Make, Replay, Record, Match, Migrate}
+use Rattle.mm_program.specs.declared.command.Command.TheVariants.{Merge}
 use Rattle.mm_program.proofs.TopLemmas.{command_named, reading_named}
 use Rattle.mm_program.proofs.top.answer.Goals as goal
 
@@ -28,6 +32,19 @@ returns-in-Run-clause-ends g c =
     (reading_named string_bytes all c.word-item.result c.as_str.result.now Run c.read_command.result
     c.in-len1-up.len_at_least c.word-item.is c.as_str.ensures.value c.in-Run.is c.read_command.ensures)
     (c.answer_run.ensures.ends out)
+
+pub returns-in-Merge-clause-ends : goal.returns-in-Merge-clause-ends
+returns-in-Merge-clause-ends g c =
+    let all = c.args.words.now in
+    let disk = g.D.Disk.view c.args.disk.now in
+    let out = g.O.Sink.view c.args.out.now in
+    ends_beside ToMerge GivesMerge (work g.P.Conn.Link.view)
+    (merge_words (map string_bytes (take (length all - 1) (drop 1 all)))) _ disk
+    (g.D.Disk.view c.answer_merge.new.disk) out out (g.P.Port.view c.args.port.now) (cause_in c.answer_merge.result)
+    (λ task output gives. gives)
+    (reading_named string_bytes all c.word-item.result c.as_str.result.now Merge c.read_command.result
+    c.in-len1-up.len_at_least c.word-item.is c.as_str.ensures.value c.in-Merge.is c.read_command.ensures)
+    (c.answer_merge.ensures.ends out)
 
 pub returns-in-Report-clause-ends : goal.returns-in-Report-clause-ends
 returns-in-Report-clause-ends g c =

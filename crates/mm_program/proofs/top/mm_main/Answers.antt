@@ -27,7 +27,14 @@ returns-clause-usage g c =
     let t = tells (work g.P.Conn.Link.view) _ _ _ _ (g.O.Sink.view c.answer-answer.new.out)
     (g.O.Sink.view c.conclude.new.out)
     (cause_in c.answer-answer.result) c.conclude.result c.answer-answer.ensures.ends c.conclude.ensures in
-    λ two. t.usage two (reading_first (map string_bytes c.args.words.now))
+    λ other two. t.usage two (reading_first (map string_bytes c.args.words.now) other)
+
+pub returns-clause-words : goal.returns-clause-words
+returns-clause-words g c =
+    let t = tells (work g.P.Conn.Link.view) _ _ _ _ (g.O.Sink.view c.answer-answer.new.out)
+    (g.O.Sink.view c.conclude.new.out)
+    (cause_in c.answer-answer.result) c.conclude.result c.answer-answer.ensures.ends c.conclude.ensures in
+    λ two. t.words two
 
 pub returns-clause-net_fault : goal.returns-clause-net_fault
 returns-clause-net_fault g c =

@@ -1,0 +1,5 @@
+pub mod WordLemmas
+pub mod ListLemmas
+pub mod ScheduleLemmas
+pub mod MergeLemmas
+pub mod FileLemmas

@@ -1,0 +1,6 @@
+pub mod List
+pub mod FateLines
+pub mod Merge
+pub mod MergeReading
+pub mod Loaded
+pub mod View

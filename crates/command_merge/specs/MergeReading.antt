@@ -1,0 +1,74 @@
+-- What `merge` reads and refuses, in order.
+use Rattle.std.specs.Prelude.{ℕ, ◌+◌, List, [], ◌∷◌, ◌++◌, Option, Some, None, length, map, nat_lt, if◌then◌else◌}
+use Rattle.mm_base.specs.Lines.{lines_of}
+use Rattle.trace_reader.specs.TraceIn.{trace_in}
+use Rattle.nest_spec.specs.Words.{NestPlan, nest_of}
+use Rattle.command_ends.specs.Causes.{Text}
+use Rattle.command_ends.specs.Names.{refused_names}
+use Rattle.command_ends.specs.Readings.{Reading, Done, asked, reading_text, unless}
+use Rattle.command_ends.specs.declared.cause.Limit.TheVariants.{Packets}
+use Rattle.command_ends.specs.declared.cause.Refusal.{Refusal}
+use Rattle.command_ends.specs.declared.cause.Refusal.TheVariants.{Limit}
+use Rattle.command_run.specs.Inputs.{reading_schedule, reading_traces}
+use Rattle.command_run.specs.RunReading.{refused_count, refused_horizon, with_nest}
+use Rattle.command_merge.specs.List.{list_refusal}
+use Rattle.command_merge.specs.Merge.{MergeJob, MergeTask, merge_of}
+
+-- The outputs are the logs, in the order of the shells, up before down, and the fates.
+abbrev pub output_names : MergeJob → NestPlan → List Text
+output_names job plan = plan.logs ++ job.out ∷ []
+
+-- an output that has the name of a trace, of the list, or of an output before it
+abbrev pub refused_outputs : MergeJob → NestPlan → Option Refusal
+refused_outputs job plan = refused_names (plan.traces ++ job.senders ∷ []) (output_names job plan)
+
+-- an output that has a name on a line of the list
+abbrev pub refused_listed : MergeJob → NestPlan → List ℕ → Option Refusal
+refused_listed job plan list = refused_names (lines_of list) (output_names job plan)
+
+-- the schedules so far have at most 1,000,000 lines in all; this is the name of the last
+unfoldable pub refused_total : Text → ℕ → Option Refusal
+refused_total name lines = if nat_lt 1000000 lines then Some (Limit (Packets name)) else None
+
+-- the file of this name is read, whose text is a schedule, after schedules with so many lines
+abbrev pub reading_next : {A : Type 0} → ℕ → Text → (List ℕ → Reading A) → Reading A
+reading_next before name next =
+    reading_schedule name (λ text. unless (refused_total name (before + length (lines_of text))) (next text))
+
+-- the files of these names are read, each a schedule and read before the next, after so many lines
+abbrev pub reading_schedules : {A : Type 0} → ℕ → List Text → (List (List ℕ) → Reading A) → Reading A
+reading_schedules before [] next = next []
+reading_schedules before (name ∷ names) next =
+    reading_next before name (λ text.
+    reading_schedules (before + length (lines_of text)) names (λ texts. next (text ∷ texts)))
+
+-- the schedules whose names the list has, in its order
+abbrev pub schedule_inputs : MergeJob → NestPlan → List (List ℕ) → List ℕ → Reading MergeTask
+schedule_inputs job plan traces list =
+    reading_schedules 0 (lines_of list) (λ schedules.
+    Done (record { job = job; plan = plan; traces = traces; schedules = schedules }))
+
+-- the list, and what it names
+abbrev pub sender_inputs : MergeJob → NestPlan → List (List ℕ) → Reading MergeTask
+sender_inputs job plan traces =
+    reading_text (list_refusal job.senders) job.senders (λ list.
+    unless (refused_listed job plan list) (
+    schedule_inputs job plan traces list))
+
+-- the traces, in the order of the shells, up before down, the list, and the schedules
+abbrev pub merge_inputs : MergeJob → NestPlan → Reading MergeTask
+merge_inputs job plan =
+    reading_traces plan.traces (λ traces.
+    unless (refused_count job.until plan.shells (map trace_in traces)) (
+    sender_inputs job plan traces))
+
+abbrev pub merge_reading : MergeJob → Reading MergeTask
+merge_reading job =
+    with_nest (nest_of job.shells) (λ plan.
+    unless (refused_outputs job plan) (
+    unless (refused_horizon job.until) (
+    merge_inputs job plan)))
+
+-- the words after `merge`
+abbrev pub merge_words : List Text → Reading MergeTask
+merge_words words = asked (merge_of words) merge_reading

@@ -1,0 +1,66 @@
+// The fates of a merge's packets.
+ghost use Rattle.std.specs.Prelude.{◌≡◌, ◌+◌, ◌<◌, ◌≤◌, ◌++◌, IfOk, decimal, length, map};
+ghost use Rattle.command_merge.specs.FateLines.{line_of, merged_fate_line, sender_of};
+
+use mm_base::{LineBuffer, OutOfMemory, PrintLine};
+use nest_spec::{FateRow, put_fate};
+use std::alloc::Global;
+
+// The fate of a packet that a line of a sender gave, by the packet's number in the merge.
+#[derive(Clone, Copy, Debug, PartialEq, Eq)]
+pub(crate) struct SenderFate(pub FateRow);
+
+impl SenderFate {
+    // The number of the sender, from 1.
+    fn sender(&self) -> u32
+        ensures number { result ≡ sender_of self.now.0.id }
+        ensures few { result ≤ 16 }
+    {
+        self.0.id.saturating_sub(1) % 16 + 1
+    }
+
+    // The line of its schedule, from 1.
+    fn line(&self) -> u32
+        ensures { result ≡ line_of self.now.0.id }
+    {
+        self.0.id.saturating_sub(1) / 16 + 1
+    }
+}
+
+impl PrintLine for SenderFate {
+    ghost line = { λ fate. merged_fate_line fate.0 };
+
+    #[tactic(auto, using(mm_base::proofs::TextLemmas::is_ended_line))]
+    fn put_line(&self, out: &mut LineBuffer) {
+        out.put_byte(b'\n');
+        put_fate(out, self.0.fate);
+        out.put(self.0.direction.between_spaces());
+        out.put_decimal(u64::from(self.line()));
+        out.put_byte(b' ');
+        put_sender(out, self.sender());
+    }
+}
+
+// Puts the number of a sender, of one or two digits, in front.
+fn put_sender(out: &mut LineBuffer, sender: u32)
+    requires short { sender < 100 }
+    requires room { length out.old + 2 ≤ 147456 }
+    ensures bytes { out.new ≡ decimal sender ++ out.old }
+    ensures length { length out.new ≤ length out.old + 2 }
+{
+    out.put_byte(b'0' + (sender % 10) as u8);
+    if sender >= 10 {
+        out.put_byte(b'0' + (sender / 10) as u8);
+    }
+}
+
+// The fates of a merge's packets, in their order.
+pub(crate) fn sender_fates(alloc: Global, fates: &[FateRow]) -> Result<Vec<SenderFate>, OutOfMemory>
+    ensures { IfOk result (λ list. map (λ fate. fate.0) list.items ≡ fates.now) }
+{
+    let mut list = Vec::with_capacity(alloc, fates.len())?;
+    for fate in fates {
+        list.push(SenderFate(*fate))?;
+    }
+    Ok(list)
+}

@@ -1,0 +1,59 @@
+// What `merge` is asked for, by its words.
+ghost use Rattle.std.specs.Prelude.{◌≡◌, IfOk, map, string_bytes};
+ghost use Rattle.std.specs.Option.{option_map};
+ghost use Rattle.option_words.specs.View.{merge_texts_of};
+ghost use Rattle.command_merge.specs.Merge.{merge_numbers, merge_of};
+ghost use Rattle.command_merge.specs.View.{merge_values};
+
+use command_run::end_of_options;
+use mm_base::{OutOfMemory, read_decimal};
+use option_words::{MergeWords, parse_merge};
+use std::alloc::Global;
+
+// The horizon in milliseconds, the name of the list of the senders, that of the fates, the seed, and the words of the
+// shells.
+#[derive(Drop)]
+pub(crate) struct MergeJob<'a> {
+    pub until: u64,
+    pub senders: &'a str,
+    pub out: &'a str,
+    pub seed: u64,
+    pub shells: &'a [String],
+}
+
+// The job of the words after `merge`, if they have one. `OutOfMemory` is want of memory.
+#[tactic(auto, unfolding(crate::specs::Merge::merge_of))]
+pub(crate) fn read_merge<'a>(
+    alloc: Global,
+    words: &'a [String],
+) -> Result<Option<MergeJob<'a>>, OutOfMemory>
+    ensures { IfOk result (λ found. option_map merge_values found ≡ merge_of (map string_bytes words.now)) }
+{
+    let Some(end) = end_of_options(words) else {
+        return Ok(None);
+    };
+    match parse_merge(alloc, &words[..end])? {
+        Some(texts) => Ok(merge_job(texts, &words[end + 1..])),
+        None => Ok(None),
+    }
+}
+
+// The job of the options' values, where the numbers are decimals.
+#[tactic(auto, unfolding(crate::specs::Merge::merge_numbers))]
+fn merge_job<'a>(texts: MergeWords<'a>, shells: &'a [String]) -> Option<MergeJob<'a>>
+    ensures { option_map merge_values result ≡ merge_numbers (map string_bytes shells.now)
+        (merge_texts_of texts.entry) }
+{
+    let until = read_decimal(texts.until.as_bytes())?;
+    let seed = match texts.seed {
+        Some(seed) => read_decimal(seed.as_bytes())?,
+        None => 0,
+    };
+    Some(MergeJob {
+        until,
+        senders: texts.senders,
+        out: texts.out,
+        seed,
+        shells,
+    })
+}

@@ -1,0 +1,114 @@
+// The command `merge`: its words, its inputs, its packets, and the files that it writes.
+ghost use Rattle.std.specs.Prelude.{◌≡◌, ◌≤◌, None, IfErr, IfOk, MatchResult, OnOk, map, string_bytes};
+ghost use Rattle.mm_base.specs.Disk.{DiskView, OnlyReads};
+ghost use Rattle.mm_base.specs.Sink.{SinkView};
+ghost use Rattle.command_ends.specs.Answers.{CountsDisk, cause_in};
+ghost use Rattle.command_ends.specs.Ends.{Ends, FinishesOnly, offline};
+ghost use Rattle.command_ends.specs.Outputs.{writes};
+ghost use Rattle.command_ends.specs.Stops.{ReadsOn, RefusesText, StopsReading};
+ghost use Rattle.command_ends.specs.Works.{only};
+ghost use Rattle.command_merge.specs.Merge.{GivesMerge, merge_files};
+ghost use Rattle.command_merge.specs.MergeReading.{merge_inputs, merge_reading, merge_words, refused_outputs};
+ghost use Rattle.command_merge.specs.View.{merge_values};
+
+use crate::files::write_files;
+use crate::inputs::{load_nest_traces, load_senders};
+use crate::job::{MergeJob, read_merge};
+use command_ends::Cause;
+use command_run::{check_horizon, check_outputs, names_of, nest_cause};
+use mm_base::{Disk, Pace};
+use nest_plain::NestRun;
+use nest_runner::run_nest_feeds;
+use nest_spec::{NestWords, build, read_nest};
+use sender_merge::Senders;
+use std::alloc::Global;
+use std::marker::Sync;
+use std::sync::Wait;
+use std::thread::Threads;
+
+// Refuses the first output that has the name of a trace, of the list, or of an output before it.
+fn check_names(alloc: Global, job: &MergeJob<'_>, nest: &NestWords) -> Result<(), Cause>
+    ensures { MatchResult result (λ _. refused_outputs (merge_values job.now) nest.now ≡ None)
+        (λ cause. RefusesText (refused_outputs (merge_values job.now) nest.now) cause) }
+{
+    let inputs = names_of(alloc, nest.traces(), job.senders)?;
+    let outputs = names_of(alloc, nest.logs(), job.out)?;
+    check_outputs(alloc, inputs.as_slice(), outputs.as_slice())
+}
+
+// The nest of a merge's words, where these refuse nothing.
+fn read_words(alloc: Global, job: &MergeJob<'_>) -> Result<NestWords, Cause>
+    ensures read { (disk : DiskView) → ReadsOn (merge_reading (merge_values job.now))
+        (merge_inputs (merge_values job.now)) disk disk result }
+    ensures small { OnOk result (job.now.until ≤ 3600000) }
+{
+    let nest = match read_nest(alloc, job.shells) {
+        Ok(nest) => nest,
+        Err(error) => return Err(nest_cause(error)),
+    };
+    check_names(alloc, job, &nest)?;
+    check_horizon(job.until)?;
+    Ok(nest)
+}
+
+// The run of a merge's inputs. Its nest and its schedules are let go before any file is written, but for the traces of
+// links whose logs have a name.
+fn merge_packets<R: Threads + Wait + Sync, D: Disk, Q: Pace + Sync>(
+    rt: &R,
+    alloc: Global,
+    job: &MergeJob<'_>,
+    words: NestWords,
+    disk: &mut D,
+    pace: &Q,
+) -> Result<NestRun, Cause>
+    requires { job.now.until ≤ 3600000 }
+    ensures found { IfOk result (λ run. FinishesOnly GivesMerge (merge_inputs (merge_values job.now) words)
+        (D.view disk.old).files (writes (merge_files job.now.out.now run))) }
+    ensures stopped { IfErr result (λ cause. StopsReading (merge_inputs (merge_values job.now) words) (D.view disk.old)
+        (D.view disk.new) cause) }
+    ensures only_reads { OnlyReads (D.view disk.old) (D.view disk.new) }
+{
+    let traces = load_nest_traces(alloc, disk, job, &words)?;
+    let schedules = load_senders(alloc, disk, job, &words)?;
+    let nest = build(alloc, words, traces, job.seed, job.until)?;
+    let mut senders = Senders::new(alloc, schedules)?;
+    Ok(run_nest_feeds(rt, alloc, &nest, &mut senders, pace)?)
+}
+
+// Runs the job: its inputs are read, its packets pass the nest, and then its logs and its fates are written.
+fn merge<R: Threads + Wait + Sync, D: Disk, Q: Pace + Sync>(
+    rt: &R,
+    alloc: Global,
+    job: &MergeJob<'_>,
+    disk: &mut D,
+    pace: &Q,
+) -> Result<(), Cause>
+    ensures ends { (out : SinkView) → Ends (only GivesMerge) (merge_reading (merge_values job.now))
+        (offline (D.view disk.old) out) (offline (D.view disk.new) out) (cause_in result) }
+    ensures counts { CountsDisk (D.view disk.old) (D.view disk.new) }
+{
+    let words = read_words(alloc, job)?;
+    let run = merge_packets(rt, alloc, job, words, disk, pace)?;
+    write_files(alloc, disk, job.out, run)
+}
+
+/// Does what the words after `merge` say: passes the packets of up to 16 senders, each with a schedule and threads of
+/// its own, through a nest of shells, and writes the logs that the shells' words name and then the fates of the packets
+/// in the order of their merge: by moment, then sender, then line. The pace is asked before the turns of the threads.
+/// Nothing is printed, and no net is touched.
+pub fn answer_merge<R: Threads + Wait + Sync, D: Disk, Q: Pace + Sync>(
+    rt: &R,
+    alloc: Global,
+    words: &[String],
+    disk: &mut D,
+    pace: &Q,
+) -> Result<(), Cause>
+    ensures ends { (out : SinkView) → Ends (only GivesMerge) (merge_words (map string_bytes words.now))
+        (offline (D.view disk.old) out) (offline (D.view disk.new) out) (cause_in result) }
+    ensures counts { CountsDisk (D.view disk.old) (D.view disk.new) }
+{
+    match read_merge(alloc, words)? {
+        Some(job) => merge(rt, alloc, &job, disk, pace),
+        None => Err(Cause::usage()),
+    }
+}

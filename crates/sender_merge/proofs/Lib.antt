@@ -1,0 +1,10 @@
+pub mod Sorting
+pub mod Looking
+pub mod Keeping
+pub mod Stepping
+pub mod Adding
+pub mod Inletting
+pub mod Sending
+pub mod Gating
+pub mod Rowing
+pub mod Numbering

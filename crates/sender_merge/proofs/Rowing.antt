@@ -1,0 +1,347 @@
+-- The rows of the merge of schedules.
+use Rattle.std.proofs.Common.{◌≡◌, ℕ, zero, suc, ◌+◌, ◌<◌, ◌≤◌, ◌∙◌, ◌&&◌, Bool, true, false, cond, leb}
+use Rattle.std.proofs.Common.{nat_le}
+use Rattle.std.proofs.Common.{ap, sym, subst, refl, List, [], ◌∷◌, ◌++◌, length, map, filter, get_or, arith}
+use Rattle.std.specs.List.{flat_map}
+use Rattle.std.proofs.lemmas.Bool.{leb-false, leb-true}
+use Rattle.packet_record.specs.declared.packet.Direction.{Direction}
+use Rattle.packet_record.specs.declared.packet.Direction.TheVariants.{Up, Down}
+use Rattle.packet_record.specs.declared.packet.Row.{Row}
+use Rattle.packet_record.specs.declared.item.Stream.{Stream}
+use Rattle.mark_channel.specs.declared.feeds.FeedEnd.{FeedEnd}
+use Rattle.mark_channel.specs.declared.feeds.FeedEnd.TheVariants.{Ended, OutOfMemory}
+use Rattle.mark_channel.specs.Feedings.{HasSentRows, IfFed}
+use Rattle.sender_merge.specs.declared.inlet.Inlet.{Inlet}
+use Rattle.sender_merge.specs.declared.outlet.Outlet.{Outlet}
+use Rattle.sender_merge.specs.Gates.{sent_down, sent_up}
+use Rattle.sender_merge.specs.Inlets.{IsMerged, received}
+use Rattle.sender_merge.specs.Outlets.{HaveSent}
+use Rattle.packet_record.specs.declared.packet.Timed.{Timed}
+use Rattle.packet_record.specs.Rows.{Rises, entering, goes}
+use Rattle.packet_record.proofs.RowsLemmas.{entering-append}
+use Rattle.sender_merge.specs.Merges.{by_moment, merge, merge_rows, merged_row, packet_moment, put}
+use Rattle.sender_merge.specs.Merges.{row_moment}
+use Rattle.sender_merge.specs.Merges.{rows_from}
+use Rattle.sender_merge.proofs.Sorting.{by_moment-sorted, from_lower, put_first, put_later}
+use Rattle.sender_merge.proofs.Sorting.{behind, first as first_row, from-append}
+use Rattle.sender_merge.specs.RowMerges.{AllNumbered, From, IsBefore, IsFirst, Sorted, left_over}
+use Rattle.std.proofs.Common.{Some, None, append_assoc, drop, slice_get}
+use Rattle.std.proofs.lemmas.List.{append-nil}
+
+-- rows that rise are in order, and stay so under other numbers
+pub rises_from : (m : ℕ) (rows : List Row) → Rises m rows → From row_moment m rows
+rises_from m [] rises = tt
+rises_from m (r ∷ rows) rises =
+    (rises.0, from_lower row_moment m r.timed.moment rows rises.0 (rises_from r.timed.moment rows rises.1))
+
+pub rises_sorted : (m : ℕ) (rows : List Row) → Rises m rows → Sorted row_moment rows
+rises_sorted m [] rises = tt
+rises_sorted m (r ∷ rows) rises =
+    (rises_from r.timed.moment rows rises.1, rises_sorted r.timed.moment rows rises.1)
+
+pub from-merged : (c m : ℕ) (rows : List Row) → From row_moment m rows → From row_moment m (map (merged_row c) rows)
+from-merged c m [] h = tt
+from-merged c m (r ∷ rows) h = (h.0, from-merged c m rows h.1)
+
+pub sorted_rises : (m : ℕ) (rows : List Row) → From row_moment m rows → Sorted row_moment rows → Rises m rows
+sorted_rises m [] from sorted = tt
+sorted_rises m (r ∷ rows) from sorted = (from.0, sorted_rises r.timed.moment rows sorted.0 sorted.1)
+
+from_zero : (rows : List Row) → From row_moment 0 rows
+from_zero [] = tt
+from_zero (r ∷ rows) = (omega arith, from_zero rows)
+
+pub merged_rise : (rows : List Row) → Rises 0 (by_moment row_moment rows)
+merged_rise rows = sorted_rises 0 (by_moment row_moment rows) (from_zero (by_moment row_moment rows))
+    (by_moment-sorted row_moment rows)
+
+-- the packets that enter of rows in order are those that enter, in order
+abbrev keep : Bool → Timed → List Timed → List Timed
+keep b t ts = cond b (t ∷ ts) ts
+
+abbrev passes : Direction → ℕ → Row → Bool
+passes d h r = goes d r.direction && nat_le r.timed.moment h
+
+entering-cons : (d : Direction) (h : ℕ) (r : Row) (rows : List Row)
+    → entering d h (r ∷ rows) ≡ keep (passes d h r) r.timed (entering d h rows)
+entering-cons d h r rows = go (passes d h r) r (filter (passes d h) rows) where
+  go : (b : Bool) (r : Row) (rows : List Row)
+      → map (λ (s : Row). s.timed) (cond b (r ∷ rows) rows)
+      ≡ cond b (r.timed ∷ map (λ (s : Row). s.timed) rows) (map (λ (s : Row). s.timed) rows)
+  go true r rows = refl
+  go false r rows = refl
+
+from_kept : (b : Bool) (m : ℕ) (t : Timed) (ts : List Timed) → m ≤ t.moment → From packet_moment m ts
+    → From packet_moment m (keep b t ts)
+from_kept true m t ts le h = (le, h)
+from_kept false m t ts le h = h
+
+from-entering : (d : Direction) (h m : ℕ) (rows : List Row) → From row_moment m rows
+    → From packet_moment m (entering d h rows)
+from-entering d h m [] from = tt
+from-entering d h m (r ∷ rows) from = subst (From packet_moment m) (sym (entering-cons d h r rows))
+    (from_kept (passes d h r) m r.timed (entering d h rows) from.0 (from-entering d h m rows from.1))
+
+-- a row put into rows in order: its packet, if it enters, put into those that enter
+put_kept : Bool → Timed → List Timed → List Timed
+put_kept true t ts = put packet_moment t ts
+put_kept false t ts = ts
+
+kept_first : (b : Bool) (t : Timed) (ts : List Timed) → From packet_moment t.moment ts → keep b t ts ≡ put_kept b t ts
+unfolding put_kept
+kept_first true t ts from = sym (put_first packet_moment t ts from)
+kept_first false t ts from = refl
+
+kept_later : (b k : Bool) (t u : Timed) (ts : List Timed) → u.moment < t.moment
+    → keep k u (put_kept b t ts) ≡ put_kept b t (keep k u ts)
+unfolding put_kept
+kept_later true true t u ts lt = sym (put_later packet_moment t u ts lt)
+kept_later true false t u ts lt = refl
+kept_later false true t u ts lt = refl
+kept_later false false t u ts lt = refl
+
+put_either : (d : Direction) (h : ℕ) (b : Bool) (r y : Row) (ys zs : List Row) → leb r.timed.moment y.timed.moment ≡ b
+    → Sorted row_moment (y ∷ ys) → entering d h zs ≡ put_kept (passes d h r) r.timed (entering d h ys)
+    → entering d h (cond b (r ∷ (y ∷ ys)) (y ∷ zs)) ≡ put_kept (passes d h r) r.timed (entering d h (y ∷ ys))
+put_either d h true r y ys zs e sorted rest =
+    let le = leb-true r.timed.moment y.timed.moment e in
+    entering-cons d h r (y ∷ ys)
+    ∙ kept_first (passes d h r) r.timed (entering d h (y ∷ ys)) (from-entering d h r.timed.moment (y ∷ ys)
+    (le, from_lower row_moment r.timed.moment y.timed.moment ys le sorted.0))
+put_either d h false r y ys zs e sorted rest =
+    let lt = leb-false r.timed.moment y.timed.moment e in
+    entering-cons d h y zs
+    ∙ ap (keep (passes d h y) y.timed) rest
+    ∙ kept_later (passes d h r) (passes d h y) r.timed y.timed (entering d h ys) lt
+    ∙ ap (put_kept (passes d h r) r.timed) (sym (entering-cons d h y ys))
+
+entering-put : (d : Direction) (h : ℕ) (r : Row) (rows : List Row) → Sorted row_moment rows
+    → entering d h (put row_moment r rows) ≡ put_kept (passes d h r) r.timed (entering d h rows)
+unfolding put_kept
+entering-put d h r [] sorted = entering-cons d h r [] ∙ go (passes d h r) where
+  go : (b : Bool) → keep b r.timed [] ≡ put_kept b r.timed []
+  go true = refl
+  go false = refl
+entering-put d h r (y ∷ ys) sorted = put_either d h (leb r.timed.moment y.timed.moment) r y ys (put row_moment r ys)
+    refl
+    sorted (entering-put d h r ys sorted.1)
+
+put_of : (b : Bool) (t : Timed) (ts : List Timed) → put_kept b t (by_moment packet_moment ts)
+    ≡ by_moment packet_moment (keep b t ts)
+unfolding put_kept
+put_of true t ts = refl
+put_of false t ts = refl
+
+pub entering-by_moment : (d : Direction) (h : ℕ) (rows : List Row)
+    → entering d h (by_moment row_moment rows) ≡ by_moment packet_moment (entering d h rows)
+entering-by_moment d h [] = refl
+entering-by_moment d h (r ∷ rows) =
+    entering-put d h r (by_moment row_moment rows) (by_moment-sorted row_moment rows)
+    ∙ ap (put_kept (passes d h r) r.timed) (entering-by_moment d h rows)
+    ∙ put_of (passes d h r) r.timed (entering d h rows)
+    ∙ ap (by_moment packet_moment) (sym (entering-cons d h r rows))
+
+-- the packets of each sender that enter
+abbrev pub entering_from : Direction → ℕ → ℕ → List (List Row) → List (List Timed)
+entering_from d h sender [] = []
+entering_from d h sender (rows ∷ schedules) =
+    entering d h (map (merged_row sender) rows) ∷ entering_from d h (sender + 1) schedules
+
+entering-rows_from : (d : Direction) (h sender : ℕ) (schedules : List (List Row))
+    → entering d h (rows_from sender schedules) ≡ flat_map (λ (ts : List Timed). ts)
+    (entering_from d h sender schedules)
+entering-rows_from d h sender [] = refl
+entering-rows_from d h sender (rows ∷ schedules) =
+    entering-append d h (map (merged_row sender) rows) (rows_from (sender + 1) schedules)
+    ∙ ap (λ (ts : List Timed). entering d h (map (merged_row sender) rows) ++ ts)
+    (entering-rows_from d h (sender + 1) schedules)
+
+-- the merge of what senders send in a direction are the packets that enter of the merge of their rows
+pub merge-entering : (d : Direction) (h : ℕ) (schedules : List (List Row))
+    → merge (entering_from d h 1 schedules) ≡ entering d h (merge_rows schedules)
+merge-entering d h schedules =
+    ap (by_moment packet_moment) (sym (entering-rows_from d h 1 schedules))
+    ∙ sym (entering-by_moment d h (rows_from 1 schedules))
+
+-- rows at a place
+row_none : (xs : List Row) (n : ℕ) → slice_get xs n ≡ None → drop n xs ≡ []
+row_none [] zero is = refl
+row_none [] (suc n) is = refl
+row_none (x ∷ xs) zero is = absurd cc
+row_none (x ∷ xs) (suc n) is = row_none xs n is
+
+row_some : (xs : List Row) (n : ℕ) (r : Row) → slice_get xs n ≡ Some r → drop n xs ≡ r ∷ drop (suc n) xs
+row_some [] n r is = absurd cc
+row_some (x ∷ xs) zero r is = let e : x ≡ r = cc in ap (λ (y : Row). y ∷ xs) e
+row_some (x ∷ xs) (suc n) r is = row_some xs n r is
+
+row_at : (xs : List Row) (n : ℕ) (d : Row) → n < length xs → drop n xs ≡ get_or xs n d ∷ drop (suc n) xs
+row_at [] n d lt = absurd (omega arith)
+row_at (x ∷ xs) zero d lt = refl
+row_at (x ∷ xs) (suc n) d lt = row_at xs n d (omega arith)
+
+sorted_drop : (n : ℕ) (xs : List Row) → Sorted row_moment xs → Sorted row_moment (drop n xs)
+sorted_drop zero [] h = tt
+sorted_drop (suc n) [] h = tt
+sorted_drop zero (x ∷ xs) h = h
+sorted_drop (suc n) (x ∷ xs) h = sorted_drop n xs h.1
+
+-- the rows from one on are not before it
+from_row : (xs : List Row) (n : ℕ) (r : Row) → Sorted row_moment xs → slice_get xs n ≡ Some r
+    → From row_moment r.timed.moment (drop n xs)
+from_row xs n r sorted is =
+    let e = row_some xs n r is in
+    let all : Sorted row_moment (r ∷ drop (suc n) xs) = subst (Sorted row_moment) e (sorted_drop n xs sorted) in
+    let from : From row_moment r.timed.moment (r ∷ drop (suc n) xs) = (omega arith, all.0) in
+    subst (From row_moment r.timed.moment) (sym e) from
+
+pub first_alone : (first others : List Row) (i j : ℕ) → i < length first → slice_get others j ≡ None
+    → IsFirst (drop i first) (drop j others)
+first_alone first others i j lt is = subst (IsFirst (drop i first)) (sym (row_none others j is)) (go first i lt) where
+  go : (xs : List Row) (n : ℕ) → n < length xs → IsFirst (drop n xs) []
+  go [] n lt = absurd (omega arith)
+  go (x ∷ xs) zero lt = tt
+  go (x ∷ xs) (suc n) lt = go xs n (omega arith)
+
+pub other_alone : (first others : List Row) (i j : ℕ) (o : Row) → slice_get first i ≡ None → slice_get others j ≡ Some o
+    → IsBefore (drop j others) (drop i first)
+other_alone first others i j o none some =
+    subst (λ (l : List Row). IsBefore l (drop i first)) (sym (row_some others j o some))
+    (subst (From row_moment (o.timed.moment + 1)) (sym (row_none first i none)) tt)
+
+pub first_earlier : (first others : List Row) (i j : ℕ) (r o : Row) → Sorted row_moment others
+    → slice_get first i ≡ Some r → slice_get others j ≡ Some o → r.timed.moment ≤ o.timed.moment
+    → IsFirst (drop i first) (drop j others)
+first_earlier first others i j r o sorted at other le =
+    subst (λ (l : List Row). IsFirst l (drop j others)) (sym (row_some first i r at))
+    (from_lower row_moment r.timed.moment o.timed.moment (drop j others) le (from_row others j o sorted other))
+
+pub other_earlier : (first others : List Row) (i j : ℕ) (r o : Row) → Sorted row_moment first
+    → slice_get first i ≡ Some r → slice_get others j ≡ Some o → o.timed.moment < r.timed.moment
+    → IsBefore (drop j others) (drop i first)
+other_earlier first others i j r o sorted at other lt =
+    subst (λ (l : List Row). IsBefore l (drop i first)) (sym (row_some others j o other))
+    (from_lower row_moment (o.timed.moment + 1) r.timed.moment (drop i first) (omega arith)
+    (from_row first i r sorted at))
+
+pub row_within : (xs : List Row) (n : ℕ) (r : Row) → slice_get xs n ≡ Some r → n < length xs
+row_within [] n r is = absurd cc
+row_within (x ∷ xs) zero r is = omega arith
+row_within (x ∷ xs) (suc n) r is = let rest = row_within xs n r is in omega arith
+
+-- the row of the first list comes next
+pub next_first : (c i j : ℕ) (first others : List Row) (d : Row) → i < length first → Sorted row_moment first
+    → IsFirst (drop i first) (drop j others)
+    → left_over c first others (i, j) ≡ merged_row c (get_or first i d) ∷ left_over c first others (i + 1, j)
+next_first c i j first others d lt sorted is =
+    let r = get_or first i d in
+    let e = row_at first i d lt in
+    let n : suc i ≡ i + 1 = omega arith in
+    let all : Sorted row_moment (r ∷ drop (suc i) first) = subst (Sorted row_moment) e (sorted_drop i first sorted) in
+    let from : From row_moment r.timed.moment (drop j others) =
+    (let h : IsFirst (r ∷ drop (suc i) first) (drop j others) =
+    subst (λ (l : List Row). IsFirst l (drop j others)) e is in h) in
+    ap (λ (l : List Row). by_moment row_moment (map (merged_row c) l ++ drop j others)) e
+    ∙ first_row row_moment (merged_row c r) (map (merged_row c) (drop (suc i) first) ++ drop j others)
+    (from-append row_moment r.timed.moment (map (merged_row c) (drop (suc i) first)) (drop j others)
+    (from-merged c r.timed.moment (drop (suc i) first) all.0) from)
+    ∙ ap (λ (k : ℕ). merged_row c r ∷ left_over c first others (k, j)) n
+
+-- or that of the other
+pub next_other : (c i j : ℕ) (first others : List Row) (d : Row) → j < length others → Sorted row_moment others
+    → IsBefore (drop j others) (drop i first)
+    → left_over c first others (i, j) ≡ get_or others j d ∷ left_over c first others (i, j + 1)
+next_other c i j first others d lt sorted is =
+    let o = get_or others j d in
+    let e = row_at others j d lt in
+    let n : suc j ≡ j + 1 = omega arith in
+    let all : Sorted row_moment (o ∷ drop (suc j) others) = subst (Sorted row_moment) e (sorted_drop j others sorted) in
+    let before : From row_moment (o.timed.moment + 1) (drop i first) =
+    (let h : IsBefore (o ∷ drop (suc j) others) (drop i first) =
+    subst (λ (l : List Row). IsBefore l (drop i first)) e is in h) in
+    ap (λ (l : List Row). by_moment row_moment (map (merged_row c) (drop i first) ++ l)) e
+    ∙ behind row_moment o (map (merged_row c) (drop i first)) (o ∷ drop (suc j) others) (drop (suc j) others)
+    (from-merged c (o.timed.moment + 1) (drop i first) before)
+    (first_row row_moment o (drop (suc j) others) all.0)
+    ∙ ap (λ (k : ℕ). o ∷ left_over c first others (i, k)) n
+
+-- one row more of what is left
+pub one_more : (c i j i' j' : ℕ) (first others : List Row) (old new : List Row) (r : Row) → new ≡ old ++ r ∷ []
+    → left_over c first others (i, j) ≡ r ∷ left_over c first others (i', j')
+    → new ++ left_over c first others (i', j') ≡ old ++ left_over c first others (i, j)
+one_more c i j i' j' first others old new r is next =
+    ap (λ (l : List Row). l ++ left_over c first others (i', j')) is
+    ∙ append_assoc old (r ∷ []) (left_over c first others (i', j'))
+    ∙ ap (λ (l : List Row). old ++ l) (sym next)
+
+pub numbered_at : (rows : List Row) (n : ℕ) (d : Row) → n < length rows → AllNumbered rows
+    → (1 ≤ (get_or rows n d).timed.packet.id) × ((get_or rows n d).timed.packet.id ≤ 1000000)
+numbered_at [] n d lt all = absurd (omega arith)
+numbered_at (r ∷ rows) zero d lt all = all.0
+numbered_at (r ∷ rows) (suc n) d lt all = numbered_at rows n d (omega arith) all.1
+
+drop_whole : (xs : List Row) → drop (length xs) xs ≡ []
+drop_whole [] = refl
+drop_whole (x ∷ xs) = drop_whole xs
+
+-- nothing is left
+pub none_left : (c i j : ℕ) (first others : List Row) → i ≡ length first → j ≡ length others
+    → left_over c first others (i, j) ≡ []
+none_left c i j first others is also =
+    ap (λ (n : ℕ). left_over c first others (n, j)) is
+    ∙ ap (λ (n : ℕ). left_over c first others (length first, n)) also
+    ∙ ap (λ (l : List Row). by_moment row_moment (map (merged_row c) l ++ drop (length others) others))
+    (drop_whole first)
+    ∙ ap (by_moment row_moment) (drop_whole others)
+
+pub rows_done : (c i j n : ℕ) (first others rows : List Row) → i ≤ length first → j ≤ length others → i + j ≡ n
+    → length first + length others ≤ n → rows ++ left_over c first others (i, j) ≡ left_over c first others (0, 0)
+    → rows ≡ by_moment row_moment (map (merged_row c) first ++ others)
+rows_done c i j n first others rows at also count all is =
+    sym (append-nil rows)
+    ∙ ap (λ (l : List Row). rows ++ l) (sym (none_left c i j first others (omega arith) (omega arith)))
+    ∙ is
+
+pub row_past : (xs : List Row) (n : ℕ) → slice_get xs n ≡ None → length xs ≤ n
+row_past [] n is = omega arith
+row_past (x ∷ xs) zero is = absurd cc
+row_past (x ∷ xs) (suc n) is = let rest = row_past xs n is in omega arith
+
+-- what senders have sent in a direction is what enters of their rows
+pub sent_up-is : (h sender : ℕ) (schedules : List (List Row)) (outlets : List Outlet)
+    → HaveSent h sender schedules outlets → sent_up outlets ≡ entering_from Up h sender schedules
+sent_up-is h sender [] [] sent = refl
+sent_up-is h sender [] (o ∷ outlets) sent = absurd sent
+sent_up-is h sender (rows ∷ schedules) [] sent = absurd sent
+sent_up-is h sender (rows ∷ schedules) (o ∷ outlets) sent =
+    ap (λ (ts : List Timed). ts ∷ sent_up outlets) sent.0.0.0
+    ∙ ap (λ (l : List (List Timed)). entering Up h (map (merged_row sender) rows) ∷ l)
+    (sent_up-is h (sender + 1) schedules outlets sent.1)
+
+pub sent_down-is : (h sender : ℕ) (schedules : List (List Row)) (outlets : List Outlet)
+    → HaveSent h sender schedules outlets → sent_down outlets ≡ entering_from Down h sender schedules
+sent_down-is h sender [] [] sent = refl
+sent_down-is h sender [] (o ∷ outlets) sent = absurd sent
+sent_down-is h sender (rows ∷ schedules) [] sent = absurd sent
+sent_down-is h sender (rows ∷ schedules) (o ∷ outlets) sent =
+    ap (λ (ts : List Timed). ts ∷ sent_down outlets) sent.0.1.0
+    ∙ ap (λ (l : List (List Timed)). entering Down h (map (merged_row sender) rows) ∷ l)
+    (sent_down-is h (sender + 1) schedules outlets sent.1)
+
+pub fed_up : (h : ℕ) (end : FeedEnd) (schedules : List (List Row)) (outlets : List Outlet) (ups downs : List Inlet)
+    (up down : Stream) → IfFed end (IsMerged ups up × IsMerged downs down) → received ups ≡ sent_up outlets
+    → HaveSent h 1 schedules outlets → IfFed end (HasSentRows Up h (merge_rows schedules) up)
+fed_up h Ended schedules outlets ups downs up down merged settled sent = (
+  merged.0.0 ∙ ap merge (settled ∙ sent_up-is h 1 schedules outlets sent) ∙ merge-entering Up h schedules,
+  merged.0.1,
+)
+fed_up h OutOfMemory schedules outlets ups downs up down merged settled sent = tt
+
+pub fed_down : (h : ℕ) (end : FeedEnd) (schedules : List (List Row)) (outlets : List Outlet) (ups downs : List Inlet)
+    (up down : Stream) → IfFed end (IsMerged ups up × IsMerged downs down) → received downs ≡ sent_down outlets
+    → HaveSent h 1 schedules outlets → IfFed end (HasSentRows Down h (merge_rows schedules) down)
+fed_down h Ended schedules outlets ups downs up down merged settled sent = (
+  merged.1.0 ∙ ap merge (settled ∙ sent_down-is h 1 schedules outlets sent) ∙ merge-entering Down h schedules,
+  merged.1.1,
+)
+fed_down h OutOfMemory schedules outlets ups downs up down merged settled sent = tt

@@ -1,0 +1,5 @@
+use Rattle.sender_merge.proofs.Inletting.{Goes}
+use Rattle.sender_merge.proofs.merger.merge_all.Given as goal
+
+abbrev pub invariant-loop : goal.invariant-loop
+invariant-loop g l = Goes l.fn.inlets l.inlets l.core l.fn.to l.to

@@ -1,0 +1,77 @@
+-- The receiving ends of a direction, one of each sender.
+use Rattle.std.specs.Prelude.{◌≡◌, ◌≢◌, ◌⊎◌, ◌<◌, ◌≤◌, ◌+◌, ℕ, zero, suc, List, [], ◌∷◌, map, Option, Some, IfSome}
+use Rattle.packet_record.specs.declared.packet.Timed.{Timed}
+use Rattle.packet_record.specs.declared.item.FlowEnd.TheVariants.{Open, Ended as IsOver}
+use Rattle.packet_record.specs.declared.item.Stream.{Stream}
+use Rattle.packet_record.specs.Moments.{AreUpTo}
+use Rattle.packet_record.specs.Streams.{no_items}
+use Rattle.mark_channel.specs.Ends.{IsSameEnd}
+use Rattle.sender_merge.specs.declared.inlet.Inlet.{Inlet}
+use Rattle.sender_merge.specs.Inflows.{Inflow}
+use Rattle.sender_merge.specs.Merges.{merge}
+
+-- nothing was received at any, and all have this horizon
+abbrev pub AllEmpty : ℕ → List Inlet → Type 0
+AllEmpty horizon [] = Unit {0}
+AllEmpty horizon (i ∷ inlets) =
+    ((i.from.flow ≡ no_items) × (i.from.horizon ≡ horizon)) × AllEmpty horizon inlets
+
+-- all have this horizon, and what was received is within it
+abbrev pub AllWithin : ℕ → List Inlet → Type 0
+AllWithin horizon [] = Unit {0}
+AllWithin horizon (i ∷ inlets) =
+    ((i.from.horizon ≡ horizon) × AreUpTo horizon i.from.flow.packets × (i.from.flow.bound ≤ horizon + 1))
+    × AllWithin horizon inlets
+
+-- nothing more comes out of any
+abbrev pub AllClosed : List Inlet → Type 0
+AllClosed [] = Unit {0}
+AllClosed (i ∷ inlets) = (i.from.flow.end ≢ Open) × AllClosed inlets
+
+-- more may come out of the one at a place, counted from 0
+abbrev pub IsOpenAt : ℕ → List Inlet → Type 0
+IsOpenAt place [] = ⊥
+IsOpenAt zero (i ∷ inlets) = i.from.flow.end ≡ Open
+IsOpenAt (suc place) (i ∷ inlets) = IsOpenAt place inlets
+
+-- the bound of what was received at a place
+abbrev pub bound_at : ℕ → List Inlet → ℕ
+bound_at place [] = 0
+bound_at zero (i ∷ inlets) = i.from.flow.bound
+bound_at (suc place) (i ∷ inlets) = bound_at place inlets
+
+-- of the places at which more may come, this one is the least by bound, then place
+pub record IsFurthestBehind (place : ℕ) (inlets : List Inlet) : Type 0 where
+  pub going : IsOpenAt place inlets
+  pub least : (k : ℕ) → IsOpenAt k inlets → bound_at place inlets ≤ bound_at k inlets
+  pub first : (k : ℕ) → k < place → IsOpenAt k inlets → bound_at place inlets < bound_at k inlets
+
+-- Of the least so far, a place with its bound, and of the inlet at the next place, which may be open, this is the
+-- least.
+abbrev pub IsFurther : Option (ℕ × ℕ) → ℕ → Inlet → ℕ × ℕ → Type 0
+IsFurther least place i p =
+    ((least ≡ Some p) × (i.from.flow.end ≡ Open → p.1 ≤ i.from.flow.bound))
+    ⊎ ((p.0 ≡ place) × (p.1 ≡ i.from.flow.bound) × (i.from.flow.end ≡ Open)
+    × IfSome least (λ q. i.from.flow.bound < q.1))
+
+-- each keeps its horizon and its channel
+abbrev pub AllSame : List Inlet → List Inlet → Type 0
+AllSame [] [] = Unit {0}
+AllSame [] (j ∷ new) = ⊥
+AllSame (i ∷ old) [] = ⊥
+AllSame (i ∷ old) (j ∷ new) = IsSameEnd i.from j.from × AllSame old new
+
+-- what was received is what was added to a merge
+abbrev pub AreAdded : List Inlet → List Inflow → Type 0
+AreAdded [] [] = Unit {0}
+AreAdded [] (s ∷ senders) = ⊥
+AreAdded (i ∷ inlets) [] = ⊥
+AreAdded (i ∷ inlets) (s ∷ senders) = (s.flow ≡ i.from.flow) × AreAdded inlets senders
+
+-- the packets that were received, sender by sender
+abbrev pub received : List Inlet → List (List Timed)
+received inlets = map (λ (i : Inlet). i.from.flow.packets) inlets
+
+-- what was sent is the merge of what was received, to its end
+abbrev pub IsMerged : List Inlet → Stream → Type 0
+IsMerged inlets sent = (sent.packets ≡ merge (received inlets)) × (sent.end ≡ IsOver)

@@ -1,0 +1,15 @@
+-- For proofs: senders as their callers see them.
+use Rattle.std.specs.Prelude.{◌≡◌, ◌≤◌, List, length}
+use Rattle.packet_record.specs.declared.packet.Row.{Row}
+use Rattle.sender_merge.specs.Merges.{merge_rows}
+use Rattle.sender_merge.specs.RowLists.{AllSchedules}
+use Rattle.sender_merge.specs.declared.senders.Senders.TheInside.{Inside}
+
+abbrev pub senders_view : Inside → List (List Row)
+senders_view s = s.schedules.items
+
+pub record AreSenders (s : Inside) : Type 0 where
+  pub some : 1 ≤ length s.schedules.items
+  pub few : length s.schedules.items ≤ 16
+  pub schedules : AllSchedules s.schedules.items
+  pub rows : s.rows.items ≡ merge_rows s.schedules.items

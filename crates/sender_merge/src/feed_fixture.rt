@@ -1,0 +1,221 @@
+//! Senders that feed two channels beside two threads that receive.
+ghost use Rattle.std.specs.Prelude.{◌≡◌, ◌≤◌, length};
+ghost use Rattle.std.specs.Thread.{IsSync};
+ghost use Rattle.packet_record.specs.declared.item.FlowEnd.TheVariants.{Open};
+ghost use Rattle.packet_record.specs.Streams.{no_items};
+ghost use Rattle.mark_channel.specs.Ends.{IsSameEnd};
+
+use crate::{Senders, count_rows};
+use mark_channel::{FeedEnd, Feeds, Receiver, Sender, open, settle};
+use mm_base::{NoPace, Pace, Role};
+use packet_record::{Item, Schedule, read_schedule};
+use std::alloc::{AllocError, Global};
+use std::marker::Sync;
+use std::process::Abort;
+use std::sync::Wait;
+use std::test::Fail;
+use std::thread::{Threads, join_mut};
+
+// Senders of these schedules.
+pub(crate) fn senders_of<R: Abort>(
+    rt: &R,
+    alloc: Global,
+    schedules: Vec<Schedule>,
+) -> Result<Senders, Fail> {
+    assert!(rt; !schedules.is_empty() && schedules.len() <= 16);
+    let lines = count_rows(schedules.as_slice());
+    assert!(rt; lines <= 1_000_000);
+    Ok(Senders::new(alloc, schedules)?)
+}
+
+// Senders of the schedules that these texts are.
+pub(crate) fn senders_from<R: Abort>(
+    rt: &R,
+    alloc: Global,
+    texts: &[&[u8]],
+) -> Result<Senders, Fail> {
+    let mut schedules = Vec::new(alloc);
+    for text in texts {
+        let schedule = read_schedule(alloc, text)?;
+        schedules.push(schedule).map_err(AllocError::from)?;
+    }
+    senders_of(rt, alloc, schedules)
+}
+
+// What came out of the two channels.
+#[derive(Drop)]
+pub(crate) struct Fed {
+    pub ups: Vec<Item>,
+    pub downs: Vec<Item>,
+}
+
+// Receives until the end, and gathers the items. The pace, if any, is asked after each.
+fn receive_all<Q: Pace, R: Wait>(
+    rt: &R,
+    up: bool,
+    from: &mut Receiver,
+    items: &mut Vec<Item>,
+    pace: Option<&Q>,
+)
+    requires { from.old.flow.end ≡ Open }
+    ensures same { IsSameEnd from.old from.new }
+{
+    for _ in rt.forever() {
+        let item = from.recv(rt);
+        let _ = items.push(item);
+        if let Some(pace) = pace {
+            pace.turn(rt, Role::Collector { up }, items.len() as u64);
+        }
+        match item {
+            Item::Packet(_) => {}
+            Item::Mark(_) => {}
+            Item::End | Item::Broken => return,
+        }
+    }
+    unreachable!()
+}
+
+fn receive_both<Q: Pace + Sync, R: Threads + Wait + Sync>(
+    rt: &R,
+    up: &mut Receiver,
+    down: &mut Receiver,
+    fed: &mut Fed,
+    pace: Option<&Q>,
+)
+    requires { (up.old.flow.end ≡ Open) × (down.old.flow.end ≡ Open) }
+    ensures same { IsSameEnd up.old up.new × IsSameEnd down.old down.new }
+{
+    let Fed { ups, downs } = fed;
+    join_mut(
+        rt,
+        &mut || receive_all(rt, true, up, ups, pace),
+        &mut || receive_all(rt, false, down, downs, pace),
+    );
+}
+
+// Feeds, at a pace where there is one.
+fn feed_at_pace<Q: Pace + Sync, R: Threads + Wait + Sync>(
+    rt: &R,
+    senders: &mut Senders,
+    horizon: u64,
+    up: &mut Sender,
+    down: &mut Sender,
+    pace: Option<&Q>,
+) -> FeedEnd
+    requires empty { (up.old.flow ≡ no_items) × (down.old.flow ≡ no_items) }
+    requires within { (up.old.horizon ≡ horizon) × (down.old.horizon ≡ horizon) }
+    ensures same { IsSameEnd up.old up.new × IsSameEnd down.old down.new }
+{
+    match pace {
+        Some(pace) => senders.feed_at(rt, horizon, up, down, pace),
+        None => senders.feed(rt, horizon, up, down),
+    }
+}
+
+// Feeds two channels beside two threads that receive.
+fn feed_beside<Q: Pace + Sync, R: Threads + Wait + Sync>(
+    rt: &R,
+    senders: &mut Senders,
+    horizon: u64,
+    up: &mut Sender,
+    down: &mut Sender,
+    up_end: &mut Receiver,
+    down_end: &mut Receiver,
+    fed: &mut Fed,
+    pace: Option<&Q>,
+) -> FeedEnd
+    requires empty { (up.old.flow ≡ no_items) × (down.old.flow ≡ no_items) }
+    requires within { (up.old.horizon ≡ horizon) × (down.old.horizon ≡ horizon) }
+    requires going { (up_end.old.flow.end ≡ Open) × (down_end.old.flow.end ≡ Open) }
+    ensures up { IsSameEnd up.old up.new × IsSameEnd up_end.old up_end.new }
+    ensures down { IsSameEnd down.old down.new × IsSameEnd down_end.old down_end.new }
+{
+    let (end, _) = join_mut(
+        rt,
+        &mut || -> FeedEnd
+            requires { (up.now.flow ≡ no_items) × (down.now.flow ≡ no_items) × (up.now.horizon ≡ horizon)
+                × (down.now.horizon ≡ horizon) × IsSync R.row × IsSync Q.row }
+            ensures same { IsSameEnd up.entry.now up.exit.now × IsSameEnd down.entry.now down.exit.now }
+        { feed_at_pace(rt, senders, horizon, up, down, pace) },
+        &mut ||
+            requires { (up_end.now.flow.end ≡ Open) × (down_end.now.flow.end ≡ Open) × IsSync R.row × IsSync Q.row }
+            ensures same { IsSameEnd up_end.entry.now up_end.exit.now
+                × IsSameEnd down_end.entry.now down_end.exit.now }
+        { receive_both(rt, up_end, down_end, fed, pace) },
+    );
+    end
+}
+
+// Feeds two channels up to a horizon: what came out, where all was fed.
+fn feed_both<Q: Pace + Sync, R: Threads + Wait + Sync + Abort>(
+    rt: &R,
+    alloc: Global,
+    senders: &mut Senders,
+    horizon: u64,
+    pace: Option<&Q>,
+) -> Result<Fed, Fail> {
+    let (mut up, mut up_end) = open(alloc, 64, horizon)?;
+    let (mut down, mut down_end) = open(alloc, 64, horizon)?;
+    let mut fed = Fed {
+        ups: Vec::new(alloc),
+        downs: Vec::new(alloc),
+    };
+    let end = feed_beside(
+        rt,
+        senders,
+        horizon,
+        &mut up,
+        &mut down,
+        &mut up_end,
+        &mut down_end,
+        &mut fed,
+        pace,
+    );
+    settle(up, up_end);
+    settle(down, down_end);
+    assert_eq!(rt; end, FeedEnd::Ended);
+    Ok(fed)
+}
+
+// Feeds two channels up to a horizon: what came out, where all was fed.
+pub(crate) fn feed_all<R: Threads + Wait + Sync + Abort>(
+    rt: &R,
+    alloc: Global,
+    senders: &mut Senders,
+    horizon: u64,
+) -> Result<Fed, Fail> {
+    feed_both::<NoPace, R>(rt, alloc, senders, horizon, None)
+}
+
+// The same at a pace: the one that each sender asks before a row, and each receiver after an item.
+pub(crate) fn feed_paced<Q: Pace + Sync, R: Threads + Wait + Sync + Abort>(
+    rt: &R,
+    alloc: Global,
+    senders: &mut Senders,
+    horizon: u64,
+    pace: &Q,
+) -> Result<Fed, Fail> {
+    feed_both(rt, alloc, senders, horizon, Some(pace))
+}
+
+// The numbers of the packets among items.
+pub(crate) fn numbers_of(alloc: Global, items: &[Item]) -> Result<Vec<u32>, AllocError> {
+    let mut numbers = Vec::new(alloc);
+    for item in items {
+        if let Item::Packet(timed) = item {
+            numbers.push(timed.packet.id)?;
+        }
+    }
+    Ok(numbers)
+}
+
+// How many of the items are packets.
+pub(crate) fn count_packets(items: &[Item]) -> u64 {
+    let mut count = 0u64;
+    for item in items {
+        if let Item::Packet(_) = item {
+            count = count.saturating_add(1);
+        }
+    }
+    count
+}

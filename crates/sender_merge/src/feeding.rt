@@ -1,0 +1,170 @@
+// The threads of a feeding: one for each sender, and one for each direction that merges what they send.
+ghost use Rattle.std.specs.Prelude.{◌≡◌, ◌≢◌, ◌≤◌, ◌+◌, List, length};
+ghost use Rattle.std.specs.Thread.{IsSync};
+ghost use Rattle.packet_record.specs.declared.item.FlowEnd.TheVariants.{Open};
+ghost use Rattle.packet_record.specs.declared.packet.Direction.TheVariants.{Up, Down};
+ghost use Rattle.packet_record.specs.Streams.{no_items};
+ghost use Rattle.mark_channel.specs.Ends.{IsSameEnd};
+ghost use Rattle.mark_channel.specs.Feedings.{IfFed};
+ghost use Rattle.sender_merge.specs.Feeding.{both as both_of, SentOne};
+ghost use Rattle.sender_merge.specs.Inlets.{AllClosed, AllEmpty, AllSame, IsMerged};
+ghost use Rattle.sender_merge.specs.Outlets.{AllEmpty as AllUnsent, AllSameOutlets, HaveSent, IsEmpty, IsSameOutlet};
+
+use crate::gates::Gates;
+use crate::inlet::Inlet;
+use crate::merger::merge;
+use crate::outlet::Outlet;
+use mark_channel::{FeedEnd, Sender};
+use mm_base::Pace;
+use packet_record::Schedule;
+use std::alloc::Global;
+use std::marker::Sync;
+use std::sync::Wait;
+use std::thread::{Threads, join_mut};
+
+// Sends the schedules of senders beside each other, the first of which has this number, up to the horizon.
+pub(crate) fn send_all<Q: Pace + Sync, R: Threads + Wait + Sync>(
+    rt: &R,
+    sender: u32,
+    schedules: &[Schedule],
+    horizon: u64,
+    outlets: &mut [Outlet],
+    pace: &Q,
+)
+    requires few { sender + length schedules.now ≤ 17 }
+    requires long { length schedules.now ≡ length outlets.old }
+    requires empty { AllUnsent horizon outlets.old }
+    ensures sent { HaveSent horizon sender schedules.now outlets.new }
+    ensures same { AllSameOutlets outlets.old outlets.new }
+{
+    let Some((outlet, other_outlets)) = outlets.split_first_mut() else {
+        return;
+    };
+    let Some((schedule, others)) = schedules.split_first() else {
+        return;
+    };
+    join_mut(
+        rt,
+        &mut ||
+            requires { (sender ≤ 16) × IsEmpty horizon outlet.now × IsSync R.row × IsSync Q.row }
+            ensures sent { SentOne horizon sender schedule.entry.now outlet.exit.now }
+            ensures same { IsSameOutlet outlet.entry.now outlet.exit.now }
+        { outlet.send_schedule(rt, sender, schedule, horizon, pace) },
+        &mut ||
+            requires { (sender + 1 + length others.now ≤ 17) × (length others.now ≡ length other_outlets.now)
+                × AllUnsent horizon other_outlets.now × IsSync R.row × IsSync Q.row }
+            ensures sent { HaveSent horizon (sender + 1) others.entry.now other_outlets.exit.now }
+            ensures same { AllSameOutlets other_outlets.entry.now other_outlets.exit.now }
+        { send_all(rt, sender + 1, others, horizon, other_outlets, pace) },
+    );
+}
+
+// How two threads ended: `Ended` where both did.
+fn both(up: FeedEnd, down: FeedEnd) -> FeedEnd
+    ensures { result ≡ both_of up down }
+{
+    match (up, down) {
+        (FeedEnd::Ended, down) => down,
+        (FeedEnd::OutOfMemory, _) => FeedEnd::OutOfMemory,
+    }
+}
+
+// Merges both directions beside each other.
+pub(crate) fn merge_both<R: Threads + Wait + Sync>(
+    rt: &R,
+    alloc: Global,
+    ups: &mut [Inlet],
+    downs: &mut [Inlet],
+    up: &mut Sender,
+    down: &mut Sender,
+) -> FeedEnd
+    requires some { (1 ≤ length ups.old) × (1 ≤ length downs.old) }
+    requires few { (length ups.old ≤ 16) × (length downs.old ≤ 16) }
+    requires empty { AllEmpty up.old.horizon ups.old × AllEmpty down.old.horizon downs.old }
+    requires none { (up.old.flow ≡ no_items) × (down.old.flow ≡ no_items) }
+    ensures merged { IfFed result (IsMerged ups.new up.new.flow × IsMerged downs.new down.new.flow) }
+    ensures closed { AllClosed ups.new × AllClosed downs.new }
+    ensures over { (up.new.flow.end ≢ Open) × (down.new.flow.end ≢ Open) }
+    ensures same { AllSame ups.old ups.new × AllSame downs.old downs.new }
+    ensures ends { IsSameEnd up.old up.new × IsSameEnd down.old down.new }
+{
+    let (up_end, down_end) = join_mut(
+        rt,
+        &mut || -> FeedEnd
+            requires { (1 ≤ length ups.now) × (length ups.now ≤ 16) × AllEmpty up.now.horizon ups.now
+                × (up.now.flow ≡ no_items) × IsSync R.row }
+            ensures merged { IfFed result (IsMerged ups.exit.now up.exit.now.flow) }
+            ensures closed { AllClosed ups.exit.now × (up.exit.now.flow.end ≢ Open) }
+            ensures same { AllSame ups.entry.now ups.exit.now × IsSameEnd up.entry.now up.exit.now }
+        { merge(rt, alloc, ups, up) },
+        &mut || -> FeedEnd
+            requires { (1 ≤ length downs.now) × (length downs.now ≤ 16) × AllEmpty down.now.horizon downs.now
+                × (down.now.flow ≡ no_items) × IsSync R.row }
+            ensures merged { IfFed result (IsMerged downs.exit.now down.exit.now.flow) }
+            ensures closed { AllClosed downs.exit.now × (down.exit.now.flow.end ≢ Open) }
+            ensures same { AllSame downs.entry.now downs.exit.now × IsSameEnd down.entry.now down.exit.now }
+        { merge(rt, alloc, downs, down) },
+    );
+    both(up_end, down_end)
+}
+
+// Sends the schedules beside the merges of both directions. All channels keep their ends, and nothing more comes out of
+// any.
+pub(crate) fn run<Q: Pace + Sync, R: Threads + Wait + Sync>(
+    rt: &R,
+    alloc: Global,
+    schedules: &[Schedule],
+    horizon: u64,
+    gates: &mut Gates,
+    up: &mut Sender,
+    down: &mut Sender,
+    pace: &Q,
+) -> FeedEnd
+    requires some { 1 ≤ length schedules.now }
+    requires few { length schedules.now ≤ 16 }
+    requires long { (length gates.old.outlets.items ≡ length schedules.now)
+        × (length gates.old.ups.items ≡ length schedules.now)
+        × (length gates.old.downs.items ≡ length schedules.now) }
+    requires unsent { AllUnsent horizon gates.old.outlets.items }
+    requires empty { AllEmpty up.old.horizon gates.old.ups.items × AllEmpty down.old.horizon gates.old.downs.items }
+    requires none { (up.old.flow ≡ no_items) × (down.old.flow ≡ no_items) }
+    ensures sent { HaveSent horizon 1 schedules.now gates.new.outlets.items }
+    ensures merged { IfFed result (IsMerged gates.new.ups.items up.new.flow × IsMerged gates.new.downs.items
+        down.new.flow) }
+    ensures closed { AllClosed gates.new.ups.items × AllClosed gates.new.downs.items }
+    ensures over { (up.new.flow.end ≢ Open) × (down.new.flow.end ≢ Open) }
+    ensures same_outlets { AllSameOutlets gates.old.outlets.items gates.new.outlets.items }
+    ensures same_inlets { AllSame gates.old.ups.items gates.new.ups.items
+        × AllSame gates.old.downs.items gates.new.downs.items }
+    ensures same { IsSameEnd up.old up.new × IsSameEnd down.old down.new }
+{
+    let Gates {
+        outlets,
+        ups,
+        downs,
+    } = gates;
+    let outlets = outlets.as_mut_slice();
+    let ups = ups.as_mut_slice();
+    let downs = downs.as_mut_slice();
+    let (_, end) = join_mut(
+        rt,
+        &mut ||
+            requires { (length schedules.now ≤ 16) × (length schedules.now ≡ length outlets.now)
+                × AllUnsent horizon outlets.now × IsSync R.row × IsSync Q.row }
+            ensures sent { HaveSent horizon 1 schedules.entry.now outlets.exit.now }
+            ensures same { AllSameOutlets outlets.entry.now outlets.exit.now }
+        { send_all(rt, 1, schedules, horizon, outlets, pace) },
+        &mut || -> FeedEnd
+            requires { (1 ≤ length ups.now) × (1 ≤ length downs.now) × (length ups.now ≤ 16)
+                × (length downs.now ≤ 16) × AllEmpty up.now.horizon ups.now × AllEmpty down.now.horizon downs.now
+                × (up.now.flow ≡ no_items) × (down.now.flow ≡ no_items) × IsSync R.row }
+            ensures merged { IfFed result (IsMerged ups.exit.now up.exit.now.flow
+                × IsMerged downs.exit.now down.exit.now.flow) }
+            ensures closed { AllClosed ups.exit.now × AllClosed downs.exit.now }
+            ensures over { (up.exit.now.flow.end ≢ Open) × (down.exit.now.flow.end ≢ Open) }
+            ensures same { AllSame ups.entry.now ups.exit.now × AllSame downs.entry.now downs.exit.now }
+            ensures ends { IsSameEnd up.entry.now up.exit.now × IsSameEnd down.entry.now down.exit.now }
+        { merge_both(rt, alloc, ups, downs, up, down) },
+    );
+    end
+}

@@ -1,0 +1,102 @@
+// The channels of all senders: how they are opened before any thread starts, and settled after all have ended.
+ghost use Rattle.std.specs.Prelude.{◌≡◌, ◌≢◌, ◌≤◌, ◌+◌, length, IfOk, OnOk};
+ghost use Rattle.packet_record.specs.declared.item.FlowEnd.TheVariants.{Open};
+ghost use Rattle.sender_merge.specs.Gates.{AllEnds, AllFresh, AreEnds, AreSettled, IsFresh};
+ghost use Rattle.sender_merge.specs.Inlets.{AllClosed};
+
+use crate::inlet::Inlet;
+use crate::outlet::{Outlet, Way};
+use mark_channel::settle;
+use mm_base::OutOfMemory;
+use std::alloc::Global;
+
+// How many items a channel of a sender holds.
+const CAPACITY: u32 = 64;
+
+// The sending ends of each sender, and its receiving ends in both directions.
+#[derive(Drop)]
+pub(crate) struct Gates {
+    pub outlets: Vec<Outlet>,
+    pub ups: Vec<Inlet>,
+    pub downs: Vec<Inlet>,
+}
+
+impl Gates {
+    // Opens the channels of so many senders, for a run up to a horizon.
+    pub fn open(alloc: Global, horizon: u64, senders: usize) -> Result<Gates, OutOfMemory>
+        ensures fresh { IfOk result (λ g. AllFresh horizon g.outlets.items g.ups.items g.downs.items) }
+        ensures long { IfOk result (λ g. length g.outlets.items ≡ senders) }
+    {
+        let mut gates = Gates {
+            outlets: Vec::with_capacity(alloc, senders)?,
+            ups: Vec::with_capacity(alloc, senders)?,
+            downs: Vec::with_capacity(alloc, senders)?,
+        };
+        for _ in 0..senders {
+            gates.add(alloc, horizon)?;
+        }
+        Ok(gates)
+    }
+
+    // Opens the channels of one more sender.
+    fn add(&mut self, alloc: Global, horizon: u64) -> Result<(), OutOfMemory>
+        requires { AllFresh horizon self.old.outlets.items self.old.ups.items self.old.downs.items }
+        ensures fresh { OnOk result (AllFresh horizon self.new.outlets.items self.new.ups.items self.new.downs.items) }
+        ensures long { OnOk result (length self.new.outlets.items ≡ length self.old.outlets.items + 1) }
+    {
+        let (outlet, up, down) = open_one(alloc, horizon)?;
+        self.outlets.push(outlet)?;
+        self.ups.push(up)?;
+        self.downs.push(down)?;
+        Ok(())
+    }
+
+    // Settles all channels, after nothing more comes out of any: all that was sent was received.
+    pub fn settle(self)
+        requires ends { AllEnds self.outlets.items self.ups.items self.downs.items }
+        requires closed { AllClosed self.ups.items × AllClosed self.downs.items }
+        ensures { AreSettled self.outlets.items self.ups.items self.downs.items }
+    {
+        let Gates {
+            outlets,
+            ups,
+            downs,
+        } = self;
+        let mut up_inlets = ups.into_iter();
+        let mut down_inlets = downs.into_iter();
+        for outlet in outlets {
+            let (Some(up), Some(down)) = (up_inlets.next(), down_inlets.next()) else {
+                unreachable!()
+            };
+            settle_one(outlet, up, down);
+        }
+    }
+}
+
+// Opens the channels of one sender.
+fn open_one(alloc: Global, horizon: u64) -> Result<(Outlet, Inlet, Inlet), OutOfMemory>
+    ensures { IfOk result (λ ends. IsFresh horizon ends.0 ends.1 ends.2) }
+{
+    let (up_to, up_from) = mark_channel::open(alloc, CAPACITY, horizon)?;
+    let (down_to, down_from) = mark_channel::open(alloc, CAPACITY, horizon)?;
+    let outlet = Outlet {
+        up: Way::new(up_to),
+        down: Way::new(down_to),
+    };
+    Ok((outlet, Inlet::new(up_from), Inlet::new(down_from)))
+}
+
+// Settles the channels of one sender.
+fn settle_one(outlet: Outlet, up: Inlet, down: Inlet)
+    requires ends { AreEnds outlet up down }
+    requires closed { (up.from.flow.end ≢ Open) × (down.from.flow.end ≢ Open) }
+    ensures up { up.from.flow ≡ outlet.up.to.flow }
+    ensures down { down.from.flow ≡ outlet.down.to.flow }
+{
+    let Outlet {
+        up: up_way,
+        down: down_way,
+    } = outlet;
+    settle(up_way.to, up.from);
+    settle(down_way.to, down.from);
+}

@@ -1,0 +1,94 @@
+// What was added of one sender's flow.
+ghost use Rattle.std.specs.Prelude.{◌≡◌, ◌↔◌, OnOk, OnErr, IsSome, IsTrue};
+ghost use Rattle.packet_record.specs.Streams.{MayFollow};
+ghost use Rattle.packet_record.specs.Takes.{IsPacket};
+
+use mm_base::OutOfMemory;
+use packet_record::{Flow, FlowEnd, Item, Timed};
+use std::alloc::Global;
+use std::marker::Model;
+
+// The flow of one sender, and how many of its packets were given.
+#[derive(Drop)]
+pub(crate) struct Incoming {
+    flow: Flow,
+    passed: usize,
+}
+
+impl Model for Incoming {
+    ghost use Rattle.sender_merge.specs.Inflows.{Inflow};
+
+    ghost Value = { Inflow };
+
+    ghost use Rattle.sender_merge.specs.InflowInside.{inflow_view};
+
+    ghost view = { inflow_view };
+}
+
+impl Incoming {
+    ghost use Rattle.sender_merge.specs.Inflows.{fresh, has_ended, head_of, is_broken, with_item, with_passed};
+
+    // A sender of which nothing was added.
+    pub fn new(alloc: Global) -> Self
+        ensures { result ≡ fresh }
+    {
+        Incoming {
+            flow: Flow::new(alloc),
+            passed: 0,
+        }
+    }
+
+    // The greatest moment that its flow named.
+    pub fn bound(&self) -> u64
+        ensures { result ≡ self.now.flow.bound }
+    {
+        self.flow.bound()
+    }
+
+    // Whether its flow is at its end.
+    pub fn has_ended(&self) -> bool
+        ensures { result ≡ has_ended self.now }
+    {
+        self.flow.end() == FlowEnd::Ended
+    }
+
+    // Whether its flow was broken off.
+    pub fn is_broken(&self) -> bool
+        ensures { result ≡ is_broken self.now }
+    {
+        self.flow.end() == FlowEnd::Broken
+    }
+
+    // Its first packet that wasn't given.
+    pub fn head(&self) -> Option<Timed>
+        ensures { result ≡ head_of self.now }
+    {
+        self.flow.packets().get(self.passed).copied()
+    }
+
+    // Whether the item may come next.
+    pub fn may_follow(&self, item: &Item) -> bool
+        ensures { IsTrue result ↔ MayFollow self.now.flow item.now }
+    {
+        self.flow.may_follow(item)
+    }
+
+    // Adds an item. Only a packet takes memory.
+    pub fn add(&mut self, item: Item) -> Result<(), OutOfMemory>
+        requires { MayFollow self.old.flow item }
+        ensures ok { OnOk result (self.new ≡ with_item self.old item) }
+        ensures err { OnErr result ((self.new ≡ self.old) × IsPacket item) }
+    {
+        self.flow.push(item)
+    }
+
+    // Its head was given.
+    pub fn pass(&mut self)
+        requires { IsSome (head_of self.old) }
+        ensures { self.new ≡ with_passed self.old }
+    {
+        if self.passed < self.flow.packets().len() {
+            self.passed += 1;
+        }
+    }
+}

@@ -1,0 +1,195 @@
+// Looks at what was added of all senders, each one pass over them.
+ghost use Rattle.std.specs.Prelude.{◌≡◌, ◌+◌, ◌<◌, ◌≤◌, length, IsSome, Some, is_some};
+ghost use Rattle.std.specs.List.{list_all, list_any};
+ghost use Rattle.sender_merge.specs.Inflows.{has_ended, is_broken};
+ghost use Rattle.sender_merge.specs.Steps.{all_clear as is_clear, bound_of, candidate as candidate_of, clears};
+ghost use Rattle.sender_merge.specs.Steps.{earlier as earlier_of, is_needed, lesser as lesser_of};
+ghost use Rattle.sender_merge.specs.Steps.{mark_or_need as mark_or_need_of, merged_bound as bound_in};
+ghost use Rattle.sender_merge.specs.Steps.{needed as needed_of, senders_after, step_of as step_in};
+ghost use Rattle.sender_merge.specs.Lefts.{left_of};
+
+use crate::incoming::Incoming;
+use crate::step::{Head, MergeStep};
+use packet_record::Item;
+
+// The number of the sender at an index.
+fn number_at(index: usize) -> u32
+    requires { index < 16 }
+    ensures { result ≡ index + 1 }
+{
+    index as u32 + 1
+}
+
+// Whether a sender was broken off.
+fn any_broken(senders: &[Incoming]) -> bool
+    ensures { result ≡ list_any is_broken senders.now }
+{
+    senders.iter().any(|sender| sender.is_broken())
+}
+
+// Whether all senders are at their ends.
+fn all_ended(senders: &[Incoming]) -> bool
+    ensures { result ≡ list_all has_ended senders.now }
+{
+    senders.iter().all(|sender| sender.has_ended())
+}
+
+// Of two heads the earlier one, and the first where they are at one moment.
+fn earlier(first: Option<Head>, second: Option<Head>) -> Option<Head>
+    ensures { result ≡ earlier_of first second }
+{
+    match (first, second) {
+        (Some(a), Some(b)) if b.packet.moment < a.packet.moment => Some(b),
+        (Some(a), _) => Some(a),
+        (None, second) => second,
+    }
+}
+
+// The head that is least by moment, then sender.
+pub(crate) fn candidate(senders: &[Incoming]) -> Option<Head>
+    requires { length senders.now ≤ 16 }
+    ensures { result ≡ candidate_of senders.now }
+{
+    let mut least = None;
+    for (index, incoming) in senders.iter().enumerate() {
+        let sender = number_at(index);
+        let head = incoming.head().map(|packet| Head { sender, packet });
+        least = earlier(least, head);
+    }
+    least
+}
+
+// Whether the sender clears the candidate.
+fn clears_it(candidate: &Head, number: u32, incoming: &Incoming) -> bool
+    ensures { result ≡ clears candidate.now number incoming.now }
+{
+    let bound = incoming.bound();
+    let moment = candidate.packet.moment;
+    incoming.head().is_some()
+        || incoming.has_ended()
+        || bound > moment
+        || (bound == moment && number > candidate.sender)
+}
+
+// Whether all senders clear the candidate.
+fn all_clear(candidate: &Head, senders: &[Incoming]) -> bool
+    requires { length senders.now ≤ 16 }
+    ensures { result ≡ is_clear candidate.now 1 senders.now }
+{
+    for (index, incoming) in senders.iter().enumerate() {
+        if !clears_it(candidate, number_at(index), incoming) {
+            return false;
+        }
+    }
+    true
+}
+
+// Of two moments the lesser, where there are such.
+fn lesser(first: Option<u64>, second: Option<u64>) -> Option<u64>
+    ensures { result ≡ lesser_of first second }
+{
+    match (first, second) {
+        (Some(a), Some(b)) if b < a => Some(b),
+        (Some(a), _) => Some(a),
+        (None, second) => second,
+    }
+}
+
+// The head's moment of a sender that isn't at its end, or its bound where it has no head.
+fn earliest(incoming: &Incoming) -> Option<u64>
+    ensures { result ≡ bound_of incoming.now }
+{
+    if incoming.has_ended() {
+        return None;
+    }
+    match incoming.head() {
+        Some(packet) => Some(packet.moment),
+        None => Some(incoming.bound()),
+    }
+}
+
+// The least of these.
+fn merged_bound(senders: &[Incoming]) -> Option<u64>
+    ensures { result ≡ bound_in senders.now }
+{
+    let mut least = None;
+    for incoming in senders {
+        least = lesser(least, earliest(incoming));
+    }
+    least
+}
+
+// Whether a sender isn't at its end and has no head and, where there is a candidate, doesn't clear it.
+fn is_missing(candidate: &Option<Head>, number: u32, incoming: &Incoming) -> bool
+    ensures { result ≡ is_needed candidate.now number incoming.now }
+{
+    if incoming.has_ended() || incoming.head().is_some() {
+        return false;
+    }
+    match candidate {
+        Some(head) => !clears_it(head, number, incoming),
+        None => true,
+    }
+}
+
+// The least such sender.
+fn needed(candidate: &Option<Head>, senders: &[Incoming]) -> u32
+    requires few { length senders.now ≤ 16 }
+    requires some { IsSome (needed_of candidate.now senders.now) }
+    ensures { needed_of candidate.now senders.now ≡ Some result }
+{
+    for (index, incoming) in senders.iter().enumerate() {
+        let sender = number_at(index);
+        if is_missing(candidate, sender, incoming) {
+            return sender;
+        }
+    }
+    unreachable!()
+}
+
+// The mark at the merged bound where that is above the bound of the flow given, or else the sender that is needed.
+fn mark_or_need(candidate: &Option<Head>, senders: &[Incoming], given: u64) -> MergeStep
+    requires few { length senders.now ≤ 16 }
+    requires some { IsSome (needed_of candidate.now senders.now) }
+    ensures { result ≡ mark_or_need_of candidate.now (bound_in senders.now) senders.now given }
+{
+    match merged_bound(senders) {
+        Some(bound) if bound > given => MergeStep::Item(Item::Mark(bound)),
+        _ => MergeStep::Need {
+            sender: needed(candidate, senders),
+        },
+    }
+}
+
+// What comes next after a flow of this bound, where this is the candidate.
+pub(crate) fn next_step(candidate: &Option<Head>, senders: &[Incoming], given: u64) -> MergeStep
+    requires few { length senders.now ≤ 16 }
+    requires candidate { candidate.now ≡ candidate_of senders.now }
+    ensures { result ≡ step_in senders.now given }
+{
+    if any_broken(senders) {
+        return MergeStep::Item(Item::Broken);
+    }
+    match candidate {
+        Some(head) if all_clear(head, senders) => MergeStep::Item(Item::Packet(head.packet)),
+        None if all_ended(senders) => MergeStep::Item(Item::End),
+        _ => mark_or_need(candidate, senders, given),
+    }
+}
+
+// Passes the candidate where it was given, and answers how many packets were: none or one.
+pub(crate) fn pass(senders: &mut [Incoming], item: &Item, candidate: &Option<Head>) -> usize
+    requires few { length senders.old ≤ 16 }
+    requires candidate { candidate.now ≡ candidate_of senders.old }
+    ensures senders { senders.new ≡ senders_after senders.old item.now }
+    ensures left { result + left_of senders.new ≡ left_of senders.old }
+{
+    match (item, candidate) {
+        (Item::Packet(_), Some(head)) => {
+            let incoming = &mut senders[head.sender as usize - 1];
+            incoming.pass();
+            1
+        }
+        _ => 0,
+    }
+}

@@ -1,0 +1,149 @@
+// The merge of flows by what was added of them so far.
+ghost use Rattle.std.specs.Prelude.{◌≡◌, ◌≤◌, ◌↔◌, ◌+◌, ℕ, IsTrue, length, OnOk, OnErr, IfOk};
+ghost use Rattle.packet_record.specs.declared.item.FlowEnd.TheVariants.{Open};
+ghost use Rattle.packet_record.specs.Streams.{MayFollow};
+ghost use Rattle.packet_record.specs.Takes.{IsPacket};
+ghost use Rattle.sender_merge.specs.Lefts.{packets_in};
+
+use crate::incoming::Incoming;
+use crate::looks::{candidate, next_step, pass};
+use crate::step::MergeStep;
+use mm_base::OutOfMemory;
+use packet_record::{Flow, Item};
+use std::alloc::Global;
+use std::marker::Model;
+
+/// The merge of the flows of 1 to 16 senders, item by item: the flow of each as far as it was added, and the flow
+/// given. Senders are counted from 1.
+///
+/// Whatever the order in which items are added, the packets given are a front of the merge of all that the senders
+/// send: the packets of all flows ordered by moment, then sender, then place. Where the end was given, they are that
+/// merge.
+#[derive(Drop)]
+pub struct MergeCore {
+    senders: Vec<Incoming>,
+    given: Flow,
+    // How many packets were added and not given: so many the flow given has room for.
+    waiting: usize,
+}
+
+impl Model for MergeCore {
+    ghost use Rattle.sender_merge.specs.Inflows.{Merging};
+
+    ghost Value = { Merging };
+
+    ghost use Rattle.sender_merge.specs.Inside.{merging_view, IsMergeCore};
+
+    ghost view = { merging_view };
+
+    ghost invariant = { IsMergeCore };
+}
+
+// How many packets wait with one more item.
+fn count_with(waiting: usize, item: &Item) -> Result<usize, OutOfMemory>
+    ensures ok { IfOk result (λ n. n ≡ waiting + packets_in item.now) }
+    ensures err { OnErr result (IsPacket item.now) }
+{
+    match item {
+        Item::Packet(_) => waiting.checked_add(1).ok_or(OutOfMemory),
+        Item::Mark(_) | Item::End | Item::Broken => Ok(waiting),
+    }
+}
+
+impl MergeCore {
+    ghost use Rattle.sender_merge.specs.Inflows.{after_add, new_merging, sender_at};
+    ghost use Rattle.sender_merge.specs.Laws.{AllUpTo, IfNeeds, IsMergeFront, IsNeeded, IsStepUpTo, MayFollowStep};
+    ghost use Rattle.sender_merge.specs.Steps.{after_step, next_step};
+
+    /// A merge of so many senders, 1 to 16, of which nothing was added. `OutOfMemory` is the one refusal.
+    pub fn new(alloc: Global, senders: u32) -> Result<MergeCore, OutOfMemory>
+        requires some { 1 ≤ senders }
+        requires few { senders ≤ 16 }
+        ensures new { IfOk result (λ m. m ≡ new_merging senders) }
+        ensures front { IfOk result IsMergeFront }
+    {
+        let mut list = Vec::with_capacity(alloc, senders as usize)?;
+        for _ in 0..senders {
+            list.push(Incoming::new(alloc))?;
+        }
+        Ok(MergeCore {
+            senders: list,
+            given: Flow::new(alloc),
+            waiting: 0,
+        })
+    }
+
+    /// The flow given.
+    pub fn given(&self) -> &Flow
+        ensures given { result.now.stream ≡ self.now.given }
+        ensures front { IsMergeFront self.now }
+    {
+        &self.given
+    }
+
+    /// How many senders there are.
+    pub fn senders(&self) -> u32
+        ensures { result ≡ length self.now.senders }
+    {
+        self.senders.len() as u32
+    }
+
+    /// Whether a sender may send the item next.
+    pub fn may_add(&self, sender: u32, item: &Item) -> bool
+        requires some { 1 ≤ sender }
+        requires few { sender ≤ length self.now.senders }
+        ensures { IsTrue result ↔ MayFollow (sender_at self.now.senders sender).flow item.now }
+    {
+        let incoming = &self.senders[sender as usize - 1];
+        incoming.may_follow(item)
+    }
+
+    /// Adds an item that a sender sends next, and takes the memory that `next` needs for it. `OutOfMemory` comes only
+    /// for a packet, and the merge is then as it was.
+    pub fn add(&mut self, sender: u32, item: Item) -> Result<(), OutOfMemory>
+        requires some { 1 ≤ sender }
+        requires few { sender ≤ length self.old.senders }
+        requires follows { MayFollow (sender_at self.old.senders sender).flow item }
+        ensures ok { OnOk result (self.new ≡ after_add self.old sender item) }
+        ensures err { OnErr result ((self.new ≡ self.old) × IsPacket item) }
+        ensures front { OnOk result (IsMergeFront self.new) }
+    {
+        let waiting = count_with(self.waiting, &item)?;
+        self.given.reserve(waiting)?;
+        let incoming = &mut self.senders[sender as usize - 1];
+        incoming.add(item)?;
+        self.waiting = waiting;
+        Ok(())
+    }
+
+    /// Gives the next item, or says which sender's next item is needed first. The flow given is open. The first of
+    /// these cases that holds counts: a sender was broken off: `Item::Broken`; there is a candidate, which is the
+    /// head (first packet that wasn't given) least by moment, then sender, and all senders clear it: that packet;
+    /// there is no candidate and all senders are at their ends: `Item::End`; the merged bound is above the bound of
+    /// the flow given: a mark at the merged bound; otherwise `Need`, with the least sender that isn't at its end and
+    /// has no head and, where there is a candidate, doesn't clear it.
+    ///
+    /// A sender clears the candidate where it has a head, or is at its end, or its bound is above the candidate's
+    /// moment, or is that moment and its number above that of the candidate's sender. The merged bound is the least,
+    /// over the senders that aren't at their ends, of the head's moment, or of the bound where there is no head.
+    ///
+    /// It takes no memory.
+    pub fn next(&mut self) -> MergeStep
+        requires { self.old.given.end ≡ Open }
+        ensures step { result ≡ next_step self.old }
+        ensures after { self.new ≡ after_step self.old result }
+        ensures front { IsMergeFront self.new }
+        ensures follows { MayFollowStep self.old.given result }
+        ensures needs { IfNeeds result (IsNeeded self.old.senders) }
+        ensures within { (horizon : ℕ) → AllUpTo horizon self.old.senders → IsStepUpTo horizon result }
+    {
+        let senders = self.senders.as_slice();
+        let head = candidate(senders);
+        let step = next_step(&head, senders, self.given.bound());
+        if let MergeStep::Item(item) = step {
+            self.waiting -= pass(self.senders.as_mut_slice(), &item, &head);
+            self.given.add(item);
+        }
+        step
+    }
+}

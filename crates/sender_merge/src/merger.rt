@@ -1,0 +1,161 @@
+// The thread that merges the flows of a direction.
+ghost use Rattle.std.specs.Prelude.{◌≡◌, ◌≢◌, ◌<◌, ◌≤◌, ◌++◌, ℕ, length, IfSome, IfNone, IfOk, OnOk, OnErr};
+ghost use Rattle.packet_record.specs.declared.item.FlowEnd.TheVariants.{Open};
+ghost use Rattle.packet_record.specs.Streams.{no_items};
+ghost use Rattle.mark_channel.specs.Ends.{IsSameEnd};
+ghost use Rattle.mark_channel.specs.Feedings.{IfFed};
+ghost use Rattle.sender_merge.specs.Inlets.{AllClosed, AllEmpty, AllSame, AllWithin, AreAdded, IsFurther};
+ghost use Rattle.sender_merge.specs.Inlets.{IsFurthestBehind, IsMerged};
+ghost use Rattle.sender_merge.specs.Laws.{AllUpTo, IfNeeds, IsMergeFront, IsNeeded, SomeOpen};
+ghost use Rattle.sender_merge.specs.Steps.{after_step, given_in, next_step};
+
+use crate::inlet::Inlet;
+use crate::merge_core::MergeCore;
+use crate::step::MergeStep;
+use mark_channel::{FeedEnd, Sender};
+use mm_base::OutOfMemory;
+use packet_record::Item;
+use std::alloc::Global;
+use std::sync::Wait;
+
+// Of the open inlet that is furthest behind so far, by its place and bound, and the one at the next place, that which
+// is further behind; the first where both are at one moment.
+fn further_behind(least: Option<(usize, u64)>, place: usize, inlet: &Inlet) -> Option<(usize, u64)>
+    ensures some { IfSome result (IsFurther least place inlet.now) }
+    ensures none { IfNone result ((least ≡ None) × (inlet.now.from.flow.end ≢ Open)) }
+{
+    if !inlet.is_open() {
+        return least;
+    }
+    match least {
+        Some((_, bound)) if bound <= inlet.reach.bound => least,
+        _ => Some((place, inlet.reach.bound)),
+    }
+}
+
+// The place of the open inlet that is furthest behind: the least by bound, then sender. It bars a merge that needs
+// anything. The one that the merge names may be further on: its sender may wait for room in the other direction, whose
+// merge may wait for a sender that waits for room in this one.
+fn furthest_behind(inlets: &[Inlet]) -> Option<usize>
+    ensures within { IfSome result (λ place. place < length inlets.now) }
+    ensures furthest { IfSome result (λ place. IsFurthestBehind place inlets.now) }
+    ensures none { IfNone result (AllClosed inlets.now) }
+{
+    let mut least = None;
+    for (place, inlet) in inlets.iter().enumerate() {
+        least = further_behind(least, place, inlet);
+    }
+    Some(least?.0)
+}
+
+// Receives the next item of the sender that is furthest behind, and adds it to the merge.
+fn receive_one<R: Wait>(
+    rt: &R,
+    core: &mut MergeCore,
+    inlets: &mut [Inlet],
+) -> Result<(), OutOfMemory>
+    requires few { length inlets.old ≤ 16 }
+    requires added { AreAdded inlets.old core.old.senders }
+    requires going { SomeOpen core.old.senders }
+    ensures added { OnOk result (AreAdded inlets.new core.new.senders) }
+    ensures given { core.new.given ≡ core.old.given }
+    ensures within { (horizon : ℕ) → AllWithin horizon inlets.old → AllWithin horizon inlets.new }
+    ensures same { AllSame inlets.old inlets.new }
+{
+    let Some(place) = furthest_behind(inlets) else {
+        unreachable!()
+    };
+    let inlet = &mut inlets[place];
+    let item = inlet.receive(rt);
+    core.add(place as u32 + 1, item)
+}
+
+// Takes the next step of the merge, and sends the item that it gives, a mark too: what was sent is what was given.
+fn send_next<R: Wait>(rt: &R, core: &mut MergeCore, to: &mut Sender) -> MergeStep
+    requires going { core.old.given.end ≡ Open }
+    requires alike { to.old.flow ≡ core.old.given }
+    requires within { AllUpTo to.old.horizon core.old.senders }
+    ensures step { result ≡ next_step core.old }
+    ensures after { core.new ≡ after_step core.old result }
+    ensures alike { to.new.flow ≡ core.new.given }
+    ensures items { to.new.items ≡ to.old.items ++ given_in result }
+    ensures front { IsMergeFront core.new }
+    ensures needs { IfNeeds result (IsNeeded core.old.senders) }
+    ensures same { IsSameEnd to.old to.new }
+{
+    let step = core.next();
+    if let MergeStep::Item(item) = step {
+        to.send(rt, item);
+    }
+    step
+}
+
+// Sends the merge of what it receives, to its end: `OutOfMemory` where a sender broke off. Where memory is wanting
+// here, what was sent stays open.
+fn merge_all<R: Wait>(
+    rt: &R,
+    alloc: Global,
+    inlets: &mut [Inlet],
+    to: &mut Sender,
+) -> Result<FeedEnd, OutOfMemory>
+    requires some { 1 ≤ length inlets.old }
+    requires few { length inlets.old ≤ 16 }
+    requires empty { AllEmpty to.old.horizon inlets.old }
+    requires none { to.old.flow ≡ no_items }
+    ensures merged { IfOk result (λ end. IfFed end (AllClosed inlets.new × IsMerged inlets.new to.new.flow)) }
+    ensures closed { OnOk result (to.new.flow.end ≢ Open) }
+    ensures going { OnErr result (to.new.flow.end ≡ Open) }
+    ensures same { AllSame inlets.old inlets.new × IsSameEnd to.old to.new }
+{
+    let mut core = MergeCore::new(alloc, inlets.len() as u32)?;
+    for _ in rt.forever() {
+        match send_next(rt, &mut core, to) {
+            MergeStep::Need { .. } => receive_one(rt, &mut core, inlets)?,
+            MergeStep::Item(Item::Packet(_)) => {}
+            MergeStep::Item(Item::Mark(_)) => {}
+            MergeStep::Item(Item::End) => return Ok(FeedEnd::Ended),
+            MergeStep::Item(Item::Broken) => return Ok(FeedEnd::OutOfMemory),
+        }
+    }
+    unreachable!()
+}
+
+// Receives until nothing more comes out of any, so that no sender is left by a receiver that went.
+fn receive_rest<R: Wait>(rt: &R, inlets: &mut [Inlet])
+    ensures closed { AllClosed inlets.new }
+    ensures same { AllSame inlets.old inlets.new }
+{
+    for _ in rt.forever() {
+        let Some(place) = furthest_behind(inlets) else {
+            return;
+        };
+        let inlet = &mut inlets[place];
+        inlet.receive(rt);
+    }
+    unreachable!()
+}
+
+// Sends the merge of what it receives from 1 to 16 senders. After want of memory it sends `Item::Broken`, and receives
+// the rest.
+pub(crate) fn merge<R: Wait>(
+    rt: &R,
+    alloc: Global,
+    inlets: &mut [Inlet],
+    to: &mut Sender,
+) -> FeedEnd
+    requires some { 1 ≤ length inlets.old }
+    requires few { length inlets.old ≤ 16 }
+    requires empty { AllEmpty to.old.horizon inlets.old }
+    requires none { to.old.flow ≡ no_items }
+    ensures merged { IfFed result (IsMerged inlets.new to.new.flow) }
+    ensures closed { AllClosed inlets.new × (to.new.flow.end ≢ Open) }
+    ensures same { AllSame inlets.old inlets.new × IsSameEnd to.old to.new }
+{
+    match merge_all(rt, alloc, inlets, to) {
+        Ok(FeedEnd::Ended) => return FeedEnd::Ended,
+        Ok(FeedEnd::OutOfMemory) => {}
+        Err(OutOfMemory) => to.send(rt, Item::Broken),
+    }
+    receive_rest(rt, inlets);
+    FeedEnd::OutOfMemory
+}

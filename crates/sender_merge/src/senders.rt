@@ -1,0 +1,140 @@
+// Several senders that feed one nest.
+ghost use Rattle.std.specs.Prelude.{◌≡◌, ◌≢◌, ◌≤◌, length, IfOk};
+ghost use Rattle.packet_record.specs.declared.item.FlowEnd.TheVariants.{Open};
+ghost use Rattle.packet_record.specs.declared.packet.Direction.TheVariants.{Up, Down};
+ghost use Rattle.packet_record.specs.Streams.{no_items};
+ghost use Rattle.mark_channel.specs.Ends.{IsSameEnd};
+ghost use Rattle.mark_channel.specs.Feedings.{HasSentRows, IfFed};
+ghost use Rattle.sender_merge.specs.Merges.{merge_rows};
+ghost use Rattle.sender_merge.specs.Gates.{AllFresh};
+ghost use Rattle.sender_merge.specs.RowLists.{rows_in};
+
+use crate::feeding::run;
+use crate::gates::Gates;
+use crate::row_merge::merge_from;
+use mark_channel::{FeedEnd, Feeds, Sender};
+use mm_base::{NoPace, OutOfMemory, Pace};
+use packet_record::{Item, Row, Schedule};
+use std::alloc::Global;
+use std::marker::{Model, Sync};
+use std::sync::Wait;
+use std::thread::Threads;
+
+/// From 1 to 16 senders, each with a schedule and a thread of its own, that feed one nest up to a horizon in
+/// milliseconds. Contracts see the list of their schedules, the first sender's first.
+///
+/// What they feed is the merge of their rows, ordered by moment, then sender, then line, whatever the order in which
+/// their threads get their turns. The row of line `l` of sender `c`, both counted from 1, has the number
+/// `16 * (l - 1) + c` in it.
+#[derive(Drop)]
+pub struct Senders {
+    alloc: Global,
+    schedules: Vec<Schedule>,
+    rows: Vec<Row>,
+}
+
+impl Model for Senders {
+    ghost use Rattle.std.specs.Prelude.{List};
+    ghost use Rattle.packet_record.specs.declared.packet.Row.{Row as RowValue};
+
+    ghost Value = { List (List RowValue) };
+
+    ghost use Rattle.sender_merge.specs.SendersInside.{senders_view, AreSenders};
+
+    ghost view = { senders_view };
+
+    ghost invariant = { AreSenders };
+}
+
+impl Senders {
+    /// Senders of these schedules, 1 to 16, with at most 1,000,000 lines in all, which `count_rows` counts.
+    /// `OutOfMemory` is the one refusal.
+    pub fn new(alloc: Global, schedules: Vec<Schedule>) -> Result<Senders, OutOfMemory>
+        requires some { 1 ≤ length schedules.items }
+        requires few { length schedules.items ≤ 16 }
+        requires lines { rows_in schedules.items ≤ 1000000 }
+        ensures { IfOk result (λ s. s ≡ schedules.items) }
+    {
+        let rows = merge_from(alloc, 1, schedules.as_slice())?;
+        Ok(Senders {
+            alloc,
+            schedules,
+            rows,
+        })
+    }
+
+    /// Feeds as `feed` does, and asks the pace before each row of each sender, in its thread, with the row's place in
+    /// its schedule from 1.
+    pub(crate) fn feed_at<Q: Pace + Sync, R: Threads + Wait + Sync>(
+        &mut self,
+        rt: &R,
+        horizon: u64,
+        up: &mut Sender,
+        down: &mut Sender,
+        pace: &Q,
+    ) -> FeedEnd
+        requires empty { (up.old.flow ≡ no_items) × (down.old.flow ≡ no_items) }
+        requires within { (up.old.horizon ≡ horizon) × (down.old.horizon ≡ horizon) }
+        ensures same_senders { self.new ≡ self.old }
+        ensures closed { (up.new.flow.end ≢ Open) × (down.new.flow.end ≢ Open) }
+        ensures up { IfFed result (HasSentRows Up horizon (merge_rows self.old) up.new.flow) }
+        ensures down { IfFed result (HasSentRows Down horizon (merge_rows self.old) down.new.flow) }
+        ensures same { IsSameEnd up.old up.new × IsSameEnd down.old down.new }
+    {
+        let schedules = self.schedules.as_slice();
+        let Ok(gates) = Gates::open(self.alloc, horizon, schedules.len()) else {
+            up.send(rt, Item::Broken);
+            down.send(rt, Item::Broken);
+            return FeedEnd::OutOfMemory;
+        };
+        feed_through(rt, self.alloc, schedules, horizon, gates, up, down, pace)
+    }
+}
+
+// Feeds through these channels, and settles them.
+fn feed_through<Q: Pace + Sync, R: Threads + Wait + Sync>(
+    rt: &R,
+    alloc: Global,
+    schedules: &[Schedule],
+    horizon: u64,
+    gates: Gates,
+    up: &mut Sender,
+    down: &mut Sender,
+    pace: &Q,
+) -> FeedEnd
+    requires some { 1 ≤ length schedules.now }
+    requires few { length schedules.now ≤ 16 }
+    requires fresh { AllFresh horizon gates.outlets.items gates.ups.items gates.downs.items }
+    requires long { length gates.outlets.items ≡ length schedules.now }
+    requires empty { (up.old.flow ≡ no_items) × (down.old.flow ≡ no_items) }
+    requires within { (up.old.horizon ≡ horizon) × (down.old.horizon ≡ horizon) }
+    ensures closed { (up.new.flow.end ≢ Open) × (down.new.flow.end ≢ Open) }
+    ensures up { IfFed result (HasSentRows Up horizon (merge_rows schedules.now) up.new.flow) }
+    ensures down { IfFed result (HasSentRows Down horizon (merge_rows schedules.now) down.new.flow) }
+    ensures same { IsSameEnd up.old up.new × IsSameEnd down.old down.new }
+{
+    let mut gates = gates;
+    let end = run(rt, alloc, schedules, horizon, &mut gates, up, down, pace);
+    gates.settle();
+    end
+}
+
+impl Feeds for Senders {
+    ghost use Rattle.sender_merge.specs.Merges.{merge_rows};
+
+    ghost fed_rows = { λ s. merge_rows s };
+
+    fn rows(&self) -> &[Row] {
+        self.rows.as_slice()
+    }
+
+    fn feed<R: Threads + Wait + Sync>(
+        &mut self,
+        rt: &R,
+        horizon: u64,
+        up: &mut Sender,
+        down: &mut Sender,
+    ) -> FeedEnd {
+        self.feed_at(rt, horizon, up, down, &NoPace)
+    }
+}

@@ -1,0 +1,23 @@
+// What a merge does next.
+use packet_record::{Item, Timed};
+
+/// The head of a sender: its first packet that wasn't given.
+#[derive(Clone, Copy, Debug, PartialEq, Eq)]
+pub(crate) struct Head {
+    /// The number of the sender, counted from 1.
+    pub sender: u32,
+    /// The packet.
+    pub packet: Timed,
+}
+
+/// What a merge does next.
+#[derive(Clone, Copy, Debug, PartialEq, Eq)]
+pub enum MergeStep {
+    /// It gives an item.
+    Item(Item),
+    /// It can give nothing before an item is added that this sender sends.
+    Need {
+        /// The number of the sender, counted from 1.
+        sender: u32,
+    },
+}
