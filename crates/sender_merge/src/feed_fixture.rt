@@ -6,7 +6,7 @@ ghost use Rattle.packet_record.specs.Streams.{no_items};
 ghost use Rattle.mark_channel.specs.Ends.{IsSameEnd};
 
 use crate::{Senders, count_rows};
-use mark_channel::{FeedEnd, Feeds, Receiver, Sender, open, settle};
+use mark_channel::{FeedEnd, Receiver, Sender, open, settle};
 use mm_base::{NoPace, Pace, Role};
 use packet_record::{Item, Schedule, read_schedule};
 use std::alloc::{AllocError, Global};
@@ -49,13 +49,13 @@ pub(crate) struct Fed {
     pub downs: Vec<Item>,
 }
 
-// Receives until the end, and gathers the items. The pace, if any, is asked after each.
+// Receives until the end, and gathers the items. The pace is asked after each.
 fn receive_all<Q: Pace, R: Wait>(
     rt: &R,
     up: bool,
     from: &mut Receiver,
     items: &mut Vec<Item>,
-    pace: Option<&Q>,
+    pace: &Q,
 )
     requires { from.old.flow.end ≡ Open }
     ensures same { IsSameEnd from.old from.new }
@@ -63,53 +63,38 @@ fn receive_all<Q: Pace, R: Wait>(
     for _ in rt.forever() {
         let item = from.recv(rt);
         let _ = items.push(item);
-        if let Some(pace) = pace {
-            pace.turn(rt, Role::Collector { up }, items.len() as u64);
-        }
+        pace.turn(rt, Role::Collector { up }, items.len() as u64);
         match item {
-            Item::Packet(_) => {}
-            Item::Mark(_) => {}
+            Item::Packet(_) | Item::Mark(_) => {}
             Item::End | Item::Broken => return,
         }
     }
     unreachable!()
 }
 
+// Receives from both channels beside each other.
 fn receive_both<Q: Pace + Sync, R: Threads + Wait + Sync>(
     rt: &R,
     up: &mut Receiver,
     down: &mut Receiver,
-    fed: &mut Fed,
-    pace: Option<&Q>,
+    ups: &mut Vec<Item>,
+    downs: &mut Vec<Item>,
+    pace: &Q,
 )
     requires { (up.old.flow.end ≡ Open) × (down.old.flow.end ≡ Open) }
     ensures same { IsSameEnd up.old up.new × IsSameEnd down.old down.new }
 {
-    let Fed { ups, downs } = fed;
     join_mut(
         rt,
-        &mut || receive_all(rt, true, up, ups, pace),
-        &mut || receive_all(rt, false, down, downs, pace),
+        &mut ||
+            requires { (up.now.flow.end ≡ Open) × IsSync R.row × IsSync Q.row }
+            ensures same { IsSameEnd up.entry.now up.exit.now }
+        { receive_all(rt, true, up, ups, pace) },
+        &mut ||
+            requires { (down.now.flow.end ≡ Open) × IsSync R.row × IsSync Q.row }
+            ensures same { IsSameEnd down.entry.now down.exit.now }
+        { receive_all(rt, false, down, downs, pace) },
     );
-}
-
-// Feeds, at a pace where there is one.
-fn feed_at_pace<Q: Pace + Sync, R: Threads + Wait + Sync>(
-    rt: &R,
-    senders: &mut Senders,
-    horizon: u64,
-    up: &mut Sender,
-    down: &mut Sender,
-    pace: Option<&Q>,
-) -> FeedEnd
-    requires empty { (up.old.flow ≡ no_items) × (down.old.flow ≡ no_items) }
-    requires within { (up.old.horizon ≡ horizon) × (down.old.horizon ≡ horizon) }
-    ensures same { IsSameEnd up.old up.new × IsSameEnd down.old down.new }
-{
-    match pace {
-        Some(pace) => senders.feed_at(rt, horizon, up, down, pace),
-        None => senders.feed(rt, horizon, up, down),
-    }
 }
 
 // Feeds two channels beside two threads that receive.
@@ -121,8 +106,9 @@ fn feed_beside<Q: Pace + Sync, R: Threads + Wait + Sync>(
     down: &mut Sender,
     up_end: &mut Receiver,
     down_end: &mut Receiver,
-    fed: &mut Fed,
-    pace: Option<&Q>,
+    ups: &mut Vec<Item>,
+    downs: &mut Vec<Item>,
+    pace: &Q,
 ) -> FeedEnd
     requires empty { (up.old.flow ≡ no_items) × (down.old.flow ≡ no_items) }
     requires within { (up.old.horizon ≡ horizon) × (down.old.horizon ≡ horizon) }
@@ -136,30 +122,29 @@ fn feed_beside<Q: Pace + Sync, R: Threads + Wait + Sync>(
             requires { (up.now.flow ≡ no_items) × (down.now.flow ≡ no_items) × (up.now.horizon ≡ horizon)
                 × (down.now.horizon ≡ horizon) × IsSync R.row × IsSync Q.row }
             ensures same { IsSameEnd up.entry.now up.exit.now × IsSameEnd down.entry.now down.exit.now }
-        { feed_at_pace(rt, senders, horizon, up, down, pace) },
+        { senders.feed_at(rt, horizon, up, down, pace) },
         &mut ||
             requires { (up_end.now.flow.end ≡ Open) × (down_end.now.flow.end ≡ Open) × IsSync R.row × IsSync Q.row }
             ensures same { IsSameEnd up_end.entry.now up_end.exit.now
                 × IsSameEnd down_end.entry.now down_end.exit.now }
-        { receive_both(rt, up_end, down_end, fed, pace) },
+        { receive_both(rt, up_end, down_end, ups, downs, pace) },
     );
     end
 }
 
-// Feeds two channels up to a horizon: what came out, where all was fed.
-fn feed_both<Q: Pace + Sync, R: Threads + Wait + Sync + Abort>(
+// Feeds two channels up to a horizon: what came out, where all was fed. The pace is the one that each sender asks
+// before a row, and each receiver after an item.
+pub(crate) fn feed_paced<Q: Pace + Sync, R: Threads + Wait + Sync + Abort>(
     rt: &R,
     alloc: Global,
     senders: &mut Senders,
     horizon: u64,
-    pace: Option<&Q>,
+    pace: &Q,
 ) -> Result<Fed, Fail> {
     let (mut up, mut up_end) = open(alloc, 64, horizon)?;
     let (mut down, mut down_end) = open(alloc, 64, horizon)?;
-    let mut fed = Fed {
-        ups: Vec::new(alloc),
-        downs: Vec::new(alloc),
-    };
+    let mut ups = Vec::new(alloc);
+    let mut downs = Vec::new(alloc);
     let end = feed_beside(
         rt,
         senders,
@@ -168,34 +153,24 @@ fn feed_both<Q: Pace + Sync, R: Threads + Wait + Sync + Abort>(
         &mut down,
         &mut up_end,
         &mut down_end,
-        &mut fed,
+        &mut ups,
+        &mut downs,
         pace,
     );
     settle(up, up_end);
     settle(down, down_end);
     assert_eq!(rt; end, FeedEnd::Ended);
-    Ok(fed)
+    Ok(Fed { ups, downs })
 }
 
-// Feeds two channels up to a horizon: what came out, where all was fed.
+// The same at no pace.
 pub(crate) fn feed_all<R: Threads + Wait + Sync + Abort>(
     rt: &R,
     alloc: Global,
     senders: &mut Senders,
     horizon: u64,
 ) -> Result<Fed, Fail> {
-    feed_both::<NoPace, R>(rt, alloc, senders, horizon, None)
-}
-
-// The same at a pace: the one that each sender asks before a row, and each receiver after an item.
-pub(crate) fn feed_paced<Q: Pace + Sync, R: Threads + Wait + Sync + Abort>(
-    rt: &R,
-    alloc: Global,
-    senders: &mut Senders,
-    horizon: u64,
-    pace: &Q,
-) -> Result<Fed, Fail> {
-    feed_both(rt, alloc, senders, horizon, Some(pace))
+    feed_paced(rt, alloc, senders, horizon, &NoPace)
 }
 
 // The numbers of the packets among items.
