@@ -14,5 +14,5 @@ mod whole_logs;
 pub use inputs::{load_schedule, load_traces};
 pub use nest_inputs::{check_count, check_horizon, check_outputs, names_of, nest_cause};
 pub use run::answer_run;
-pub use run_files::write_logs;
+pub use run_files::{write_logs, write_whole};
 pub use run_job::end_of_options;

@@ -106,8 +106,10 @@ fn write_in_pieces<D: Disk>(
     write_fates(alloc, disk, out, fates.as_slice())
 }
 
-// Writes the files of a run whose logs are whole.
-fn write_whole<D: Disk>(
+/// Writes the files of a run whose logs are whole: its logs, in order, and then its fates. Where writing stops, the
+/// files before are whole, and this one is as before or has a front of its text; the cause is a fault of the disk or
+/// want of memory.
+pub fn write_whole<D: Disk>(
     alloc: Global,
     disk: &mut D,
     out: &str,

@@ -4,6 +4,8 @@ use Rattle.option_words.specs.Options.{Opt}
 use Rattle.option_words.specs.RunApp.{RunTexts}
 use Rattle.option_words.specs.Commands.{ReportTexts, MakeTexts, RecordTexts, MatchTexts, MigrateTexts, ReplayTexts}
 use Rattle.option_words.specs.Commands.{MergeTexts, ProxyTexts}
+use Rattle.option_words.specs.RelayApp.{RelayTexts}
+use Rattle.option_words.specs.declared.relaying.RelayWords.{RelayWords}
 use Rattle.option_words.specs.declared.table.OptionSpec.{OptionSpec}
 use Rattle.option_words.specs.declared.run.RunWords.{RunWords}
 use Rattle.option_words.specs.declared.report.ReportWords.{ReportWords}
@@ -66,3 +68,13 @@ merge_texts_of w = record {
 
 abbrev pub proxy_texts_of : ProxyWords → ProxyTexts
 proxy_texts_of w = record { port = w.port.now; to = w.to.now; connections = w.connections.now; out = w.out.now }
+
+abbrev pub relay_texts_of : RelayWords → RelayTexts
+relay_texts_of w = record {
+  until = w.until.now;
+  listen = w.listen.now;
+  to = w.to.now;
+  turns = w.turns.now;
+  out = w.out.now;
+  seed = option_map (λ s. s.now) w.seed;
+}

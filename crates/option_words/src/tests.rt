@@ -1,7 +1,7 @@
 // Words that spell options, and words that don't.
 use crate::{
-    parse_make, parse_match, parse_merge, parse_migrate, parse_record, parse_replay, parse_report,
-    parse_run,
+    parse_make, parse_match, parse_merge, parse_migrate, parse_record, parse_relay, parse_replay,
+    parse_report, parse_run,
 };
 use std::alloc::{AllocError, Global};
 use std::test::Fail;
@@ -56,6 +56,7 @@ fn are_read(alloc: Global, command: &str, words: &[String]) -> Result<bool, Allo
         "match" => parse_match(alloc, words)?.is_some(),
         "migrate" => parse_migrate(alloc, words)?.is_some(),
         "replay" => parse_replay(alloc, words)?.is_some(),
+        "relay" => parse_relay(alloc, words)?.is_some(),
         _ => parse_merge(alloc, words)?.is_some(),
     })
 }
@@ -76,6 +77,12 @@ fn each_command_has_its_options(rt: HostRuntime) -> Result<(), Fail> {
             "--store s --port 80 --connections 2 --site-port 443",
             true,
         ),
+        (
+            "relay",
+            "--until 9 --listen 1 --to 2 --turns 3 --out f --seed 1",
+            true,
+        ),
+        ("relay", "--until 9 --listen 1 --to 2 --out f", false),
         ("merge", "--until 9 --senders s --out f --seed 1", true),
         ("merge", "--until 9 --senders s --seed 1", false),
     ] {
