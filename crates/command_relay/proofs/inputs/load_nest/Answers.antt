@@ -1,0 +1,42 @@
+use Rattle.std.proofs.Common.{List, subst, sym}
+use Rattle.std.proofs.lemmas.Result.{err_from_is_err_and}
+use Rattle.trace_reader.specs.Traces.{TraceView}
+use Rattle.command_ends.specs.Causes.{Text}
+use Rattle.command_ends.specs.Stops.{RefusesText, StopsReading}
+use Rattle.command_ends.specs.declared.cause.Cause.{Cause}
+use Rattle.command_ends.specs.Readings.{Done}
+use Rattle.command_run.specs.Inputs.{reading_traces}
+use Rattle.command_run.specs.Loaded.{HaveTraces}
+use Rattle.command_run.specs.RunReading.{refused_count}
+use Rattle.command_relay.specs.Relaying.{relay_inputs}
+use Rattle.command_relay.specs.View.{relay_values}
+use Rattle.command_run.proofs.InputLemmas.{traces_stop_before}
+use Rattle.command_relay.proofs.RelayLemmas.{after_traces, count_stop}
+use Rattle.command_relay.proofs.inputs.load_nest.Goals as goal
+
+pub returns-in_err-traces-clause-stopped : goal.returns-in_err-traces-clause-stopped
+returns-in_err-traces-clause-stopped g c =
+    let p = err_from_is_err_and c.from_residual.result c.from_residual.ensures.1 in
+    let job = relay_values c.args.job.now in
+    let old = g.D.Disk.view c.args.disk.now in
+    let new = g.D.Disk.view c.load_traces.new.disk in
+    rw p.1 (subst (λ (k : Cause). StopsReading (relay_inputs job c.args.words) old new k) (sym p.2)
+    (traces_stop_before c.args.words.traces old new c.in_err-traces.field-0.0 (after_traces job c.args.words)
+    (subst (λ (names : List Text). StopsReading (reading_traces names Done) old new c.in_err-traces.field-0.0)
+    c.traces.ensures.traces c.in_err-traces.ensures.stopped)))
+
+pub returns-in_err-check_count-clause-stopped : goal.returns-in_err-check_count-clause-stopped
+returns-in_err-check_count-clause-stopped g c =
+    let p = err_from_is_err_and c.from_residual-in_err-check_count.result c.from_residual-in_err-check_count.ensures.1
+    in
+    let job = relay_values c.args.job.now in
+    let old = g.D.Disk.view c.args.disk.now in
+    let new = g.D.Disk.view c.load_traces.new.disk in
+    let found = c.in_ok-traces.ensures.found in
+    let traces = c.in_ok-traces.traces.items in
+    let have = subst (λ (names : List Text). HaveTraces old.files names found.0 traces) c.traces.ensures.traces
+    found.1 in
+    let refused = subst (λ (l : List TraceView). RefusesText (refused_count job.until c.args.words.shells l)
+    c.in_err-check_count.field-0.0) c.as_slice.ensures.value c.in_err-check_count.ensures.refused in
+    rw p.1 (subst (λ (k : Cause). StopsReading (relay_inputs job c.args.words) old new k) (sym p.2)
+    (count_stop job c.args.words old new found.0 traces c.in_err-check_count.field-0.0 have refused))

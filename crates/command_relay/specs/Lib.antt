@@ -1,0 +1,5 @@
+pub mod Jobs
+pub mod Lines
+pub mod Relaying
+pub mod Loaded
+pub mod View

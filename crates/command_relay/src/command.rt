@@ -1,0 +1,140 @@
+// The program `mm-relay`: its words, its inputs, its datagrams, the files that it writes and the line that it prints.
+ghost use Rattle.std.specs.Prelude.{◌≡◌, ◌≢◌, ◌⊎◌, Some, map, string_bytes};
+ghost use Rattle.mm_base.specs.Counts.{Rose};
+ghost use Rattle.mm_base.specs.Files.{Files};
+ghost use Rattle.mm_base.specs.Sink.{CountsSinkFaults};
+ghost use Rattle.live_relay.specs.Wires.{CountsWireFaults};
+ghost use Rattle.command_ends.specs.Answers.{Answers, CountsDisk, IsFaultless, StopsShort, cause_in};
+ghost use Rattle.command_ends.specs.Causes.{status_of_refusal};
+ghost use Rattle.command_ends.specs.Ends.{Ends, IsDone, KeepsFiles, outside};
+ghost use Rattle.command_ends.specs.Readings.{Reaches, AtTask, AtRefusal, refused_first};
+ghost use Rattle.command_ends.specs.declared.cause.Refusal.{Refusal};
+ghost use Rattle.command_ends.specs.declared.cause.Refusal.TheVariants.{Words};
+ghost use Rattle.command_ends.specs.declared.cause.WordsRefusal.{WordsRefusal};
+ghost use Rattle.command_relay.specs.Relaying.{RelayTask, net, relay_reading, relay_words, relay_work};
+ghost use Rattle.command_relay.specs.View.{relay_values};
+
+use crate::inputs::{load_nest, read_words};
+use crate::job::RelayJob;
+use crate::line::print_relayed;
+use crate::passing::relay_job;
+use crate::words::read_relay;
+use command_ends::{Cause, conclude};
+use command_run::write_whole;
+use live_relay::{Clock, Wire};
+use mm_base::{Disk, Sink};
+use std::alloc::Global;
+
+// Does the job: its inputs are read, datagrams pass the nest, the logs and the fates are written, and then it is
+// printed how many passed.
+fn run<D: Disk, O: Sink, C: Clock, W: Wire>(
+    alloc: Global,
+    job: &RelayJob<'_>,
+    disk: &mut D,
+    out: &mut O,
+    clock: &mut C,
+    wire: &mut W,
+) -> Result<(), Cause>
+    ensures ends { Ends relay_work (relay_reading (relay_values job.now))
+        (outside (D.view disk.old) (O.view out.old) (net (C.view clock.old) (W.view wire.old)))
+        (outside (D.view disk.new) (O.view out.new) (net (C.view clock.new) (W.view wire.new))) (cause_in result) }
+    ensures wire_counts { CountsWireFaults (W.view wire.old) (W.view wire.new) }
+    ensures counts { CountsDisk (D.view disk.old) (D.view disk.new) }
+    ensures out_counts { CountsSinkFaults (O.view out.old) (O.view out.new) }
+{
+    let words = read_words(alloc, job)?;
+    let nest = load_nest(alloc, job, words, disk)?;
+    let relayed = relay_job(alloc, job, &nest, clock, wire)?;
+    write_whole(alloc, disk, job.out, &relayed.run)?;
+    print_relayed(alloc, &relayed, out)
+}
+
+// Does what the words say.
+fn answer<D: Disk, O: Sink, C: Clock, W: Wire>(
+    alloc: Global,
+    words: &[String],
+    disk: &mut D,
+    out: &mut O,
+    clock: &mut C,
+    wire: &mut W,
+) -> Result<(), Cause>
+    ensures ends { Ends relay_work (relay_words (map string_bytes words.now))
+        (outside (D.view disk.old) (O.view out.old) (net (C.view clock.old) (W.view wire.old)))
+        (outside (D.view disk.new) (O.view out.new) (net (C.view clock.new) (W.view wire.new))) (cause_in result) }
+    ensures wire_counts { CountsWireFaults (W.view wire.old) (W.view wire.new) }
+    ensures counts { CountsDisk (D.view disk.old) (D.view disk.new) }
+    ensures out_counts { CountsSinkFaults (O.view out.old) (O.view out.new) }
+{
+    match read_relay(alloc, words)? {
+        Some(job) => run(alloc, &job, disk, out, clock, wire),
+        None => Err(Cause::usage()),
+    }
+}
+
+/// Does what the words after the program's name say, and answers the exit status.
+///
+/// `--until MS --listen N --to N --turns N --out FILE [--seed N] -- SHELLS` reads the traces of the shells, opens the
+/// wire at two ports of 1 to 65,535, lets datagrams pass the nest for 1 to 1,000,000 turns or until the clock is past
+/// the horizon, writes the logs that the shells' words name and then the fates, and prints `packets N refused R end
+/// horizon`, or `end turns`. The seed is 0 where none is given.
+///
+/// 0: it is done. 2: the words have no job, or are refused. 3: a trace isn't there. 4: a trace isn't one. 5: a limit is
+/// passed. 6: a trace couldn't be read. 7: writing a file failed; or printing on `out`, and then the files are whole.
+/// 8: the wire can't be opened, or a call of it failed. 9: memory was wanting. At 2 to 6 and at 8 no file is changed. A
+/// status other than 0 is explained by one line on `out`, but for a fault of `out` itself.
+pub fn relay_main<D: Disk, O: Sink, C: Clock, W: Wire>(
+    alloc: Global,
+    words: &[String],
+    disk: &mut D,
+    out: &mut O,
+    clock: &mut C,
+    wire: &mut W,
+) -> u8
+    // 0: the files are written and the line printed, and nothing else is changed.
+    ensures done { result ≡ 0 → IsDone relay_work (relay_words (map string_bytes words.now))
+        (outside (D.view disk.old) (O.view out.old) (net (C.view clock.old) (W.view wire.old)))
+        (outside (D.view disk.new) (O.view out.new) (net (C.view clock.new) (W.view wire.new))) }
+
+    // Each status has its cause, what it leaves of the files, the clock and the wire, and its line.
+    ensures answered { result ≢ 9 → Answers relay_work (relay_words (map string_bytes words.now))
+        (outside (D.view disk.old) (O.view out.old) (net (C.view clock.old) (W.view wire.old)))
+        (outside (D.view disk.new) (O.view out.new) (net (C.view clock.new) (W.view wire.new))) result }
+    ensures stopped { result ≡ 9 → StopsShort relay_work (relay_words (map string_bytes words.now))
+        (outside (D.view disk.old) (O.view out.old) (net (C.view clock.old) (W.view wire.old)))
+        (outside (D.view disk.new) (O.view out.new) (net (C.view clock.new) (W.view wire.new))) }
+
+    // 2 comes by the words alone. 3, 6, 7 and 8 only where the disk, `out` or the wire counted it. At 2 to 6 and at 8
+    // no file is changed.
+    ensures usage { result ≡ 2 → ((w : WordsRefusal)
+        × (refused_first (relay_words (map string_bytes words.now)) ≡ Some (Words w))) }
+    ensures absent { result ≡ 3 → Rose (D.view disk.old).absences (D.view disk.new).absences }
+    ensures read_fault { result ≡ 6 → Rose (D.view disk.old).read_faults (D.view disk.new).read_faults }
+    ensures write_fault { result ≡ 7 → Rose (D.view disk.old).write_faults (D.view disk.new).write_faults
+        ⊎ Rose (O.view out.old).faults (O.view out.new).faults }
+    ensures net_fault { result ≡ 8 → Rose (W.view wire.old).faults (W.view wire.new).faults }
+    ensures keeps { result ≢ 0 → result ≢ 7 → result ≢ 9 → KeepsFiles (D.view disk.old) (D.view disk.new) }
+
+    // Words that refuse give their status, and so do files that are told, unless reading fails. Nothing refused gives
+    // 0, unless a fault is counted.
+    ensures by_words { (refusal : Refusal)
+        → refused_first (relay_words (map string_bytes words.now)) ≡ Some refusal
+        → (result ≡ status_of_refusal refusal) ⊎ (result ≡ 9) }
+    ensures by_files { (m : Files) (refusal : Refusal) → (D.view disk.old).files ≡ Some m
+        → Reaches (Some m) (relay_words (map string_bytes words.now)) (AtRefusal refusal)
+        → ¬ Rose (D.view disk.old).read_faults (D.view disk.new).read_faults → (result ≡ status_of_refusal refusal)
+        ⊎ (result ≡ 9) }
+    ensures complete { (m : Files) (task : RelayTask) → (D.view disk.old).files ≡ Some m
+        → Reaches (Some m) (relay_words (map string_bytes words.now)) (AtTask task)
+        → IsFaultless relay_work task
+        (outside (D.view disk.old) (O.view out.old) (net (C.view clock.old) (W.view wire.old)))
+        (outside (D.view disk.new) (O.view out.new) (net (C.view clock.new) (W.view wire.new)))
+        → (result ≡ 0) ⊎ (result ≡ 9) }
+
+    // No count falls, and those of a disk, an `out` or a wire that never fails stand still.
+    ensures wire_counts { CountsWireFaults (W.view wire.old) (W.view wire.new) }
+    ensures counts { CountsDisk (D.view disk.old) (D.view disk.new) }
+    ensures out_counts { CountsSinkFaults (O.view out.old) (O.view out.new) }
+{
+    let answer = answer(alloc, words, disk, out, clock, wire);
+    conclude(answer, out)
+}

@@ -1,0 +1,17 @@
+// What `mm-relay` is asked for.
+ghost use Rattle.std.specs.Prelude.{◌≤◌};
+
+// The horizon in milliseconds, the port at which it listens for the client, the server's port, how many turns it takes
+// at most, the name of the fates' file, the seed, and the words of the shells.
+#[derive(Drop)]
+pub(crate) struct RelayJob<'a> {
+    pub until: u64,
+    pub listen: u16,
+    pub to: u16,
+    pub turns: u32,
+    pub out: &'a str,
+    pub seed: u64,
+    pub shells: &'a [String],
+    pub ghost some: { 1 ≤ turns },
+    pub ghost few: { turns ≤ 1000000 },
+}

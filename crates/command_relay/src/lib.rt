@@ -1,0 +1,14 @@
+//! The program `mm-relay`: what its words ask for, what it reads and refuses, in order, the datagrams that it lets
+//! pass, and what it writes and prints.
+#![tactic(auto)]
+
+mod command;
+mod inputs;
+mod job;
+mod line;
+mod passing;
+#[cfg(test)]
+mod tests;
+mod words;
+
+pub use command::relay_main;

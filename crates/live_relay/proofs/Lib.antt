@@ -1,0 +1,10 @@
+pub mod Results
+pub mod ClockLemmas
+pub mod Stamping
+pub mod UpTo
+pub mod SendLemmas
+pub mod WayLemmas
+pub mod Dues
+pub mod Asking
+pub mod Turning
+pub mod Coursing

@@ -1,0 +1,47 @@
+use Rattle.std.proofs.Common.{◌∙◌, List, ap, subst, sym}
+use Rattle.packet_record.specs.declared.packet.Row.{Row}
+use Rattle.packet_record.specs.Rows.{AreApart}
+use Rattle.live_relay.specs.declared.stamps.Stamps.{Stamps}
+use Rattle.live_relay.proofs.Results.{on_err_any}
+use Rattle.live_relay.proofs.Stamping.{apart}
+use Rattle.live_relay.proofs.Turning.{ends_past, knows_ended, stops_gathering, stops_ending, stops_past}
+use Rattle.live_relay.proofs.relay_state.Relay.end_at_horizon.Goals as goal
+
+pub returns-in_err-relay-clause-err : goal.returns-in_err-relay-clause-err
+returns-in_err-relay-clause-err g c = on_err_any _ c.from_residual.result (λ turns current le.
+    stops_ending c.args.nest.now turns c.args.last (g.W.Wire.view c.args.wire.now) c.args.self current le)
+
+pub send_due-requires : goal.send_due-requires
+send_due-requires g c =
+    let s = c.requires in
+    knows_ended c.args.nest.now s.turns c.args.last c.args.self c.in_ok-relay.relay s.current
+    (c.in_ok-relay.ensures s.turns s.current) s.before
+
+pub returns-in_err-send_due-clause-err : goal.returns-in_err-send_due-clause-err
+returns-in_err-send_due-clause-err g c = on_err_any _ c.from_residual-in_err-send_due.result (λ turns current le.
+    let e = c.in_err-send_due.ensures in
+    stops_past c.args.nest.now turns c.args.last (g.W.Wire.view c.args.wire.now) (g.W.Wire.view c.send_due.new.wire)
+    c.args.self c.in_ok-relay.relay current (c.in_ok-relay.ensures turns current) le e.settled.0 e.settled.1 e.err
+    e.asked)
+
+pub returns-in_err-into_result-clause-err : goal.returns-in_err-into_result-clause-err
+returns-in_err-into_result-clause-err g c = on_err_any _ c.from_residual-in_err-into_result.result
+    (λ turns current le.
+    let e = c.in_ok-send_due.ensures in
+    stops_gathering c.args.nest.now turns c.args.last (g.W.Wire.view c.args.wire.now)
+    (g.W.Wire.view c.send_due.new.wire) c.args.self c.in_ok-relay.relay current (c.in_ok-relay.ensures turns current) le
+    e.settled.0 e.settled.1 e.ok e.asked)
+
+pub returns-clause-ok : goal.returns-clause-ok
+returns-clause-ok g c = λ turns current le.
+    let e = c.in_ok-send_due.ensures in
+    ends_past c.args.nest.now turns c.args.last (g.W.Wire.view c.args.wire.now) (g.W.Wire.view c.send_due.new.wire)
+    c.args.self c.in_ok-relay.relay current (c.in_ok-relay.ensures turns current) le e.settled.0 e.settled.1 e.ok
+    e.asked
+
+pub into_result-requires-clause-apart : goal.into_result-requires-clause-apart
+into_result-requires-clause-apart g c =
+    let s = c.requires in
+    let ended = c.in_ok-relay.ensures s.turns s.current in
+    subst AreApart (sym (ap (λ (x : Stamps). x.rows.items) c.in_ok-send_due.ensures.same.stamps ∙ ended.stamps.rows))
+    (apart s.turns)

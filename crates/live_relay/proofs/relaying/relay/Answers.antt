@@ -1,0 +1,142 @@
+use Rattle.std.proofs.Common.{◌≡◌, ◌≤◌, ◌<◌, ◌+◌, ◌∙◌, inl, inr, ap, arith, length, sym, subst, refl}
+use Rattle.std.proofs.Common.{List}
+use Rattle.std.proofs.lemmas.List.{with_items_is}
+use Rattle.std.proofs.lemmas.Result.{on_err_weaker}
+use Rattle.mm_base.proofs.Then.{CountsFaults-none, CountsFaults-then}
+use Rattle.live_relay.specs.declared.outcome.RelayResult.{RelayResult}
+use Rattle.live_relay.specs.declared.side.Side.TheVariants.{Client, Server}
+use Rattle.live_relay.specs.Relays.{IsRelayed, IsStopped}
+use Rattle.packet_record.specs.declared.packet.Row.{Row}
+use Rattle.live_relay.specs.Stamped.{stamps_of}
+use Rattle.live_relay.proofs.Coursing.{course_begins, course_ends, course_passes, course_stops, course_turned}
+use Rattle.live_relay.proofs.Coursing.{course_wants, stops_first}
+use Rattle.live_relay.proofs.Dues.{none_due}
+use Rattle.live_relay.proofs.Results.{if_ok_two, on_err_any}
+use Rattle.live_relay.proofs.Stamping.{few_refused, few_stamps, rows-long}
+use Rattle.live_relay.proofs.relaying.relay.Goals as goal
+
+pub returns-in_err-relay-clause-stopped : goal.returns-in_err-relay-clause-stopped
+returns-in_err-relay-clause-stopped g c = on_err_any _ c.from_residual.result
+    (stops_first c.args.nest.now c.args.turns (g.C.Clock.view c.args.clock.now) (g.W.Wire.view c.args.wire.now))
+
+pub returns-in_err-room-clause-stopped : goal.returns-in_err-room-clause-stopped
+returns-in_err-room-clause-stopped g c = on_err_any _ c.from_residual-in_err-room.result
+    (stops_first c.args.nest.now c.args.turns (g.C.Clock.view c.args.clock.now) (g.W.Wire.view c.args.wire.now))
+
+pub turns-init : goal.turns-init
+turns-init g c =
+    let current = c.in_ok-relay.ensures in
+    let relay = c.in_ok-relay.relay in
+    record {
+      course = course_begins c.args.nest.now (g.C.Clock.view c.args.clock.now) (g.W.Wire.view c.args.wire.now) relay
+          current (none_due c.args.nest.now Client relay.down current.down)
+          (none_due c.args.nest.now Server relay.up current.up);
+      opened = refl;
+      counts = CountsFaults-none _ _ (g.W.Wire.view c.args.wire.now);
+      room = c.in_ok-room.ensures;
+    }
+
+pub returns-then-moment-horizon-clause-relayed : goal.returns-then-moment-horizon-clause-relayed
+returns-then-moment-horizon-clause-relayed g c =
+    let course = c.turns.invariant.course in
+    let before = course.before in
+    let never = c.now-moment.ensures.never_falls in
+    let le : c.turns.last ≤ c.now-moment.result = omega arith in
+    if_ok_two _ _ _ c.end_at_horizon.result c.end_at_horizon.ensures.ok c.end_at_horizon.ensures.result
+    (λ (r : RelayResult) ends has. course_passes c.args.nest.now c.turns._taken c.args.turns c.now-moment.result _ _
+    (g.C.Clock.view c.now-moment.new.self) _ _ (g.W.Wire.view c.end_at_horizon.new.wire) c.turns.relay c.turns.last r
+    course c.turns-test.true c.now-moment.ensures.latest c.now-moment.ensures.told
+    (let late = c.if-moment-horizon.true in let is = c.horizon-horizon.ensures.value in omega arith)
+    (ends course.turns course.current (subst (λ n. n ≤ c.now-moment.result) course.last_is le))
+    (has course.turns course.current))
+
+pub returns-then-moment-horizon-clause-stopped : goal.returns-then-moment-horizon-clause-stopped
+returns-then-moment-horizon-clause-stopped g c =
+    let course = c.turns.invariant.course in
+    let before = course.before in
+    let never = c.now-moment.ensures.never_falls in
+    let le : c.turns.last ≤ c.now-moment.result = omega arith in
+    on_err_weaker c.end_at_horizon.result
+    (λ stops. let s = stops course.turns course.current (subst (λ n. n ≤ c.now-moment.result) course.last_is le) in
+    course_stops c.args.nest.now c.turns._taken c.args.turns c.now-moment.result _ _
+    (g.C.Clock.view c.now-moment.new.self) _ _ (g.W.Wire.view c.end_at_horizon.new.wire) c.turns.relay c.turns.last
+    course c.turns-test.true c.now-moment.ensures.latest c.now-moment.ensures.told s.stops (inl s.same))
+    c.end_at_horizon.ensures.err
+
+pub turn-requires-clause-few : goal.turn-requires-clause-few
+turn-requires-clause-few g c =
+    let course = c.turns.invariant.course in
+    let count = course.count in
+    let lt = c.turns-test.true in
+    let most = c.requires.few in
+    let stamps = few_stamps course.turns in
+    let long = rows-long 1 (stamps_of course.turns) in
+    let rows = ap (λ (l : List Row). length l) course.current.stamps.rows in
+    let refused = few_refused course.turns in
+    let refused_is = course.current.stamps.refused in
+    (omega arith, omega arith)
+
+pub returns-in_err-relay-2-clause-stopped : goal.returns-in_err-relay-2-clause-stopped
+returns-in_err-relay-2-clause-stopped g c =
+    let course = c.turns.invariant.course in
+    let before = course.before in
+    let never = c.now-moment.ensures.never_falls in
+    let le : c.turns.last ≤ c.now-moment.result = omega arith in
+    let within : c.now-moment.result ≤ c.args.nest.now.horizon =
+    let early = c.if-moment-horizon.false in let is = c.horizon-horizon.ensures.value in omega arith in
+    on_err_any _ c.from_residual-in_err-relay-2.result
+    (course_stops c.args.nest.now c.turns._taken c.args.turns c.now-moment.result _ _
+    (g.C.Clock.view c.now-moment.new.self) _ _ (g.W.Wire.view c.turn.new.wire) c.turns.relay c.turns.last
+    course c.turns-test.true c.now-moment.ensures.latest c.now-moment.ensures.told
+    (c.in_err-relay-2.ensures.err course.turns course.current (subst (λ n. n ≤ c.now-moment.result) course.last_is le))
+    (inr within))
+
+pub turn-requires-clause-room : goal.turn-requires-clause-room
+turn-requires-clause-room g c =
+    let lent = ap length c.as_mut_slice.ensures.value in
+    let room = c.turns.invariant.room in
+    omega arith
+
+pub turns-preserved : goal.turns-preserved
+turns-preserved g c =
+    let course = c.turns.invariant.course in
+    let before = course.before in
+    let never = c.now-moment.ensures.never_falls in
+    let le : c.turns.last ≤ c.now-moment.result = omega arith in
+    let within : c.now-moment.result ≤ c.args.nest.now.horizon =
+    let early = c.if-moment-horizon.false in let is = c.horizon-horizon.ensures.value in omega arith in
+    let lent = ap length c.as_mut_slice.ensures.value in
+    let kept = c.turn.auto.buf in
+    let ok = c.turns.room.ok in
+    let room = c.turns.invariant.room in
+    let long : length c.turn.new.buf ≡ c.turns.room.len = omega arith in
+    let full : length c.turn.new.buf ≡ 1505 = omega arith in
+    record {
+      course = course_turned c.args.nest.now c.turns._taken c.now-moment.result _ _
+          (g.C.Clock.view c.now-moment.new.self) _ _ (g.W.Wire.view c.turn.new.wire) c.turns.relay
+          c.in_ok-relay-2.relay c.turns.last course c.now-moment.ensures.latest never c.now-moment.ensures.told within
+          (c.in_ok-relay-2.ensures.ok course.turns course.current
+          (subst (λ n. n ≤ c.now-moment.result) course.last_is le));
+      opened = c.turn.ensures.opened ∙ c.turns.invariant.opened;
+      counts = CountsFaults-then c.turns.invariant.counts c.turn.ensures.counts;
+      room = ap length (with_items_is c.turns.room c.turn.new.buf long) ∙ full;
+    }
+
+pub returns-in_err-end_after_turns-clause-stopped : goal.returns-in_err-end_after_turns-clause-stopped
+returns-in_err-end_after_turns-clause-stopped g c =
+    let course = c.turns.invariant.course in
+    let done = c.turns-test.false in
+    let some = c.requires.some in
+    on_err_any _ c.from_residual-in_err-end_after_turns.result
+    (course_wants c.args.nest.now c.turns._taken c.args.turns _ _ _ _ c.turns.relay c.turns.last course (omega arith)
+    (omega arith))
+
+pub returns-clause-relayed : goal.returns-clause-relayed
+returns-clause-relayed g c =
+    let course = c.turns.invariant.course in
+    let done = c.turns-test.false in
+    let all : c.turns._taken ≡ c.args.turns = omega arith in
+    course_ends c.args.nest.now c.turns._taken c.args.turns (g.C.Clock.view c.args.clock.now)
+    (g.C.Clock.view c.turns.clock) (g.W.Wire.view c.args.wire.now) (g.W.Wire.view c.turns.wire) c.turns.relay
+    c.turns.last c.in_ok-end_after_turns.field-0 course all c.requires.some
+    (c.in_ok-end_after_turns.ensures course.turns course.current)

@@ -1,0 +1,16 @@
+// A clock, as its callers see it.
+ghost use Rattle.std.specs.Prelude.{◌≡◌, ◌≤◌, ◌∷◌, []};
+ghost use Rattle.live_relay.specs.Clocks.{ClockView, Reads};
+
+/// A clock in whole milliseconds, whose moments never fall. A caller learns its earlier answers only where the clock
+/// tells them, as one in memory does.
+pub trait Clock {
+    /// What the clock tells, and its last answer.
+    ghost view: { Self → ClockView };
+
+    /// The moment.
+    fn now(&mut self) -> u64
+        ensures latest { (view self.new).latest ≡ result }
+        ensures never_falls { (view self.old).latest ≤ result }
+        ensures told { Reads (result ∷ []) (view self.old).moments (view self.new).moments };
+}

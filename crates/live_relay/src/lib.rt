@@ -1,0 +1,35 @@
+//! A live relay: datagrams of two sides pass a nest, as a clock stamps them.
+//!
+//! `relay` goes turn by turn on one thread. In each turn it asks its wire once, and sends what departs at moments up to
+//! the turn's, so that what was sent is at any time what the shells let out of the rows received so far.
+#![tactic(auto)]
+
+mod clock;
+mod fails;
+mod mem_clock;
+mod mem_wire;
+mod outcome;
+mod received;
+mod relay_state;
+mod relaying;
+mod rows;
+mod side;
+mod stamps;
+mod sys_clock;
+#[cfg(test)]
+mod tests;
+mod udp_wire;
+mod way;
+mod wire;
+
+pub use clock::Clock;
+pub use mem_clock::MemClock;
+pub use mem_wire::MemWire;
+pub use outcome::{RelayEnd, RelayError, RelayResult};
+pub use received::Received;
+pub use relaying::relay;
+pub use rows::RelayRows;
+pub use side::Side;
+pub use sys_clock::SysClock;
+pub use udp_wire::UdpWire;
+pub use wire::Wire;

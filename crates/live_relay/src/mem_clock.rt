@@ -1,0 +1,64 @@
+// A clock in memory, which answers a list.
+ghost use Rattle.std.specs.Prelude.{◌≡◌, ◌≤◌, ◌∷◌, [], length};
+ghost use Rattle.mm_base.specs.Counts.{one_more};
+ghost use Rattle.live_relay.specs.Clocks.{Reads};
+ghost use Rattle.live_relay.specs.MemClocks.{MemClockState, NeverFall, answer_at, mem_clock_view};
+
+use crate::Clock;
+use std::alloc::Global;
+use std::marker::Model;
+
+/// A clock in memory. It answers the moments of its list in turn, and then the last one again and again. It tells its
+/// answers, until its count of calls stands at the last value of a `u64`.
+#[derive(Drop)]
+pub struct MemClock {
+    moments: Vec<u64>,
+    calls: u64,
+}
+
+impl Model for MemClock {
+    ghost use Rattle.std.specs.Prelude.{◌≤◌, length};
+    ghost use Rattle.live_relay.specs.MemClocks.{MemClockState, NeverFall};
+
+    ghost Value = { MemClockState };
+
+    ghost view = { λ c. record { moments = c.moments.items; calls = c.calls } };
+
+    ghost invariant = { λ c. (1 ≤ length c.moments.items) × NeverFall 0 c.moments.items };
+}
+
+impl MemClock {
+    /// A clock with these moments, of which there is one at least, and none is before the one before it.
+    pub fn new(_alloc: Global, moments: Vec<u64>) -> Self
+        requires some { 1 ≤ length moments.items }
+        requires never_fall { NeverFall 0 moments.items }
+        ensures { result ≡ record { moments = moments.items; calls = 0 } }
+    {
+        MemClock { moments, calls: 0 }
+    }
+}
+
+impl Clock for MemClock {
+    ghost view = { mem_clock_view };
+
+    fn now(&mut self) -> u64
+        ensures exact { result ≡ answer_at self.old.moments self.old.calls }
+        ensures call { self.new ≡ record { moments = self.old.moments; calls = one_more self.old.calls } }
+        ensures latest { (mem_clock_view self.new).latest ≡ result }
+        ensures never_falls { (mem_clock_view self.old).latest ≤ result }
+        ensures told { Reads (result ∷ []) (mem_clock_view self.old).moments (mem_clock_view self.new).moments }
+    {
+        let moment = answer_of(self.moments.as_slice(), self.calls);
+        self.calls = self.calls.saturating_add(1);
+        moment
+    }
+}
+
+// The answer of a call, counted from 0.
+fn answer_of(moments: &[u64], call: u64) -> u64
+    requires { 1 ≤ length moments.now }
+    ensures { result ≡ answer_at moments.now call }
+{
+    let last = moments.len() - 1;
+    moments[usize::try_from(call).unwrap_or(last).min(last)]
+}

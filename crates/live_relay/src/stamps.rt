@@ -1,0 +1,85 @@
+// The packets of a relay, as they are received.
+ghost use Rattle.std.specs.Prelude.{◌≡◌, ◌≤◌, ◌<◌, ◌+◌, ◌++◌, [], length, option_to_list, IfNone, IfOk, IfSome, OnOk};
+ghost use Rattle.live_relay.specs.Due.{pieces_of};
+ghost use Rattle.live_relay.specs.Stamped.{refused_at, rows_from, stamped_at};
+ghost use Rattle.live_relay.specs.Ways.{fits_not};
+ghost use Rattle.live_relay.specs.Wires.{datagram_in};
+
+use crate::Side;
+use mm_base::{Bytes, OutOfMemory};
+use packet_record::{Packet, Row, Timed};
+use std::alloc::Global;
+
+// The most bytes of a packet.
+pub(crate) const MOST: usize = 1_504;
+
+// The rows, the bytes of each, and how many datagrams were refused.
+#[derive(Drop)]
+pub(crate) struct Stamps {
+    pub rows: Vec<Row>,
+    pub pieces: Vec<Bytes>,
+    pub refused: u32,
+}
+
+// A packet of so many bytes with the number after these, where they are as many as a packet has.
+fn packet_after(before: usize, size: usize) -> Option<Packet>
+    requires { before < 1000000 }
+    ensures some { IfSome result (λ p. (p.id ≡ before + 1) × (p.size ≡ size)) }
+    ensures fits { IfNone result (fits_not size) }
+{
+    if (1..=MOST).contains(&size) {
+        return Some(Packet {
+            id: before as u32 + 1,
+            size: size as u16,
+        });
+    }
+    None
+}
+
+impl Stamps {
+    /// No packets.
+    pub fn new(alloc: Global) -> Stamps
+        ensures { (result.rows.items ≡ []) × (result.pieces.items ≡ []) × (result.refused ≡ 0) }
+    {
+        Stamps {
+            rows: Vec::new(alloc),
+            pieces: Vec::new(alloc),
+            refused: 0,
+        }
+    }
+
+    /// Takes what a turn at this moment received, which is the front of the buffer. Answers the row that it is, if it
+    /// is one.
+    pub fn take_in(
+        &mut self,
+        moment: u64,
+        got: Option<(Side, usize)>,
+        buf: &[u8],
+    ) -> Result<Option<Row>, OutOfMemory>
+        requires within { IfSome got (λ r. r.1 ≤ length buf.now) }
+        requires few { (length self.old.rows.items < 1000000) × (self.old.refused < 1000000) }
+        ensures rows { OnOk result (self.new.rows.items ≡ self.old.rows.items
+            ++ rows_from (length self.old.rows.items + 1) (stamped_at moment (datagram_in buf.now got))) }
+        ensures pieces { OnOk result (self.new.pieces.items ≡ self.old.pieces.items
+            ++ pieces_of (stamped_at moment (datagram_in buf.now got))) }
+        ensures refused { OnOk result (self.new.refused ≡ self.old.refused + refused_at (datagram_in buf.now got)) }
+        ensures row { IfOk result (λ row. option_to_list row
+            ≡ rows_from (length self.old.rows.items + 1) (stamped_at moment (datagram_in buf.now got))) }
+    {
+        let Some((side, size)) = got else {
+            return Ok(None);
+        };
+        let Some(packet) = packet_after(self.rows.len(), size) else {
+            self.refused += 1;
+            return Ok(None);
+        };
+        let row = Row {
+            direction: side.direction(),
+            timed: Timed { moment, packet },
+        };
+        let alloc = *self.rows.allocator();
+        self.pieces.push(Bytes::from_slice(alloc, &buf[..size])?)?;
+        self.rows.push(row)?;
+        Ok(Some(row))
+    }
+}

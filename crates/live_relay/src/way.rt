@@ -1,0 +1,163 @@
+// One direction of a relay: what passes it, and what of it was sent.
+ghost use Rattle.std.specs.Prelude.{◌≡◌, ◌≤◌, ◌++◌, length, drop, map, IfOk, IfSome, IsErrOf, OnErr};
+ghost use Rattle.std.specs.Prelude.{OnOk};
+ghost use Rattle.std.specs.Option.{option_map};
+ghost use Rattle.mm_base.specs.Counts.{Rose};
+ghost use Rattle.packet_record.specs.Moments.{Rise};
+ghost use Rattle.packet_record.specs.declared.item.FlowEnd.TheVariants.{Ended, Open};
+ghost use Rattle.packet_record.specs.Streams.{no_items};
+ghost use Rattle.nest_spec.specs.Nests.{directions_of};
+ghost use Rattle.nest_line.specs.Lines.{IsSettled, up_to};
+ghost use Rattle.live_relay.specs.Due.{bytes_in};
+ghost use Rattle.live_relay.specs.Ways.{EndsWay, GoesOn, item_in, StopsSending};
+ghost use Rattle.live_relay.specs.Wires.{CountsWireFaults, sending_all};
+
+use crate::{Side, Wire};
+use mm_base::{Bytes, EndError, OutOfMemory};
+use nest_line::Line;
+use nest_spec::Nest;
+use packet_record::{Direction, Item, Row, Timed};
+use std::alloc::Global;
+
+// One direction of a nest, and how many of the packets that have left it were sent.
+#[derive(Drop)]
+pub(crate) struct Way {
+    pub line: Line,
+    pub sent: usize,
+}
+
+// What a direction is fed at a moment: the row's packet, where it goes there, or a mark.
+fn item_at(direction: Direction, moment: u64, row: Option<Row>) -> Item
+    ensures { result ≡ item_in direction moment row }
+{
+    match row {
+        Some(row) if row.direction == direction => Item::Packet(row.timed),
+        _ => Item::Mark(moment),
+    }
+}
+
+// The received bytes of a packet.
+fn piece_of<'a>(pieces: &'a [Bytes], packet: &Timed) -> &'a [u8]
+    ensures { result.now ≡ bytes_in pieces.now packet.now }
+{
+    match pieces.get((packet.packet.id as usize).saturating_sub(1)) {
+        Some(piece) => piece.as_slice(),
+        None => &[],
+    }
+}
+
+// Sends these packets to a side, in order.
+fn send_packets<W: Wire>(
+    wire: &mut W,
+    side: Side,
+    pieces: &[Bytes],
+    packets: &[Timed],
+) -> Result<(), EndError>
+    ensures ok { OnOk result ((W.view wire.new).told
+        ≡ option_map (sending_all side (map (bytes_in pieces.now) packets.now)) (W.view wire.old).told) }
+    ensures err { OnErr result (StopsSending side (map (bytes_in pieces.now) packets.now) (W.view wire.old).told
+        (W.view wire.new).told) }
+    ensures asked { (W.view wire.new).asked ≡ (W.view wire.old).asked }
+    ensures opened { (W.view wire.new).opened ≡ (W.view wire.old).opened }
+    ensures counts { CountsWireFaults (W.view wire.old) (W.view wire.new) }
+    ensures failed_cause { IsErrOf result EndError.Failed → Rose (W.view wire.old).faults (W.view wire.new).faults }
+{
+    for packet in packets {
+        wire.send(side, piece_of(pieces, packet))?;
+    }
+    Ok(())
+}
+
+// How many of these packets are at moments up to this one, of which so many are known to be.
+fn due_count(departed: &[Timed], known: usize, moment: u64) -> usize
+    requires rises { Rise departed.now }
+    requires known { known ≤ length (up_to moment departed.now) }
+    ensures count { result ≡ length (up_to moment departed.now) }
+    ensures known { known ≤ result }
+    ensures within { result ≤ length departed.now }
+{
+    let mut count = known;
+    while count < departed.len() && departed[count].moment <= moment {
+        count += 1;
+    }
+    count
+}
+
+impl Way {
+    /// A direction of a nest before anything was fed.
+    pub fn new(alloc: Global, nest: &Nest, direction: Direction) -> Result<Way, OutOfMemory>
+        ensures specs { IfOk result (λ way. way.line.specs ≡ directions_of direction nest.now) }
+        ensures horizon { IfOk result (λ way. way.line.horizon ≡ nest.now.horizon) }
+        ensures fed { IfOk result (λ way. way.line.fed ≡ no_items) }
+        ensures sent { IfOk result (λ way. way.sent ≡ 0) }
+        ensures settled { IfOk result (λ way. IsSettled way.line) }
+    {
+        let line = Line::new(alloc, nest, direction)?;
+        line.departed();
+        Ok(Way { line, sent: 0 })
+    }
+
+    /// What holds of its line. It does nothing.
+    pub fn settled(&self)
+        ensures { IsSettled self.now.line }
+    {
+        self.line.departed();
+    }
+
+    /// Feeds what goes this way at this moment, which is the row where there is one.
+    pub fn feed(
+        self,
+        direction: Direction,
+        moment: u64,
+        row: Option<Row>,
+    ) -> Result<Way, OutOfMemory>
+        requires going { self.line.fed.end ≡ Open }
+        requires later { self.line.fed.bound ≤ moment }
+        requires within { moment ≤ self.line.horizon }
+        requires row { IfSome row (λ r. r.timed.moment ≡ moment) }
+        ensures { IfOk result (λ way. GoesOn direction moment row self way) }
+    {
+        let Way { line, sent } = self;
+        let line = line.feed(item_at(direction, moment, row))?;
+        Ok(Way { line, sent })
+    }
+
+    /// Feeds the end.
+    pub fn finish(self) -> Result<Way, OutOfMemory>
+        requires { self.line.fed.end ≡ Open }
+        ensures { IfOk result (λ way. EndsWay self way) }
+    {
+        let Way { line, sent } = self;
+        let line = line.feed(Item::End)?;
+        Ok(Way { line, sent })
+    }
+
+    /// Sends to a side the packets at moments up to this one that weren't sent yet.
+    pub fn send_due<W: Wire>(
+        &mut self,
+        wire: &mut W,
+        side: Side,
+        pieces: &[Bytes],
+        moment: u64,
+    ) -> Result<(), EndError>
+        requires { self.old.sent ≤ length (up_to moment self.old.line.departed) }
+        ensures line { self.new.line ≡ self.old.line }
+        ensures settled { IsSettled self.old.line }
+        ensures sent { OnOk result (self.new.sent ≡ length (up_to moment self.old.line.departed)) }
+        ensures ok { OnOk result ((W.view wire.new).told ≡ option_map (sending_all side (map (bytes_in pieces.now)
+            (drop self.old.sent (up_to moment self.old.line.departed)))) (W.view wire.old).told) }
+        ensures err { OnErr result (StopsSending side (map (bytes_in pieces.now)
+            (drop self.old.sent (up_to moment self.old.line.departed))) (W.view wire.old).told (W.view wire.new).told) }
+        ensures asked { (W.view wire.new).asked ≡ (W.view wire.old).asked }
+        ensures opened { (W.view wire.new).opened ≡ (W.view wire.old).opened }
+        ensures counts { CountsWireFaults (W.view wire.old) (W.view wire.new) }
+        ensures failed_cause { IsErrOf result EndError.Failed
+            → Rose (W.view wire.old).faults (W.view wire.new).faults }
+    {
+        let departed = self.line.departed();
+        let end = due_count(departed, self.sent, moment);
+        send_packets(wire, side, pieces, &departed[self.sent..end])?;
+        self.sent = end;
+        Ok(())
+    }
+}

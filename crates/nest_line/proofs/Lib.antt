@@ -1,0 +1,4 @@
+pub mod Growing
+pub mod Settling
+pub mod Carrying
+pub mod Lining

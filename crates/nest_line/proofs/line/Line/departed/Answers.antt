@@ -1,0 +1,15 @@
+use Rattle.std.proofs.Common.{◌≡◌, ◌∙◌, [], ap, sym, subst}
+use Rattle.nest_line.specs.Lines.{LineParts, IsSettled}
+use Rattle.nest_line.specs.Meeting.{fed_of, last_taken}
+use Rattle.nest_line.proofs.Carrying.{last_any}
+use Rattle.nest_line.proofs.Lining.{line_settles}
+use Rattle.nest_line.proofs.line.Line.departed.Goals as goal
+
+pub returns-clause-departed : goal.returns-clause-departed
+returns-clause-departed c =
+    c.last_departed.ensures ∙ ap (last_taken []) c.as_slice.ensures.value
+    ∙ last_any [] (fed_of c.self.inside.states.items).packets c.self.inside.states.items c.self.invariant.some
+    ∙ ap (λ (l : LineParts). l.departed) c.self.view_is
+
+pub returns-clause-settled : goal.returns-clause-settled
+returns-clause-settled c = subst IsSettled c.self.view_is (line_settles c.self.inside c.self.invariant)
