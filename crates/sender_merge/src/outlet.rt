@@ -174,9 +174,9 @@ impl Outlet {
         ensures same { IsSameOutlet self.old self.new }
     {
         begun.raise();
-        let all = begun.wait(rt, &mut self.up.to, &mut self.down.to);
-        if all.is_ok() {
-            self.send_schedule(rt, sender, schedule, horizon, pace);
+        if begun.wait(rt, &mut self.up.to, &mut self.down.to).is_err() {
+            return;
         }
+        self.send_schedule(rt, sender, schedule, horizon, pace);
     }
 }
