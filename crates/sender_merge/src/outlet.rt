@@ -174,7 +174,9 @@ impl Outlet {
         ensures same { IsSameOutlet self.old self.new }
     {
         begun.raise();
-        if begun.wait(rt, &mut self.up.to, &mut self.down.to).is_err() {
+        let up = &mut self.up;
+        let down = &mut self.down;
+        if begun.wait(rt, &mut up.to, &mut down.to).is_err() {
             return;
         }
         self.send_schedule(rt, sender, schedule, horizon, pace);
