@@ -7,7 +7,6 @@ ghost use Rattle.packet_record.specs.Sources.{sent_after, source_item as item_of
 ghost use Rattle.packet_record.specs.Streams.{no_items};
 ghost use Rattle.mark_channel.specs.Ends.{IsSameEnd};
 ghost use Rattle.mark_channel.specs.Feedings.{HasSentRows};
-ghost use Rattle.sender_merge.specs.Feeding.{SentOrBroken};
 ghost use Rattle.sender_merge.specs.Merges.{merged_row as merged_row_of};
 
 use mark_channel::{Begun, Sender};
@@ -95,6 +94,7 @@ pub(crate) fn merged_row(sender: u32, row: &Row) -> Row
 }
 
 impl Outlet {
+    ghost use Rattle.sender_merge.specs.Feeding.{SentOrBroken};
     ghost use Rattle.sender_merge.specs.Outlets.{IsEmpty, IsSameOutlet};
 
     // Sends what a row gives in both directions, first in its own.
