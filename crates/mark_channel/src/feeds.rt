@@ -20,7 +20,7 @@ use std::thread::Threads;
 pub enum FeedEnd {
     /// All rows up to the horizon were sent, and the end in both directions.
     Ended,
-    /// A call found no memory.
+    /// A call found no memory, or a thread couldn't be made.
     OutOfMemory,
 }
 

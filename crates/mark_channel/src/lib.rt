@@ -5,6 +5,9 @@
 //! returns.
 #![tactic(auto)]
 
+mod begun;
+#[cfg(test)]
+mod begun_tests;
 mod channel;
 mod feeds;
 mod receiver;
@@ -13,6 +16,7 @@ mod sender;
 #[cfg(test)]
 mod tests;
 
+pub use begun::Begun;
 pub use channel::{open, settle};
 pub use feeds::{FeedEnd, Feeds};
 pub use receiver::Receiver;

@@ -13,11 +13,11 @@ ghost use Rattle.nest_runner.specs.Ends.{IfEnded, end_of_feed};
 ghost use Rattle.nest_runner.specs.Lanes.{HasCarried, HasEnded, HasRun, IsDonePath, IsFreshLane, IsFreshPath};
 ghost use Rattle.nest_runner.specs.Lanes.{IsSameLane, IsSamePath};
 
-use crate::begun::Begun;
+use crate::begun::none_begun;
 use crate::ends::WorkEnd;
 use crate::lane::Lane;
 use crate::run::{gather_marked, run_paths};
-use mark_channel::{FeedEnd, Feeds, Sender};
+use mark_channel::{Begun, FeedEnd, Feeds, Sender};
 use mm_base::{OutOfMemory, Pace};
 use nest_plain::NestRun;
 use nest_spec::{Marking, Nest, RunResult};
@@ -147,7 +147,7 @@ fn feed_lanes<F: Feeds + Send, Q: Pace + Sync, R: Threads + Wait + Sync>(
         head: down_head,
         path: down_path,
     } = down;
-    let begun = Begun::new(shells);
+    let begun = none_begun(shells);
     // The paths stand first, since they go on only once the feeding does.
     let (passed, fed) = join_mut(
         rt,

@@ -15,14 +15,14 @@ ghost use Rattle.nest_runner.specs.Lanes.{HasCarried, HasEnded, HasRun, IsDonePa
 ghost use Rattle.nest_runner.specs.Lanes.{IsSameLane, IsSamePath};
 ghost use Rattle.nest_runner.specs.Stages.{AllDone, AllFresh, AllSame};
 
-use crate::begun::Begun;
+use crate::begun::none_begun;
 use crate::collecting::collector;
 use crate::ends::WorkEnd;
 use crate::gathering::gather;
 use crate::lane::{Lane, Path};
 use crate::sourcing::source;
 use crate::stages::run_stages;
-use mark_channel::Sender;
+use mark_channel::{Begun, Sender};
 use mm_base::{OutOfMemory, Pace, Role};
 use nest_plain::NestRun;
 use nest_spec::{Marking, Nest, RunResult};
@@ -157,7 +157,7 @@ fn run_lanes<Q: Pace + Sync, R: Threads + Wait + Sync>(
         head: down_head,
         path: down_path,
     } = down;
-    let begun = Begun::new(shells);
+    let begun = none_begun(shells);
     // The paths stand first, since they go on only once the source does.
     let (passed, sent) = join_mut(
         rt,

@@ -8,11 +8,10 @@ ghost use Rattle.shell_cell.specs.Seats.{IsSameSeat};
 ghost use Rattle.nest_runner.specs.Ends.{IfEnded, IfBroken, IsPassedOn};
 ghost use Rattle.nest_runner.specs.Stages.{IsBroken, IsClosed, IsDone, IsFresh, IsSame};
 
-use crate::begun::Begun;
 use crate::draining::drain;
 use crate::ends::WorkEnd;
 use crate::feeding::feeder;
-use mark_channel::{Receiver, Sender};
+use mark_channel::{Begun, Receiver, Sender};
 use mm_base::{Pace, Role};
 use shell_cell::{DrainSeat, FeedSeat, ShellCell};
 use std::marker::Sync;

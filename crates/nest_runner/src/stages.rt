@@ -5,9 +5,9 @@ ghost use Rattle.nest_runner.specs.Ends.{IfEnded, IfBroken};
 ghost use Rattle.nest_runner.specs.Stages.{AllClosed, AllDone, AllFresh, AllSame, IsBroken, IsClosed, IsDone, IsFresh};
 ghost use Rattle.nest_runner.specs.Stages.{IsSame, SomeBroken};
 
-use crate::begun::Begun;
 use crate::ends::WorkEnd;
 use crate::stage::{Stage, run_stage};
+use mark_channel::Begun;
 use mm_base::Pace;
 use std::marker::Sync;
 use std::sync::Wait;

@@ -15,7 +15,7 @@ ghost use Rattle.nest_runner.specs.Streaming.{HasStreamCause, IsScheduleOf, Stre
 ghost use Rattle.nest_runner.specs.StreamParts.{AllSent, IsStreamed};
 
 use crate::StreamError;
-use crate::begun::Begun;
+use crate::begun::none_begun;
 use crate::ends::WorkEnd;
 use crate::lane::{Lane, Path};
 use crate::run::{gather_lanes, run_paths};
@@ -155,7 +155,7 @@ fn stream_lanes<D: Disk, Q: Pace + Sync, R: Threads + Wait + Sync>(
         head: down_head,
         path: down_path,
     } = down;
-    let begun = Begun::new(shells);
+    let begun = none_begun(shells);
     // The paths stand first, since they go on only once the source does.
     join_mut(
         rt,

@@ -12,10 +12,9 @@ ghost use Rattle.mark_channel.specs.Ends.{IsSameEnd};
 ghost use Rattle.nest_runner.specs.Sent.{HasSent};
 ghost use Rattle.nest_runner.specs.StreamParts.{AllSent, IsStreamed};
 
-use crate::begun::Begun;
 use crate::sourcing::{Sent, end_both, send_rows};
 use file_pieces::read_piece;
-use mark_channel::Sender;
+use mark_channel::{Begun, Sender};
 use mm_base::{Disk, DiskError, Pace, PieceReader};
 use packet_record::{Item, ScheduleText};
 use std::sync::Wait;

@@ -1,5 +1,4 @@
 //! Runs over threads, with paces that hold some turns until others have begun.
-mod begun;
 mod fed;
 mod paced;
 mod parts;

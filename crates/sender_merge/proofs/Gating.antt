@@ -1,11 +1,9 @@
 -- The channels of all senders, one after another.
 use Rattle.std.proofs.Common.{◌≡◌, ◌∙◌, ℕ, suc, ap, sym, refl, List, [], ◌∷◌, ◌++◌, length}
-use Rattle.packet_record.specs.declared.item.Stream.{Stream}
-use Rattle.packet_record.specs.declared.packet.Timed.{Timed}
 use Rattle.sender_merge.specs.declared.inlet.Inlet.{Inlet}
 use Rattle.sender_merge.specs.declared.outlet.Outlet.{Outlet}
-use Rattle.sender_merge.specs.Gates.{AllEnds, AllFresh, AreSettled, IsFresh}
-use Rattle.sender_merge.specs.Inlets.{AllEmpty, AllSame, received}
+use Rattle.sender_merge.specs.Gates.{AllEnds, AllFresh, IsFresh}
+use Rattle.sender_merge.specs.Inlets.{AllEmpty, AllSame}
 use Rattle.sender_merge.specs.Outlets.{AllEmpty as AllUnsent, AllSameOutlets}
 
 pub fresh-snoc : (h : ℕ) (os : List Outlet) (us ds : List Inlet) (o : Outlet) (u d : Inlet) → AllFresh h os us ds
@@ -65,13 +63,3 @@ still_ends (o ∷ os) (o' ∷ os') (u ∷ us) (u' ∷ us') (d ∷ ds) (d' ∷ ds
   },
   still_ends os os' us us' ds ds' ends.1 p.1 q.1 r.1,
 )
-
--- one sender more is settled
-pub settled-more : (o : Outlet) (u d : Inlet) (os : List Outlet) (us ds : List Inlet) → u.from.flow ≡ o.up.to.flow
-    → d.from.flow ≡ o.down.to.flow → AreSettled os us ds → AreSettled (o ∷ os) (u ∷ us) (d ∷ ds)
-settled-more o u d os us ds up down rest = record {
-  up = ap (λ (f : Stream). f.packets ∷ received us) up
-      ∙ ap (λ (ts : List (List Timed)). o.up.to.flow.packets ∷ ts) rest.up;
-  down = ap (λ (f : Stream). f.packets ∷ received ds) down
-      ∙ ap (λ (ts : List (List Timed)). o.down.to.flow.packets ∷ ts) rest.down;
-}

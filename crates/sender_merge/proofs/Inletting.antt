@@ -20,8 +20,8 @@ use Rattle.sender_merge.specs.declared.step.MergeStep.TheVariants.{Item as Gives
 use Rattle.sender_merge.specs.Inflows.{Inflow, Merging, fresh, has_ended, is_ended, with_passed}
 use Rattle.sender_merge.specs.Steps.{after_step, candidate, passing, senders_after}
 use Rattle.sender_merge.specs.Laws.{AllUpTo, IsMergeFront, SomeOpen, packets_of}
-use Rattle.sender_merge.specs.Inlets.{AllClosed, AllEmpty, AllSame, AllWithin, AreAdded, IsMerged, IsOpenAt}
-use Rattle.sender_merge.specs.Inlets.{bound_at, received, IsFurther, IsFurthestBehind}
+use Rattle.sender_merge.specs.Inlets.{AllClosed, AllEmpty, AllEnded, AllSame, AllWithin, AreAdded, IsMerged}
+use Rattle.sender_merge.specs.Inlets.{bound_at, received, IsFurther, IsFurthestBehind, IsOpenAt}
 use borrow.Author.Count.{below_more}
 use Rattle.sender_merge.specs.Merges.{merge}
 use Rattle.sender_merge.specs.declared.step.Head.{Head}
@@ -273,21 +273,30 @@ added-packets (i ∷ inlets) (s ∷ senders) all =
     ap (λ (f : Stream). f.packets ∷ packets_of senders) all.0
     ∙ ap (λ (ts : List (List Timed)). i.from.flow.packets ∷ ts) (added-packets inlets senders all.1)
 
-over_not_open : (e : FlowEnd) → is_ended e ≡ true → e ≢ Open
+is_over : (e : FlowEnd) → is_ended e ≡ true → e ≡ Ended
+is_over Open is = absurd cc
+is_over Ended is = refl
+is_over Cut is = absurd cc
+
+pub added-ended : (inlets : List Inlet) (senders : List Inflow) → AreAdded inlets senders
+    → list_all has_ended senders ≡ true → AllEnded inlets
+added-ended [] [] all over = tt
+added-ended [] (s ∷ senders) all over = absurd all
+added-ended (i ∷ inlets) [] all over = absurd all
+added-ended (i ∷ inlets) (s ∷ senders) all over =
+    let both = and_parts (has_ended s) (list_all has_ended senders) over in (
+      subst (λ (f : Stream). f.end ≡ Ended) all.0 (is_over s.flow.end both.0),
+      added-ended inlets senders all.1 both.1,
+    )
+
+over_not_open : (e : FlowEnd) → e ≡ Ended → e ≢ Open
 over_not_open Open is = absurd cc
 over_not_open Ended is = λ p. cc
 over_not_open Cut is = absurd cc
 
-pub added-closed : (inlets : List Inlet) (senders : List Inflow) → AreAdded inlets senders
-    → list_all has_ended senders ≡ true → AllClosed inlets
-added-closed [] [] all over = tt
-added-closed [] (s ∷ senders) all over = absurd all
-added-closed (i ∷ inlets) [] all over = absurd all
-added-closed (i ∷ inlets) (s ∷ senders) all over =
-    let both = and_parts (has_ended s) (list_all has_ended senders) over in (
-      subst (λ (f : Stream). f.end ≢ Open) all.0 (over_not_open s.flow.end both.0),
-      added-closed inlets senders all.1 both.1,
-    )
+pub ended-closed : (inlets : List Inlet) → AllEnded inlets → AllClosed inlets
+ended-closed [] all = tt
+ended-closed (i ∷ inlets) all = (over_not_open i.from.flow.end all.0, ended-closed inlets all.1)
 
 -- before anything was received
 pub empty-within : (h : ℕ) (inlets : List Inlet) → AllEmpty h inlets → AllWithin h inlets
@@ -314,13 +323,15 @@ on_ok (Err e) P Q f h = h
 -- what is given by the merge of what was received
 pub merged : (inlets : List Inlet) (m : Merging) (sent : Stream) → AreAdded inlets m.senders → IsMergeFront m
     → m.given.end ≡ Ended → sent ≡ m.given → AllClosed inlets × IsMerged inlets sent
-merged inlets m sent all front over is = (
-  added-closed inlets m.senders all (front.ended over),
-  (
-    ap (λ (f : Stream). f.packets) is ∙ front.whole over ∙ ap merge (added-packets inlets m.senders all),
-    ap (λ (f : Stream). f.end) is ∙ over,
-  ),
-)
+merged inlets m sent all front over is =
+    let ended = added-ended inlets m.senders all (front.ended over) in (
+      ended-closed inlets ended,
+      (
+        ap (λ (f : Stream). f.packets) is ∙ front.whole over ∙ ap merge (added-packets inlets m.senders all),
+        ap (λ (f : Stream). f.end) is ∙ over,
+        ended,
+      ),
+    )
 
 -- a step leaves the flows that were added
 pub added-step : (inlets : List Inlet) (old new : Merging) (step : MergeStep) → new ≡ after_step old step

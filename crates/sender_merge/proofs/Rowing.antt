@@ -1,5 +1,6 @@
 -- The rows of the merge of schedules.
-use Rattle.std.proofs.Common.{◌≡◌, ℕ, zero, suc, ◌+◌, ◌<◌, ◌≤◌, ◌∙◌, ◌&&◌, Bool, true, false, cond, leb}
+use Rattle.std.proofs.Common.{◌≡◌, ◌⊎◌, ⊎_elim, inl, inr, ℕ, zero, suc, ◌+◌, ◌<◌, ◌≤◌, ◌∙◌, ◌&&◌, Bool, true, false}
+use Rattle.std.proofs.Common.{cond, leb}
 use Rattle.std.proofs.Common.{nat_le}
 use Rattle.std.proofs.Common.{ap, sym, subst, refl, List, [], ◌∷◌, ◌++◌, length, map, filter, get_or, arith}
 use Rattle.std.specs.List.{flat_map}
@@ -7,15 +8,17 @@ use Rattle.std.proofs.lemmas.Bool.{leb-false, leb-true}
 use Rattle.packet_record.specs.declared.packet.Direction.{Direction}
 use Rattle.packet_record.specs.declared.packet.Direction.TheVariants.{Up, Down}
 use Rattle.packet_record.specs.declared.packet.Row.{Row}
+use Rattle.packet_record.specs.declared.item.FlowEnd.TheVariants.{Ended as IsOver, Broken as IsCut}
 use Rattle.packet_record.specs.declared.item.Stream.{Stream}
 use Rattle.mark_channel.specs.declared.feeds.FeedEnd.{FeedEnd}
 use Rattle.mark_channel.specs.declared.feeds.FeedEnd.TheVariants.{Ended, OutOfMemory}
 use Rattle.mark_channel.specs.Feedings.{HasSentRows, IfFed}
 use Rattle.sender_merge.specs.declared.inlet.Inlet.{Inlet}
 use Rattle.sender_merge.specs.declared.outlet.Outlet.{Outlet}
-use Rattle.sender_merge.specs.Gates.{sent_down, sent_up}
-use Rattle.sender_merge.specs.Inlets.{IsMerged, received}
-use Rattle.sender_merge.specs.Outlets.{HaveSent}
+use Rattle.sender_merge.specs.Feeding.{IsBrokenOff, SentOne, SentOrBroken}
+use Rattle.sender_merge.specs.Gates.{AreSettled}
+use Rattle.sender_merge.specs.Inlets.{AllEnded, IsMerged, received}
+use Rattle.sender_merge.specs.Outlets.{AllSentOrBroken}
 use Rattle.packet_record.specs.declared.packet.Timed.{Timed}
 use Rattle.packet_record.specs.Rows.{Rises, entering, goes}
 use Rattle.packet_record.proofs.RowsLemmas.{entering-append}
@@ -307,41 +310,75 @@ row_past [] n is = omega arith
 row_past (x ∷ xs) zero is = absurd cc
 row_past (x ∷ xs) (suc n) is = let rest = row_past xs n is in omega arith
 
--- what senders have sent in a direction is what enters of their rows
-pub sent_up-is : (h sender : ℕ) (schedules : List (List Row)) (outlets : List Outlet)
-    → HaveSent h sender schedules outlets → sent_up outlets ≡ entering_from Up h sender schedules
-sent_up-is h sender [] [] sent = refl
-sent_up-is h sender [] (o ∷ outlets) sent = absurd sent
-sent_up-is h sender (rows ∷ schedules) [] sent = absurd sent
-sent_up-is h sender (rows ∷ schedules) (o ∷ outlets) sent =
-    ap (λ (ts : List Timed). ts ∷ sent_up outlets) sent.0.0.0
-    ∙ ap (λ (l : List (List Timed)). entering Up h (map (merged_row sender) rows) ∷ l)
-    (sent_up-is h (sender + 1) schedules outlets sent.1)
+-- A sender whose flow came to its end has sent its rows: what was received of it is what enters of them.
+received_whole : (d : Direction) (h : ℕ) (rows : List Row) (got sent : Stream) → got.end ≡ IsOver → got ≡ sent
+    → HasSentRows d h rows sent ⊎ IsBrokenOff sent → got.packets ≡ entering d h rows
+received_whole d h rows got sent over same left = ⊎_elim
+    (λ (whole : HasSentRows d h rows sent). ap (λ (f : Stream). f.packets) same ∙ whole.0)
+    (λ (cut : IsBrokenOff sent).
+    let e : IsOver ≡ IsCut = sym over ∙ ap (λ (f : Stream). f.end) same ∙ cut.1 in absurd cc)
+    left
 
-pub sent_down-is : (h sender : ℕ) (schedules : List (List Row)) (outlets : List Outlet)
-    → HaveSent h sender schedules outlets → sent_down outlets ≡ entering_from Down h sender schedules
-sent_down-is h sender [] [] sent = refl
-sent_down-is h sender [] (o ∷ outlets) sent = absurd sent
-sent_down-is h sender (rows ∷ schedules) [] sent = absurd sent
-sent_down-is h sender (rows ∷ schedules) (o ∷ outlets) sent =
-    ap (λ (ts : List Timed). ts ∷ sent_down outlets) sent.0.1.0
+left_up : (h sender : ℕ) (rows : List Row) (o : Outlet) → SentOrBroken h sender rows o
+    → HasSentRows Up h (map (merged_row sender) rows) o.up.to.flow ⊎ IsBrokenOff o.up.to.flow
+left_up h sender rows o left = ⊎_elim (λ (whole : SentOne h sender rows o). inl whole.0)
+    (λ (cut : IsBrokenOff o.up.to.flow × IsBrokenOff o.down.to.flow). inr cut.0) left
+
+left_down : (h sender : ℕ) (rows : List Row) (o : Outlet) → SentOrBroken h sender rows o
+    → HasSentRows Down h (map (merged_row sender) rows) o.down.to.flow ⊎ IsBrokenOff o.down.to.flow
+left_down h sender rows o left = ⊎_elim (λ (whole : SentOne h sender rows o). inl whole.1)
+    (λ (cut : IsBrokenOff o.up.to.flow × IsBrokenOff o.down.to.flow). inr cut.1) left
+
+-- what was received in a direction, to the ends of all flows, is what enters of the senders' rows
+pub received_up-is : (h sender : ℕ) (schedules : List (List Row)) (outlets : List Outlet) (ups downs : List Inlet)
+    → AllEnded ups → AreSettled outlets ups downs → AllSentOrBroken h sender schedules outlets
+    → received ups ≡ entering_from Up h sender schedules
+received_up-is h sender [] [] [] downs ended settled sent = refl
+received_up-is h sender [] [] (u ∷ ups) downs ended settled sent = absurd settled
+received_up-is h sender [] (o ∷ outlets) ups downs ended settled sent = absurd sent
+received_up-is h sender (rows ∷ schedules) [] ups downs ended settled sent = absurd sent
+received_up-is h sender (rows ∷ schedules) (o ∷ outlets) [] downs ended settled sent = absurd settled
+received_up-is h sender (rows ∷ schedules) (o ∷ outlets) (u ∷ ups) [] ended settled sent = absurd settled
+received_up-is h sender (rows ∷ schedules) (o ∷ outlets) (u ∷ ups) (d ∷ downs) ended settled sent =
+    ap (λ (ts : List Timed). ts ∷ received ups)
+    (received_whole Up h (map (merged_row sender) rows) u.from.flow o.up.to.flow ended.0 settled.0.up_flow
+    (left_up h sender rows o sent.0))
+    ∙ ap (λ (l : List (List Timed)). entering Up h (map (merged_row sender) rows) ∷ l)
+    (received_up-is h (sender + 1) schedules outlets ups downs ended.1 settled.1 sent.1)
+
+pub received_down-is : (h sender : ℕ) (schedules : List (List Row)) (outlets : List Outlet) (ups downs : List Inlet)
+    → AllEnded downs → AreSettled outlets ups downs → AllSentOrBroken h sender schedules outlets
+    → received downs ≡ entering_from Down h sender schedules
+received_down-is h sender [] [] [] [] ended settled sent = refl
+received_down-is h sender [] [] [] (d ∷ downs) ended settled sent = absurd settled
+received_down-is h sender [] [] (u ∷ ups) downs ended settled sent = absurd settled
+received_down-is h sender [] (o ∷ outlets) ups downs ended settled sent = absurd sent
+received_down-is h sender (rows ∷ schedules) [] ups downs ended settled sent = absurd sent
+received_down-is h sender (rows ∷ schedules) (o ∷ outlets) [] downs ended settled sent = absurd settled
+received_down-is h sender (rows ∷ schedules) (o ∷ outlets) (u ∷ ups) [] ended settled sent = absurd settled
+received_down-is h sender (rows ∷ schedules) (o ∷ outlets) (u ∷ ups) (d ∷ downs) ended settled sent =
+    ap (λ (ts : List Timed). ts ∷ received downs)
+    (received_whole Down h (map (merged_row sender) rows) d.from.flow o.down.to.flow ended.0 settled.0.down_flow
+    (left_down h sender rows o sent.0))
     ∙ ap (λ (l : List (List Timed)). entering Down h (map (merged_row sender) rows) ∷ l)
-    (sent_down-is h (sender + 1) schedules outlets sent.1)
+    (received_down-is h (sender + 1) schedules outlets ups downs ended.1 settled.1 sent.1)
 
 pub fed_up : (h : ℕ) (end : FeedEnd) (schedules : List (List Row)) (outlets : List Outlet) (ups downs : List Inlet)
-    (up down : Stream) → IfFed end (IsMerged ups up × IsMerged downs down) → received ups ≡ sent_up outlets
-    → HaveSent h 1 schedules outlets → IfFed end (HasSentRows Up h (merge_rows schedules) up)
+    (up down : Stream) → IfFed end (IsMerged ups up × IsMerged downs down) → AreSettled outlets ups downs
+    → AllSentOrBroken h 1 schedules outlets → IfFed end (HasSentRows Up h (merge_rows schedules) up)
 fed_up h Ended schedules outlets ups downs up down merged settled sent = (
-  merged.0.0 ∙ ap merge (settled ∙ sent_up-is h 1 schedules outlets sent) ∙ merge-entering Up h schedules,
+  merged.0.0 ∙ ap merge (received_up-is h 1 schedules outlets ups downs merged.0.2 settled sent)
+      ∙ merge-entering Up h schedules,
   merged.0.1,
 )
 fed_up h OutOfMemory schedules outlets ups downs up down merged settled sent = tt
 
 pub fed_down : (h : ℕ) (end : FeedEnd) (schedules : List (List Row)) (outlets : List Outlet) (ups downs : List Inlet)
-    (up down : Stream) → IfFed end (IsMerged ups up × IsMerged downs down) → received downs ≡ sent_down outlets
-    → HaveSent h 1 schedules outlets → IfFed end (HasSentRows Down h (merge_rows schedules) down)
+    (up down : Stream) → IfFed end (IsMerged ups up × IsMerged downs down) → AreSettled outlets ups downs
+    → AllSentOrBroken h 1 schedules outlets → IfFed end (HasSentRows Down h (merge_rows schedules) down)
 fed_down h Ended schedules outlets ups downs up down merged settled sent = (
-  merged.1.0 ∙ ap merge (settled ∙ sent_down-is h 1 schedules outlets sent) ∙ merge-entering Down h schedules,
+  merged.1.0 ∙ ap merge (received_down-is h 1 schedules outlets ups downs merged.1.2 settled sent)
+      ∙ merge-entering Down h schedules,
   merged.1.1,
 )
 fed_down h OutOfMemory schedules outlets ups downs up down merged settled sent = tt

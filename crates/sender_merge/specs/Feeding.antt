@@ -1,5 +1,7 @@
 -- What the threads of a feeding leave.
-use Rattle.std.specs.Prelude.{ℕ, List, map}
+use Rattle.std.specs.Prelude.{◌≡◌, ◌⊎◌, ℕ, List, [], map}
+use Rattle.packet_record.specs.declared.item.FlowEnd.TheVariants.{Broken as IsCut}
+use Rattle.packet_record.specs.declared.item.Stream.{Stream}
 use Rattle.packet_record.specs.declared.packet.Direction.TheVariants.{Up, Down}
 use Rattle.packet_record.specs.declared.packet.Row.{Row}
 use Rattle.mark_channel.specs.declared.feeds.FeedEnd.{FeedEnd}
@@ -17,3 +19,12 @@ both OutOfMemory b = OutOfMemory
 abbrev pub SentOne : ℕ → ℕ → List Row → Outlet → Type 0
 SentOne horizon sender rows o = HasSentRows Up horizon (map (merged_row sender) rows) o.up.to.flow
     × HasSentRows Down horizon (map (merged_row sender) rows) o.down.to.flow
+
+-- the flow was broken off with nothing in it
+abbrev pub IsBrokenOff : Stream → Type 0
+IsBrokenOff sent = (sent.packets ≡ []) × (sent.end ≡ IsCut)
+
+-- a sender has sent its rows, or both its flows were broken off with nothing in them
+abbrev pub SentOrBroken : ℕ → ℕ → List Row → Outlet → Type 0
+SentOrBroken horizon sender rows o =
+    SentOne horizon sender rows o ⊎ (IsBrokenOff o.up.to.flow × IsBrokenOff o.down.to.flow)

@@ -1,10 +1,8 @@
 -- The channels of all senders: for each its sending ends, and its receiving ends in both directions.
-use Rattle.std.specs.Prelude.{◌≡◌, ℕ, List, [], ◌∷◌, map}
-use Rattle.packet_record.specs.declared.packet.Timed.{Timed}
+use Rattle.std.specs.Prelude.{◌≡◌, ℕ, List, [], ◌∷◌}
 use Rattle.packet_record.specs.Streams.{no_items}
 use Rattle.sender_merge.specs.declared.inlet.Inlet.{Inlet}
 use Rattle.sender_merge.specs.declared.outlet.Outlet.{Outlet}
-use Rattle.sender_merge.specs.Inlets.{received}
 use Rattle.sender_merge.specs.Outlets.{IsEmpty}
 
 -- The ends of one sender are those of two channels.
@@ -35,14 +33,15 @@ AllFresh horizon (o ∷ outlets) [] downs = ⊥
 AllFresh horizon (o ∷ outlets) (u ∷ ups) [] = ⊥
 AllFresh horizon (o ∷ outlets) (u ∷ ups) (d ∷ downs) = IsFresh horizon o u d × AllFresh horizon outlets ups downs
 
--- the packets that were sent in a direction, sender by sender
-abbrev pub sent_up : List Outlet → List (List Timed)
-sent_up outlets = map (λ (o : Outlet). o.up.to.flow.packets) outlets
+-- All that a sender sent was received, its end too.
+pub record IsSettled (o : Outlet) (up down : Inlet) : Type 0 where
+  pub up_flow : up.from.flow ≡ o.up.to.flow
+  pub down_flow : down.from.flow ≡ o.down.to.flow
 
-abbrev pub sent_down : List Outlet → List (List Timed)
-sent_down outlets = map (λ (o : Outlet). o.down.to.flow.packets) outlets
-
--- all that was sent was received
-pub record AreSettled (outlets : List Outlet) (ups downs : List Inlet) : Type 0 where
-  pub up : received ups ≡ sent_up outlets
-  pub down : received downs ≡ sent_down outlets
+abbrev pub AreSettled : List Outlet → List Inlet → List Inlet → Type 0
+AreSettled [] [] [] = Unit {0}
+AreSettled [] [] (d ∷ downs) = ⊥
+AreSettled [] (u ∷ ups) downs = ⊥
+AreSettled (o ∷ outlets) [] downs = ⊥
+AreSettled (o ∷ outlets) (u ∷ ups) [] = ⊥
+AreSettled (o ∷ outlets) (u ∷ ups) (d ∷ downs) = IsSettled o u d × AreSettled outlets ups downs

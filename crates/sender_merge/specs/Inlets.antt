@@ -28,6 +28,11 @@ abbrev pub AllClosed : List Inlet → Type 0
 AllClosed [] = Unit {0}
 AllClosed (i ∷ inlets) = (i.from.flow.end ≢ Open) × AllClosed inlets
 
+-- all that was sent came out of each, to its end
+abbrev pub AllEnded : List Inlet → Type 0
+AllEnded [] = Unit {0}
+AllEnded (i ∷ inlets) = (i.from.flow.end ≡ IsOver) × AllEnded inlets
+
 -- more may come out of the one at a place, counted from 0
 abbrev pub IsOpenAt : ℕ → List Inlet → Type 0
 IsOpenAt place [] = ⊥
@@ -72,6 +77,6 @@ AreAdded (i ∷ inlets) (s ∷ senders) = (s.flow ≡ i.from.flow) × AreAdded i
 abbrev pub received : List Inlet → List (List Timed)
 received inlets = map (λ (i : Inlet). i.from.flow.packets) inlets
 
--- what was sent is the merge of what was received, to its end
+-- all were received to their ends, and what was sent is the merge of what was received, to its end
 abbrev pub IsMerged : List Inlet → Stream → Type 0
-IsMerged inlets sent = (sent.packets ≡ merge (received inlets)) × (sent.end ≡ IsOver)
+IsMerged inlets sent = (sent.packets ≡ merge (received inlets)) × (sent.end ≡ IsOver) × AllEnded inlets

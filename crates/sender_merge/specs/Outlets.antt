@@ -4,7 +4,7 @@ use Rattle.packet_record.specs.declared.packet.Row.{Row}
 use Rattle.packet_record.specs.Streams.{no_items}
 use Rattle.mark_channel.specs.Ends.{IsSameEnd}
 use Rattle.sender_merge.specs.declared.outlet.Outlet.{Outlet}
-use Rattle.sender_merge.specs.Feeding.{SentOne}
+use Rattle.sender_merge.specs.Feeding.{SentOrBroken}
 
 -- nothing was sent, and both have this horizon
 pub record IsEmpty (horizon : ℕ) (o : Outlet) : Type 0 where
@@ -29,10 +29,11 @@ AllSameOutlets [] (p ∷ new) = ⊥
 AllSameOutlets (o ∷ old) [] = ⊥
 AllSameOutlets (o ∷ old) (p ∷ new) = IsSameOutlet o p × AllSameOutlets old new
 
--- each sender, the first with this number, has sent its rows under their numbers in the merge
-abbrev pub HaveSent : ℕ → ℕ → List (List Row) → List Outlet → Type 0
-HaveSent horizon sender [] [] = Unit {0}
-HaveSent horizon sender [] (o ∷ outlets) = ⊥
-HaveSent horizon sender (rows ∷ schedules) [] = ⊥
-HaveSent horizon sender (rows ∷ schedules) (o ∷ outlets) =
-    SentOne horizon sender rows o × HaveSent horizon (sender + 1) schedules outlets
+-- each sender, the first with this number, has sent its rows under their numbers in the merge, or was broken off with
+-- nothing sent
+abbrev pub AllSentOrBroken : ℕ → ℕ → List (List Row) → List Outlet → Type 0
+AllSentOrBroken horizon sender [] [] = Unit {0}
+AllSentOrBroken horizon sender [] (o ∷ outlets) = ⊥
+AllSentOrBroken horizon sender (rows ∷ schedules) [] = ⊥
+AllSentOrBroken horizon sender (rows ∷ schedules) (o ∷ outlets) =
+    SentOrBroken horizon sender rows o × AllSentOrBroken horizon (sender + 1) schedules outlets

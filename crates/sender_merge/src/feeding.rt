@@ -1,4 +1,10 @@
 // The threads of a feeding: one for each sender, and one for each direction that merges what they send.
+//
+// Where no thread can be made, a join runs its second part in the thread that is there, and then its first. So
+// senders may begin after others of them have ended, and merges after senders or each other, but no sender after a
+// merge. A merge waits for senders alone; a sender waits until all have begun, not for ever. Where it sees that, none
+// has ended before, so all have threads of their own; where it doesn't, it breaks off, for which its channels have
+// room, and so do all who wait.
 ghost use Rattle.std.specs.Prelude.{◌≡◌, ◌≢◌, ◌≤◌, ◌+◌, List, length};
 ghost use Rattle.std.specs.Thread.{IsSync};
 ghost use Rattle.packet_record.specs.declared.item.FlowEnd.TheVariants.{Open};
@@ -6,15 +12,16 @@ ghost use Rattle.packet_record.specs.declared.packet.Direction.TheVariants.{Up, 
 ghost use Rattle.packet_record.specs.Streams.{no_items};
 ghost use Rattle.mark_channel.specs.Ends.{IsSameEnd};
 ghost use Rattle.mark_channel.specs.Feedings.{IfFed};
-ghost use Rattle.sender_merge.specs.Feeding.{both as both_of, SentOne};
+ghost use Rattle.sender_merge.specs.Feeding.{both as both_of, SentOrBroken};
 ghost use Rattle.sender_merge.specs.Inlets.{AllClosed, AllEmpty, AllSame, IsMerged};
-ghost use Rattle.sender_merge.specs.Outlets.{AllEmpty as AllUnsent, AllSameOutlets, HaveSent, IsEmpty, IsSameOutlet};
+ghost use Rattle.sender_merge.specs.Outlets.{AllEmpty as AllUnsent, AllSameOutlets, AllSentOrBroken, IsEmpty};
+ghost use Rattle.sender_merge.specs.Outlets.{IsSameOutlet};
 
 use crate::gates::Gates;
 use crate::inlet::Inlet;
 use crate::merger::merge;
 use crate::outlet::Outlet;
-use mark_channel::{FeedEnd, Sender};
+use mark_channel::{Begun, FeedEnd, Sender};
 use mm_base::Pace;
 use packet_record::Schedule;
 use std::alloc::Global;
@@ -22,7 +29,8 @@ use std::marker::Sync;
 use std::sync::Wait;
 use std::thread::{Threads, join_mut};
 
-// Sends the schedules of senders beside each other, the first of which has this number, up to the horizon.
+// Sends the schedules of senders beside each other, the first of which has this number, up to the horizon, once all
+// senders and merges have begun.
 pub(crate) fn send_all<Q: Pace + Sync, R: Threads + Wait + Sync>(
     rt: &R,
     sender: u32,
@@ -30,11 +38,12 @@ pub(crate) fn send_all<Q: Pace + Sync, R: Threads + Wait + Sync>(
     horizon: u64,
     outlets: &mut [Outlet],
     pace: &Q,
+    begun: &Begun,
 )
     requires few { sender + length schedules.now ≤ 17 }
     requires long { length schedules.now ≡ length outlets.old }
     requires empty { AllUnsent horizon outlets.old }
-    ensures sent { HaveSent horizon sender schedules.now outlets.new }
+    ensures sent { AllSentOrBroken horizon sender schedules.now outlets.new }
     ensures same { AllSameOutlets outlets.old outlets.new }
 {
     let Some((outlet, other_outlets)) = outlets.split_first_mut() else {
@@ -47,15 +56,15 @@ pub(crate) fn send_all<Q: Pace + Sync, R: Threads + Wait + Sync>(
         rt,
         &mut ||
             requires { (sender ≤ 16) × IsEmpty horizon outlet.now × IsSync R.row × IsSync Q.row }
-            ensures sent { SentOne horizon sender schedule.entry.now outlet.exit.now }
+            ensures sent { SentOrBroken horizon sender schedule.entry.now outlet.exit.now }
             ensures same { IsSameOutlet outlet.entry.now outlet.exit.now }
-        { outlet.send_schedule(rt, sender, schedule, horizon, pace) },
+        { outlet.send_begun(rt, sender, schedule, horizon, pace, begun) },
         &mut ||
             requires { (sender + 1 + length others.now ≤ 17) × (length others.now ≡ length other_outlets.now)
                 × AllUnsent horizon other_outlets.now × IsSync R.row × IsSync Q.row }
-            ensures sent { HaveSent horizon (sender + 1) others.entry.now other_outlets.exit.now }
+            ensures sent { AllSentOrBroken horizon (sender + 1) others.entry.now other_outlets.exit.now }
             ensures same { AllSameOutlets other_outlets.entry.now other_outlets.exit.now }
-        { send_all(rt, sender + 1, others, horizon, other_outlets, pace) },
+        { send_all(rt, sender + 1, others, horizon, other_outlets, pace, begun) },
     );
 }
 
@@ -69,7 +78,7 @@ fn both(up: FeedEnd, down: FeedEnd) -> FeedEnd
     }
 }
 
-// Merges both directions beside each other.
+// Merges both directions beside each other. Each merge is counted as it begins.
 pub(crate) fn merge_both<R: Threads + Wait + Sync>(
     rt: &R,
     alloc: Global,
@@ -77,6 +86,7 @@ pub(crate) fn merge_both<R: Threads + Wait + Sync>(
     downs: &mut [Inlet],
     up: &mut Sender,
     down: &mut Sender,
+    begun: &Begun,
 ) -> FeedEnd
     requires some { (1 ≤ length ups.old) × (1 ≤ length downs.old) }
     requires few { (length ups.old ≤ 16) × (length downs.old ≤ 16) }
@@ -96,14 +106,20 @@ pub(crate) fn merge_both<R: Threads + Wait + Sync>(
             ensures merged { IfFed result (IsMerged ups.exit.now up.exit.now.flow) }
             ensures closed { AllClosed ups.exit.now × (up.exit.now.flow.end ≢ Open) }
             ensures same { AllSame ups.entry.now ups.exit.now × IsSameEnd up.entry.now up.exit.now }
-        { merge(rt, alloc, ups, up) },
+        {
+            begun.raise();
+            merge(rt, alloc, ups, up)
+        },
         &mut || -> FeedEnd
             requires { (1 ≤ length downs.now) × (length downs.now ≤ 16) × AllEmpty down.now.horizon downs.now
                 × (down.now.flow ≡ no_items) × IsSync R.row }
             ensures merged { IfFed result (IsMerged downs.exit.now down.exit.now.flow) }
             ensures closed { AllClosed downs.exit.now × (down.exit.now.flow.end ≢ Open) }
             ensures same { AllSame downs.entry.now downs.exit.now × IsSameEnd down.entry.now down.exit.now }
-        { merge(rt, alloc, downs, down) },
+        {
+            begun.raise();
+            merge(rt, alloc, downs, down)
+        },
     );
     both(up_end, down_end)
 }
@@ -128,7 +144,7 @@ pub(crate) fn run<Q: Pace + Sync, R: Threads + Wait + Sync>(
     requires unsent { AllUnsent horizon gates.old.outlets.items }
     requires empty { AllEmpty up.old.horizon gates.old.ups.items × AllEmpty down.old.horizon gates.old.downs.items }
     requires none { (up.old.flow ≡ no_items) × (down.old.flow ≡ no_items) }
-    ensures sent { HaveSent horizon 1 schedules.now gates.new.outlets.items }
+    ensures sent { AllSentOrBroken horizon 1 schedules.now gates.new.outlets.items }
     ensures merged { IfFed result (IsMerged gates.new.ups.items up.new.flow × IsMerged gates.new.downs.items
         down.new.flow) }
     ensures closed { AllClosed gates.new.ups.items × AllClosed gates.new.downs.items }
@@ -142,18 +158,15 @@ pub(crate) fn run<Q: Pace + Sync, R: Threads + Wait + Sync>(
         outlets,
         ups,
         downs,
+        begun,
     } = gates;
+    let begun = &*begun;
     let outlets = outlets.as_mut_slice();
     let ups = ups.as_mut_slice();
     let downs = downs.as_mut_slice();
-    let (_, end) = join_mut(
+    // The merges stand first, since they go on only once the senders do.
+    let (end, _) = join_mut(
         rt,
-        &mut ||
-            requires { (length schedules.now ≤ 16) × (length schedules.now ≡ length outlets.now)
-                × AllUnsent horizon outlets.now × IsSync R.row × IsSync Q.row }
-            ensures sent { HaveSent horizon 1 schedules.entry.now outlets.exit.now }
-            ensures same { AllSameOutlets outlets.entry.now outlets.exit.now }
-        { send_all(rt, 1, schedules, horizon, outlets, pace) },
         &mut || -> FeedEnd
             requires { (1 ≤ length ups.now) × (1 ≤ length downs.now) × (length ups.now ≤ 16)
                 × (length downs.now ≤ 16) × AllEmpty up.now.horizon ups.now × AllEmpty down.now.horizon downs.now
@@ -164,7 +177,13 @@ pub(crate) fn run<Q: Pace + Sync, R: Threads + Wait + Sync>(
             ensures over { (up.exit.now.flow.end ≢ Open) × (down.exit.now.flow.end ≢ Open) }
             ensures same { AllSame ups.entry.now ups.exit.now × AllSame downs.entry.now downs.exit.now }
             ensures ends { IsSameEnd up.entry.now up.exit.now × IsSameEnd down.entry.now down.exit.now }
-        { merge_both(rt, alloc, ups, downs, up, down) },
+        { merge_both(rt, alloc, ups, downs, up, down, begun) },
+        &mut ||
+            requires { (length schedules.now ≤ 16) × (length schedules.now ≡ length outlets.now)
+                × AllUnsent horizon outlets.now × IsSync R.row × IsSync Q.row }
+            ensures sent { AllSentOrBroken horizon 1 schedules.entry.now outlets.exit.now }
+            ensures same { AllSameOutlets outlets.entry.now outlets.exit.now }
+        { send_all(rt, 1, schedules, horizon, outlets, pace, begun) },
     );
     end
 }

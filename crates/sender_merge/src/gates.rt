@@ -1,24 +1,30 @@
-// The channels of all senders: how they are opened before any thread starts, and settled after all have ended.
+// The channels of all senders, and who has begun: how they are opened before any thread starts, and settled after all
+// have ended.
 ghost use Rattle.std.specs.Prelude.{◌≡◌, ◌≢◌, ◌≤◌, ◌+◌, length, IfOk, OnOk};
 ghost use Rattle.packet_record.specs.declared.item.FlowEnd.TheVariants.{Open};
-ghost use Rattle.sender_merge.specs.Gates.{AllEnds, AllFresh, AreEnds, AreSettled, IsFresh};
+ghost use Rattle.sender_merge.specs.Gates.{AllEnds, AllFresh, AreEnds, AreSettled, IsFresh, IsSettled};
 ghost use Rattle.sender_merge.specs.Inlets.{AllClosed};
 
 use crate::inlet::Inlet;
 use crate::outlet::{Outlet, Way};
-use mark_channel::settle;
+use mark_channel::{Begun, settle};
 use mm_base::OutOfMemory;
 use std::alloc::Global;
 
 // How many items a channel of a sender holds.
 const CAPACITY: u32 = 64;
 
-// The sending ends of each sender, and its receiving ends in both directions.
+// How many threads merge, one for each direction.
+const MERGES: u64 = 2;
+
+// The sending ends of each sender, its receiving ends in both directions, and which of the senders and merges have
+// begun.
 #[derive(Drop)]
 pub(crate) struct Gates {
     pub outlets: Vec<Outlet>,
     pub ups: Vec<Inlet>,
     pub downs: Vec<Inlet>,
+    pub begun: Begun,
 }
 
 impl Gates {
@@ -31,6 +37,7 @@ impl Gates {
             outlets: Vec::with_capacity(alloc, senders)?,
             ups: Vec::with_capacity(alloc, senders)?,
             downs: Vec::with_capacity(alloc, senders)?,
+            begun: Begun::new((senders as u64).saturating_add(MERGES)),
         };
         for _ in 0..senders {
             gates.add(alloc, horizon)?;
@@ -61,6 +68,7 @@ impl Gates {
             outlets,
             ups,
             downs,
+            begun: _,
         } = self;
         let mut up_inlets = ups.into_iter();
         let mut down_inlets = downs.into_iter();
@@ -90,8 +98,7 @@ fn open_one(alloc: Global, horizon: u64) -> Result<(Outlet, Inlet, Inlet), OutOf
 fn settle_one(outlet: Outlet, up: Inlet, down: Inlet)
     requires ends { AreEnds outlet up down }
     requires closed { (up.from.flow.end ≢ Open) × (down.from.flow.end ≢ Open) }
-    ensures up { up.from.flow ≡ outlet.up.to.flow }
-    ensures down { down.from.flow ≡ outlet.down.to.flow }
+    ensures { IsSettled outlet up down }
 {
     let Outlet {
         up: up_way,

@@ -2,6 +2,8 @@
 #![tactic(auto)]
 
 #[cfg(test)]
+mod begun_tests;
+#[cfg(test)]
 mod feed_fixture;
 #[cfg(test)]
 mod feed_tests;

@@ -9,7 +9,7 @@ ghost use Rattle.mark_channel.specs.Ends.{IsSameEnd};
 ghost use Rattle.mark_channel.specs.Feedings.{HasSentRows};
 ghost use Rattle.sender_merge.specs.Merges.{merged_row as merged_row_of};
 
-use mark_channel::Sender;
+use mark_channel::{Begun, Sender};
 use mm_base::{Pace, Role};
 use packet_record::{Direction, Item, Packet, Row, Schedule, Timed, source_item};
 use std::sync::Wait;
@@ -94,6 +94,7 @@ pub(crate) fn merged_row(sender: u32, row: &Row) -> Row
 }
 
 impl Outlet {
+    ghost use Rattle.sender_merge.specs.Feeding.{SentOrBroken};
     ghost use Rattle.sender_merge.specs.Outlets.{IsEmpty, IsSameOutlet};
 
     // Sends what a row gives in both directions, first in its own.
@@ -154,5 +155,30 @@ impl Outlet {
         }
         self.up.end(rt);
         self.down.end(rt);
+    }
+
+    // Sends them as `send_schedule` does once all senders and merges have begun. Where they can't, both directions are
+    // broken off.
+    pub fn send_begun<Q: Pace, R: Wait>(
+        &mut self,
+        rt: &R,
+        sender: u32,
+        schedule: &Schedule,
+        horizon: u64,
+        pace: &Q,
+        begun: &Begun,
+    )
+        requires few { sender ≤ 16 }
+        requires empty { IsEmpty horizon self.old }
+        ensures sent { SentOrBroken horizon sender schedule.now self.new }
+        ensures same { IsSameOutlet self.old self.new }
+    {
+        begun.raise();
+        let up = &mut self.up;
+        let down = &mut self.down;
+        if begun.wait(rt, &mut up.to, &mut down.to).is_err() {
+            return;
+        }
+        self.send_schedule(rt, sender, schedule, horizon, pace);
     }
 }

@@ -26,6 +26,9 @@ use std::thread::Threads;
 /// What they feed is the merge of their rows, ordered by moment, then sender, then line, whatever the order in which
 /// their threads get their turns. The row of line `l` of sender `c`, both counted from 1, has the number
 /// `16 * (l - 1) + c` in it.
+///
+/// No sender sends before all threads have begun. Where one can't begin beside the others, all senders break off after
+/// some seconds, and the feeding answers `OutOfMemory`.
 #[derive(Drop)]
 pub struct Senders {
     alloc: Global,
@@ -92,7 +95,7 @@ impl Senders {
 }
 
 // Feeds through these channels, and settles them.
-fn feed_through<Q: Pace + Sync, R: Threads + Wait + Sync>(
+pub(crate) fn feed_through<Q: Pace + Sync, R: Threads + Wait + Sync>(
     rt: &R,
     alloc: Global,
     schedules: &[Schedule],

@@ -35,10 +35,10 @@ pub returns-clause-up : goal.returns-clause-up
 returns-clause-up g c =
     let new = c.run-end.new.gates in
     fed_up c.args.horizon c.run-end.result c.args.schedules.now new.outlets.items new.ups.items new.downs.items
-    c.run-end.new.up.flow c.run-end.new.down.flow c.run-end.ensures.merged c.settle.ensures.up c.run-end.ensures.sent
+    c.run-end.new.up.flow c.run-end.new.down.flow c.run-end.ensures.merged c.settle.ensures c.run-end.ensures.sent
 
 pub returns-clause-down : goal.returns-clause-down
 returns-clause-down g c =
     let new = c.run-end.new.gates in
     fed_down c.args.horizon c.run-end.result c.args.schedules.now new.outlets.items new.ups.items new.downs.items
-    c.run-end.new.up.flow c.run-end.new.down.flow c.run-end.ensures.merged c.settle.ensures.down c.run-end.ensures.sent
+    c.run-end.new.up.flow c.run-end.new.down.flow c.run-end.ensures.merged c.settle.ensures c.run-end.ensures.sent

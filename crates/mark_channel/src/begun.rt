@@ -1,0 +1,84 @@
+//! The workers of a run that have begun, for which whoever sends first waits.
+ghost use Rattle.std.specs.Prelude.{◌≡◌, OnErr, OnOk};
+ghost use Rattle.packet_record.specs.declared.item.FlowEnd.TheVariants.{Open};
+ghost use Rattle.packet_record.specs.Streams.{after};
+ghost use Rattle.mark_channel.specs.Ends.{IsSameEnd};
+
+use crate::Sender;
+use mm_base::OutOfMemory;
+use packet_record::Item;
+use std::sync::Wait;
+use std::sync::atomic::{AtomicU64, Ordering};
+use std::thread::yield_now;
+
+// How often one who waits looks for the others before it gives the run up.
+const LOOKS: u32 = 10_000_000;
+
+// The count of a run that is given up, above that of any run's workers.
+const GIVEN_UP: u64 = 1 << 63;
+
+/// How many workers of a run have begun, and for how many it is waited. Where no thread can be made for a worker, it
+/// begins only once what runs beside it has ended; so one who sent before all have begun could wait for room for ever.
+#[derive(Drop)]
+pub struct Begun {
+    count: AtomicU64,
+    workers: u64,
+    looks: u32,
+}
+
+impl Begun {
+    /// A run of so many workers, none of which has begun. One who waits for them looks 10,000,000 times, some seconds.
+    pub fn new(workers: u64) -> Begun {
+        Begun::with_looks(workers, LOOKS)
+    }
+
+    /// The same where one who waits looks so many times.
+    pub fn with_looks(workers: u64, looks: u32) -> Begun {
+        Begun {
+            count: AtomicU64::new(0),
+            workers,
+            looks,
+        }
+    }
+
+    /// Counts a worker that begins.
+    pub fn raise(&self) {
+        self.count.fetch_add(1, Ordering::SeqCst);
+    }
+
+    /// Waits until all workers have begun. Where they haven't at the last look it gives the run up: it breaks both
+    /// directions off and answers `OutOfMemory`, as everyone does who waits from then on. It gives way to other threads
+    /// between looks, and takes no memory.
+    pub fn wait<R: Wait>(
+        &self,
+        rt: &R,
+        up: &mut Sender,
+        down: &mut Sender,
+    ) -> Result<(), OutOfMemory>
+        requires open { (up.old.flow.end ≡ Open) × (down.old.flow.end ≡ Open) }
+        ensures unsent { OnOk result ((up.new ≡ up.old) × (down.new ≡ down.old)) }
+        ensures broken { OnErr result ((up.new.flow ≡ after up.old.flow Item.Broken)
+            × (down.new.flow ≡ after down.old.flow Item.Broken)) }
+        ensures same { IsSameEnd up.old up.new × IsSameEnd down.old down.new }
+    {
+        if self.have_all_begun() {
+            return Ok(());
+        }
+        up.send(rt, Item::Broken);
+        down.send(rt, Item::Broken);
+        Err(OutOfMemory)
+    }
+
+    // Looks until all workers have begun. False where the run is given up, and at the limit, where it gives it up.
+    fn have_all_begun(&self) -> bool {
+        for _ in 0..self.looks {
+            let count = self.count.load(Ordering::SeqCst);
+            if count >= self.workers {
+                return count < GIVEN_UP;
+            }
+            yield_now();
+        }
+        self.count.store(GIVEN_UP, Ordering::SeqCst);
+        false
+    }
+}
