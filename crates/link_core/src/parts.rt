@@ -137,6 +137,7 @@ impl Parts {
     }
 
     /// Lets the next packet in, where all opportunities up to its moment are burnt and no others.
+    #[inline(always)]
     pub fn enter(&mut self, t: Timed)
         ghost gone: { Gone }
         requires sound { IsSoundAfter gone self.old }
@@ -159,6 +160,7 @@ impl Parts {
     }
 
     /// Takes the memory that burning so many more and letting one packet in may need.
+    #[inline(always)]
     pub fn reserve(&mut self, more: usize) -> Result<(), OutOfMemory>
         ghost gone: { Gone }
         requires sound { IsSoundAfter gone self.old }
