@@ -34,7 +34,7 @@ impl Model for Opportunities {
 }
 
 // So many are looked at before the trace is searched.
-const NEAR: u32 = 4;
+const NEAR: u32 = 8;
 
 impl Opportunities {
     pub fn new(trace: Trace, once: bool, horizon: u64) -> Self

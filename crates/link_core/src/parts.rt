@@ -89,6 +89,31 @@ impl Parts {
         serve(&mut self.line, o, &mut self.left, &mut self.log);
     }
 
+    // Burns the next opportunity, or, where nothing is inside and no log is kept, all up to this many in all.
+    fn burn_some(&mut self, end: u32)
+        ghost gone: { Gone }
+        requires sound { IsSoundAfter gone self.old }
+        requires end { end ≤ length (span_opps self.old.opportunities) }
+        requires start { self.old.burnt < end }
+        requires room { length (inside_line self.old.line) + vec_len self.old.left ≤ vec_capacity self.old.left }
+        requires spare { 1 + length (inside_line self.old.line) ≤ self.old.log.spare }
+        ensures sound { IsSoundAfter gone self.new }
+        ensures opportunities { self.new.opportunities ≡ self.old.opportunities }
+        ensures logged { self.new.log.kept ≡ self.old.log.kept }
+        ensures burnt { (self.old.burnt < self.new.burnt) × (self.new.burnt ≤ end) }
+        ensures arrived { self.new.arrived ≡ self.old.arrived }
+        ensures queue { self.new.line.queue ≡ record self.old.line.queue { packets = self.new.line.queue.packets } }
+        ensures room { length (inside_line self.new.line) + vec_len self.new.left ≤ vec_capacity self.new.left }
+        ensures spare { self.old.log.spare + self.old.burnt + length (inside_line self.new.line) ≤
+            self.new.log.spare + self.new.burnt + length (inside_line self.old.line) }
+    {
+        if !self.log.is_kept() && self.line.len() == 0 {
+            self.burnt = end;
+            return;
+        }
+        self.burn_next();
+    }
+
     /// Burns up to this many in all.
     pub fn burn_to(&mut self, end: u32)
         ghost gone: { Gone }
@@ -106,16 +131,13 @@ impl Parts {
         ensures spare { self.old.log.spare + self.old.burnt + length (inside_line self.new.line) ≤
             self.new.log.spare + end + length (inside_line self.old.line) }
     {
-        if !self.log.is_kept() && self.line.len() == 0 {
-            self.burnt = end;
-            return;
-        }
         'burning: while self.burnt < end {
-            self.burn_next();
+            self.burn_some(end);
         }
     }
 
     /// Lets the next packet in, where all opportunities up to its moment are burnt and no others.
+    #[inline(always)]
     pub fn enter(&mut self, t: Timed)
         ghost gone: { Gone }
         requires sound { IsSoundAfter gone self.old }
@@ -138,6 +160,7 @@ impl Parts {
     }
 
     /// Takes the memory that burning so many more and letting one packet in may need.
+    #[inline(always)]
     pub fn reserve(&mut self, more: usize) -> Result<(), OutOfMemory>
         ghost gone: { Gone }
         requires sound { IsSoundAfter gone self.old }

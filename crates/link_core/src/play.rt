@@ -8,13 +8,24 @@ use crate::parts::Parts;
 use mm_base::OutOfMemory;
 use packet_record::Timed;
 
-// One step burns at most so many opportunities.
+// One step burns at most so many opportunities where a log is kept, since each may need room in it.
 const AT_ONCE: u32 = 2048;
 
 // A piece of the log is ended after the step that makes it as long as this.
 const PIECE: usize = 2048;
 
 impl Parts {
+    // How many opportunities one step burns at most.
+    fn at_once(&self) -> u32
+        ensures { 0 < result }
+    {
+        if self.log.is_kept() {
+            AT_ONCE
+        } else {
+            u32::MAX
+        }
+    }
+
     // Burns what is due before the next packet, or the first of it, and lets the packet in where nothing due is left.
     fn go_to(&mut self, t: Timed) -> Result<(), OutOfMemory>
         ghost gone: { Gone }
@@ -29,7 +40,7 @@ impl Parts {
         ensures err { OnErr result (0 < work self.new) }
     {
         let due = self.opportunities.count_from(self.burnt, t.moment);
-        let end = due.min(self.burnt.saturating_add(AT_ONCE));
+        let end = due.min(self.burnt.saturating_add(self.at_once()));
         self.reserve((end - self.burnt) as usize)?;
         self.burn_to(end);
         if end < due {
@@ -55,7 +66,8 @@ impl Parts {
         if self.opportunities.count_to(u64::MAX) == self.burnt {
             return Ok(false);
         }
-        self.burn(u64::MAX, AT_ONCE)?;
+        let most = self.at_once();
+        self.burn(u64::MAX, most)?;
         Ok(true)
     }
 

@@ -191,6 +191,7 @@ impl PacketQueue {
         )
     }
 
+    #[inline(always)]
     fn add(&mut self, t: Timed)
         requires spare { 1 ≤ self.old.spare }
         requires kept { AreKept self.old.spec (self.old.packets ++ t ∷ []) }

@@ -25,7 +25,7 @@ fn split_direction(text: &[u8]) -> Option<(Direction, &[u8])>
 }
 
 // What is said at the front of a text, and what follows it.
-#[inline]
+#[inline(always)]
 fn split_said(text: &[u8]) -> Option<((u64, Direction, u64), &[u8])>
     ensures read { IfSome result (λ r. (line : List ℕ) × (text.now ≡ line ++ r.1.now) × (said_of line ≡ Some r.0)) }
     ensures every { (line rest : List ℕ) (says : ℕ × DirectionValue × ℕ) → text.now ≡ line ++ rest

@@ -33,6 +33,7 @@ impl PrintLine for Entry {
 }
 
 // Puts a number in front, and in front of it a sign.
+#[inline(always)]
 fn put_word(out: &mut LineBuffer, number: u64, sign: &[u8])
     requires { length sign.now + length out.old + 20 ≤ 147456 }
     ensures bytes { out.new ≡ sign.now ++ (decimal number ++ out.old) }
@@ -43,6 +44,7 @@ fn put_word(out: &mut LineBuffer, number: u64, sign: &[u8])
 }
 
 // Puts two numbers in front, with a space between them, and in front of them a sign.
+#[inline(always)]
 fn put_pair(out: &mut LineBuffer, first: u64, second: u64, sign: &[u8])
     requires { length sign.now + length out.old + 41 ≤ 147456 }
     ensures bytes { out.new ≡ sign.now ++ (decimal first ++ 32 ∷ (decimal second ++ out.old)) }

@@ -19,5 +19,5 @@ invariant-burning g l = record {
 abbrev pub decreases-burning : goal.decreases-burning
 decreases-burning g l = l.end - l.self.burnt
 
-abbrev pub ghost-burn_next : goal.ghost-burn_next
-ghost-burn_next g a = g.gone
+abbrev pub ghost-burn_some : goal.ghost-burn_some
+ghost-burn_some g a = g.gone

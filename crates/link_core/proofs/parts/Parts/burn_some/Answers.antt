@@ -3,7 +3,7 @@ use Rattle.link_core.specs.State.{pending}
 use Rattle.link_core.specs.Sound.{Sound}
 use Rattle.link_core.specs.View.{span_opps}
 use Rattle.link_core.proofs.IdleBurns.{idle_burns}
-use Rattle.link_core.proofs.parts.Parts.burn_to.Goals as goal
+use Rattle.link_core.proofs.parts.Parts.burn_some.Goals as goal
 
 pub returns-then-len-eq0-clause-sound : goal.returns-then-len-eq0-clause-sound
 returns-then-len-eq0-clause-sound g c =
