@@ -3,7 +3,7 @@ ghost use Rattle.std.specs.Prelude.{◌≡◌, ◌+◌, ◌<◌, ◌≤◌, ◌+
 ghost use Rattle.command_merge.specs.FateLines.{line_of, merged_fate_line, sender_of};
 
 use mm_base::{LineBuffer, OutOfMemory, PrintLine};
-use nest_spec::{FateRow, put_fate};
+use nest_spec::{FateRow, PackedFate, put_fate};
 use std::alloc::Global;
 
 // The fate of a packet that a line of a sender gave, by the packet's number in the merge.
@@ -55,12 +55,15 @@ fn put_sender(out: &mut LineBuffer, sender: u32)
 }
 
 // The fates of a merge's packets, in their order.
-pub(crate) fn sender_fates(alloc: Global, fates: &[FateRow]) -> Result<Vec<SenderFate>, OutOfMemory>
+pub(crate) fn sender_fates(
+    alloc: Global,
+    fates: &[PackedFate],
+) -> Result<Vec<SenderFate>, OutOfMemory>
     ensures { IfOk result (λ list. map (λ fate. fate.0) list.items ≡ fates.now) }
 {
     let mut list = Vec::with_capacity(alloc, fates.len())?;
     for fate in fates {
-        list.push(SenderFate(*fate))?;
+        list.push(SenderFate(fate.row()))?;
     }
     Ok(list)
 }

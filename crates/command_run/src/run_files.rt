@@ -1,9 +1,9 @@
 // The files that a run writes: its logs, in order, and then its fates.
 ghost use Rattle.std.specs.Prelude.{◌≡◌, ◌⊎◌, ◌≤◌, ◌-◌, ℕ, length, take, map, IfErr, OnOk, OnErr};
+ghost use Rattle.std.specs.List.{flat_map};
 ghost use Rattle.mm_base.specs.Disk.{OnlyWrites, HasWriteCause};
 ghost use Rattle.mm_base.specs.Files.{holding};
 ghost use Rattle.shell_log.specs.LogText.{log_text};
-ghost use Rattle.nest_spec.specs.FateTexts.{fates_text};
 ghost use Rattle.nest_plain.specs.Unwritten.{unwritten};
 ghost use Rattle.command_ends.specs.Outputs.{HoldsSome, holding_all, named_text};
 ghost use Rattle.command_ends.specs.Stops.{StopsAtOutput, StopsWriting};
@@ -14,9 +14,9 @@ use crate::passing::Passed;
 use crate::whole_logs::write_whole_logs;
 use command_ends::{Cause, file_written};
 use link_core::LinkLog;
-use mm_base::{Disk, DiskError, LineBuffer, append_lines, save, save_lines};
+use mm_base::{Disk, DiskError, LineBuffer, PrintLine, append_lines, save, save_lines};
 use nest_plain::{NestRun, UnwrittenLog};
-use nest_spec::{FateRow, Named, RunResult};
+use nest_spec::{Named, RunResult};
 use shell_log::HEADER;
 use std::alloc::Global;
 
@@ -71,16 +71,16 @@ pub fn write_logs<D: Disk>(
     Ok(())
 }
 
-// Writes the file of the fates.
-fn write_fates<D: Disk>(
+// Writes the file of the fates, in any form that is printed.
+fn write_fates<D: Disk, F: PrintLine>(
     alloc: Global,
     disk: &mut D,
     name: &str,
-    fates: &[FateRow],
+    fates: &[F],
 ) -> Result<(), Cause>
-    ensures ok { OnOk result ((D.view disk.new).files ≡ holding name.now (fates_text fates.now)
+    ensures ok { OnOk result ((D.view disk.new).files ≡ holding name.now (flat_map F.line fates.now)
         (D.view disk.old).files) }
-    ensures partly { OnErr result (HoldsSome (named_text name.now (fates_text fates.now)) (D.view disk.old).files
+    ensures partly { OnErr result (HoldsSome (named_text name.now (flat_map F.line fates.now)) (D.view disk.old).files
         (D.view disk.new).files) }
     ensures stopped { IfErr result (λ cause. StopsAtOutput name.now (D.view disk.old) (D.view disk.new) cause) }
     ensures only_writes { OnlyWrites (D.view disk.old) (D.view disk.new) }

@@ -14,7 +14,7 @@ use Rattle.trace_reader.specs.Orders.{Each, AreRising}
 use Rattle.trace_reader.proofs.OrderLemmas.{each_map, counted, length-up_to}
 use Rattle.trace_reader.proofs.ListLemmas.{some_at, slice_get-take}
 use Rattle.link_core.specs.Orders.{AreFalling}
-use Rattle.link_core.specs.Links.{link_out}
+use Rattle.link_core.specs.Links.{keep_with, drop_with, lost_from, link_out, link_lost}
 use Rattle.link_core.specs.Back as back
 use Rattle.link_core.specs.Promises.{count_to, floor_of}
 use Rattle.link_core.proofs.SoundLemmas.{each_reverse, drop_one}
@@ -69,6 +69,19 @@ out_up_to q os b m l r a =
 pub link_out_within : (q : QueueSpec) (os : List Opportunity) (h b : ℕ) (l : List Timed) → AreRising os
     → Each (λ o. o.moment ≤ h) os → AreUpTo h (link_out q (take b os) l)
 link_out_within q os h b l r a = out_up_to q os b h l r (each_take (λ o. o.moment ≤ h) b os a)
+
+lost_up_to : (q : QueueSpec) (os : List Opportunity) (m : ℕ) (kept ts : List Timed) → AreUpTo m ts
+    → AreUpTo m (lost_from q os kept ts)
+lost_up_to q os m kept [] u = tt
+lost_up_to q os m kept (t ∷ ts) u =
+    up_to-append m (map (moved_to t.moment) (drop_with q os kept t)) (lost_from q os (keep_with q os kept t) ts)
+    (moved_to_moment m t.moment (drop_with q os kept t) u.0)
+    (lost_up_to q os m (keep_with q os kept t) ts u.1)
+
+-- nor is any lost past it
+pub link_lost_within : (q : QueueSpec) (os : List Opportunity) (h : ℕ) (l : List Timed) → AreUpTo h l
+    → AreUpTo h (link_lost q os l)
+link_lost_within q os h l u = lost_up_to q os h [] l u
 
 burnt_up_to : (os : List Opportunity) (h b : ℕ) → AreRising os → Each (λ o. o.moment ≤ h) os
     → Each (λ o. o.moment ≤ floor_of os h b) (take b os)

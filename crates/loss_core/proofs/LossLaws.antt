@@ -46,6 +46,16 @@ module _ (rate : ℕ) (word : ℕ → ℕ) where
   up_to-passed m k [] h = tt
   up_to-passed m k (t ∷ ts) h = up_kept m (drops rate (word k)) t _ h.0 (up_to-passed m (k + 1) ts h.1)
 
+  up_lost : (m : ℕ) (b : Bool) (t : Timed) (us : List Timed) → t.moment ≤ m → AreUpTo m us
+      → AreUpTo m (cond b (t ∷ []) [] ++ us)
+  up_lost m true t us le h = (le, h)
+  up_lost m false t us le h = h
+
+  -- and what is dropped is not after them either
+  pub up_to-dropped : (m k : ℕ) (ts : List Timed) → AreUpTo m ts → AreUpTo m (dropped rate word k ts)
+  up_to-dropped m k [] h = tt
+  up_to-dropped m k (t ∷ ts) h = up_lost m (drops rate (word k)) t _ h.0 (up_to-dropped m (k + 1) ts h.1)
+
   rise_kept : (b : Bool) (t : Timed) (us : List Timed) → AreFrom t.moment us → Rise us → Rise (cond b [] (t ∷ []) ++ us)
   rise_kept true t us f h = h
   rise_kept false t us f h = (f, h)

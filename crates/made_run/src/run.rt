@@ -7,6 +7,7 @@ use crate::made::made_nest;
 use crate::printing::print_summary;
 use mm_base::{Bytes, OutOfMemory};
 use nest_plain::run_nest;
+use nest_spec::unpack_fates;
 use packet_record::{Row, make_load};
 use std::alloc::Global;
 
@@ -24,6 +25,7 @@ pub fn make_summary(alloc: Global, number: u64, packets: u32) -> Result<Bytes, O
     let rows = schedule.rows();
     let nest = made_nest(alloc, number, horizon_of(rows))?;
     let (fates, _) = run_nest(alloc, &nest, &schedule)?.into_parts();
+    let fates = unpack_fates(alloc, fates.as_slice())?;
     print_summary(alloc, rows, fates.as_slice())
 }
 

@@ -5,7 +5,7 @@ ghost use Rattle.nest_plain.specs.Unwritten.{unwritten};
 
 use link_core::LinkLog;
 use mm_base::OutOfMemory;
-use nest_spec::{FateRow, Named, NamedLog, RunResult};
+use nest_spec::{Named, NamedLog, PackedFate, RunResult, unpack_fates};
 use std::marker::Model;
 
 /// A log that isn't written out, and the name of its file.
@@ -16,7 +16,7 @@ pub type UnwrittenLog = Named<LinkLog>;
 /// names and entries of the logs.
 #[derive(Drop)]
 pub struct NestRun {
-    fates: Vec<FateRow>,
+    fates: Vec<PackedFate>,
     logs: Vec<UnwrittenLog>,
 }
 
@@ -32,14 +32,14 @@ impl Model for NestRun {
 
 impl NestRun {
     /// The run with these fates and logs.
-    pub fn new(fates: Vec<FateRow>, logs: Vec<UnwrittenLog>) -> Self
+    pub fn new(fates: Vec<PackedFate>, logs: Vec<UnwrittenLog>) -> Self
         ensures { result ≡ record { fates = fates.items; logs = unwritten logs.items } }
     {
         NestRun { fates, logs }
     }
 
     /// The fates, one for each row, and the named logs.
-    pub fn into_parts(self) -> (Vec<FateRow>, Vec<UnwrittenLog>)
+    pub fn into_parts(self) -> (Vec<PackedFate>, Vec<UnwrittenLog>)
         ensures fates { result.0.items ≡ self.fates }
         ensures logs { unwritten result.1.items ≡ self.logs }
     {
@@ -51,7 +51,8 @@ impl NestRun {
         ensures { IfOk result (λ r. r ≡ self) }
     {
         let (fates, logs) = self.into_parts();
-        Ok(RunResult::new(fates, write_out(logs)?))
+        let rows = unpack_fates(*fates.allocator(), fates.as_slice())?;
+        Ok(RunResult::new(rows, write_out(logs)?))
     }
 }
 

@@ -75,7 +75,7 @@ pub fn run_nest(alloc: Global, nest: &Nest, schedule: &Schedule) -> Result<NestR
     let up = run_direction(alloc, nest, Direction::Up, rows, &mut marking)?;
     let down = run_direction(alloc, nest, Direction::Down, rows, &mut marking)?;
     let logs = in_nest_order(alloc, up, down)?;
-    Ok(NestRun::new(marking.into_rows(), logs))
+    Ok(NestRun::new(marking.into_fates(), logs))
 }
 
 /// Runs the schedule through the nest as `run_nest` does, and writes the logs out.

@@ -1,11 +1,12 @@
 // The result of a run over threads, from the states of its shells. Each state is given up for its lists, none of which
 // is copied.
-ghost use Rattle.std.specs.Prelude.{◌≡◌, ◌++◌, ◌∷◌, List, IsSome, map, option_map, IfOk, OnOk};
+ghost use Rattle.std.specs.Prelude.{◌≡◌, ◌≤◌, ◌++◌, ◌∷◌, List, IsSome, map, option_map, IfOk, OnOk};
 ghost use Rattle.std.specs.Vec.Iter.{into_iter_items};
 ghost use Rattle.packet_record.specs.declared.item.FlowEnd.TheVariants.{Ended};
 ghost use Rattle.packet_record.specs.declared.packet.Direction.TheVariants.{Up, Down};
 ghost use Rattle.packet_record.specs.declared.packet.Row.{Row as RowValue};
 ghost use Rattle.packet_record.specs.declared.packet.Timed.{Timed as TimedValue};
+ghost use Rattle.packet_record.specs.Moments.{AreUpTo};
 ghost use Rattle.packet_record.specs.Rows.{AreApart, entering};
 ghost use Rattle.shell_core.specs.Shells.{IsBuilt, whole_inside, whole_lost, whole_out};
 ghost use Rattle.shell_core.specs.Wholes.{IsLink};
@@ -37,12 +38,14 @@ fn gather_shell(
 ) -> Result<(Vec<Timed>, Option<UnwrittenLog>), OutOfMemory>
     requires spec { state.spec ≡ shell.spec }
     requires ended { state.taken.end ≡ Ended }
+    requires short { state.horizon ≤ 3600000 }
     requires link { IsSome shell.log → IsLink shell.spec }
     ensures rows { marking.new.rows ≡ marking.old.rows }
     ensures fates { OnOk result ((f : RowValue → FateValue) → marking.old.fates ≡ fated f marking.old.rows
         → marking.new.fates ≡ fated (passed shell.number (whole_lost state.spec state.horizon state.fed.packets)
         (ids_of (whole_inside state.spec state.horizon state.fed.packets)) f) marking.old.rows) }
     ensures departed { IfOk result (λ r. r.0.items ≡ state.taken.packets) }
+    ensures short { IfOk result (λ r. AreUpTo 3600000 r.0.items) }
     ensures whole { OnOk result (state.taken.packets ≡ whole_out state.spec state.horizon state.fed.packets) }
     ensures log { IfOk result (λ r. option_map unwritten_log r.1
         ≡ named_log (step state.horizon shell state.fed.packets)) }
@@ -78,6 +81,7 @@ fn gather_shells(
 ) -> Result<(), OutOfMemory>
     requires passed { HavePassed state.horizon (shell.spec ∷ specs_in (into_iter_items shells)) state.fed.packets
         (state ∷ into_iter_items states) }
+    requires short { state.horizon ≤ 3600000 }
     requires links { NamedAreLinks (shell ∷ into_iter_items shells) }
     ensures rows { marking.new.rows ≡ marking.old.rows }
     ensures fates { OnOk result ((f : RowValue → FateValue) → marking.old.fates ≡ fated f marking.old.rows
@@ -155,5 +159,5 @@ pub(crate) fn gather(
     let up = gather_direction(alloc, &mut marking, nest, Direction::Up, up)?;
     let down = gather_direction(alloc, &mut marking, nest, Direction::Down, down)?;
     let logs = in_nest_order(alloc, up, down)?;
-    Ok(NestRun::new(marking.into_rows(), logs))
+    Ok(NestRun::new(marking.into_fates(), logs))
 }

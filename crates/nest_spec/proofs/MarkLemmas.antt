@@ -1,6 +1,7 @@
 -- Fates of rows, one put after the other.
 use Rattle.std.proofs.Common.{◌≡◌, ◌≢◌, ℕ, zero, suc, ◌<◌, ◌≤◌, ◌==◌, ◌||◌, Bool, true, false, cond, eqb, List, [], ◌∷◌}
 use Rattle.std.proofs.Common.{length, get_or, set, drop, Option, Some, ap, sym, ◌∙◌, refl, arith, eq-eqb, ne_eqb}
+use Rattle.std.proofs.lemmas.List.{get_or-map}
 use Rattle.packet_record.specs.declared.packet.Timed.{Timed}
 use Rattle.packet_record.specs.declared.packet.Row.{Row}
 use Rattle.std.specs.List.{list_any}
@@ -38,12 +39,6 @@ set_fated f g (r ∷ rows) (suc i) v lt here others =
     (set_fated f g rows i v (omega arith) here
     (λ j d lt' ne. others (suc j) d (omega arith) (λ (e : suc j ≡ suc i). ne (omega arith))))
 
--- the row that is read at a place stands there
-row_at : (rows : List Row) (i : ℕ) (b row : Row) → i < length rows → row ≡ get_or rows i row → get_or rows i b ≡ row
-row_at [] i b row lt read = absurd (omega arith)
-row_at (r ∷ rows) zero b row lt read = sym read
-row_at (r ∷ rows) (suc i) b row lt read = row_at rows i b row (omega arith) read
-
 module _ (id : ℕ) (fate : Fate) (f : Row → Fate) where
   other : (r : Row) → r.timed.packet.id ≢ id → f r ≡ put id fate f r
   other r ne = sym (ap (λ b. cond b fate (f r)) (ne_eqb id r.timed.packet.id (λ x. ne (sym x))))
@@ -51,15 +46,20 @@ module _ (id : ℕ) (fate : Fate) (f : Row → Fate) where
   chosen : (r : Row) → r.timed.packet.id ≡ id → fate ≡ put id fate f r
   chosen r same = sym (ap (λ b. cond b fate (f r)) (eq-eqb id r.timed.packet.id (sym same)))
 
-  pub puts_here : (rows : List Row) (i : ℕ) (row : Row) (xs : List FateRow) → IsOnlyAt rows id i
-      → row ≡ get_or rows i row → xs ≡ fated f rows
-      → set xs i (fate_row row fate) ≡ fated (put id fate f) rows
-  puts_here rows i row xs at read e =
-      ap (λ ys. set ys i (fate_row row fate)) e
-      ∙ set_fated f (put id fate f) rows i (fate_row row fate) at.within
-      (λ b. ap (λ r. fate_row r fate) (sym (row_at rows i b row at.within read))
+  -- the fate row that is read at the place of this number's row gets this fate
+  pub puts_here : (rows : List Row) (i : ℕ) (read : FateRow) (xs : List FateRow) → IsOnlyAt rows id i
+      → read ≡ get_or xs i read → xs ≡ fated f rows
+      → set xs i (record read { fate = fate }) ≡ fated (put id fate f) rows
+  puts_here rows i read xs at was e =
+      ap (λ ys. set ys i (record read { fate = fate })) e
+      ∙ set_fated f (put id fate f) rows i (record read { fate = fate }) at.within
+      (λ b. ap (λ (r : FateRow). record r { fate = fate }) (read_is b)
       ∙ ap (fate_row (get_or rows i b)) (chosen (get_or rows i b) (at.here b)))
       (λ j b lt ne. other (get_or rows j b) (at.others j b lt ne))
+    where
+      read_is : (b : Row) → read ≡ fate_row (get_or rows i b) (f (get_or rows i b))
+      read_is b = was ∙ ap (λ ys. get_or ys i read) e
+          ∙ get_or-map (λ (r : Row). fate_row r (f r)) rows i b read at.within
 
   pub puts_none : (rows : List Row) (xs : List FateRow) → IsNowhere rows id → xs ≡ fated f rows
       → xs ≡ fated (put id fate f) rows

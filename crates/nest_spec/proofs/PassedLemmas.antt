@@ -70,3 +70,11 @@ first_has_run h specs more c arrived states rest s specs_are states_are have sta
     let first = subst (λ l. HavePassed h (c ∷ more) arrived l) states_are
     (subst (λ l. HavePassed h l arrived states) specs_are have) in
     has_run c h arrived s stands first.0 first.1 first.2 first.3
+
+-- and has the horizon of the nest
+pub first_horizon : (h : ℕ) (specs more : List DirSpec) (c : DirSpec) (arrived : List Timed)
+    (states rest : List State) (s : State) → specs ≡ c ∷ more → states ≡ s ∷ rest
+    → HavePassed h specs arrived states → s.horizon ≡ h
+first_horizon h specs more c arrived states rest s specs_are states_are have =
+    (subst (λ l. HavePassed h (c ∷ more) arrived l) states_are
+    (subst (λ l. HavePassed h l arrived states) specs_are have)).1

@@ -1,4 +1,5 @@
 pub mod FateTexts
+pub mod PackedFates
 pub mod NestFaults
 pub mod Words
 pub mod Plans
@@ -16,6 +17,7 @@ pub mod DraftViews
 pub mod LinkViews
 pub mod MarkingViews
 pub mod NestViews
+pub mod PackedViews
 pub mod PlanViews
 pub mod ResultViews
 pub mod ShellViews

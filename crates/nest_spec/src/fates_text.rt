@@ -2,7 +2,7 @@
 ghost use Rattle.std.specs.Prelude.{◌≡◌, ◌+◌, ◌≤◌, ◌++◌, length, IfOk};
 ghost use Rattle.nest_spec.specs.FateTexts.{fate_text, fate_line, fates_text};
 
-use crate::{Fate, FateRow};
+use crate::{Fate, FateRow, PackedFate};
 use mm_base::{Bytes, LineBuffer, OutOfMemory, PrintLine, print_lines};
 use std::alloc::Global;
 
@@ -16,6 +16,7 @@ pub fn print_fates(alloc: Global, fates: &[FateRow]) -> Result<Bytes, OutOfMemor
 impl PrintLine for FateRow {
     ghost line = { fate_line };
 
+    #[inline(always)]
     #[tactic(auto, using(mm_base::proofs::TextLemmas::is_ended_line))]
     fn put_line(&self, out: &mut LineBuffer) {
         out.put_byte(b'\n');
@@ -25,7 +26,16 @@ impl PrintLine for FateRow {
     }
 }
 
+impl PrintLine for PackedFate {
+    ghost line = { fate_line };
+
+    fn put_line(&self, out: &mut LineBuffer) {
+        self.row().put_line(out);
+    }
+}
+
 /// Puts the text of a fate, of at most 39 bytes, in front.
+#[inline(always)]
 pub fn put_fate(out: &mut LineBuffer, fate: Fate)
     requires { length out.old + 41 ≤ 147456 }
     ensures bytes { out.new ≡ fate_text fate ++ out.old }

@@ -1,8 +1,9 @@
 // The result of a run, from the states of the shells.
-ghost use Rattle.std.specs.Prelude.{◌≡◌, ◌++◌, IsSome, map, option_map, IfOk, OnOk};
+ghost use Rattle.std.specs.Prelude.{◌≡◌, ◌≤◌, ◌++◌, IsSome, map, option_map, IfOk, OnOk};
 ghost use Rattle.packet_record.specs.declared.item.FlowEnd.TheVariants.{Ended};
 ghost use Rattle.packet_record.specs.declared.packet.Row.{Row as RowValue};
 ghost use Rattle.packet_record.specs.declared.packet.Direction.TheVariants.{Up, Down};
+ghost use Rattle.packet_record.specs.Moments.{AreUpTo};
 ghost use Rattle.packet_record.specs.Rows.{entering};
 ghost use Rattle.nest_spec.specs.declared.fate.Fate.{Fate as FateValue};
 ghost use Rattle.nest_spec.specs.Fates.{fated};
@@ -19,6 +20,7 @@ ghost use Rattle.nest_spec.specs.Walk.{walk, named_entries, named_log};
 
 use crate::marking::Marking;
 use crate::naming::in_nest_order;
+use crate::packed_fate::unpack_fates;
 use crate::{Named, NamedLog, Nest, RunResult, ShellDirection};
 use mm_base::{OutOfMemory, Text};
 use packet_record::{Direction, Row, Timed};
@@ -36,6 +38,8 @@ fn gather_shells(
     states: &[ShellState],
 ) -> Result<(), OutOfMemory>
     requires passed { HavePassed horizon (specs_in shells.now) arrived.now states.now }
+    requires within { AreUpTo horizon arrived.now }
+    requires short { horizon ≤ 3600000 }
     requires links { NamedAreLinks shells.now }
     ensures rows { marking.new.rows ≡ marking.old.rows }
     ensures fates { OnOk result ((f : RowValue → FateValue) → marking.old.fates ≡ fated f marking.old.rows
@@ -143,5 +147,6 @@ pub fn gather(
     let up = gather_direction(alloc, &mut marking, nest, Direction::Up, rows, up)?;
     let down = gather_direction(alloc, &mut marking, nest, Direction::Down, rows, down)?;
     let logs = in_nest_order(alloc, up, down)?;
-    Ok(RunResult::new(marking.into_rows(), logs))
+    let fates = marking.into_fates();
+    Ok(RunResult::new(unpack_fates(alloc, fates.as_slice())?, logs))
 }

@@ -1,6 +1,7 @@
 // What a list of packets says of each of them.
-ghost use Rattle.std.specs.Prelude.{◌≡◌};
+ghost use Rattle.std.specs.Prelude.{◌≡◌, ◌≤◌};
 ghost use Rattle.nest_spec.specs.Marks.{mark_fate};
+ghost use Rattle.nest_spec.specs.PackedFates.{IsShort};
 
 use crate::Fate;
 use packet_record::Timed;
@@ -12,7 +13,8 @@ pub(crate) enum Mark {
 }
 
 pub(crate) fn fate_by(mark: Mark, t: Timed) -> Fate
-    ensures { result ≡ mark_fate mark t }
+    ensures fate { result ≡ mark_fate mark t }
+    ensures short { t.moment ≤ 3600000 → IsShort result }
 {
     match mark {
         Mark::Drops { shell } => Fate::Dropped {

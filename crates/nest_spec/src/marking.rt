@@ -4,12 +4,14 @@ ghost use Rattle.packet_record.specs.declared.packet.Row.{Row as RowValue};
 ghost use Rattle.nest_spec.specs.declared.fate.Fate.{Fate as FateValue};
 ghost use Rattle.nest_spec.specs.Fates.{fate_row, fated};
 ghost use Rattle.nest_spec.specs.Marks.{marks, put, marked, held_in, passed};
+ghost use Rattle.packet_record.specs.Moments.{AreUpTo};
 ghost use Rattle.packet_record.specs.Rows.{AreApart};
+ghost use Rattle.nest_spec.specs.PackedFates.{IsShort};
 ghost use Rattle.nest_spec.specs.Places.{ArePlaces};
 
 use crate::mark::{Mark, fate_by};
 use crate::places::{Places, place_of, places_of};
-use crate::{Fate, FateRow};
+use crate::{Fate, FateRow, PackedFate};
 use mm_base::OutOfMemory;
 use packet_record::{Row, Schedule, Timed};
 use std::alloc::Global;
@@ -20,7 +22,7 @@ use std::marker::Model;
 pub struct Marking<'a> {
     rows: &'a [Row],
     places: Places,
-    list: Vec<FateRow>,
+    list: Vec<PackedFate>,
 }
 
 impl<'a> Model for Marking<'a> {
@@ -64,6 +66,7 @@ impl<'a> Marking<'a> {
     /// The packets have passed the shell of this number: those that it lost are dropped there, and those of these
     /// numbers are still inside it.
     pub fn pass(&mut self, number: u32, lost: &[Timed], held: &[u32])
+        requires short { AreUpTo 3600000 lost.now }
         ensures rows { self.new.rows ≡ self.old.rows }
         ensures fates { (f : RowValue → FateValue) → self.old.fates ≡ fated f self.old.rows
             → self.new.fates ≡ fated (passed number lost.now held.now f) self.old.rows }
@@ -75,6 +78,7 @@ impl<'a> Marking<'a> {
 
     /// These packets have passed the last shell of their direction.
     pub fn depart(&mut self, departed: &[Timed])
+        requires short { AreUpTo 3600000 departed.now }
         ensures rows { self.new.rows ≡ self.old.rows }
         ensures fates { (f : RowValue → FateValue) → self.old.fates ≡ fated f self.old.rows
             → self.new.fates ≡ fated (marked departed.now Mark.Leaves f) self.old.rows }
@@ -89,7 +93,7 @@ impl<'a> Marking<'a> {
     }
 
     /// The fate of each row, in their order.
-    pub fn into_rows(self) -> Vec<FateRow>
+    pub fn into_fates(self) -> Vec<PackedFate>
         ensures { result.items ≡ self.entry.fates }
     {
         self.list
@@ -97,7 +101,9 @@ impl<'a> Marking<'a> {
 }
 
 // The row of a number gets this fate.
-fn put(places: &Places, rows: &[Row], id: u32, fate: Fate, list: &mut Vec<FateRow>)
+#[inline(always)]
+fn put(places: &Places, rows: &[Row], id: u32, fate: Fate, list: &mut Vec<PackedFate>)
+    requires short { IsShort fate }
     requires places { ArePlaces rows.now places.now }
     requires length { length list.old.items ≡ length rows.now }
     ensures length { length list.new.items ≡ length rows.now }
@@ -105,12 +111,20 @@ fn put(places: &Places, rows: &[Row], id: u32, fate: Fate, list: &mut Vec<FateRo
         → list.new.items ≡ fated (put id fate f) rows.now }
 {
     if let Some(place) = place_of(places, rows, id) {
-        list[place] = row_with(rows[place], fate);
+        let row = list[place].row();
+        list[place] = PackedFate::new(FateRow { fate, ..row });
     }
 }
 
 // Each packet's row is marked; the first of a number counts.
-fn mark_all(places: &Places, rows: &[Row], packets: &[Timed], mark: Mark, list: &mut Vec<FateRow>)
+fn mark_all(
+    places: &Places,
+    rows: &[Row],
+    packets: &[Timed],
+    mark: Mark,
+    list: &mut Vec<PackedFate>,
+)
+    requires short { AreUpTo 3600000 packets.now }
     requires places { ArePlaces rows.now places.now }
     requires length { length list.old.items ≡ length rows.now }
     ensures length { length list.new.items ≡ length rows.now }
@@ -126,7 +140,7 @@ fn mark_all(places: &Places, rows: &[Row], packets: &[Timed], mark: Mark, list: 
 }
 
 // The rows of these numbers are inside a shell.
-fn hold_all(places: &Places, rows: &[Row], ids: &[u32], shell: u32, list: &mut Vec<FateRow>)
+fn hold_all(places: &Places, rows: &[Row], ids: &[u32], shell: u32, list: &mut Vec<PackedFate>)
     requires places { ArePlaces rows.now places.now }
     requires length { length list.old.items ≡ length rows.now }
     ensures length { length list.new.items ≡ length rows.now }
@@ -140,22 +154,21 @@ fn hold_all(places: &Places, rows: &[Row], ids: &[u32], shell: u32, list: &mut V
     }
 }
 
-fn row_with(row: Row, fate: Fate) -> FateRow
-    ensures { result ≡ fate_row row fate }
+// The row of a packet that isn't sent.
+#[inline(always)]
+fn unsent(row: Row) -> PackedFate
+    ensures { result ≡ fate_row row Fate.Unsent }
 {
-    FateRow {
+    PackedFate::new(FateRow {
         id: row.timed.packet.id,
         direction: row.direction,
-        fate,
-    }
+        fate: Fate::Unsent,
+    })
 }
 
-fn all_unsent(alloc: Global, rows: &[Row]) -> Result<Vec<FateRow>, OutOfMemory>
+fn all_unsent(alloc: Global, rows: &[Row]) -> Result<Vec<PackedFate>, OutOfMemory>
     ensures { IfOk result (λ v. v.items ≡ fated (λ _. Fate.Unsent) rows.now) }
 {
-    let list = rows
-        .iter()
-        .map(|row| row_with(*row, Fate::Unsent))
-        .collect(alloc)?;
+    let list = rows.iter().map(|row| unsent(*row)).collect(alloc)?;
     Ok(list)
 }

@@ -3,7 +3,7 @@ use crate::gathered::run_schedule;
 use crate::nests::nest_of;
 use mm_base::Bytes;
 use nest_plain::{run_nest, run_plain};
-use nest_spec::{Named, NamedLog, RunResult, print_fates};
+use nest_spec::{Named, NamedLog, RunResult, print_fates, unpack_fates};
 use packet_record::read_schedule;
 use shell_log::print_log;
 use std::alloc::Global;
@@ -118,7 +118,8 @@ fn makes_the_logs_that_are_written_out(rt: HostRuntime) -> Result<(), Fail> {
     let schedule = read_schedule(alloc, b"0 up 1000\n1 down 700\n")?;
     let whole = run_plain(alloc, &nest, &schedule)?;
     let (fates, logs) = run_nest(alloc, &nest, &schedule)?.into_parts();
-    assert!(rt; fates.as_slice() == whole.fates());
+    let rows = unpack_fates(alloc, fates.as_slice())?;
+    assert!(rt; rows.as_slice() == whole.fates());
     assert_eq!(rt; logs.len(), 2);
     let mut written = whole.logs().iter();
     for Named { name, log } in logs {

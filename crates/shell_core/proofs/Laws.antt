@@ -1,5 +1,5 @@
 -- The laws of the shells, which the state above rests on. Each is one statement for all kinds.
-use Rattle.std.proofs.Common.{◌≡◌, ℕ, ◌+◌, ◌≤◌, ◌<◌, List, [], ◌∷◌, ◌++◌, length, min, sym, refl, arith}
+use Rattle.std.proofs.Common.{◌≡◌, ℕ, ◌+◌, ◌≤◌, ◌<◌, List, [], ◌∷◌, ◌++◌, length, min, take, sym, refl, arith}
 use Rattle.std.proofs.lemmas.List.{append-nil}
 use Rattle.packet_record.specs.declared.packet.Timed.{Timed}
 use Rattle.packet_record.specs.Moments.{AreFrom, AreUpTo, Rise}
@@ -7,17 +7,17 @@ use Rattle.packet_record.proofs.MomentsLemmas.{from_lower, up_to_higher}
 use Rattle.shell_log.specs.declared.entry.Entry.{Entry}
 use Rattle.delay_core.specs.Delays.{delayed}
 use Rattle.loss_core.specs.Losses.{cha_word, passed}
-use Rattle.loss_core.proofs.LossLaws.{passed-append, from-passed, up_to-passed, rise-passed}
+use Rattle.loss_core.proofs.LossLaws.{passed-append, from-passed, up_to-passed, up_to-dropped, rise-passed}
 use Rattle.trace_reader.specs.Opps.{opps}
 use Rattle.trace_reader.proofs.OppsLaws.{opps_rising}
 use Rattle.link_core.proofs.LinkLaws.{link_out_fed, link_out_burnt, link_log_fed, link_log_burnt}
 use Rattle.link_core.proofs.FloorLaws.{link_out_rises, link_out_within, link_out_up_to, link_floor_within}
 use Rattle.link_core.proofs.FloorLaws.{link_floor_grows, link_floor_rises, link_floor_from, link_floor_above}
-use Rattle.link_core.proofs.FloorLaws.{link_all_at_horizon}
+use Rattle.link_core.proofs.FloorLaws.{link_all_at_horizon, link_lost_within}
 use Rattle.shell_core.specs.declared.spec.DirSpec.{DirSpec}
 use Rattle.shell_core.specs.declared.spec.DirSpec.TheVariants.{Pass, Delay, Loss, Link}
 use Rattle.link_core.specs.Promises.{count_to, AreCovered, Extends}
-use Rattle.shell_core.specs.Shells.{IsBuilt, opportunities, out, shell_log, floor}
+use Rattle.shell_core.specs.Shells.{IsBuilt, opportunities, out, lost, shell_log, floor}
 use Rattle.shell_core.specs.Wholes.{IsLink}
 use Rattle.shell_core.proofs.Counting.{opps_within}
 use Rattle.delay_core.proofs.Delaying.{delayed-append, from-delayed, up_to-delayed, within-delayed, rise-delayed}
@@ -80,6 +80,14 @@ out_within (Loss rate seed stream) h b l i u = up_to-passed rate.billionths (cha
 out_within (Link trace once queue) h b l i u =
     link_out_within queue (opps trace.opportunities once h) h b l (opps_rising trace once h i)
     (opps_within trace.opportunities once h)
+
+-- none is lost past the horizon
+pub lost_within : (c : DirSpec) (h b : ℕ) (l : List Timed) → AreUpTo h l → AreUpTo h (lost c h b l)
+unfolding lost
+lost_within Pass h b l u = tt
+lost_within (Delay ms) h b l u = tt
+lost_within (Loss rate seed stream) h b l u = up_to-dropped rate.billionths (cha_word seed stream) h 0 l u
+lost_within (Link trace once queue) h b l u = link_lost_within queue (take b (opps trace.opportunities once h)) h l u
 
 -- what has departed is not after the floor
 pub out_up_to : (c : DirSpec) (h b bound : ℕ) (l : List Timed) → IsBuilt c → AreUpTo bound l

@@ -19,8 +19,8 @@ as_many_fates nest rows = length-map rows (λ (row : Row). fate_row row (fate_of
 
 pub print_summary-requires-clause-same : goal.print_summary-requires-clause-same
 print_summary-requires-clause-same c =
-    let fates : c.as_slice.result.now ≡ (result_of c.in_ok-nest.nest c.in_ok-schedule.schedule).fates =
-    c.as_slice.ensures.value ∙ c.into_parts-fates.ensures.fates
+    let fates : c.as_slice-2.result.now ≡ (result_of c.in_ok-nest.nest c.in_ok-schedule.schedule).fates =
+    c.as_slice-2.ensures.value ∙ c.in_ok-fates.ensures ∙ c.as_slice.ensures.value ∙ c.into_parts-fates.ensures.fates
     ∙ ap (λ (r : RunLists). r.fates) c.in_ok-run_nest.ensures.value in
     ap length fates ∙ as_many_fates c.in_ok-nest.nest c.in_ok-schedule.schedule
     ∙ sym (ap length c.rows-rows.ensures.rows)
@@ -31,10 +31,10 @@ print_summary-requires-clause-few c =
 
 pub returns : goal.returns
 returns c =
-    let fates : c.as_slice.result.now ≡ (result_of c.in_ok-nest.nest c.in_ok-schedule.schedule).fates =
-    c.as_slice.ensures.value ∙ c.into_parts-fates.ensures.fates
+    let fates : c.as_slice-2.result.now ≡ (result_of c.in_ok-nest.nest c.in_ok-schedule.schedule).fates =
+    c.as_slice-2.ensures.value ∙ c.in_ok-fates.ensures ∙ c.as_slice.ensures.value ∙ c.into_parts-fates.ensures.fates
     ∙ ap (λ (r : RunLists). r.fates) c.in_ok-run_nest.ensures.value in
-    let summary : IsSummary c.args.number c.args.packets (summary_lines c.rows-rows.result.now c.as_slice.result.now)
+    let summary : IsSummary c.args.number c.args.packets (summary_lines c.rows-rows.result.now c.as_slice-2.result.now)
     = record {
       rows = c.in_ok-schedule.schedule;
       nest = c.in_ok-nest.nest;
@@ -42,8 +42,8 @@ returns c =
       nest_is = subst (λ (h : ℕ). IsMadeNest c.args.number h c.in_ok-nest.nest) (c.horizon_of.ensures
           ∙ ap made_horizon c.rows-rows.ensures.rows) c.in_ok-nest.ensures;
       text_is =
-          ap (λ (rows : List Row). summary_lines rows c.as_slice.result.now) c.rows-rows.ensures.rows
+          ap (λ (rows : List Row). summary_lines rows c.as_slice-2.result.now) c.rows-rows.ensures.rows
           ∙ ap (summary_lines c.in_ok-schedule.schedule) fates;
     } in
-    if_text (IsSummary c.args.number c.args.packets) (summary_lines c.rows-rows.result.now c.as_slice.result.now)
+    if_text (IsSummary c.args.number c.args.packets) (summary_lines c.rows-rows.result.now c.as_slice-2.result.now)
     c.print_summary.result c.print_summary.ensures summary

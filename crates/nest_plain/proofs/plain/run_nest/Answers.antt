@@ -35,7 +35,7 @@ returns-clause-value c =
     let up = c.in_ok-up.ensures in
     let down = c.in_ok-down.ensures in
     c.new.ensures
-    ∙ ap (λ f. run_lists f (unwritten c.in_ok-logs.logs.items)) c.into_rows.ensures
+    ∙ ap (λ f. run_lists f (unwritten c.in_ok-logs.logs.items)) c.into_fates.ensures
     ∙ result_is nest rows (λ (entries : List Entry). entries) c.in_ok-marking.marking c.run_direction.new.marking
     c.run_direction-2.new.marking c.in_ok-up.up.items c.in_ok-down.down.items c.in_ok-logs.logs.items
     (apart rows (subst (λ (l : List Row). AreInOrder 1 0 l) (sym is) c.rows-rows.ensures.schedule.order))

@@ -1,5 +1,7 @@
-use Rattle.std.proofs.Common.{◌≡◌, ◌∷◌, subst, rules}
+use Rattle.std.proofs.Common.{◌≡◌, ◌∷◌, subst, sym, rules}
 use Rattle.std.specs.Vec.Iter.{into_iter_items}
+use Rattle.packet_record.specs.Moments.{AreUpTo}
+use Rattle.packet_record.proofs.MomentsLemmas.{up_to_higher}
 use Rattle.nest_spec.specs.Links.{NamedAreLinks, specs_in}
 use Rattle.nest_spec.specs.Nests.{AllFit}
 use Rattle.nest_plain.proofs.Passing.{departed_rise, departed_within}
@@ -30,3 +32,8 @@ run_shells-requires t c =
         ),
       ),
     )
+
+pub depart-requires : goal.depart-requires
+depart-requires t c =
+    up_to_higher c.args.horizon 3600000 c.as_slice.result.now c.requires.horizon
+    (subst (AreUpTo c.args.horizon) (sym c.as_slice.ensures.value) c.requires.within)

@@ -1,7 +1,8 @@
-use Rattle.std.proofs.Common.{◌≡◌, ◌∙◌, ◌∷◌, [], List, ap, length, refl, rules, subst, sym}
+use Rattle.std.proofs.Common.{◌≡◌, ◌∙◌, ◌≤◌, ◌∷◌, [], List, ap, length, refl, rules, subst, sym}
 use Rattle.std.proofs.lemmas.List.{nil_from_length}
 use Rattle.std.proofs.lemmas.Result.{on_ok_weaker}
 use Rattle.std.specs.Vec.Iter.{into_iter_items, into_iter_len}
+use Rattle.packet_record.specs.Moments.{AreUpTo}
 use Rattle.shell_core.specs.Shells.{whole_inside, whole_lost}
 use Rattle.shell_state.specs.States.{State}
 use Rattle.nest_spec.specs.declared.shell.ShellDirection.{ShellDirection}
@@ -52,3 +53,18 @@ returns-clause-fates t c =
     ∙ ap (λ m. fated m rows) (marked_on s.horizon next.horizon shell (into_iter_items c.args.shells) rest s.spec fed
     next.fed.packets f after.1 items c.requires.passed.0 (after.2 ∙ gave.whole)))
     c.gather_shells.ensures.fates
+
+pub depart-requires : goal.depart-requires
+depart-requires t c = subst (AreUpTo 3600000) (sym c.as_slice.ensures.value) c.in_ok-departed.ensures.short
+
+pub gather_shells-requires-clause-short : goal.gather_shells-requires-clause-short
+gather_shells-requires-clause-short t c =
+    let s = c.args.state in
+    let next = c.unwrap-state.result in
+    let rest = c.in-Some.shell ∷ into_iter_items c.next.new.self in
+    let items : into_iter_items c.args.shells ≡ rest = c.in-Some.ensures.items in
+    let states : into_iter_items c.args.states ≡ next ∷ into_iter_items c.next-2.new.self = search rules in
+    let after = subst (λ (l : List State). HavePassed s.horizon (specs_in rest) s.taken.packets l) states
+    (subst (λ (l : List ShellDirection). HavePassed s.horizon (specs_in l) s.taken.packets
+    (into_iter_items c.args.states)) items c.requires.passed.4) in
+    subst (λ n. n ≤ 3600000) (sym after.1) c.requires.short

@@ -17,7 +17,7 @@ returns-clause-value c =
     let up = c.in_ok-up.ensures in
     let down = c.in_ok-down.ensures in
     c.new.ensures
-    ∙ ap (λ f. run_lists f (unwritten c.in_ok-logs.logs.items)) c.into_rows.ensures
+    ∙ ap (λ f. run_lists f (unwritten c.in_ok-logs.logs.items)) c.into_fates.ensures
     ∙ result_is c.args.nest.now rows (λ entries. entries) c.args.marking
     c.gather_direction.new.marking c.gather_direction-2.new.marking c.in_ok-up.up.items c.in_ok-down.down.items
     c.in_ok-logs.logs.items c.requires.apart (ap (marks rows) c.requires.unsent)

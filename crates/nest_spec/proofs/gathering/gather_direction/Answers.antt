@@ -1,5 +1,7 @@
 use Rattle.std.proofs.Common.{◌∙◌, ◌++◌, List, map, option_map, ap, subst, sym}
+use Rattle.packet_record.specs.Moments.{AreUpTo}
 use Rattle.packet_record.specs.Rows.{entering}
+use Rattle.packet_record.proofs.RowsLemmas.{up_to-entering}
 use Rattle.nest_spec.specs.declared.shell.ShellDirection.{ShellDirection}
 use Rattle.nest_spec.specs.Fates.{fated}
 use Rattle.nest_spec.specs.Links.{NamedAreLinks, specs_in}
@@ -35,6 +37,9 @@ gather_shells-requires c =
           (subst (λ (l : List ShellDirection). HavePassed h (specs_in l) c.packets-arrived.result.now a.states.now)
           (sym (c.as_slice.ensures.value ∙ c.in_ok-shells.ensures.list))
           (subst (λ l. HavePassed h (specs_in shells) l a.states.now) (sym arrived) c.requires.passed));
+      within = subst (λ n. AreUpTo n c.packets-arrived.result.now) (sym c.horizon.ensures.value)
+          (subst (AreUpTo h) (sym arrived) (up_to-entering a.direction h a.rows.now));
+      short = c.horizon.ensures.most;
       links = subst NamedAreLinks (sym c.as_slice.ensures.value) c.in_ok-shells.ensures.links;
     }
 

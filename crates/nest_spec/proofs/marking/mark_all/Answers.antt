@@ -1,4 +1,5 @@
 use Rattle.std.proofs.Common.{◌≡◌, ◌≤◌, ◌-◌, ◌∙◌, suc, length, drop, ap, arith}
+use Rattle.packet_record.proofs.MomentsLemmas.{up_to_read}
 use Rattle.nest_spec.specs.Fates.{fated}
 use Rattle.nest_spec.specs.Marks.{marked, put}
 use Rattle.nest_spec.proofs.MarkLemmas.{marks_none_yet, marks_more}
@@ -18,7 +19,7 @@ packets-preserved c =
           c.put.ensures.fates (marked (drop (suc left) a.packets.now) a.mark f)
           (c.packets.invariant.fates f e ∙ ap (λ n. fated (marked (drop n a.packets.now) a.mark f) a.rows.now) back)
           ∙ ap (λ x. fated (put t.packet.id x (marked (drop (suc left) a.packets.now) a.mark f)) a.rows.now)
-          c.fate_by.ensures
+          c.fate_by.ensures.fate
           ∙ marks_more a.packets.now left t a.mark f a.rows.now le c.index-packets-left.is;
     }
 
@@ -34,3 +35,8 @@ returns-clause-fates c = λ f e.
     let done : c.packets.left ≡ 0 = omega arith in
     c.packets.invariant.fates f e ∙ ap (λ n. fated (marked (drop n c.args.packets.now) c.args.mark f) c.args.rows.now)
     done
+
+pub put-requires-clause-short : goal.put-requires-clause-short
+put-requires-clause-short c = c.fate_by.ensures.short
+    (up_to_read 3600000 c.args.packets.now (c.packets.left - 1) c.index-packets-left.result (omega arith)
+    c.index-packets-left.is c.requires.short)

@@ -1,0 +1,126 @@
+// The fate of a packet in 12 bytes.
+ghost use Rattle.std.specs.Prelude.{◌≡◌, ◌≤◌, ◌<◌, IfOk};
+ghost use Rattle.nest_spec.specs.PackedFates.{IsShort, fate_at};
+
+use crate::{Fate, FateRow};
+use mm_base::OutOfMemory;
+use packet_record::Direction;
+use std::alloc::Global;
+use std::marker::Model;
+
+// The kinds of fates.
+const DEPARTED: u32 = 0;
+
+const DROPPED: u32 = 1;
+
+const INSIDE: u32 = 2;
+
+const UNSENT: u32 = 3;
+
+/// A packet of a run by its number and its direction, with its fate, whose moment is at most 3,600,000: a fate row in
+/// 12 bytes. Contracts see the fate row.
+#[derive(Drop)]
+pub struct PackedFate {
+    id: u32,
+    // The shell of the fate, or 0.
+    shell: u32,
+    // Eight times the moment of the fate, or 0; and four for down; and the kind of the fate.
+    number: u32,
+}
+
+impl Model for PackedFate {
+    ghost use Rattle.nest_spec.specs.declared.fate.FateRow.{FateRow};
+
+    ghost Value = { FateRow };
+
+    ghost use Rattle.nest_spec.specs.PackedViews.{packed_view};
+
+    ghost view = { packed_view };
+}
+
+impl PackedFate {
+    // The row in 12 bytes.
+    #[inline(always)]
+    pub(crate) fn new(row: FateRow) -> Self
+        requires { IsShort row.fate }
+        ensures { result ≡ row }
+    {
+        let FateRow {
+            id,
+            direction,
+            fate,
+        } = row;
+        match fate {
+            Fate::Departed { moment } => Self::of_kind(id, direction, DEPARTED, 0, moment),
+            Fate::Dropped { shell, moment } => Self::of_kind(id, direction, DROPPED, shell, moment),
+            Fate::Inside { shell } => Self::of_kind(id, direction, INSIDE, shell, 0),
+            Fate::Unsent => Self::of_kind(id, direction, UNSENT, 0, 0),
+        }
+    }
+
+    #[inline(always)]
+    fn of_kind(id: u32, direction: Direction, kind: u32, shell: u32, moment: u64) -> Self
+        requires kind { kind < 4 }
+        requires short { moment ≤ 3600000 }
+        ensures { result ≡ record { id = id; direction = direction; fate = fate_at kind shell moment } }
+    {
+        let eight = moment as u32 * 8;
+        match direction {
+            Direction::Up => PackedFate {
+                id,
+                shell,
+                number: eight + kind,
+            },
+            Direction::Down => PackedFate {
+                id,
+                shell,
+                number: eight + 4 + kind,
+            },
+        }
+    }
+
+    /// The row.
+    #[inline(always)]
+    pub fn row(&self) -> FateRow
+        ensures { result ≡ self.now }
+    {
+        FateRow {
+            id: self.id,
+            direction: self.direction(),
+            fate: self.fate(),
+        }
+    }
+
+    #[inline(always)]
+    fn direction(&self) -> Direction
+        ensures { result ≡ self.now.direction }
+    {
+        if self.number % 8 < 4 {
+            Direction::Up
+        } else {
+            Direction::Down
+        }
+    }
+
+    #[inline(always)]
+    fn fate(&self) -> Fate
+        ensures { result ≡ self.now.fate }
+    {
+        let shell = self.shell;
+        let moment = u64::from(self.number / 8);
+        match self.number % 4 {
+            DEPARTED => Fate::Departed { moment },
+            DROPPED => Fate::Dropped { shell, moment },
+            INSIDE => Fate::Inside { shell },
+            _ => Fate::Unsent,
+        }
+    }
+}
+
+/// The rows of these. `OutOfMemory` is want of memory.
+pub fn unpack_fates(alloc: Global, fates: &[PackedFate]) -> Result<Vec<FateRow>, OutOfMemory>
+    ensures { IfOk result (λ rows. rows.items ≡ fates.now) }
+{
+    let rows = fates.iter().map(|fate| fate.row()).collect(alloc)?;
+    Ok(rows)
+}
