@@ -78,3 +78,11 @@ pub first_horizon : (h : ℕ) (specs more : List DirSpec) (c : DirSpec) (arrived
 first_horizon h specs more c arrived states rest s specs_are states_are have =
     (subst (λ l. HavePassed h (c ∷ more) arrived l) states_are
     (subst (λ l. HavePassed h l arrived states) specs_are have)).1
+
+-- and the others have passed what it took
+pub rest_have_passed : (h : ℕ) (specs more : List DirSpec) (c : DirSpec) (arrived : List Timed)
+    (states rest : List State) (s : State) → specs ≡ c ∷ more → states ≡ s ∷ rest
+    → HavePassed h specs arrived states → HavePassed h more s.taken.packets rest
+rest_have_passed h specs more c arrived states rest s specs_are states_are have =
+    (subst (λ l. HavePassed h (c ∷ more) arrived l) states_are
+    (subst (λ l. HavePassed h l arrived states) specs_are have)).4

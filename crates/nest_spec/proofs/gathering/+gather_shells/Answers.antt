@@ -1,14 +1,15 @@
-use Rattle.std.proofs.Common.{ap, length, refl, subst, sym, ◌∙◌}
+use Rattle.std.proofs.Common.{ap, length, refl, rules, subst, sym, ◌∙◌}
 use Rattle.std.proofs.lemmas.Result.{on_ok_weaker}
 use Rattle.packet_record.specs.Moments.{AreUpTo}
 use Rattle.packet_record.proofs.MomentsLemmas.{up_to_higher}
 use Rattle.shell_core.specs.Shells.{opportunities}
 use Rattle.shell_core.proofs.Laws.{lost_within}
 use Rattle.nest_spec.specs.Fates.{fated}
-use Rattle.nest_spec.specs.Links.{specs_in}
+use Rattle.nest_spec.specs.Links.{NamedAreLinks, specs_in}
 use Rattle.nest_spec.specs.Marks.{passed, ids_of, marked_through}
+use Rattle.nest_spec.specs.Passed.{HavePassed}
 use Rattle.nest_spec.proofs.Natural.{one_step}
-use Rattle.nest_spec.proofs.PassedLemmas.{first_has_run, first_horizon}
+use Rattle.nest_spec.proofs.PassedLemmas.{first_has_run, first_horizon, rest_have_passed}
 use Rattle.nest_spec.proofs.gathering.+gather_shells.Goals as goal
 
 pub returns-clause-fates : goal.returns-clause-fates
@@ -46,22 +47,43 @@ pass-requires t c =
     let run = first_has_run a.horizon (specs_in a.shells.now) (specs_in rest) shell.spec a.arrived.now a.states.now
     c.unwrap.result.1.now state (ap specs_in c.in-Some.ensures.cases.0) first.0 c.requires.passed
     c.stands.ensures.stands in
-    up_to_higher a.horizon 3600000 c.lost.result.now c.requires.short
-    (subst (AreUpTo a.horizon) (sym (c.lost.ensures ∙ run.dropped))
-    (lost_within shell.spec a.horizon (length (opportunities shell.spec a.horizon)) a.arrived.now c.requires.within))
+    record {
+      short = up_to_higher a.horizon 3600000 c.lost.result.now c.requires.short
+          (subst (AreUpTo a.horizon) (sym (c.lost.ensures ∙ run.dropped))
+          (lost_within shell.spec a.horizon (length (opportunities shell.spec a.horizon)) a.arrived.now
+          c.requires.within));
+    }
 
 pub depart-requires : goal.depart-requires
-depart-requires t c = up_to_higher c.args.horizon 3600000 c.args.arrived.now c.requires.short c.requires.within
+depart-requires t c = record {
+  short = up_to_higher c.args.horizon 3600000 c.args.arrived.now c.requires.short c.requires.within;
+}
 
-pub gather_shells-requires-clause-within : goal.gather_shells-requires-clause-within
-gather_shells-requires-clause-within t c =
+pub gather_shells-requires : goal.gather_shells-requires
+gather_shells-requires t c =
     let a = c.args in
     let rest = c.in-Some.shells.now in
     let shell = c.in-Some.shell.now in
+    let shells_are = c.in-Some.ensures.cases.0 in
     let first = rw c.unwrap.ensures at c.split_first-2.ensures.cases in
     let state = c.unwrap.result.0.now in
-    let horizon = first_horizon a.horizon (specs_in a.shells.now) (specs_in rest) shell.spec a.arrived.now a.states.now
-    c.unwrap.result.1.now state (ap specs_in c.in-Some.ensures.cases.0) first.0 c.requires.passed in
+    let others = c.unwrap.result.1.now in
     let packets = c.packets.ensures ∙ ap (λ s. s.packets) c.taken.ensures in
-    subst (λ n. AreUpTo n c.packets.result.now) horizon
-    (subst (AreUpTo state.horizon) (sym packets) c.stands.ensures.stands.honest_taken.within)
+    let horizon = first_horizon a.horizon (specs_in a.shells.now) (specs_in rest) shell.spec a.arrived.now a.states.now
+    others state (ap specs_in shells_are) first.0 c.requires.passed in
+    let later = rest_have_passed a.horizon (specs_in a.shells.now) (specs_in rest) shell.spec a.arrived.now
+    a.states.now others state (ap specs_in shells_are) first.0 c.requires.passed in
+    let links = subst NamedAreLinks shells_are c.requires.links in (
+      search rules,
+      (
+        subst (λ l. HavePassed a.horizon (specs_in rest) l others) (sym packets) later,
+        (
+          subst (λ n. AreUpTo n c.packets.result.now) horizon
+              (subst (AreUpTo state.horizon) (sym packets) c.stands.ensures.stands.honest_taken.within),
+          (
+            c.requires.short,
+            links.1,
+          ),
+        ),
+      ),
+    )

@@ -15,7 +15,7 @@ returns-clause-value c =
     let down = c.in_ok-down.ensures in
     c.new-2.ensures
     ∙ ap (λ f. run_lists f (map (named_by entries_in) c.in_ok-logs.logs.items))
-    (c.in_ok-unpack_fates.ensures ∙ c.as_slice.ensures.value ∙ c.into_fates.ensures)
+    (c.in_ok-unpack_fates.ensures ∙ c.as_slice.ensures.value ∙ c.into_fates-fates.ensures)
     ∙ result_is c.args.nest.now c.args.rows.now entries_in c.in_ok-marking.marking c.gather_direction.new.marking
     c.gather_direction-2.new.marking c.in_ok-up.up.items c.in_ok-down.down.items c.in_ok-logs.logs.items
     c.requires.apart c.in_ok-marking.ensures
