@@ -7,7 +7,7 @@ use Rattle.shell_core.specs.Shells.{whole_inside, whole_lost}
 use Rattle.shell_state.specs.States.{State}
 use Rattle.nest_spec.specs.declared.shell.ShellDirection.{ShellDirection}
 use Rattle.nest_spec.specs.Fates.{fated}
-use Rattle.nest_spec.specs.Links.{specs_in}
+use Rattle.nest_spec.specs.Links.{NamedAreLinks, specs_in}
 use Rattle.nest_spec.specs.Marks.{ids_of, marked_through, passed}
 use Rattle.nest_spec.specs.Passed.{HavePassed}
 use Rattle.nest_runner.proofs.Gathered.{marked_on}
@@ -57,14 +57,26 @@ returns-clause-fates t c =
 pub depart-requires : goal.depart-requires
 depart-requires t c = subst (AreUpTo 3600000) (sym c.as_slice.ensures.value) c.in_ok-departed.ensures.short
 
-pub gather_shells-requires-clause-short : goal.gather_shells-requires-clause-short
-gather_shells-requires-clause-short t c =
+pub gather_shells-requires : goal.gather_shells-requires
+gather_shells-requires t c =
     let s = c.args.state in
     let next = c.unwrap-state.result in
     let rest = c.in-Some.shell ∷ into_iter_items c.next.new.self in
+    let later = next ∷ into_iter_items c.next-2.new.self in
     let items : into_iter_items c.args.shells ≡ rest = c.in-Some.ensures.items in
-    let states : into_iter_items c.args.states ≡ next ∷ into_iter_items c.next-2.new.self = search rules in
-    let after = subst (λ (l : List State). HavePassed s.horizon (specs_in rest) s.taken.packets l) states
+    let states : into_iter_items c.args.states ≡ later = search rules in
+    let after : HavePassed s.horizon (specs_in rest) s.taken.packets later =
+    subst (λ (l : List State). HavePassed s.horizon (specs_in rest) s.taken.packets l) states
     (subst (λ (l : List ShellDirection). HavePassed s.horizon (specs_in l) s.taken.packets
     (into_iter_items c.args.states)) items c.requires.passed.4) in
-    subst (λ n. n ≤ 3600000) (sym after.1) c.requires.short
+    let links = subst NamedAreLinks items c.requires.links.1 in (
+      search rules,
+      (
+        subst (λ n. HavePassed n (specs_in rest) next.fed.packets later) (sym after.1)
+            (subst (λ p. HavePassed s.horizon (specs_in rest) p later) (sym after.2) after),
+        (
+          subst (λ n. n ≤ 3600000) (sym after.1) c.requires.short,
+          links,
+        ),
+      ),
+    )
