@@ -6,11 +6,13 @@ mod commands;
 mod limits;
 mod watched;
 
-use crate::{Dialer, ProxyEnd, TcpDialer, proxy_conn};
-use mm_base::{Bytes, EndError, Link, MemLink, Port, TcpPort};
+use crate::{Dialer, ProxyEnd, TcpDialer, proxy_conn, proxy_main};
+use mm_base::{Bytes, EndError, Link, MemLink, OutOfMemory, Port, TcpPort};
 use record_store::Store;
 use std::alloc::Global;
+use std::process::Abort;
 use std::test::Fail;
+use test_outside::TestOutside;
 
 pub(crate) const REQUEST: &str = "GET / HTTP/1.1\r\nHost: a\r\n\r\n";
 
@@ -24,8 +26,37 @@ pub(crate) fn link(alloc: Global, input: &str, most: usize, fails: &[u64]) -> Re
     Ok(MemLink::new(alloc, input, most, fails.to_vec(alloc)?))
 }
 
+// The end of a connection. No test needs what the contract of `proxy_conn` says of it, and so this has none.
+pub(crate) fn end_of<C: Link, S: Link>(
+    alloc: Global,
+    client: &mut C,
+    server: &mut S,
+    number: u16,
+    store: &mut Store,
+) -> Result<ProxyEnd, OutOfMemory> {
+    proxy_conn(alloc, client, server, number, store)
+}
+
+// The status of a program, without what the contract of `proxy_main` says of it.
+pub(crate) fn status_of<P: Port, X: Dialer>(
+    alloc: Global,
+    words: &[String],
+    outside: &mut TestOutside,
+    port: &mut P,
+    dialer: &mut X,
+) -> u8 {
+    proxy_main(
+        alloc,
+        words,
+        &mut outside.disk,
+        &mut outside.out,
+        port,
+        dialer,
+    )
+}
+
 // What a client and a server say, how many bytes of each are passed on, how many records are added, and how it ends.
-const ROWS: [(&str, &str, usize, usize, usize, ProxyEnd); 17] = [
+static ROWS: [(&str, &str, usize, usize, usize, ProxyEnd); 17] = [
     ("", "", 0, 0, 0, ProxyEnd::Closed),
     (REQUEST, RESPONSE, 27, 40, 1, ProxyEnd::Closed),
     // an interim response before the final one
@@ -148,7 +179,7 @@ const ROWS: [(&str, &str, usize, usize, usize, ProxyEnd); 17] = [
 // Whether the ends, the bytes passed on and the records are these, where a read brings at most so many bytes.
 fn passes_so(
     alloc: Global,
-    row: (&str, &str, usize, usize, usize, ProxyEnd),
+    row: &(&str, &str, usize, usize, usize, ProxyEnd),
     most: usize,
 ) -> Result<bool, Fail>
     requires { 1 ≤ most }
@@ -156,7 +187,7 @@ fn passes_so(
     let mut client = link(alloc, row.0, most, &[])?;
     let mut server = link(alloc, row.1, most, &[])?;
     let mut store = Store::new(alloc);
-    let end = proxy_conn(alloc, &mut client, &mut server, 8080, &mut store)?;
+    let end = end_of(alloc, &mut client, &mut server, 8080, &mut store)?;
     Ok(
         end == row.5
             && row.0.as_bytes().get(..row.2) == Some(server.given())
@@ -167,7 +198,7 @@ fn passes_so(
 
 #[test]
 fn connections_pass_whole_messages(rt: HostRuntime) -> Result<(), Fail> {
-    for row in ROWS {
+    for row in &ROWS {
         assert!(rt; passes_so(rt.alloc(), row, 65_536)?, "whole {}", row.0);
         assert!(rt; passes_so(rt.alloc(), row, 1)?, "cut {}", row.0);
     }
@@ -197,7 +228,7 @@ fn ends_with_fails(
     let mut client = link(alloc, asked, 1, client_fails)?;
     let mut server = link(alloc, said, 1, server_fails)?;
     let mut store = Store::new(alloc);
-    let end = proxy_conn(alloc, &mut client, &mut server, 80, &mut store)?;
+    let end = end_of(alloc, &mut client, &mut server, 80, &mut store)?;
     let fronts = asked.as_bytes().starts_with(server.given())
         && said.as_bytes().starts_with(client.given());
     let recorded = store.records().len() == whole_answers(client.given().len());
@@ -218,27 +249,47 @@ fn links_that_fail_were_given_fronts(rt: HostRuntime) -> Result<(), Fail> {
     Ok(())
 }
 
+// The number of a port of TCP that is free, at which it listens now.
+fn listen(rt: &impl Abort, port: &mut TcpPort<HostRuntime>) -> Result<u16, Fail> {
+    assert_eq!(rt; port.listen(0), Ok(()));
+    Ok(port.number().ok_or("no number")?)
+}
+
+// A connection from a client in memory to a site passes its request and the site's response.
+fn passes_on<S: Link>(
+    rt: &impl Abort,
+    alloc: Global,
+    server: &mut S,
+    number: u16,
+) -> Result<(), Fail> {
+    let mut client = link(alloc, REQUEST, 65_536, &[])?;
+    let mut store = Store::new(alloc);
+    let end = end_of(alloc, &mut client, server, number, &mut store);
+    assert_eq!(rt; end, Ok(ProxyEnd::Closed));
+    assert_eq!(rt; client.given(), RESPONSE.as_bytes());
+    Ok(())
+}
+
+// The site was asked 27 bytes, and then the output was ended.
+fn was_asked<S: Link>(rt: &impl Abort, site: &mut S) {
+    let mut asked = [0u8; 64];
+    assert_eq!(rt; site.read(&mut asked), Ok(27));
+    assert_eq!(rt; site.read(&mut asked), Ok(0));
+}
+
 // A server of this process at a port of TCP, and a client in memory.
 #[test]
 fn a_connection_of_tcp_is_dialed(rt: HostRuntime) -> Result<(), Fail> {
-    let alloc = rt.alloc();
     let mut port = TcpPort::new(rt.clone()?);
-    assert_eq!(rt; port.listen(0), Ok(()));
-    let number = port.number().ok_or("no number")?;
+    let number = listen(&rt, &mut port)?;
     let mut dialer = TcpDialer::new(rt.clone()?);
     let mut dialed = dialer.dial(number).ok().ok_or("not dialed")?;
     let mut site = port.accept().ok().flatten().ok_or("no link")?;
     assert_eq!(rt; site.write(RESPONSE.as_bytes()), Ok(40));
-    let mut client = link(alloc, REQUEST, 65_536, &[])?;
-    let mut store = Store::new(alloc);
-    let end = proxy_conn(alloc, &mut client, &mut dialed, number, &mut store);
-    assert_eq!(rt; end, Ok(ProxyEnd::Closed));
-    assert_eq!(rt; client.given(), RESPONSE.as_bytes());
+    passes_on(&rt, rt.alloc(), &mut dialed, number)?;
     assert_eq!(rt; site.write(b"unread"), Ok(6));
     assert_eq!(rt; dialer.finish(dialed), Ok(()));
-    let mut asked = [0u8; 64];
-    assert_eq!(rt; site.read(&mut asked), Ok(27));
-    assert_eq!(rt; site.read(&mut asked), Ok(0));
+    was_asked(&rt, &mut site);
     assert_eq!(rt; port.finish(site), Ok(()));
     Ok(())
 }
@@ -246,8 +297,7 @@ fn a_connection_of_tcp_is_dialed(rt: HostRuntime) -> Result<(), Fail> {
 #[test]
 fn nobody_listens_at_a_port_that_was_let_go(rt: HostRuntime) -> Result<(), Fail> {
     let mut port = TcpPort::new(rt.clone()?);
-    assert_eq!(rt; port.listen(0), Ok(()));
-    let number = port.number().ok_or("no number")?;
+    let number = listen(&rt, &mut port)?;
     drop(port);
     let mut dialer = TcpDialer::new(rt.clone()?);
     assert!(rt; matches!(dialer.dial(number), Err(EndError::Failed)));

@@ -1,6 +1,6 @@
 // The whole program over a disk, an `out`, a port and a dialer in memory.
-use super::{REQUEST, RESPONSE, link};
-use crate::{MemDialer, proxy_main};
+use super::{REQUEST, RESPONSE, link, status_of};
+use crate::MemDialer;
 use mm_base::MemPort;
 use std::alloc::Global;
 use std::test::Fail;
@@ -65,56 +65,52 @@ fn ends_with(
     let servers = vec![in alloc; server]?;
     let mut port = MemPort::new(alloc, clients, vec![in alloc; run.fails.port]?);
     let mut dialer = MemDialer::new(alloc, servers, vec![in alloc; run.fails.dialer]?);
-    let answered = proxy_main(
-        alloc,
-        &words,
-        &mut outside.disk,
-        &mut outside.out,
-        &mut port,
-        &mut dialer,
-    );
+    let answered = status_of(alloc, &words, &mut outside, &mut port, &mut dialer);
     Ok(answered == status && outside.is_left(printed, &[("s", store)]))
 }
 
+// The words, what is asked and said, what is printed, and what the file holds.
+static RECORDED: [(&str, &str, &str, &str, &str); 5] = [
+    (
+        WORDS,
+        REQUEST,
+        RESPONSE,
+        "closed 1 bad 0 broken 0 full 0\n",
+        STORE,
+    ),
+    (
+        "--out=s --connections=64 --to=08080 --port=65535",
+        REQUEST,
+        RESPONSE,
+        "closed 1 bad 0 broken 0 full 0\n",
+        STORE,
+    ),
+    (
+        WORDS,
+        REQUEST,
+        "HTTP/1.1 200 OK\r\n",
+        "closed 0 bad 1 broken 0 full 0\n",
+        NO_RECORD,
+    ),
+    (
+        WORDS,
+        "GET / HTTP/1.1\r\nHost: a",
+        RESPONSE,
+        "closed 0 bad 1 broken 0 full 0\n",
+        NO_RECORD,
+    ),
+    (
+        "--port 80 --to 8080 --connections 0 --out s",
+        REQUEST,
+        RESPONSE,
+        "closed 0 bad 0 broken 0 full 0\n",
+        NO_RECORD,
+    ),
+];
+
 #[test]
 fn a_connection_is_recorded_and_counted(rt: HostRuntime) -> Result<(), Fail> {
-    for (words, asked, said, printed, store) in [
-        (
-            WORDS,
-            REQUEST,
-            RESPONSE,
-            "closed 1 bad 0 broken 0 full 0\n",
-            STORE,
-        ),
-        (
-            "--out=s --connections=64 --to=08080 --port=65535",
-            REQUEST,
-            RESPONSE,
-            "closed 1 bad 0 broken 0 full 0\n",
-            STORE,
-        ),
-        (
-            WORDS,
-            REQUEST,
-            "HTTP/1.1 200 OK\r\n",
-            "closed 0 bad 1 broken 0 full 0\n",
-            NO_RECORD,
-        ),
-        (
-            WORDS,
-            "GET / HTTP/1.1\r\nHost: a",
-            RESPONSE,
-            "closed 0 bad 1 broken 0 full 0\n",
-            NO_RECORD,
-        ),
-        (
-            "--port 80 --to 8080 --connections 0 --out s",
-            REQUEST,
-            RESPONSE,
-            "closed 0 bad 0 broken 0 full 0\n",
-            NO_RECORD,
-        ),
-    ] {
+    for &(words, asked, said, printed, store) in &RECORDED {
         let run = Run {
             words,
             asked,
@@ -129,25 +125,29 @@ fn a_connection_is_recorded_and_counted(rt: HostRuntime) -> Result<(), Fail> {
     Ok(())
 }
 
+const BROKEN: &str = "closed 0 bad 0 broken 1 full 0\n";
+
+// Which call fails, the status, what is printed, and what the file holds.
+static FAULTS: [(Fails, u8, &str, &str); 13] = [
+    (Fails { disk: 1, ..NONE }, 7, "mm: write fault s\n", ABSENT),
+    (Fails { disk: 2, ..NONE }, 7, "mm: write fault s\n", ""),
+    (Fails { out: 1, ..NONE }, 7, "", STORE),
+    (Fails { port: 1, ..NONE }, 8, "mm: net fault\n", ABSENT),
+    (Fails { port: 2, ..NONE }, 8, "mm: net fault\n", ABSENT),
+    (Fails { port: 3, ..NONE }, 8, "mm: net fault\n", ABSENT),
+    (Fails { dialer: 1, ..NONE }, 0, BROKEN, NO_RECORD),
+    (Fails { dialer: 2, ..NONE }, 0, BROKEN, STORE),
+    (Fails { client: 1, ..NONE }, 0, BROKEN, NO_RECORD),
+    (Fails { client: 2, ..NONE }, 0, BROKEN, NO_RECORD),
+    (Fails { client: 3, ..NONE }, 0, BROKEN, STORE),
+    (Fails { server: 1, ..NONE }, 0, BROKEN, NO_RECORD),
+    (Fails { server: 2, ..NONE }, 0, BROKEN, NO_RECORD),
+];
+
 // The client's link is read, written and read again, the server's is written and read.
 #[test]
 fn each_fault_has_its_status(rt: HostRuntime) -> Result<(), Fail> {
-    let broken = "closed 0 bad 0 broken 1 full 0\n";
-    for (fails, status, printed, store) in [
-        (Fails { disk: 1, ..NONE }, 7, "mm: write fault s\n", ABSENT),
-        (Fails { disk: 2, ..NONE }, 7, "mm: write fault s\n", ""),
-        (Fails { out: 1, ..NONE }, 7, "", STORE),
-        (Fails { port: 1, ..NONE }, 8, "mm: net fault\n", ABSENT),
-        (Fails { port: 2, ..NONE }, 8, "mm: net fault\n", ABSENT),
-        (Fails { port: 3, ..NONE }, 8, "mm: net fault\n", ABSENT),
-        (Fails { dialer: 1, ..NONE }, 0, broken, NO_RECORD),
-        (Fails { dialer: 2, ..NONE }, 0, broken, STORE),
-        (Fails { client: 1, ..NONE }, 0, broken, NO_RECORD),
-        (Fails { client: 2, ..NONE }, 0, broken, NO_RECORD),
-        (Fails { client: 3, ..NONE }, 0, broken, STORE),
-        (Fails { server: 1, ..NONE }, 0, broken, NO_RECORD),
-        (Fails { server: 2, ..NONE }, 0, broken, NO_RECORD),
-    ] {
+    for &(fails, status, printed, store) in &FAULTS {
         let is_left = ends_with(rt.alloc(), Run { fails, ..RUN }, status, printed, store)?;
         assert!(rt;
             is_left,
@@ -157,18 +157,21 @@ fn each_fault_has_its_status(rt: HostRuntime) -> Result<(), Fail> {
     Ok(())
 }
 
+// Words that are refused.
+static REFUSED: [&str; 8] = [
+    "",
+    "--port 80 --to 8080 --connections 1",
+    "--port 0 --to 8080 --connections 1 --out s",
+    "--port 80 --to 65536 --connections 1 --out s",
+    "--port 80 --to 8080 --connections 65 --out s",
+    "--port 80 --to 8080 --connections one --out s",
+    "--port 80 --to 8080 --connections 1 --out s more",
+    "--port 80 --port 81 --to 8080 --connections 1 --out s",
+];
+
 #[test]
 fn other_words_ask_for_nothing(rt: HostRuntime) -> Result<(), Fail> {
-    for words in [
-        "",
-        "--port 80 --to 8080 --connections 1",
-        "--port 0 --to 8080 --connections 1 --out s",
-        "--port 80 --to 65536 --connections 1 --out s",
-        "--port 80 --to 8080 --connections 65 --out s",
-        "--port 80 --to 8080 --connections one --out s",
-        "--port 80 --to 8080 --connections 1 --out s more",
-        "--port 80 --port 81 --to 8080 --connections 1 --out s",
-    ] {
+    for &words in &REFUSED {
         let run = Run { words, ..RUN };
         assert!(rt;
             ends_with(rt.alloc(), run, 2, "mm: usage\n", ABSENT)?,
@@ -191,14 +194,7 @@ fn a_client_for_which_nothing_is_dialed_is_broken(rt: HostRuntime) -> Result<(),
     let servers = vec![in alloc; server]?;
     let mut port = MemPort::new(alloc, clients, Vec::new(alloc));
     let mut dialer = MemDialer::new(alloc, servers, Vec::new(alloc));
-    let answered = proxy_main(
-        alloc,
-        &words,
-        &mut outside.disk,
-        &mut outside.out,
-        &mut port,
-        &mut dialer,
-    );
+    let answered = status_of(alloc, &words, &mut outside, &mut port, &mut dialer);
     assert_eq!(rt; answered, 0);
     assert!(rt; outside.is_left("closed 1 bad 0 broken 1 full 0\n", &[("s", STORE)]));
     assert_eq!(rt; dialer.finished().len(), 1);

@@ -1,6 +1,6 @@
 // Long connections.
-use super::{REQUEST, RESPONSE};
-use crate::{ProxyEnd, proxy_conn};
+use super::{REQUEST, RESPONSE, end_of};
+use crate::ProxyEnd;
 use mm_base::{Bytes, MemLink};
 use record_store::Store;
 use std::alloc::Global;
@@ -30,7 +30,7 @@ fn thousands_of_exchanges_are_recorded(rt: HostRuntime) -> Result<(), Fail> {
     let mut client = MemLink::new(alloc, asked, 65_536, Vec::new(alloc));
     let mut server = MemLink::new(alloc, said, 65_536, Vec::new(alloc));
     let mut store = Store::new(alloc);
-    let end = proxy_conn(alloc, &mut client, &mut server, 80, &mut store);
+    let end = end_of(alloc, &mut client, &mut server, 80, &mut store);
     assert_eq!(rt; end, Ok(ProxyEnd::Closed));
     assert_eq!(rt; store.records().len(), 5_000);
     assert_eq!(rt; client.given().len(), 200_000);
@@ -48,7 +48,7 @@ fn a_client_brings_no_more_than_its_limit(rt: HostRuntime) -> Result<(), Fail> {
     let mut client = MemLink::new(alloc, asked, 65_535, Vec::new(alloc));
     let mut server = MemLink::new(alloc, said, 65_535, Vec::new(alloc));
     let mut store = Store::new(alloc);
-    let end = proxy_conn(alloc, &mut client, &mut server, 80, &mut store);
+    let end = end_of(alloc, &mut client, &mut server, 80, &mut store);
     assert_eq!(rt; end, Ok(ProxyEnd::Full));
     assert_eq!(rt; store.records().len(), 1_024);
     Ok(())
@@ -64,7 +64,7 @@ fn a_server_brings_no_more_than_its_limit(rt: HostRuntime) -> Result<(), Fail> {
     let mut client = MemLink::new(alloc, asked, 65_536, Vec::new(alloc));
     let mut server = MemLink::new(alloc, said, 65_536, Vec::new(alloc));
     let mut store = Store::new(alloc);
-    let end = proxy_conn(alloc, &mut client, &mut server, 80, &mut store);
+    let end = end_of(alloc, &mut client, &mut server, 80, &mut store);
     assert_eq!(rt; end, Ok(ProxyEnd::Full));
     assert_eq!(rt; store.records().len(), 1_023);
     Ok(())
@@ -77,7 +77,7 @@ fn end_of_body(alloc: Global, head: &[u8], body: usize) -> Result<ProxyEnd, Fail
     let mut client = MemLink::new(alloc, asked, 65_536, Vec::new(alloc));
     let mut server = MemLink::new(alloc, said, 65_536, Vec::new(alloc));
     let mut store = Store::new(alloc);
-    Ok(proxy_conn(alloc, &mut client, &mut server, 80, &mut store)?)
+    Ok(end_of(alloc, &mut client, &mut server, 80, &mut store)?)
 }
 
 #[test]

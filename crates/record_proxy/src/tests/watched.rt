@@ -4,8 +4,8 @@ ghost use Rattle.std.specs.Prelude.{◌≡◌, ◌==◌, None, false, IfOk, IsEr
 ghost use Rattle.mm_base.specs.Link.{IsFresh};
 ghost use Rattle.mm_base.specs.MemLink.{mem_link_view};
 
-use super::{REQUEST, RESPONSE};
-use crate::{Dialer, proxy_main};
+use super::{REQUEST, RESPONSE, status_of};
+use crate::Dialer;
 use mm_base::{Bytes, EndError, Link, MemLink, Port};
 use std::alloc::Global;
 use std::test::Fail;
@@ -175,14 +175,7 @@ fn each_of_many_clients_is_served_and_ended(rt: HostRuntime) -> Result<(), Fail>
     let mut outside = TestOutside::new(alloc, &[], &[], &[])?;
     let mut port = WatchedNet::new(alloc, REQUEST, RESPONSE, 65);
     let mut dialer = WatchedNet::new(alloc, RESPONSE, REQUEST, 0);
-    let answered = proxy_main(
-        alloc,
-        &words,
-        &mut outside.disk,
-        &mut outside.out,
-        &mut port,
-        &mut dialer,
-    );
+    let answered = status_of(alloc, &words, &mut outside, &mut port, &mut dialer);
     assert_eq!(rt; answered, 0);
     assert!(rt; outside.is_left("closed 64 bad 0 broken 0 full 0\n", &[]));
     assert_eq!(rt;
