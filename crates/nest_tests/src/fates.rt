@@ -13,34 +13,35 @@ fn cross(words: &NestWords, nest: &Nest, run: &RunResult) {
     is_shared(run);
 }
 
+static ROWS: [FateRow; 4] = [
+    FateRow {
+        id: 1,
+        direction: Direction::Up,
+        fate: Fate::Departed { moment: 25 },
+    },
+    FateRow {
+        id: 2,
+        direction: Direction::Down,
+        fate: Fate::Dropped {
+            shell: 1,
+            moment: 0,
+        },
+    },
+    FateRow {
+        id: 3,
+        direction: Direction::Up,
+        fate: Fate::Inside { shell: 8 },
+    },
+    FateRow {
+        id: 1_000_000,
+        direction: Direction::Down,
+        fate: Fate::Unsent,
+    },
+];
+
 #[test]
 fn each_fate_has_its_line(rt: HostRuntime) -> Result<(), Fail> {
-    let rows = [
-        FateRow {
-            id: 1,
-            direction: Direction::Up,
-            fate: Fate::Departed { moment: 25 },
-        },
-        FateRow {
-            id: 2,
-            direction: Direction::Down,
-            fate: Fate::Dropped {
-                shell: 1,
-                moment: 0,
-            },
-        },
-        FateRow {
-            id: 3,
-            direction: Direction::Up,
-            fate: Fate::Inside { shell: 8 },
-        },
-        FateRow {
-            id: 1_000_000,
-            direction: Direction::Down,
-            fate: Fate::Unsent,
-        },
-    ];
-    let text = print_fates(rt.alloc(), rows.as_slice())?;
+    let text = print_fates(rt.alloc(), &ROWS)?;
     assert_eq!(rt;
         text.as_slice(),
         b"1 up departed 25\n2 down dropped 1 0\n3 up inside 8\n1000000 down unsent\n".as_slice()

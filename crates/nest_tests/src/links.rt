@@ -3,7 +3,7 @@ use crate::generated::{
     Numbers, opportunities_to, packets_of, some_packets, some_queue, some_trace,
 };
 use crate::link_runs::{Setting, put_together, run_over, run_singly};
-use crate::packets::listed;
+use crate::packets::are_listed;
 use crate::slow::{Slow, slow_link};
 use link_core::LinkLog;
 use mm_base::Bytes;
@@ -15,7 +15,6 @@ use std::process::Abort;
 use std::test::Fail;
 use trace_reader::read_trace;
 
-#[derive(Clone, Copy)]
 struct Case {
     trace: &'static [u8],
     once: bool,
@@ -28,7 +27,7 @@ struct Case {
     log: &'static [u8],
 }
 
-fn setting(alloc: Global, case: Case) -> Result<Setting, Fail> {
+fn setting(alloc: Global, case: &Case) -> Result<Setting, Fail> {
     Ok(Setting {
         trace: read_trace(alloc, case.trace)?,
         once: case.once,
@@ -37,29 +36,29 @@ fn setting(alloc: Global, case: Case) -> Result<Setting, Fail> {
     })
 }
 
-// The text of a log that isn't written out yet.
-fn text_of(alloc: Global, log: Option<LinkLog>) -> Result<Bytes, Fail> {
+// The text of a log that isn't written out yet is this.
+fn is_log(rt: &impl Abort, alloc: Global, log: Option<LinkLog>, said: &[u8]) -> Result<(), Fail> {
     let log = log.ok_or("no log")?.into_log()?;
-    Ok(print_log(alloc, &log)?)
-}
-
-// What the whole list gives.
-fn is_as_said(rt: &impl Abort, alloc: Global, case: Case) -> Result<(), Fail> {
-    let packets = packets_of(alloc, case.schedule)?;
-    let whole = run_over(alloc, &setting(alloc, case)?, &packets)?;
-    assert_eq!(rt; listed(alloc, &whole.departed)?.as_slice(), case.departed);
-    assert_eq!(rt; listed(alloc, &whole.lost)?.as_slice(), case.lost);
-    assert_eq!(rt; whole.held.as_slice(), case.inside);
-    assert_eq!(rt; text_of(alloc, whole.log)?.as_slice(), case.log);
+    assert_eq!(rt; print_log(alloc, &log)?.as_slice(), said);
     Ok(())
 }
 
+// What the whole list gives.
+fn is_as_said(rt: &impl Abort, alloc: Global, case: &Case) -> Result<(), Fail> {
+    let packets = packets_of(alloc, case.schedule)?;
+    let whole = run_over(alloc, &setting(alloc, case)?, &packets)?;
+    are_listed(rt, alloc, &whole.departed, case.departed)?;
+    are_listed(rt, alloc, &whole.lost, case.lost)?;
+    assert_eq!(rt; whole.held.as_slice(), case.inside);
+    is_log(rt, alloc, whole.log, case.log)
+}
+
 // What the packets give one by one.
-fn is_as_said_singly(rt: &impl Abort, alloc: Global, case: Case) -> Result<(), Fail> {
+fn is_as_said_singly(rt: &impl Abort, alloc: Global, case: &Case) -> Result<(), Fail> {
     let packets = packets_of(alloc, case.schedule)?;
     let link = run_singly(alloc, &setting(alloc, case)?, &packets)?;
-    assert_eq!(rt; listed(alloc, link.departed())?.as_slice(), case.departed);
-    assert_eq!(rt; listed(alloc, link.lost())?.as_slice(), case.lost);
+    are_listed(rt, alloc, link.departed(), case.departed)?;
+    are_listed(rt, alloc, link.lost(), case.lost)?;
     assert_eq!(rt; link.inside()?.as_slice(), case.inside);
     assert_eq!(rt; link.next_opportunity(), None);
     Ok(())
@@ -162,8 +161,8 @@ static CASES: [Case; 8] = [
 #[test]
 fn worked_cases(rt: HostRuntime) -> Result<(), Fail> {
     for case in &CASES {
-        is_as_said(&rt, rt.alloc(), *case)?;
-        is_as_said_singly(&rt, rt.alloc(), *case)?;
+        is_as_said(&rt, rt.alloc(), case)?;
+        is_as_said_singly(&rt, rt.alloc(), case)?;
     }
     Ok(())
 }
@@ -202,16 +201,22 @@ fn agrees_singly(rt: &impl Abort, alloc: Global, case: &Generated) -> Result<(),
 
 fn agrees_over_all(rt: &impl Abort, alloc: Global, case: &Generated) -> Result<(), Fail> {
     let whole = run_over(alloc, &case.setting, &case.packets)?;
-    assert!(rt; whole.departed.as_slice() == case.slow.departed.as_slice());
-    assert!(rt; whole.lost.as_slice() == case.slow.lost.as_slice());
-    let gone = case
-        .slow
-        .departed
-        .len()
-        .saturating_add(case.slow.lost.len());
+    let slow = &case.slow;
+    assert!(rt; whole.departed.as_slice() == slow.departed.as_slice());
+    assert!(rt; whole.lost.as_slice() == slow.lost.as_slice());
+    let gone = slow.departed.len().saturating_add(slow.lost.len());
     assert_eq!(rt; whole.held.len().saturating_add(gone), case.packets.len());
-    let pieces = put_together(alloc, whole.log.ok_or("no log")?)?;
-    assert!(rt; pieces.entries.as_slice() == case.slow.log.as_slice());
+    agrees_with_log(rt, alloc, whole.log, &slow.log)
+}
+
+fn agrees_with_log(
+    rt: &impl Abort,
+    alloc: Global,
+    log: Option<LinkLog>,
+    said: &[Entry],
+) -> Result<(), Fail> {
+    let pieces = put_together(alloc, log.ok_or("no log")?)?;
+    assert!(rt; pieces.entries.as_slice() == said);
     Ok(())
 }
 
@@ -243,32 +248,36 @@ fn is_opportunity(entry: &Entry) -> bool {
 // Four packets, two of them at first, with many thousand opportunities between them; the last one stays inside.
 const GAP: &[u8] = b"0 up 1504\n0 up 1504\n15000 up 700\n30000 up 1504\n";
 
+fn count_opportunities(entries: &[Entry]) -> usize {
+    entries.iter().filter(|e| is_opportunity(e)).count()
+}
+
+// A log in pieces has many short ones, which have the entries of the same log written out, and an opportunity each
+// millisecond.
+fn is_in_pieces(
+    rt: &impl Abort,
+    alloc: Global,
+    log: Option<LinkLog>,
+    same: Option<LinkLog>,
+) -> Result<(), Fail> {
+    let pieces = put_together(alloc, log.ok_or("no log")?)?;
+    let written = same.ok_or("no log")?.into_log()?;
+    assert!(rt; pieces.entries.as_slice() == written.entries());
+    assert!(rt; pieces.number > 10 && pieces.longest < 5_000);
+    assert_eq!(rt; count_opportunities(written.entries()), 30_000);
+    Ok(())
+}
+
 #[test]
 fn a_log_in_pieces_is_the_whole_log(rt: HostRuntime) -> Result<(), Fail> {
     let alloc = rt.alloc();
     let packets = packets_of(alloc, GAP)?;
     let setting = each_millisecond(alloc, 30_000)?;
     let whole = run_over(alloc, &setting, &packets)?;
-    assert_eq!(rt;
-        listed(alloc, &whole.departed)?.as_slice(),
-        b"1 1\n2 2\n3 15001\n".as_slice()
-    );
+    are_listed(&rt, alloc, &whole.departed, b"1 1\n2 2\n3 15001\n")?;
     assert_eq!(rt; whole.held.as_slice(), [4].as_slice());
-    let pieces = put_together(alloc, whole.log.ok_or("no log")?)?;
     let again = run_over(alloc, &setting, &packets)?;
-    let written = again.log.ok_or("no log")?.into_log()?;
-    assert!(rt; pieces.entries.as_slice() == written.entries());
-    assert_eq!(rt;
-        written
-            .entries()
-            .iter()
-            .filter(|e| is_opportunity(e))
-            .count(),
-        30_000
-    );
-    assert!(rt; pieces.number > 10);
-    assert!(rt; pieces.longest < 5_000);
-    Ok(())
+    is_in_pieces(&rt, alloc, whole.log, again.log)
 }
 
 // A link over which nothing goes logs so many opportunities, and a log of none has no piece.

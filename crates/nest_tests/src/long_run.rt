@@ -2,7 +2,7 @@
 use crate::gathered::run_schedule;
 use crate::nests::nest_of;
 use nest_plain::run_plain;
-use nest_spec::{Fate, FateRow, NamedLog};
+use nest_spec::{Fate, FateRow, NamedLog, RunResult};
 use packet_record::{Direction, Row, make_load};
 use shell_log::{Entry, Log};
 use std::alloc::Global;
@@ -236,17 +236,22 @@ fn are_same(rt: &impl Abort, these: &[NamedLog], those: &[NamedLog]) {
     }
 }
 
+// Each row has one fate, of which there are all kinds, and the logs say the same.
+fn is_whole(rt: &impl Abort, rows: &[Row], run: &RunResult) {
+    for direction in [Direction::Up, Direction::Down] {
+        assert!(rt; are_their_own(rows, run.fates(), direction));
+        assert!(rt; add_up(rows, run.fates(), direction));
+    }
+    are_as_logged(rt, run.logs(), run.fates());
+}
+
 #[test]
 fn each_packet_of_a_long_run_has_one_fate(rt: HostRuntime) -> Result<(), Fail> {
     let alloc = rt.alloc();
     let nest = nest_of(&rt, alloc, WORDS, TRACE, HORIZON)?;
     let schedule = make_load(alloc, 9, ROWS)?;
     let run = run_plain(alloc, &nest, &schedule)?;
-    for direction in [Direction::Up, Direction::Down] {
-        assert!(rt; are_their_own(schedule.rows(), run.fates(), direction));
-        assert!(rt; add_up(schedule.rows(), run.fates(), direction));
-    }
-    are_as_logged(&rt, run.logs(), run.fates());
+    is_whole(&rt, schedule.rows(), &run);
     let gathered = run_schedule(alloc, &nest, &schedule)?;
     assert!(rt; gathered.fates() == run.fates());
     are_same(&rt, gathered.logs(), run.logs());

@@ -5,6 +5,7 @@ ghost use Rattle.packet_record.specs.Moments.{AreUpTo, Rise};
 use mm_base::{Bytes, write_decimal};
 use packet_record::{Packet, Timed};
 use std::alloc::Global;
+use std::process::Abort;
 use std::test::Fail;
 
 // A packet of 1000 bytes.
@@ -53,7 +54,7 @@ pub fn in_order(alloc: Global, horizon: u64, packets: &[Timed]) -> Result<Vec<Ti
 }
 
 // Each packet's number and moment.
-pub fn listed(alloc: Global, packets: &[Timed]) -> Result<Bytes, Fail> {
+fn listed(alloc: Global, packets: &[Timed]) -> Result<Bytes, Fail> {
     let mut text = Bytes::new(alloc);
     for t in packets {
         write_decimal(&mut text, u64::from(t.packet.id))?;
@@ -62,4 +63,16 @@ pub fn listed(alloc: Global, packets: &[Timed]) -> Result<Bytes, Fail> {
         text.append(b"\n")?;
     }
     Ok(text)
+}
+
+// The list of these packets is this text.
+pub fn are_listed(
+    rt: &impl Abort,
+    alloc: Global,
+    packets: &[Timed],
+    said: &[u8],
+) -> Result<(), Fail> {
+    let text = listed(alloc, packets)?;
+    assert_eq!(rt; text.as_slice(), said);
+    Ok(())
 }

@@ -1,18 +1,18 @@
 // Runs of small nests, each at once over whole lists and by states: their fates and logs.
 use crate::gathered::run_schedule;
 use crate::nests::nest_of;
+use link_core::LinkLog;
 use mm_base::Bytes;
 use nest_plain::{run_nest, run_plain};
 use nest_spec::{Named, NamedLog, RunResult, print_fates, unpack_fates};
 use packet_record::read_schedule;
-use shell_log::print_log;
+use shell_log::{Entry, print_log};
 use std::alloc::Global;
 use std::process::Abort;
 use std::test::Fail;
 
 // A nest, each of whose traces is the same, and what its run must give: the text of the fates, and of each log after
 // its name.
-#[derive(Clone, Copy)]
 struct Case {
     words: &'static str,
     trace: &'static [u8],
@@ -33,7 +33,7 @@ fn logs_text(alloc: Global, logs: &[NamedLog]) -> Result<Bytes, Fail> {
     Ok(text)
 }
 
-fn is_as_said(rt: &impl Abort, alloc: Global, case: Case, run: &RunResult) -> Result<(), Fail> {
+fn is_as_said(rt: &impl Abort, alloc: Global, case: &Case, run: &RunResult) -> Result<(), Fail> {
     let fates = print_fates(alloc, run.fates())?;
     assert_eq!(rt; fates.as_slice(), case.fates, "of {}", case.words);
     let logs = logs_text(alloc, run.logs())?;
@@ -41,7 +41,7 @@ fn is_as_said(rt: &impl Abort, alloc: Global, case: Case, run: &RunResult) -> Re
     Ok(())
 }
 
-fn play(rt: &impl Abort, alloc: Global, case: Case) -> Result<(), Fail> {
+fn play(rt: &impl Abort, alloc: Global, case: &Case) -> Result<(), Fail> {
     let nest = nest_of(rt, alloc, case.words, case.trace, case.horizon)?;
     let schedule = read_schedule(alloc, case.schedule)?;
     is_as_said(rt, alloc, case, &run_plain(alloc, &nest, &schedule)?)?;
@@ -105,8 +105,17 @@ static CASES: [Case; 6] = [
 #[test]
 fn small_nests_give_what_is_said(rt: HostRuntime) -> Result<(), Fail> {
     for case in &CASES {
-        play(&rt, rt.alloc(), *case)?;
+        play(&rt, rt.alloc(), case)?;
     }
+    Ok(())
+}
+
+// A log that is still to be made has these entries, in one piece.
+fn is_one_piece(rt: &impl Abort, log: LinkLog, entries: &[Entry]) -> Result<(), Fail> {
+    let mut pieces = log.pieces();
+    assert!(rt; pieces.next()?);
+    assert!(rt; pieces.piece() == entries);
+    assert!(rt; !pieces.next()?);
     Ok(())
 }
 
@@ -125,10 +134,7 @@ fn makes_the_logs_that_are_written_out(rt: HostRuntime) -> Result<(), Fail> {
     for Named { name, log } in logs {
         let same = written.next().ok_or("no log")?;
         assert_eq!(rt; name.as_str(), same.name.as_str());
-        let mut pieces = log.pieces();
-        assert!(rt; pieces.next()?);
-        assert!(rt; pieces.piece() == same.log.entries());
-        assert!(rt; !pieces.next()?);
+        is_one_piece(&rt, log, same.log.entries())?;
     }
     Ok(())
 }

@@ -3,7 +3,7 @@ ghost use Rattle.std.specs.Prelude.{◌≡◌, ◌≤◌, length, IfOk};
 ghost use Rattle.packet_record.specs.Moments.{AreUpTo, Rise};
 ghost use Rattle.shell_core.specs.Shells.{IsInRange, opportunities};
 
-use crate::packets::{listed, timed};
+use crate::packets::{are_listed, timed};
 use loss_core::read_rate;
 use mm_base::limits::MOST_OPPORTUNITIES;
 use packet_queue::read_queue;
@@ -40,8 +40,8 @@ fn run(rt: &impl Abort, alloc: Global, spec: DirSpec, said: &Said) -> Result<Pas
     requires few { length (opportunities spec 100) ≤ 16000000 }
 {
     let passage = run_whole(alloc, spec, 100, packets(alloc)?)?;
-    assert_eq!(rt; listed(alloc, &passage.departed)?.as_slice(), said.departed);
-    assert_eq!(rt; listed(alloc, &passage.lost)?.as_slice(), said.lost);
+    are_listed(rt, alloc, &passage.departed, said.departed)?;
+    are_listed(rt, alloc, &passage.lost, said.lost)?;
     assert_eq!(rt; passage.held.as_slice(), said.held);
     Ok(passage)
 }

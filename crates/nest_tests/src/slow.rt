@@ -173,6 +173,76 @@ fn lost_at(
     Ok(Vec::new(alloc))
 }
 
+// What is kept and lost of all these.
+fn keep(
+    alloc: Global,
+    queue: &QueueSpec,
+    opps: &[Opportunity],
+    arrivals: &[Timed],
+) -> Result<Kept, OutOfMemory> {
+    let mut all = Kept {
+        kept: Vec::new(alloc),
+        lost: Vec::new(alloc),
+    };
+    for t in arrivals {
+        let after = arrive(alloc, queue, opps, &all.kept, *t)?;
+        for lost in &after.lost {
+            all.lost.push(*lost)?;
+        }
+        all.kept = after.kept;
+    }
+    Ok(all)
+}
+
+// What departs of the packets that are kept.
+fn depart(alloc: Global, kept: &[Timed], opps: &[Opportunity]) -> Result<Vec<Timed>, OutOfMemory> {
+    let mut departed = Vec::new(alloc);
+    let mut sum: u64 = 0;
+    for t in kept {
+        sum = sum.saturating_add(u64::from(t.packet.size));
+        if let Some(o) = opps.get(first_with(kept, opps, sum)) {
+            departed.push(Timed {
+                moment: o.moment,
+                packet: t.packet,
+            })?;
+        }
+    }
+    Ok(departed)
+}
+
+// The opportunities of a moment.
+fn log_opportunities(
+    log: &mut Vec<Entry>,
+    kept: &[Timed],
+    opps: &[Opportunity],
+    moment: u64,
+) -> Result<(), OutOfMemory> {
+    for i in 0..opps.len() {
+        if opps[i].moment == moment {
+            log_opportunity(log, kept, opps, i, opps[i])?;
+        }
+    }
+    Ok(())
+}
+
+// The arrivals of a moment.
+fn log_arrivals(
+    alloc: Global,
+    log: &mut Vec<Entry>,
+    queue: &QueueSpec,
+    opps: &[Opportunity],
+    arrivals: &[Timed],
+    moment: u64,
+) -> Result<(), OutOfMemory> {
+    for i in 0..arrivals.len() {
+        if arrivals[i].moment == moment {
+            let lost = lost_at(alloc, queue, opps, arrivals, i)?;
+            log_arrival(log, arrivals[i], &lost)?;
+        }
+    }
+    Ok(())
+}
+
 pub fn slow_link(
     alloc: Global,
     queue: &QueueSpec,
@@ -180,41 +250,16 @@ pub fn slow_link(
     arrivals: &[Timed],
     horizon: u16,
 ) -> Result<Slow, OutOfMemory> {
-    let mut kept = Vec::new(alloc);
-    let mut slow = Slow {
-        departed: Vec::new(alloc),
-        lost: Vec::new(alloc),
-        log: Vec::new(alloc),
-    };
-    for t in arrivals {
-        let after = arrive(alloc, queue, opps, &kept, *t)?;
-        for lost in &after.lost {
-            slow.lost.push(*lost)?;
-        }
-        kept = after.kept;
-    }
-    let mut sum: u64 = 0;
-    for t in &kept {
-        sum = sum.saturating_add(u64::from(t.packet.size));
-        if let Some(o) = opps.get(first_with(&kept, opps, sum)) {
-            slow.departed.push(Timed {
-                moment: o.moment,
-                packet: t.packet,
-            })?;
-        }
-    }
+    let Kept { kept, lost } = keep(alloc, queue, opps, arrivals)?;
+    let departed = depart(alloc, &kept, opps)?;
+    let mut log = Vec::new(alloc);
     for moment in 0..=horizon {
-        for i in 0..opps.len() {
-            if opps[i].moment == u64::from(moment) {
-                log_opportunity(&mut slow.log, &kept, opps, i, opps[i])?;
-            }
-        }
-        for i in 0..arrivals.len() {
-            if arrivals[i].moment == u64::from(moment) {
-                let lost = lost_at(alloc, queue, opps, arrivals, i)?;
-                log_arrival(&mut slow.log, arrivals[i], &lost)?;
-            }
-        }
+        log_opportunities(&mut log, &kept, opps, u64::from(moment))?;
+        log_arrivals(alloc, &mut log, queue, opps, arrivals, u64::from(moment))?;
     }
-    Ok(slow)
+    Ok(Slow {
+        departed,
+        lost,
+        log,
+    })
 }

@@ -3,11 +3,11 @@ ghost use Rattle.std.specs.Prelude.{◌≡◌, ◌≤◌, ◌↔◌, IsTrue, len
 ghost use Rattle.packet_record.specs.Streams.{IsUpTo};
 ghost use Rattle.shell_core.specs.Shells.{IsInRange, opportunities};
 
-use crate::packets::{many_packets, timed};
+use crate::packets::many_packets;
 use loss_core::read_rate;
 use mm_base::limits::MOST_OPPORTUNITIES;
 use packet_queue::read_queue;
-use packet_record::{FlowEnd, Item, Timed};
+use packet_record::{FlowEnd, Item, Packet, Timed};
 use shell_core::{Passage, run_whole};
 use shell_state::{DirSpec, ShellState, Taken};
 use std::alloc::Global;
@@ -99,53 +99,79 @@ fn counts(state: &ShellState) -> Result<[usize; 5], Fail> {
     ])
 }
 
-fn packet(moment: u64, id: u32) -> Item {
-    Item::Packet(timed(moment, id))
+// A packet of 1000 bytes.
+macro_rules! packet {
+    ($moment:expr, $id:expr) => {
+        Item::Packet(Timed {
+            moment: $moment,
+            packet: Packet {
+                id: $id,
+                size: 1000,
+            },
+        })
+    };
 }
 
-fn give(item: Item) -> Step {
-    Step::Take(Taken::Item(item))
+// A take that gives an item.
+macro_rules! give {
+    ($item:expr) => {
+        Step::Take(Taken::Item($item))
+    };
 }
+
+const PASSED: [Step; 8] = [
+    Step::Take(Taken::NotYet { bound: 0 }),
+    Step::Feed(packet!(5, 1)),
+    give!(packet!(5, 1)),
+    Step::Feed(Item::Mark(7)),
+    give!(Item::Mark(7)),
+    Step::Take(Taken::NotYet { bound: 7 }),
+    Step::Feed(Item::End),
+    give!(Item::End),
+];
 
 #[test]
 #[tactic(auto, unfolding(shell_core::specs::Shells::opportunities))]
 fn a_direction_that_passes(rt: HostRuntime) -> Result<(), Fail> {
     let mut state = ShellState::new(rt.alloc(), DirSpec::Pass, 100)?;
-    let steps = [
-        Step::Take(Taken::NotYet { bound: 0 }),
-        Step::Feed(packet(5, 1)),
-        give(packet(5, 1)),
-        Step::Feed(Item::Mark(7)),
-        give(Item::Mark(7)),
-        Step::Take(Taken::NotYet { bound: 7 }),
-        Step::Feed(Item::End),
-        give(Item::End),
-    ];
-    play(&rt, &mut state, 100, 1, &steps)?;
+    play(&rt, &mut state, 100, 1, &PASSED)?;
     assert!(rt; counts(&state)? == [1, 1, 0, 0, 0]);
     Ok(())
 }
+
+const DELAYED: [Step; 8] = [
+    give!(Item::Mark(20)),
+    Step::Feed(packet!(80, 1)),
+    Step::Feed(packet!(81, 2)),
+    give!(packet!(100, 1)),
+    give!(Item::Mark(101)),
+    Step::Take(Taken::NotYet { bound: 81 }),
+    Step::Feed(Item::End),
+    give!(Item::End),
+];
 
 #[test]
 #[tactic(auto, unfolding(shell_core::specs::Shells::opportunities))]
 fn a_delay(rt: HostRuntime) -> Result<(), Fail> {
     let mut state = ShellState::new(rt.alloc(), DirSpec::Delay { ms: 20 }, 100)?;
-    let steps = [
-        give(Item::Mark(20)),
-        Step::Feed(packet(80, 1)),
-        Step::Feed(packet(81, 2)),
-        give(packet(100, 1)),
-        give(Item::Mark(101)),
-        Step::Take(Taken::NotYet { bound: 81 }),
-        Step::Feed(Item::End),
-        give(Item::End),
-    ];
-    play(&rt, &mut state, 100, 4, &steps)?;
+    play(&rt, &mut state, 100, 4, &DELAYED)?;
     assert!(rt; counts(&state)? == [2, 1, 0, 1, 0]);
     assert!(rt; state.inside()?.as_slice() == [2].as_slice());
     assert_eq!(rt; state.taken().bound(), 101);
     Ok(())
 }
+
+const LOST: [Step; 9] = [
+    Step::Feed(packet!(4, 1)),
+    give!(packet!(4, 1)),
+    Step::Feed(packet!(7, 2)),
+    give!(Item::Mark(7)),
+    Step::Feed(Item::Mark(10)),
+    give!(Item::Mark(10)),
+    Step::Take(Taken::NotYet { bound: 10 }),
+    Step::Feed(Item::End),
+    give!(Item::End),
+];
 
 // The words of seed 0 and stream 0 begin with 0.679 and 0.563 of all 32-bit words.
 #[test]
@@ -157,38 +183,34 @@ fn a_loss(rt: HostRuntime) -> Result<(), Fail> {
         stream: 0,
     };
     let mut state = ShellState::new(rt.alloc(), spec, 9)?;
-    let steps = [
-        Step::Feed(packet(4, 1)),
-        give(packet(4, 1)),
-        Step::Feed(packet(7, 2)),
-        give(Item::Mark(7)),
-        Step::Feed(Item::Mark(10)),
-        give(Item::Mark(10)),
-        Step::Take(Taken::NotYet { bound: 10 }),
-        Step::Feed(Item::End),
-        give(Item::End),
-    ];
-    play(&rt, &mut state, 9, 4, &steps)?;
+    play(&rt, &mut state, 9, 4, &LOST)?;
     assert!(rt; counts(&state)? == [2, 1, 1, 0, 0]);
     assert!(rt; !state.is_broken());
     Ok(())
 }
 
-#[test]
-#[tactic(auto, unfolding(shell_core::specs::Shells::opportunities))]
-fn a_broken_state(rt: HostRuntime) -> Result<(), Fail> {
-    let mut state = ShellState::new(rt.alloc(), DirSpec::Pass, 9)?;
-    let steps = [
-        Step::Feed(packet(4, 1)),
-        Step::Feed(packet(4, 2)),
-        give(packet(4, 1)),
-    ];
-    play(&rt, &mut state, 9, 4, &steps)?;
+// A state that is broken off gives that, and no more.
+fn breaks_off(rt: &impl Abort, state: &mut ShellState) -> Result<(), Fail> {
     state.break_off();
     assert!(rt; state.is_broken());
     assert!(rt; state.taken().end() == FlowEnd::Open);
     assert_eq!(rt; state.take(4)?, Taken::Item(Item::Broken));
     assert!(rt; state.taken().end() == FlowEnd::Broken);
+    Ok(())
+}
+
+const BEFORE_BREAKING: [Step; 3] = [
+    Step::Feed(packet!(4, 1)),
+    Step::Feed(packet!(4, 2)),
+    give!(packet!(4, 1)),
+];
+
+#[test]
+#[tactic(auto, unfolding(shell_core::specs::Shells::opportunities))]
+fn a_broken_state(rt: HostRuntime) -> Result<(), Fail> {
+    let mut state = ShellState::new(rt.alloc(), DirSpec::Pass, 9)?;
+    play(&rt, &mut state, 9, 4, &BEFORE_BREAKING)?;
+    breaks_off(&rt, &mut state)?;
     assert_eq!(rt; state.taken().packets().len(), 1);
     Ok(())
 }
@@ -199,6 +221,21 @@ fn moves<T: Send>(x: T) -> T
 {
     x
 }
+
+const LINKED: [Step; 12] = [
+    give!(Item::Mark(5)),
+    Step::Take(Taken::NotYet { bound: 0 }),
+    Step::Feed(Item::Mark(7)),
+    Step::Take(Taken::Again { burnt: 1 }),
+    give!(Item::Mark(9)),
+    Step::Take(Taken::NotYet { bound: 7 }),
+    Step::Feed(packet!(9, 1)),
+    give!(Item::Mark(14)),
+    Step::Feed(Item::End),
+    give!(packet!(14, 1)),
+    give!(Item::Mark(18)),
+    give!(Item::End),
+];
 
 #[test]
 #[tactic(auto, unfolding(shell_core::specs::Shells::opportunities))]
@@ -211,21 +248,7 @@ fn a_link(rt: HostRuntime) -> Result<(), Fail> {
         queue: read_queue("infinite", "")?,
     };
     let mut state = moves(ShellState::new(rt.alloc(), spec, 20)?);
-    let steps = [
-        give(Item::Mark(5)),
-        Step::Take(Taken::NotYet { bound: 0 }),
-        Step::Feed(Item::Mark(7)),
-        Step::Take(Taken::Again { burnt: 1 }),
-        give(Item::Mark(9)),
-        Step::Take(Taken::NotYet { bound: 7 }),
-        Step::Feed(packet(9, 1)),
-        give(Item::Mark(14)),
-        Step::Feed(Item::End),
-        give(packet(14, 1)),
-        give(Item::Mark(18)),
-        give(Item::End),
-    ];
-    play(&rt, &mut state, 20, 1, &steps)?;
+    play(&rt, &mut state, 20, 1, &LINKED)?;
     assert!(rt; counts(&state)? == [1, 1, 0, 0, 8]);
     Ok(())
 }

@@ -1,7 +1,18 @@
 // The words for nests, and each refusal.
 use crate::nests::words_of;
+use mm_base::Text;
 use nest_spec::{NestError, read_nest};
+use std::alloc::Global;
+use std::process::Abort;
 use std::test::Fail;
+
+// The texts are these.
+fn are(rt: &impl Abort, texts: &[Text], said: &[&str]) {
+    assert_eq!(rt; texts.len(), said.len());
+    for (text, name) in texts.iter().zip(said.iter()) {
+        assert_eq!(rt; text.as_str(), *name);
+    }
+}
 
 #[test]
 fn reads_a_nest(rt: HostRuntime) -> Result<(), Fail> {
@@ -10,14 +21,8 @@ fn reads_a_nest(rt: HostRuntime) -> Result<(), Fail> {
     let words = words_of(rt.alloc(), text)?;
     let nest = read_nest(rt.alloc(), words.as_slice())?;
     assert_eq!(rt; nest.shells().len(), 3);
-    let traces = nest.traces();
-    assert_eq!(rt; traces.len(), 2);
-    assert_eq!(rt; traces[0].as_str(), "a");
-    assert_eq!(rt; traces[1].as_str(), "b");
-    let logs = nest.logs();
-    assert_eq!(rt; logs.len(), 2);
-    assert_eq!(rt; logs[0].as_str(), "u");
-    assert_eq!(rt; logs[1].as_str(), "d");
+    are(&rt, nest.traces(), &["a", "b"]);
+    are(&rt, nest.logs(), &["u", "d"]);
     Ok(())
 }
 
@@ -29,55 +34,67 @@ fn refuses_no_words(rt: HostRuntime) {
     }
 }
 
+const NINE: &str =
+    "mm-delay 1 mm-delay 1 mm-delay 1 mm-delay 1 mm-delay 1 mm-delay 1 mm-delay 1 mm-delay 1 mm-delay";
+
+// Words that are refused, and the number, the place and the inner number of what is at fault.
+static REFUSED: [(&str, u32, u32, Option<u32>); 29] = [
+    ("", 2, 1, None),
+    ("mm-delays 5", 2, 1, None),
+    ("mm-delay", 3, 1, None),
+    ("mm-delay x", 4, 1, None),
+    ("mm-delay 3600001", 4, 1, None),
+    ("mm-link --foo a b", 5, 2, None),
+    ("mm-link - a b", 5, 2, None),
+    ("mm-link --once --once a b", 6, 3, None),
+    (NINE, 7, 0, None),
+    ("mm-link a b --uplink-queue=drophead", 8, 1, Some(3)),
+    ("mm-link a b --uplink-queue-args=packets=1", 8, 1, Some(4)),
+    (
+        "mm-delay 1 mm-link a b --downlink-queue tail",
+        8,
+        2,
+        Some(1),
+    ),
+    ("mm-loss uplink 1.1", 9, 1, Some(2)),
+    ("mm-loss up", 10, 1, None),
+    ("mm-loss uplink", 3, 1, None),
+    ("mm-link a b c", 2, 4, None),
+    ("mm-link a --", 3, 1, None),
+    ("mm-link a b --", 3, 1, None),
+    ("mm-link a b -- --", 2, 5, None),
+    ("mm-link a  b", 3, 1, None),
+    ("mm-link a b ", 2, 4, None),
+    ("mm-link a -- mm-delay 1", 3, 1, None),
+    ("mm-link --once=1 a b", 5, 2, None),
+    ("mm-link --once --once=1 a b", 5, 3, None),
+    ("mm-link --uplink-log a b", 3, 1, None),
+    ("mm-link --uplink-log --once a b", 3, 1, None),
+    ("mm-link --uplink-log= a b", 3, 1, None),
+    ("mm-link --uplink-log=-x a b", 5, 2, None),
+    ("mm-link a b --uplink-log=x --uplink-log", 6, 5, None),
+];
+
+fn is_refused(
+    rt: &impl Abort,
+    alloc: Global,
+    row: (&str, u32, u32, Option<u32>),
+) -> Result<(), Fail> {
+    let words = words_of(alloc, row.0)?;
+    match read_nest(alloc, words.as_slice()) {
+        Ok(_) => assert!(rt; false, "{} was read", row.0),
+        Err(fault) => {
+            let said = (fault.number(), fault.place(), fault.inner());
+            assert_eq!(rt; said, (row.1, row.2, row.3), "at {}", row.0);
+        }
+    }
+    Ok(())
+}
+
 #[test]
 fn refuses_the_first(rt: HostRuntime) -> Result<(), Fail> {
-    let nine =
-        "mm-delay 1 mm-delay 1 mm-delay 1 mm-delay 1 mm-delay 1 mm-delay 1 mm-delay 1 mm-delay 1 mm-delay";
-    for (text, number, place, inner) in [
-        ("", 2, 1, None),
-        ("mm-delays 5", 2, 1, None),
-        ("mm-delay", 3, 1, None),
-        ("mm-delay x", 4, 1, None),
-        ("mm-delay 3600001", 4, 1, None),
-        ("mm-link --foo a b", 5, 2, None),
-        ("mm-link - a b", 5, 2, None),
-        ("mm-link --once --once a b", 6, 3, None),
-        (nine, 7, 0, None),
-        ("mm-link a b --uplink-queue=drophead", 8, 1, Some(3)),
-        ("mm-link a b --uplink-queue-args=packets=1", 8, 1, Some(4)),
-        (
-            "mm-delay 1 mm-link a b --downlink-queue tail",
-            8,
-            2,
-            Some(1),
-        ),
-        ("mm-loss uplink 1.1", 9, 1, Some(2)),
-        ("mm-loss up", 10, 1, None),
-        ("mm-loss uplink", 3, 1, None),
-        ("mm-link a b c", 2, 4, None),
-        ("mm-link a --", 3, 1, None),
-        ("mm-link a b --", 3, 1, None),
-        ("mm-link a b -- --", 2, 5, None),
-        ("mm-link a  b", 3, 1, None),
-        ("mm-link a b ", 2, 4, None),
-        ("mm-link a -- mm-delay 1", 3, 1, None),
-        ("mm-link --once=1 a b", 5, 2, None),
-        ("mm-link --once --once=1 a b", 5, 3, None),
-        ("mm-link --uplink-log a b", 3, 1, None),
-        ("mm-link --uplink-log --once a b", 3, 1, None),
-        ("mm-link --uplink-log= a b", 3, 1, None),
-        ("mm-link --uplink-log=-x a b", 5, 2, None),
-        ("mm-link a b --uplink-log=x --uplink-log", 6, 5, None),
-    ] {
-        let words = words_of(rt.alloc(), text)?;
-        match read_nest(rt.alloc(), words.as_slice()) {
-            Ok(_) => assert!(rt; false, "{text} was read"),
-            Err(fault) => {
-                assert_eq!(rt; fault.number(), number, "at {text}");
-                assert_eq!(rt; fault.place(), place, "at {text}");
-                assert_eq!(rt; fault.inner(), inner, "at {text}");
-            }
-        }
+    for row in &REFUSED {
+        is_refused(&rt, rt.alloc(), *row)?;
     }
     Ok(())
 }
