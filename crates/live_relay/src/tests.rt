@@ -2,7 +2,7 @@
 ghost use Rattle.std.specs.Prelude.{◌≤◌, length};
 ghost use Rattle.live_relay.specs.MemClocks.{NeverFall};
 
-use crate::{Clock, MemClock, MemWire, RelayResult, Side, relay};
+use crate::{Clock, MemClock, MemWire, RelayError, RelayResult, Side, Wire, relay};
 use mm_base::{Bytes, OutOfMemory};
 use nest_spec::{Nest, build, print_fates, read_nest};
 use std::alloc::{AllocError, Global};
@@ -73,6 +73,20 @@ fn clock_of(alloc: Global, moments: &[u64]) -> Result<MemClock, Fail>
     requires never_fall { NeverFall 0 moments.now }
 {
     Ok(MemClock::new(alloc, Vec::from_slice(alloc, moments)?))
+}
+
+// A relay. It says nothing of what it did, so that a test has only what it looks at.
+fn relay_by<C: Clock, W: Wire>(
+    alloc: Global,
+    nest: &Nest,
+    turns: u32,
+    clock: &mut C,
+    wire: &mut W,
+) -> Result<RelayResult, RelayError>
+    requires some { 1 ≤ turns }
+    requires few { turns ≤ 1000000 }
+{
+    relay(alloc, nest, turns, clock, wire)
 }
 
 // Whether these are the fates of a relay.

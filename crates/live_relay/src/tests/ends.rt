@@ -1,8 +1,8 @@
 // Where a relay ends, by its clock and its turns.
 ghost use Rattle.std.specs.Prelude.{◌≤◌};
 
-use super::{Answer, clock_of, had_sent, nest_of, wire_of};
-use crate::{MemClock, RelayEnd, Side, relay};
+use super::{Answer, clock_of, had_sent, nest_of, relay_by, wire_of};
+use crate::{MemClock, RelayEnd, Side};
 use std::alloc::Global;
 use std::process::Abort;
 use std::test::Fail;
@@ -22,7 +22,7 @@ fn ends(
 {
     let nest = nest_of(rt, alloc, "mm-delay 0", 20)?;
     let mut wire = wire_of(alloc, &[], &[])?;
-    let result = relay(alloc, &nest, turns, &mut clock, &mut wire)?;
+    let result = relay_by(alloc, &nest, turns, &mut clock, &mut wire)?;
     assert_eq!(rt; (result.end, result.last), (end, last));
     assert_eq!(rt; wire.received().len(), asked);
     assert!(rt; result.rows.as_slice().is_empty());
@@ -90,7 +90,7 @@ fn a_clock_that_stands_lets_all_turns_pass(rt: HostRuntime) -> Result<(), Fail> 
     ];
     let mut wire = wire_of(alloc, &answers, &[])?;
     let mut clock = clock_of(alloc, &[5])?;
-    let result = relay(alloc, &nest, 4, &mut clock, &mut wire)?;
+    let result = relay_by(alloc, &nest, 4, &mut clock, &mut wire)?;
     assert_eq!(rt; (result.end, result.last), (RelayEnd::Turns, 5));
     assert!(rt; had_sent(&wire, &[0, 1, 2, 3]));
     Ok(())

@@ -1,8 +1,8 @@
 // Some thousand datagrams.
 ghost use Rattle.std.specs.Prelude.{◌≡◌, ◌≤◌};
 
-use super::{Answer, nest_of, wire_of};
-use crate::{Clock, RelayEnd, RelayResult, Side, relay};
+use super::{Answer, nest_of, relay_by, wire_of};
+use crate::{Clock, RelayEnd, RelayResult, Side};
 use mm_base::{Bytes, OutOfMemory, print_lines};
 use nest_plain::run_plain;
 use nest_spec::{Nest, RunResult, print_fates};
@@ -70,7 +70,7 @@ fn passes_as_plain(rt: &impl Abort, alloc: Global, nest: &str, count: u32) -> Re
     let answers = answers_of(alloc, count as usize)?;
     let mut wire = wire_of(alloc, answers.as_slice(), &[])?;
     let mut clock = Ticks { latest: 0 };
-    let result = relay(alloc, &nest, count + 10, &mut clock, &mut wire)?;
+    let result = relay_by(alloc, &nest, count + 10, &mut clock, &mut wire)?;
     assert_eq!(rt; result.end, RelayEnd::Turns);
     assert_eq!(rt; result.rows.as_slice().len(), count as usize);
     let plain = plain_of(alloc, &nest, &result)?;

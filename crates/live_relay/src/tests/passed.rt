@@ -1,8 +1,10 @@
 // What passes: rows, what is sent and when, and logs.
 ghost use Rattle.std.specs.Prelude.{◌≤◌};
 
-use super::{Answer, clock_of, datagram, had_sent, has_fates, nest_of, sizes_are, wire_of};
-use crate::{RelayEnd, Side, relay};
+use super::{
+    Answer, clock_of, datagram, had_sent, has_fates, nest_of, relay_by, sizes_are, wire_of,
+};
+use crate::{RelayEnd, Side};
 use shell_log::print_log;
 use std::alloc::Global;
 use std::process::Abort;
@@ -16,7 +18,7 @@ fn a_datagram_is_sent_in_the_first_turn_that_reaches_its_moment(
     let nest = nest_of(&rt, alloc, "mm-delay 5", 20)?;
     let mut wire = wire_of(alloc, &[Some((Side::Client, 100))], &[])?;
     let mut clock = clock_of(alloc, &[1, 3, 6, 21])?;
-    let result = relay(alloc, &nest, 10, &mut clock, &mut wire)?;
+    let result = relay_by(alloc, &nest, 10, &mut clock, &mut wire)?;
     assert!(rt; has_fates(alloc, &result, "1 up departed 6\n")?);
     assert_eq!(rt;
         (result.refused, result.end, result.last),
@@ -36,7 +38,7 @@ fn it_is_sent_before_the_next_receive(rt: HostRuntime) -> Result<(), Fail> {
     let nest = nest_of(&rt, alloc, "mm-delay 5", 20)?;
     let mut wire = wire_of(alloc, &[Some((Side::Client, 100))], &[])?;
     let mut clock = clock_of(alloc, &[1, 3, 6, 7, 21])?;
-    let result = relay(alloc, &nest, 10, &mut clock, &mut wire)?;
+    let result = relay_by(alloc, &nest, 10, &mut clock, &mut wire)?;
     assert!(rt; has_fates(alloc, &result, "1 up departed 6\n")?);
     assert!(rt; had_sent(&wire, &[0, 0, 0, 1]));
     Ok(())
@@ -54,7 +56,7 @@ fn passes_link(
     let nest = nest_of(rt, alloc, "mm-link t t --uplink-log=u", 10)?;
     let mut wire = wire_of(alloc, &[Some((Side::Client, size))], &[])?;
     let mut clock = clock_of(alloc, &[4, 12])?;
-    let result = relay(alloc, &nest, 10, &mut clock, &mut wire)?;
+    let result = relay_by(alloc, &nest, 10, &mut clock, &mut wire)?;
     assert!(rt; has_fates(alloc, &result, fates)?);
     assert_eq!(rt; result.run.logs().len(), 1);
     let entry = result.run.logs().first().ok_or("no log")?;
@@ -95,7 +97,7 @@ fn a_datagram_that_is_too_long_or_empty_is_refused(rt: HostRuntime) -> Result<()
     ];
     let mut wire = wire_of(alloc, &answers, &[])?;
     let mut clock = clock_of(alloc, &[1, 3, 6, 7])?;
-    let result = relay(alloc, &nest, 4, &mut clock, &mut wire)?;
+    let result = relay_by(alloc, &nest, 4, &mut clock, &mut wire)?;
     assert!(rt; has_fates(alloc, &result, "1 down departed 6\n2 up departed 7\n")?);
     assert_eq!(rt;
         (result.refused, result.end, result.last),
@@ -113,7 +115,7 @@ fn what_is_due_past_the_horizon_is_sent_at_it(rt: HostRuntime) -> Result<(), Fai
     let answers: [Answer; 3] = [None, Some((Side::Server, 100)), Some((Side::Client, 100))];
     let mut wire = wire_of(alloc, &answers, &[])?;
     let mut clock = clock_of(alloc, &[1, 3, 6, 7, 21])?;
-    let result = relay(alloc, &nest, 10, &mut clock, &mut wire)?;
+    let result = relay_by(alloc, &nest, 10, &mut clock, &mut wire)?;
     assert!(rt; has_fates(alloc, &result, "1 down departed 4\n2 up departed 8\n")?);
     assert_eq!(rt; result.end, RelayEnd::Horizon);
     assert!(rt; had_sent(&wire, &[0, 0, 0, 0]));

@@ -1,6 +1,6 @@
 // A wire that fails.
-use super::{Answer, clock_of, nest_of, sizes_are, wire_of};
-use crate::{MemWire, RelayError, RelayResult, Side, Wire, relay};
+use super::{Answer, clock_of, nest_of, relay_by, sizes_are, wire_of};
+use crate::{MemWire, RelayError, RelayResult, Side, Wire};
 use mm_base::EndError;
 use nest_spec::Nest;
 use std::alloc::Global;
@@ -20,7 +20,7 @@ fn relayed(
     ];
     let mut wire = wire_of(alloc, &answers, &[call])?;
     let mut clock = clock_of(alloc, &[1, 3, 6, 7, 21])?;
-    let result = relay(alloc, nest, 10, &mut clock, &mut wire);
+    let result = relay_by(alloc, nest, 10, &mut clock, &mut wire);
     Ok((result, wire))
 }
 
