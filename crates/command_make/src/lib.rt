@@ -3,7 +3,5 @@
 
 mod make;
 mod make_job;
-#[cfg(test)]
-mod tests;
 
 pub use make::answer_make;

@@ -7,8 +7,6 @@ mod inputs;
 mod job;
 mod line;
 mod passing;
-#[cfg(test)]
-mod tests;
 mod words;
 
 pub use command::relay_main;

@@ -4,8 +4,6 @@
 mod counts;
 mod job;
 mod replay;
-#[cfg(test)]
-mod tests;
 mod words;
 
 pub use counts::print_served;

@@ -2,7 +2,5 @@
 #![tactic(auto)]
 
 mod report;
-#[cfg(test)]
-mod tests;
 
 pub use report::answer_report;

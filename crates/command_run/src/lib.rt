@@ -7,8 +7,6 @@ mod passing;
 mod run;
 mod run_files;
 mod run_job;
-#[cfg(test)]
-mod tests;
 mod whole_logs;
 
 pub use inputs::{load_schedule, load_traces};

@@ -9,8 +9,6 @@ mod port;
 mod recording;
 mod request_file;
 mod store_file;
-#[cfg(test)]
-mod tests;
 
 pub use matching::answer_match;
 pub use migrating::answer_migrate;

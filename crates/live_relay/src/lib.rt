@@ -16,8 +16,6 @@ mod rows;
 mod side;
 mod stamps;
 mod sys_clock;
-#[cfg(test)]
-mod tests;
 mod udp_wire;
 mod way;
 mod wire;

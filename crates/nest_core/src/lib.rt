@@ -11,8 +11,6 @@ mod line;
 mod order;
 mod source;
 mod stage;
-#[cfg(test)]
-mod tests;
 mod world;
 
 pub use order::{Worlds, run_order, run_worlds};

@@ -7,7 +7,5 @@
 
 mod line;
 mod passing;
-#[cfg(test)]
-mod tests;
 
 pub use line::Line;

@@ -28,3 +28,5 @@ mod slow;
 mod states;
 #[cfg(test)]
 mod words;
+#[cfg(test)]
+mod worlds;

@@ -13,8 +13,6 @@ mod serving;
 mod taking;
 mod talk;
 mod tcp_dialer;
-#[cfg(test)]
-mod tests;
 mod words;
 
 pub use command::proxy_main;

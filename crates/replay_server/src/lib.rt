@@ -9,8 +9,6 @@ mod session;
 mod source;
 mod steps;
 mod talk;
-#[cfg(test)]
-mod tests;
 
 pub use ends::{ConnEnd, ServeError, Served};
 pub use serving::serve;

@@ -1,0 +1,16 @@
+//! Tests of the commands and of whole command lines, through the public calls of the crates below. They stand apart from
+//! these, so that each of these is proved once, without tests.
+#![tactic(auto)]
+
+#[cfg(test)]
+mod make;
+#[cfg(test)]
+mod program;
+#[cfg(test)]
+mod replay;
+#[cfg(test)]
+mod report;
+#[cfg(test)]
+mod run;
+#[cfg(test)]
+mod stores;

@@ -1,0 +1,216 @@
+// Serving a store in memory to the links of a port in memory.
+ghost use Rattle.std.specs.Prelude.{IfOk};
+ghost use Rattle.mm_base.specs.MemLink.{IsUnused};
+
+use command_replay::answer_replay;
+use mm_base::{Bytes, MemLink, MemPort, NoPace};
+use std::alloc::Global;
+use std::marker::Sync;
+use std::sync::Wait;
+use std::test::Fail;
+use std::thread::Threads;
+use test_outside::{TestOutside, words_of};
+
+// A store of one record, of any port, and the same recorded from port 80.
+const STORE: &str =
+    "MMSTORE 1\nrecord 27 40\nGET / HTTP/1.1\r\nHost: a\r\n\r\nHTTP/1.1 200 OK\r\nContent-Length: 2\r\n\r\nhi\n";
+
+const STORE_OF_80: &str =
+    "MMSTORE 2\nrecord http 80 27 40\nGET / HTTP/1.1\r\nHost: a\r\n\r\nHTTP/1.1 200 OK\r\nContent-Length: 2\r\n\r\nhi\n";
+
+// Two requests, of which the store answers the first.
+const TWO: &str = "GET / HTTP/1.1\r\nHost: a\r\n\r\nGET /x HTTP/1.1\r\nHost: a\r\n\r\n";
+
+const FOUND: &str = "HTTP/1.1 200 OK\r\nContent-Length: 2\r\n\r\nhi";
+
+const MISSING: &str = "HTTP/1.1 404 Not Found\r\nContent-Length: 0\r\n\r\n";
+
+fn link(alloc: Global, input: &str, fails: &[u64]) -> Result<MemLink, Fail>
+    ensures { IfOk result IsUnused }
+{
+    let input = Bytes::from_slice(alloc, input.as_bytes())?;
+    Ok(MemLink::new(alloc, input, 1, fails.to_vec(alloc)?))
+}
+
+// Whether the words after `replay`, over a disk with this store and a port with two links, have this status and print
+// this. The calls of these numbers of the disk, of `out` and of the port fail, and the third of the first link.
+fn ends_with<R: Threads + Wait + Sync>(
+    rt: &R,
+    alloc: Global,
+    words: &str,
+    store: &str,
+    fails: (u64, u64, u64),
+    status: u8,
+    printed: &str,
+) -> Result<bool, Fail> {
+    let words = words_of(alloc, words)?;
+    let mut outside = TestOutside::new(alloc, &[("s", store)], &[fails.0], &[fails.1])?;
+    let first = link(alloc, TWO, &[3])?;
+    let second = link(alloc, TWO, &[])?;
+    let links = vec![in alloc; first, second]?;
+    let mut port = MemPort::new(alloc, links, vec![in alloc; fails.2]?);
+    let answer = answer_replay(
+        rt,
+        alloc,
+        &words,
+        &mut outside.disk,
+        &mut outside.out,
+        &mut port,
+        &NoPace,
+    );
+    Ok(outside.ends_with(answer, status, printed, &[("s", store)]))
+}
+
+const SERVED: &str = "closed 1 bad 0 broken 1 full 0\n";
+
+#[test]
+fn a_serving_prints_how_connections_ended(rt: HostRuntime) -> Result<(), Fail> {
+    for (words, fails, status, printed) in [
+        ("--store s --port 80 --connections 2", (0, 0, 0), 0, SERVED),
+        (
+            "--connections=3 --port=0080 --store=s",
+            (0, 0, 0),
+            0,
+            SERVED,
+        ),
+        (
+            "--store s --port 80 --connections 1",
+            (0, 0, 0),
+            0,
+            "closed 0 bad 0 broken 1 full 0\n",
+        ),
+        ("--store s --port 80 --connections 2", (0, 1, 0), 7, ""),
+        (
+            "--store s --port 80 --connections 2",
+            (1, 0, 0),
+            6,
+            "mm: read fault s\n",
+        ),
+        (
+            "--store t --port 80 --connections 2",
+            (0, 0, 0),
+            3,
+            "mm: absent t\n",
+        ),
+    ] {
+        let is_left = ends_with(&rt, rt.alloc(), words, STORE, fails, status, printed)?;
+        assert!(rt; is_left, "at {words}");
+    }
+    Ok(())
+}
+
+// The calls of the port are listening, two of accepting, and two of finishing.
+#[test]
+fn a_port_that_fails_is_a_fault_of_the_net(rt: HostRuntime) -> Result<(), Fail> {
+    for call in 1..6u64 {
+        let is_left = ends_with(
+            &rt,
+            rt.alloc(),
+            "--store s --port 80 --connections 2",
+            STORE,
+            (0, 0, call),
+            8,
+            "mm: net fault\n",
+        )?;
+        assert!(rt; is_left, "at {call}");
+    }
+    Ok(())
+}
+
+#[test]
+fn words_and_stores_are_refused(rt: HostRuntime) -> Result<(), Fail> {
+    for (words, store, status, printed) in [
+        (
+            "--store s --port 0 --connections 2",
+            STORE,
+            2,
+            "mm: usage\n",
+        ),
+        (
+            "--store s --port 65536 --connections 2",
+            STORE,
+            2,
+            "mm: usage\n",
+        ),
+        (
+            "--store s --port 80 --connections 0",
+            STORE,
+            2,
+            "mm: usage\n",
+        ),
+        (
+            "--store s --port 80 --connections 65",
+            STORE,
+            2,
+            "mm: usage\n",
+        ),
+        ("--store s --port 80", STORE, 2, "mm: usage\n"),
+        (
+            "--store s --port 80 --connections 2 --site-port 0",
+            STORE,
+            2,
+            "mm: usage\n",
+        ),
+        (
+            "--store s --port 80 --connections 2",
+            "MMSTORE 3\n",
+            4,
+            "mm: bad input s 1 0\n",
+        ),
+        (
+            "--store s --port 80 --connections 2",
+            "MMSTORE 1\nrecord 0 0\n\n",
+            4,
+            "mm: bad input s 4 1\n",
+        ),
+    ] {
+        let is_left = ends_with(&rt, rt.alloc(), words, store, (0, 0, 0), status, printed)?;
+        assert!(rt; is_left, "at {words}");
+    }
+    Ok(())
+}
+
+// Whether the words after `replay`, over the store of port 80 and a link with a request, give this answer.
+fn gives<R: Threads + Wait + Sync>(
+    rt: &R,
+    alloc: Global,
+    words: &str,
+    answer: &str,
+) -> Result<bool, Fail> {
+    let words = words_of(alloc, words)?;
+    let mut outside = TestOutside::new(alloc, &[("s", STORE_OF_80)], &[], &[])?;
+    let only = link(alloc, "GET / HTTP/1.1\r\nHost: a\r\n\r\n", &[])?;
+    let links = vec![in alloc; only]?;
+    let mut port = MemPort::new(alloc, links, Vec::new(alloc));
+    let answered = answer_replay(
+        rt,
+        alloc,
+        &words,
+        &mut outside.disk,
+        &mut outside.out,
+        &mut port,
+        &NoPace,
+    );
+    let given = port.finished().first().ok_or("none is finished")?.given();
+    Ok(answered.is_ok() && given == answer.as_bytes())
+}
+
+#[test]
+fn requests_are_asked_at_the_port_of_the_site(rt: HostRuntime) -> Result<(), Fail> {
+    for (words, answer) in [
+        ("--store s --port 80 --connections 1", FOUND),
+        ("--store s --port 8080 --connections 1", MISSING),
+        (
+            "--store s --port 8080 --connections 1 --site-port 80",
+            FOUND,
+        ),
+        (
+            "--store s --port 80 --connections 1 --site-port 443",
+            MISSING,
+        ),
+    ] {
+        let is_given = gives(&rt, rt.alloc(), words, answer)?;
+        assert!(rt; is_given, "at {words}");
+    }
+    Ok(())
+}

@@ -1,0 +1,8 @@
+//! Tests of serving a store and of the recording proxy, through the public calls of the crates below. They stand apart
+//! from these, so that each of these is proved once, without tests.
+#![tactic(auto)]
+
+#[cfg(test)]
+mod proxy;
+#[cfg(test)]
+mod server;
