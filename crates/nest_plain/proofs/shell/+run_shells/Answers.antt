@@ -34,6 +34,7 @@ run_shells-requires t c =
     )
 
 pub depart-requires : goal.depart-requires
-depart-requires t c =
-    up_to_higher c.args.horizon 3600000 c.as_slice.result.now c.requires.horizon
-    (subst (AreUpTo c.args.horizon) (sym c.as_slice.ensures.value) c.requires.within)
+depart-requires t c = record {
+  short = up_to_higher c.args.horizon 3600000 c.as_slice.result.now c.requires.horizon
+      (subst (AreUpTo c.args.horizon) (sym c.as_slice.ensures.value) c.requires.within);
+}

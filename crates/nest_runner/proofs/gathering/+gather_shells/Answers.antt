@@ -55,7 +55,9 @@ returns-clause-fates t c =
     c.gather_shells.ensures.fates
 
 pub depart-requires : goal.depart-requires
-depart-requires t c = subst (AreUpTo 3600000) (sym c.as_slice.ensures.value) c.in_ok-departed.ensures.short
+depart-requires t c = record {
+  short = subst (AreUpTo 3600000) (sym c.as_slice.ensures.value) c.in_ok-departed.ensures.short;
+}
 
 pub gather_shells-requires : goal.gather_shells-requires
 gather_shells-requires t c =

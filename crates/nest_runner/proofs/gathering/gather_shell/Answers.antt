@@ -21,9 +21,11 @@ returns-clause-fates c = λ f e.
 pub pass-requires : goal.pass-requires
 pass-requires c =
     let s = c.args.state in
-    lost_short s.spec s.horizon s.fed.packets c.as_slice.result.now
-    (c.as_slice.ensures.value ∙ c.in_ok-departed.ensures.lost) c.stands.ensures.stands.honest_fed.within
-    c.requires.short
+    record {
+      short = lost_short s.spec s.horizon s.fed.packets c.as_slice.result.now
+          (c.as_slice.ensures.value ∙ c.in_ok-departed.ensures.lost) c.stands.ensures.stands.honest_fed.within
+          c.requires.short;
+    }
 
 pub returns-clause-short : goal.returns-clause-short
 returns-clause-short c =
