@@ -30,6 +30,7 @@ pass-requires c =
 pub returns-clause-short : goal.returns-clause-short
 returns-clause-short c =
     let s = c.args.state in
-    up_to_higher s.horizon 3600000 c.in_ok-departed.departed.items c.requires.short
-    (departed_within s.spec s.horizon s.fed.packets c.in_ok-departed.departed.items c.stands.ensures.stands.built
+    let departed = c.in_ok-departed.field-0.departed.items in
+    up_to_higher s.horizon 3600000 departed c.requires.short
+    (departed_within s.spec s.horizon s.fed.packets departed c.stands.ensures.stands.built
     c.in_ok-departed.ensures.departed c.stands.ensures.stands.honest_fed.within)
