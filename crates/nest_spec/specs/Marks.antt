@@ -1,4 +1,4 @@
--- What contracts see of a marking, and what marking does: the fates of rows, overwritten shell by shell. That this
+-- What contracts see of a marking, and what marking does: the fates of rows, marked shell by shell. That this
 -- gives the fates of the walk is proved.
 use Rattle.std.specs.Prelude.{ℕ, ◌==◌, List, [], ◌∷◌, map, if◌then◌else◌}
 use Rattle.std.specs.List.{list_any}

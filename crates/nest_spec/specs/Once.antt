@@ -58,7 +58,7 @@ ends_of nest rows row =
     + ends_in row.timed.packet.id (entering Down nest.horizon rows) (walk_of Down nest rows)
 
 -- What is printed of a row is its fate, and no other is; and its packet is counted once in all lists at which packets
--- end.
+-- end, that of an unsent row as unsent.
 pub record HasOneFate (nest : NestParts) (rows : List Row) (row : Row) (printed : FateRow) : Type 0 where
   pub id : printed.id ≡ row.timed.packet.id
   pub direction : printed.direction ≡ row.direction

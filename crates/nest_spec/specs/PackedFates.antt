@@ -1,4 +1,4 @@
--- Fates as they are kept in 12 bytes.
+-- For proofs: fates as they are kept in 12 bytes.
 use Rattle.std.specs.Prelude.{ℕ, ◌≤◌, ◌==◌, if◌then◌else◌}
 use Rattle.nest_spec.specs.declared.fate.Fate.{Fate}
 use Rattle.nest_spec.specs.declared.fate.Fate.TheVariants as fates

@@ -1,4 +1,4 @@
--- What contracts see of the logs of a run.
+-- What contracts see of named logs, in any form.
 use Rattle.std.specs.Prelude.{List, map}
 use Rattle.shell_log.specs.View.{LogView}
 use Rattle.shell_log.specs.declared.entry.Entry.{Entry}

@@ -1,4 +1,4 @@
-// What a list of packets says of each of them.
+// How a packet's fate is marked: dropped by a shell, or departed from the last.
 ghost use Rattle.std.specs.Prelude.{◌≡◌, ◌≤◌};
 ghost use Rattle.nest_spec.specs.Marks.{mark_fate};
 ghost use Rattle.nest_spec.specs.PackedFates.{IsShort};
