@@ -7,8 +7,6 @@ mod delays;
 mod figures;
 mod printing;
 mod sums;
-#[cfg(test)]
-mod tests;
 mod text;
 mod whole;
 

@@ -3,8 +3,6 @@
 
 mod loss;
 mod rate;
-#[cfg(test)]
-mod tests;
 mod whole;
 mod words;
 

@@ -4,8 +4,6 @@
 mod queue;
 mod reading;
 mod spec;
-#[cfg(test)]
-mod tests;
 
 pub use queue::{Dropped, PacketQueue};
 pub use reading::read_queue;

@@ -27,6 +27,3 @@ pub use reading::{ScheduleError, ScheduleReader, read_schedule};
 pub use rows::Schedule;
 pub use source::source_item;
 pub use text::ScheduleText;
-
-#[cfg(test)]
-mod tests;

@@ -6,8 +6,6 @@ mod line;
 mod log;
 mod printing;
 mod reading;
-#[cfg(test)]
-mod tests;
 mod text;
 mod whole_line;
 

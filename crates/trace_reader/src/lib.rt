@@ -7,8 +7,6 @@ mod opportunity;
 mod packed;
 mod printing;
 mod reading;
-#[cfg(test)]
-mod tests;
 mod trace;
 
 pub use making::make_trace;

@@ -1,5 +1,5 @@
 use Rattle.std.proofs.Common.{length}
-use Rattle.shell_log.proofs.tests.refusal_in_pieces.Given as goal
+use Rattle.base_tests.proofs.log.count_entries.Given as goal
 
 abbrev pub decreases-entries : goal.decreases-entries
 decreases-entries l = length l.rest

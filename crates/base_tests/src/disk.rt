@@ -1,0 +1,189 @@
+// Files in memory and real ones: read, written, loaded and saved whole.
+use mm_base::{Bytes, Disk, DiskError, FileDisk, LoadError, MemDisk, Text, load, save};
+use std::alloc::Global;
+use std::os::fd::AsRawFd;
+use std::process::Abort;
+use std::test::Fail;
+use std::{fs, io};
+
+// A disk in memory with one file, whose calls of these numbers fail.
+pub(crate) fn disk_with(
+    alloc: Global,
+    name: &str,
+    bytes: &[u8],
+    fails: &[u64],
+) -> Result<MemDisk, Fail> {
+    let mut files = Vec::new(alloc);
+    files.push((
+        Text::from_text(alloc, name)?,
+        Bytes::from_slice(alloc, bytes)?,
+    ))?;
+    Ok(MemDisk::new(alloc, files, fails.to_vec(alloc)?))
+}
+
+// Whether a file holds these bytes.
+pub(crate) fn holds(disk: &MemDisk, name: &str, said: &[u8]) -> bool {
+    match disk.file(name) {
+        Some(bytes) => bytes == said,
+        None => false,
+    }
+}
+
+// Whether a read from a place, into this buffer, brings these bytes.
+fn reads<D: Disk>(disk: &mut D, name: &str, at: u64, buf: &mut [u8], said: &[u8]) -> bool {
+    let read = disk.read_at(name, at, buf);
+    read == Ok(said.len()) && buf.starts_with(said)
+}
+
+// Whether it is answered so where these bytes are to be added to a file.
+fn adds<D: Disk>(disk: &mut D, name: &str, bytes: &[u8], said: Result<usize, DiskError>) -> bool {
+    disk.append(name, bytes) == said
+}
+
+// Whether it is answered so where a file is to be left empty.
+fn creates<D: Disk>(disk: &mut D, name: &str, said: Result<(), DiskError>) -> bool {
+    disk.create(name) == said
+}
+
+// Whether it is answered so where a file is to hold these bytes.
+fn saves<D: Disk>(disk: &mut D, name: &str, bytes: &[u8], said: Result<(), DiskError>) -> bool {
+    save(disk, name, bytes) == said
+}
+
+// Whether a file of at most so many bytes is loaded so.
+fn loads<D: Disk>(
+    alloc: Global,
+    disk: &mut D,
+    name: &str,
+    most: u64,
+    said: Result<&[u8], LoadError>,
+) -> bool {
+    match load(alloc, disk, name, most) {
+        Ok(bytes) => said == Ok(bytes.as_slice()),
+        Err(error) => said == Err(error),
+    }
+}
+
+// A file, and how many bytes it is said to have, by calls of which the second fails.
+static SIZES: [(&str, Result<u64, DiskError>); 3] = [
+    ("s", Ok(3)),
+    ("s", Err(DiskError::Failed)),
+    ("t", Err(DiskError::Absent)),
+];
+
+fn has_sizes(rt: &impl Abort, disk: &mut MemDisk) {
+    for &(name, said) in &SIZES {
+        assert!(rt; disk.size(name) == said);
+    }
+}
+
+// A file is made, and another one left empty.
+fn changes(rt: &impl Abort, disk: &mut MemDisk) {
+    assert!(rt; adds(disk, "t", b"x", Ok(1)));
+    assert!(rt; holds(disk, "t", b"x"));
+    assert!(rt; creates(disk, "s", Ok(())));
+    assert!(rt; holds(disk, "s", b""));
+    assert!(rt; disk.file("u").is_none());
+}
+
+#[test]
+fn a_disk_in_memory_fails_by_its_list(rt: HostRuntime) -> Result<(), Fail> {
+    let mut disk = disk_with(rt.alloc(), "s", b"abc", &[2, 4])?;
+    has_sizes(&rt, &mut disk);
+    assert!(rt; adds(&mut disk, "t", b"x", Err(DiskError::Failed)));
+    assert!(rt; reads(&mut disk, "s", 1, &mut [0u8; 2], b"bc"));
+    assert!(rt; reads(&mut disk, "s", 3, &mut [0u8; 2], b""));
+    changes(&rt, &mut disk);
+    Ok(())
+}
+
+// A name, how many bytes are loaded at most, and what comes of it.
+static LOADS: [(&str, u64, Result<&[u8], LoadError>); 4] = [
+    ("s", 3, Ok(b"abc")),
+    ("s", 2, Err(LoadError::TooLong { size: 3 })),
+    ("t", 3, Err(LoadError::Absent)),
+    ("s", 3, Err(LoadError::Failed)),
+];
+
+fn are_loaded(rt: &impl Abort, alloc: Global, disk: &mut MemDisk) {
+    for &(name, most, said) in &LOADS {
+        assert!(rt;
+            loads(alloc, disk, name, most, said),
+            "of {name} up to {most}"
+        );
+    }
+}
+
+#[test]
+fn files_are_loaded_and_saved_whole(rt: HostRuntime) -> Result<(), Fail> {
+    let mut disk = disk_with(rt.alloc(), "s", b"abc", &[5, 9])?;
+    are_loaded(&rt, rt.alloc(), &mut disk);
+    assert!(rt; saves(&mut disk, "f", b"12", Ok(())));
+    assert!(rt; holds(&disk, "f", b"12"));
+    assert!(rt; saves(&mut disk, "f", b"34", Err(DiskError::Failed)));
+    assert!(rt; holds(&disk, "f", b""));
+    Ok(())
+}
+
+// A file is saved, added to and loaded.
+fn is_kept<D: Disk>(rt: &impl Abort, alloc: Global, disk: &mut D, name: &str) {
+    assert!(rt; saves(disk, name, b"held\n", Ok(())));
+    assert!(rt; adds(disk, name, b"more\n", Ok(5)));
+    assert!(rt; loads(alloc, disk, name, 10, Ok(b"held\nmore\n")));
+}
+
+#[test]
+fn real_files_are_saved_and_loaded(rt: HostRuntime) -> Result<(), Fail> {
+    let name = "base_tests_file";
+    let mut disk = FileDisk::new(rt.clone()?);
+    is_kept(&rt, rt.alloc(), &mut disk, name);
+    fs::remove_file(&rt, name)?;
+    assert!(rt; loads(rt.alloc(), &mut disk, name, 10, Err(LoadError::Absent)));
+    assert!(rt; creates(&mut disk, "", Err(DiskError::Failed)));
+    Ok(())
+}
+
+// Where a file of ten digits is read, and what four bytes at most bring.
+static PLACES: [(u64, &[u8]); 4] = [(0, b"0123"), (4, b"4567"), (8, b"89"), (10, b"")];
+
+fn is_read_from_any_place<D: Disk>(rt: &impl Abort, disk: &mut D, name: &str) {
+    for &(at, bytes) in &PLACES {
+        assert!(rt; reads(disk, name, at, &mut [0u8; 4], bytes), "from {at}");
+    }
+}
+
+#[test]
+fn real_files_are_read_from_any_place_and_made_anew(rt: HostRuntime) -> Result<(), Fail> {
+    let name = "base_tests_places";
+    let mut disk = FileDisk::new(rt.clone()?);
+    assert!(rt; saves(&mut disk, name, b"0123456789", Ok(())));
+    is_read_from_any_place(&rt, &mut disk, name);
+    assert!(rt; saves(&mut disk, name, b"ab", Ok(())));
+    assert!(rt; loads(rt.alloc(), &mut disk, name, 10, Ok(b"ab")));
+    fs::remove_file(&rt, name)?;
+    Ok(())
+}
+
+// Whether what stands at a path is refused, as it isn't a regular file.
+fn is_refused<D: Disk>(disk: &mut D, name: &str) -> bool {
+    let size = disk.size(name);
+    let read = disk.read_at(name, 0, &mut [0u8; 1]);
+    size == Err(DiskError::Failed) && read == Err(DiskError::Failed)
+}
+
+// Whether a pipe is refused.
+fn refuses_a_pipe<D: Disk>(rt: &HostRuntime, disk: &mut D) -> Result<bool, Fail> {
+    let (reader, writer) = io::pipe(rt)?;
+    drop(writer);
+    let pipe = format!(in rt.alloc(); "/proc/self/fd/{}", reader.as_raw_fd())?;
+    Ok(is_refused(disk, pipe.as_str()))
+}
+
+#[test]
+fn only_regular_files_are_read(rt: HostRuntime) -> Result<(), Fail> {
+    let mut disk = FileDisk::new(rt.clone()?);
+    assert!(rt; refuses_a_pipe(&rt, &mut disk)?);
+    assert!(rt; is_refused(&mut disk, "/"));
+    assert!(rt; is_refused(&mut disk, "/dev/zero"));
+    Ok(())
+}

@@ -1,0 +1,32 @@
+//! Tests of the outside, of schedules, traces, queues, logs and reports, and of losses and delays, through the public
+//! calls of the crates below. They stand apart from these, so that each of these is proved once, without tests.
+#![tactic(auto)]
+
+#[cfg(test)]
+mod delay;
+#[cfg(test)]
+mod disk;
+#[cfg(test)]
+mod flow;
+#[cfg(test)]
+mod lines;
+#[cfg(test)]
+mod log;
+#[cfg(test)]
+mod loss;
+#[cfg(test)]
+mod net;
+#[cfg(test)]
+mod packets;
+#[cfg(test)]
+mod queue;
+#[cfg(test)]
+mod report;
+#[cfg(test)]
+mod schedule;
+#[cfg(test)]
+mod sink;
+#[cfg(test)]
+mod texts;
+#[cfg(test)]
+mod trace;

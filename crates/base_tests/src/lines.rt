@@ -1,0 +1,158 @@
+// Lines that are made from their end, and items that are printed, saved and appended line by line.
+ghost use Rattle.std.specs.Prelude.{◌++◌, ◌∷◌, [], decimal};
+
+use crate::disk::{disk_with, holds};
+use mm_base::{
+    Bytes, DiskError, LineBuffer, MemDisk, OutOfMemory, PrintLine, append_lines, print_lines,
+    save_lines,
+};
+use std::alloc::Global;
+use std::process::Abort;
+use std::test::Fail;
+
+// A number that is printed as a line.
+#[derive(Drop)]
+struct Number(u64);
+
+impl PrintLine for Number {
+    ghost line = { λ n. decimal n.0 ++ 10 ∷ [] };
+
+    #[tactic(auto, using(mm_base::proofs::TextLemmas::is_ended_line))]
+    fn put_line(&self, out: &mut LineBuffer) {
+        out.put_byte(b'\n');
+        out.put_decimal(self.0);
+    }
+}
+
+// So many numbers of 20 digits, so that each line has 21 bytes.
+fn numbers(alloc: Global, count: u64) -> Result<Vec<Number>, OutOfMemory> {
+    let mut numbers = Vec::new(alloc);
+    for less in 0..count {
+        numbers.push(Number(u64::MAX - less))?;
+    }
+    Ok(numbers)
+}
+
+// A line that is made from its end.
+fn line_from_its_end(alloc: Global) -> Result<LineBuffer, OutOfMemory> {
+    let mut line = LineBuffer::new(alloc)?;
+    line.put_byte(b'\n');
+    line.put_decimal(18446744073709551615);
+    line.put(b" to ");
+    line.put_decimal(0);
+    Ok(line)
+}
+
+const LINE: &[u8] = b"0 to 18446744073709551615\n";
+
+#[test]
+fn lines_are_written_from_their_end(rt: HostRuntime) -> Result<(), Fail> {
+    let fresh = LineBuffer::new(rt.alloc())?;
+    assert!(rt; fresh.as_slice().is_empty());
+    let mut line = line_from_its_end(rt.alloc())?;
+    assert!(rt; line.as_slice() == LINE);
+    line.clear();
+    assert!(rt; line.as_slice().is_empty());
+    Ok(())
+}
+
+// The text of a first line and of these numbers.
+fn text_of(alloc: Global, first: &[u8], items: &[Number]) -> Result<Bytes, OutOfMemory> {
+    print_lines(alloc, first, items)
+}
+
+const PRINTED: &[u8] = b"#\n18446744073709551615\n18446744073709551614\n";
+
+#[test]
+fn items_are_printed_line_by_line(rt: HostRuntime) -> Result<(), Fail> {
+    let items = numbers(rt.alloc(), 2)?;
+    assert!(rt; text_of(rt.alloc(), b"#\n", items.as_slice())?.as_slice() == PRINTED);
+    assert!(rt; text_of(rt.alloc(), b"", &[])?.is_empty());
+    Ok(())
+}
+
+// Whether it is answered so where these numbers are to be saved in the file `f`, which then holds these bytes.
+fn saves(
+    alloc: Global,
+    disk: &mut MemDisk,
+    items: &[Number],
+    said: Result<(), DiskError>,
+    held: &[u8],
+) -> bool {
+    let saved = save_lines(alloc, disk, "f", b"#\n", items);
+    saved == said && holds(disk, "f", held)
+}
+
+// These numbers are saved, and then a front of their text, where a call fails.
+fn are_saved(rt: &impl Abort, alloc: Global, items: &[Number], text: &[u8]) -> Result<(), Fail> {
+    let mut disk = disk_with(alloc, "f", b"before", &[8])?;
+    assert!(rt; saves(alloc, &mut disk, items, Ok(()), text));
+    let (front, _) = text.split_at(text.len().min(43010));
+    assert!(rt; saves(alloc, &mut disk, items, Err(DiskError::Failed), front));
+    Ok(())
+}
+
+// A text of 67,202 bytes: the first line, 2048 lines and the others are written one after another.
+#[test]
+fn lines_are_saved_in_pieces(rt: HostRuntime) -> Result<(), Fail> {
+    let items = numbers(rt.alloc(), 3200)?;
+    let text = text_of(rt.alloc(), b"#\n", items.as_slice())?;
+    assert!(rt; text.len() == 67202);
+    are_saved(&rt, rt.alloc(), items.as_slice(), text.as_slice())
+}
+
+// Whether it is answered so where these numbers are to be added to a file.
+fn adds(
+    disk: &mut MemDisk,
+    name: &str,
+    lines: &mut LineBuffer,
+    items: &[Number],
+    said: Result<(), DiskError>,
+) -> bool {
+    append_lines(disk, name, lines, items) == said
+}
+
+// Whether a file holds so many bytes.
+fn has_size(disk: &MemDisk, name: &str, size: usize) -> bool {
+    match disk.file(name) {
+        Some(bytes) => bytes.len() == size,
+        None => false,
+    }
+}
+
+// Whether no file is made where no numbers are to be added.
+fn adds_none(disk: &mut MemDisk, lines: &mut LineBuffer) -> bool {
+    let is_right = adds(disk, "g", lines, &[], Ok(()));
+    is_right && disk.file("g").is_none()
+}
+
+// No numbers are added, then all to the file `f`, and then a front of them, where a call fails.
+fn are_added(
+    rt: &impl Abort,
+    disk: &mut MemDisk,
+    lines: &mut LineBuffer,
+    items: &[Number],
+    text: &[u8],
+) {
+    assert!(rt; adds_none(disk, lines));
+    assert!(rt; adds(disk, "f", lines, items, Ok(())));
+    assert!(rt; holds(disk, "f", text));
+    assert!(rt; adds(disk, "g", lines, items, Err(DiskError::Failed)));
+    assert!(rt; has_size(disk, "g", 43008));
+}
+
+// These numbers are added to files, by one buffer.
+fn are_appended(rt: &impl Abort, alloc: Global, items: &[Number], text: &[u8]) -> Result<(), Fail> {
+    let mut disk = disk_with(alloc, "f", b"#\n", &[4])?;
+    let mut lines = LineBuffer::new(alloc)?;
+    are_added(rt, &mut disk, &mut lines, items, text);
+    Ok(())
+}
+
+// What is appended has 3200 lines of 21 bytes, in two pieces.
+#[test]
+fn lines_are_appended_in_pieces(rt: HostRuntime) -> Result<(), Fail> {
+    let items = numbers(rt.alloc(), 3200)?;
+    let text = text_of(rt.alloc(), b"#\n", items.as_slice())?;
+    are_appended(&rt, rt.alloc(), items.as_slice(), text.as_slice())
+}

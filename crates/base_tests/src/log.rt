@@ -1,0 +1,146 @@
+// Logs read and printed.
+use mm_base::OutOfMemory;
+use shell_log::{Entry, Log, LogError, LogText, print_log, read_log};
+use std::alloc::Global;
+use std::process::Abort;
+use std::test::Fail;
+
+fn is_shared<T: Send + Sync>(_: &T) {}
+
+fn refusal(alloc: Global, text: &[u8]) -> Option<LogError> {
+    match read_log(alloc, text) {
+        Ok(_) => None,
+        Err(fault) => Some(fault),
+    }
+}
+
+// A text, and how it is refused.
+static TEXTS: [(&[u8], Option<LogError>); 7] = [
+    (b"# base timestamp: 0", Some(LogError::BadHeader)),
+    (b"", Some(LogError::BadHeader)),
+    (b"# base timestamp: 0\n", None),
+    (
+        b"# base timestamp: 0\n5 + 100\n4 # 1504\n",
+        Some(LogError::Backwards { line: 3 }),
+    ),
+    (
+        b"# base timestamp: 0\n05 + 100\n",
+        Some(LogError::BadLine { line: 2 }),
+    ),
+    (
+        b"# base timestamp: 0\n5 + 100",
+        Some(LogError::BadLine { line: 2 }),
+    ),
+    (
+        b"# base timestamp: 0\n1 # 0\n",
+        Some(LogError::BadLine { line: 2 }),
+    ),
+];
+
+#[test]
+fn texts_are_refused_by_their_first_fault(rt: HostRuntime) {
+    for &(text, said) in &TEXTS {
+        assert!(rt; refusal(rt.alloc(), text) == said);
+    }
+}
+
+// Whether a log is printed so.
+fn prints(alloc: Global, log: &Log, said: &[u8]) -> Result<bool, OutOfMemory> {
+    let text = print_log(alloc, log)?;
+    Ok(text.as_slice() == said)
+}
+
+const FOUR_ENTRIES: &[u8] = b"# base timestamp: 0\n0 + 1504\n1 # 3000\n1 - 1504 1\n2 d 1 250\n";
+
+// A text of four entries is read and printed.
+fn is_printed_again(rt: &impl Abort, alloc: Global) -> Result<(), Fail> {
+    let log = read_log(alloc, FOUR_ENTRIES)?;
+    assert!(rt; log.entries().len() == 4);
+    assert!(rt; prints(alloc, &log, FOUR_ENTRIES)?);
+    is_shared(&log);
+    Ok(())
+}
+
+// A log of one entry.
+fn log_of_one(alloc: Global) -> Result<Log, OutOfMemory> {
+    let mut log = Log::new(alloc);
+    log.reserve(1)?;
+    log.add(Entry::Opportunity {
+        moment: 5,
+        bytes: 1504,
+    });
+    Ok(log)
+}
+
+#[test]
+fn a_log_is_printed_and_read(rt: HostRuntime) -> Result<(), Fail> {
+    is_printed_again(&rt, rt.alloc())?;
+    let own = log_of_one(rt.alloc())?;
+    assert!(rt; prints(rt.alloc(), &own, b"# base timestamp: 0\n5 # 1504\n")?);
+    Ok(())
+}
+
+// How many entries are handed on of a piece.
+fn count_entries(reader: &mut LogText, piece: &[u8]) -> u64 {
+    let mut count = 0u64;
+    let mut rest = piece;
+    'entries: while let Some((_, after)) = reader.next(rest) {
+        count = count.saturating_add(1);
+        rest = after;
+    }
+    count
+}
+
+// The refusal of a text that is read in pieces of so many bytes, and how many entries were handed on.
+fn refusal_in_pieces(alloc: Global, text: &[u8], size: usize) -> (u64, Option<LogError>) {
+    let mut reader = LogText::new(alloc);
+    let mut count = 0u64;
+    for piece in text.chunks(size.max(1)) {
+        count = count.saturating_add(count_entries(&mut reader, piece));
+    }
+    (count, reader.finish().err())
+}
+
+// A text, how many entries are handed on of it, and how it is refused.
+static PIECES: [(&[u8], u64, Option<LogError>); 4] = [
+    (
+        b"# base timestamp: 0\n0 + 1\n9999999999 d 9999999999 9999999999\n",
+        2,
+        None,
+    ),
+    (
+        b"# base timestamp: 0\n5 + 100\n4 # 1504\n9 + 1\n",
+        1,
+        Some(LogError::Backwards { line: 3 }),
+    ),
+    (
+        b"# base timestamp: 0\n5 + 100\n6 + 00000000000000000000000000000000000001",
+        1,
+        Some(LogError::BadLine { line: 3 }),
+    ),
+    (
+        b"# base timestamp: 00000000000000000000000",
+        0,
+        Some(LogError::BadHeader),
+    ),
+];
+
+static SIZES: [usize; 4] = [1, 2, 7, 64];
+
+fn is_read_in_any_pieces(
+    rt: &impl Abort,
+    alloc: Global,
+    text: &[u8],
+    said: (u64, Option<LogError>),
+) {
+    for &size in &SIZES {
+        assert!(rt; refusal_in_pieces(alloc, text, size) == said);
+    }
+}
+
+#[test]
+fn a_text_is_read_in_any_pieces(rt: HostRuntime) {
+    for &(text, entries, refused) in &PIECES {
+        is_read_in_any_pieces(&rt, rt.alloc(), text, (entries, refused));
+    }
+}

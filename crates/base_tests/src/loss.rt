@@ -1,0 +1,118 @@
+// Rates, the words of ChaCha20, and what is dropped by words.
+use crate::packets::are_same;
+use loss_core::{ChaWords, ListWords, LossCore, RateError, Words, lose_all, read_rate};
+use packet_record::{Packet, Timed};
+use std::alloc::Global;
+use std::test::Fail;
+
+fn billionths(text: &str) -> Result<u32, RateError> {
+    Ok(read_rate(text)?.billionths())
+}
+
+// A text, and the rate that it is read as, in billionths.
+static RATES: [(&str, Result<u32, RateError>); 14] = [
+    ("0", Ok(0)),
+    ("0.5", Ok(500_000_000)),
+    ("00.25", Ok(250_000_000)),
+    (".000000001", Ok(1)),
+    ("1.0", Ok(1_000_000_000)),
+    ("1.000000001", Err(RateError::AboveOne)),
+    ("9999999999.999999999", Err(RateError::AboveOne)),
+    ("", Err(RateError::BadRate)),
+    (".", Err(RateError::BadRate)),
+    ("1.", Err(RateError::BadRate)),
+    ("0.0000000001", Err(RateError::BadRate)),
+    ("0.5.5", Err(RateError::BadRate)),
+    ("00000000000", Err(RateError::BadRate)),
+    ("0,5", Err(RateError::BadRate)),
+];
+
+#[test]
+fn reads_rates(rt: HostRuntime) {
+    for &(text, said) in &RATES {
+        assert!(rt; billionths(text) == said, "at {text}");
+    }
+    assert!(rt; RateError::BadRate.number() == 1);
+    assert!(rt; RateError::AboveOne.number() == 2);
+}
+
+// The words at places 0, 1, 15 and 16.
+fn words_of(seed: u64, stream: u64) -> [u32; 4] {
+    let mut source = ChaWords::new(seed, stream);
+    let first = source.next();
+    let second = source.next();
+    for _ in 2..15 {
+        source.next();
+    }
+    let third = source.next();
+    let fourth = source.next();
+    [first, second, third, fourth]
+}
+
+// Each row has a seed, a stream and the words at places 0, 1, 15 and 16, from another program.
+static WORDS: [(u64, u64, [u32; 4]); 4] = [
+    (0, 0, [2917185654, 2419978656, 2254827186, 3202811807]),
+    (0, 2, [3082405328, 1919952964, 470977951, 2139353036]),
+    (1, 3, [4090127660, 4061355942, 2467370632, 3397459614]),
+    (
+        u64::MAX,
+        17,
+        [4190517457, 3622945272, 3013610732, 1934270891],
+    ),
+];
+
+#[test]
+fn draws_the_words_of_chacha(rt: HostRuntime) {
+    for (seed, stream, words) in &WORDS {
+        assert!(rt; words_of(*seed, *stream) == *words, "seed {seed}");
+    }
+}
+
+// A packet at a moment.
+macro_rules! packet {
+    ($moment:expr) => {
+        Timed {
+            moment: $moment,
+            packet: Packet { id: 1, size: 60 },
+        }
+    };
+}
+
+const ARRIVED: [Timed; 3] = [packet!(4), packet!(5), packet!(6)];
+
+const DEPARTED: [Timed; 1] = [packet!(5)];
+
+const LOST: [Timed; 2] = [packet!(4), packet!(6)];
+
+// A word below one half of all, one that isn't, and then 0 at every place.
+fn two_words(alloc: Global) -> Result<ListWords, Fail> {
+    Ok(ListWords::new(vec![in alloc; 2147483647, 2147483648]?))
+}
+
+// A loss of one half, after these packets.
+fn loss_after(alloc: Global, packets: &[Timed]) -> Result<LossCore<ListWords>, Fail> {
+    let mut core = LossCore::new(alloc, read_rate("0.5")?, two_words(alloc)?);
+    for t in packets {
+        core.arrive(*t)?;
+    }
+    Ok(core)
+}
+
+#[test]
+fn drops_by_words(rt: HostRuntime) -> Result<(), Fail> {
+    let core = loss_after(rt.alloc(), &ARRIVED)?;
+    assert!(rt; are_same(core.arrivals(), &ARRIVED));
+    assert!(rt; are_same(core.departed(), &DEPARTED));
+    assert!(rt; are_same(core.lost(), &LOST));
+    Ok(())
+}
+
+#[test]
+fn drops_a_whole_list_by_words(rt: HostRuntime) -> Result<(), Fail> {
+    let alloc = rt.alloc();
+    let mut packets = ARRIVED.to_vec(alloc)?;
+    let lost = lose_all(alloc, read_rate("0.5")?, two_words(alloc)?, &mut packets)?;
+    assert!(rt; are_same(packets.as_slice(), &DEPARTED));
+    assert!(rt; are_same(lost.as_slice(), &LOST));
+    Ok(())
+}

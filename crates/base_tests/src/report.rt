@@ -1,0 +1,156 @@
+// Reports of logs, and of their texts in pieces.
+use log_report::{EMPTY, ReportError, ReportText, print_report, report};
+use mm_base::{Bytes, OutOfMemory, PieceReader};
+use shell_log::{Log, LogError, read_log};
+use std::alloc::Global;
+use std::process::Abort;
+use std::test::Fail;
+
+const QUEUED: &[u8] =
+    b"# base timestamp: 0\n0 + 1000\n0 + 1000\n1 # 1504\n1 - 1000 1\n1 + 800\n1 + 800\n1 + 700\n1 d 1 800\n\
+2 # 1504\n2 - 1000 2\n2 - 800 1\n3 # 1504\n3 - 700 2\n";
+
+const STATED: &[u8] =
+    b"# base timestamp: 0\n0 + 1504\n0 + 1504\n1 # 500\n2 # 3000\n2 - 1504 2\n2 - 1504 2\n3 # 500\n4 # 3000\n";
+
+// Moments of ten digits, and delays above those that are counted by value.
+const LATE: &[u8] =
+    b"# base timestamp: 0\n65535 - 10 65535\n65536 - 10 65536\n9999999999 - 10 9999999999\n";
+
+// A text, and what is printed of it.
+const TEXTS: [(&[u8], &[u8]); 5] = [
+    (
+        QUEUED,
+        b"entries 13\nspan 0 3\narrived 5 4300\noffered 3 4512\ndeparted 4 3500\ndropped 1 800\nused 775\ndelay 1 2 2\n",
+    ),
+    (
+        STATED,
+        b"entries 8\nspan 0 4\narrived 2 3008\noffered 4 7000\ndeparted 2 3008\ndropped 0 0\nused 429\ndelay 2 2 2\n",
+    ),
+    (
+        LATE,
+        b"entries 3\nspan 65535 9999999999\narrived 0 0\noffered 0 0\ndeparted 3 30\ndropped 0 0\nused none\n\
+delay 65536 9999999999 9999999999\n",
+    ),
+    (
+        b"# base timestamp: 0\n7 # 1504\n8 d 9999999999 9999999999\n8 d 9999999999 9999999999\n",
+        b"entries 3\nspan 7 8\narrived 0 0\noffered 1 1504\ndeparted 0 0\ndropped 19999999998 19999999998\nused 0\ndelay none\n",
+    ),
+    (b"# base timestamp: 0\n", EMPTY),
+];
+
+// What is printed of what was read.
+fn finished(alloc: Global, reader: ReportText) -> Result<Bytes, LogError> {
+    Ok(match reader.finish()? {
+        Some(report) => print_report(alloc, &report)?,
+        None => Bytes::from_slice(alloc, EMPTY)?,
+    })
+}
+
+// What is printed of a text that is read in pieces of so many bytes.
+fn printed(alloc: Global, text: &[u8], size: usize) -> Result<Bytes, LogError> {
+    let mut reader = ReportText::new(alloc)?;
+    for piece in text.chunks(size.max(1)) {
+        reader.push(piece);
+    }
+    finished(alloc, reader)
+}
+
+// What is printed of a log.
+fn printed_whole(alloc: Global, log: &Log) -> Result<Bytes, OutOfMemory> {
+    if log.entries().len() > 1000 {
+        return Err(OutOfMemory);
+    }
+    match report(alloc, log) {
+        Ok(report) => print_report(alloc, &report),
+        Err(ReportError::Empty) => Bytes::from_slice(alloc, EMPTY),
+        Err(ReportError::OutOfMemory) => Err(OutOfMemory),
+    }
+}
+
+static SIZES: [usize; 3] = [1, 7, 65536];
+
+fn is_printed_in_pieces(
+    rt: &impl Abort,
+    alloc: Global,
+    text: &[u8],
+    said: &[u8],
+) -> Result<(), Fail> {
+    for &size in &SIZES {
+        assert!(rt; printed(alloc, text, size)?.as_slice() == said);
+    }
+    Ok(())
+}
+
+fn is_printed_whole(rt: &impl Abort, alloc: Global, text: &[u8], said: &[u8]) -> Result<(), Fail> {
+    let log = read_log(alloc, text)?;
+    assert!(rt; printed_whole(alloc, &log)?.as_slice() == said);
+    Ok(())
+}
+
+#[test]
+fn a_log_has_its_report(rt: HostRuntime) -> Result<(), Fail> {
+    for &(text, said) in &TEXTS {
+        is_printed_in_pieces(&rt, rt.alloc(), text, said)?;
+        is_printed_whole(&rt, rt.alloc(), text, said)?;
+    }
+    Ok(())
+}
+
+// How a text is refused that is read in pieces of so many bytes.
+fn refusal(alloc: Global, text: &[u8], size: usize) -> Option<LogError> {
+    match printed(alloc, text, size) {
+        Ok(_) => None,
+        Err(fault) => Some(fault),
+    }
+}
+
+// A text, and how it is refused.
+static REFUSED: [(&[u8], LogError); 3] = [
+    (b"# base timestamp: 0", LogError::BadHeader),
+    (
+        b"# base timestamp: 0\n5 + 100\n4 # 1504\n",
+        LogError::Backwards { line: 3 },
+    ),
+    (
+        b"# base timestamp: 0\n5 + 100\n5 - 100 6\n",
+        LogError::BadLine { line: 3 },
+    ),
+];
+
+static SHORT: [usize; 3] = [1, 7, 64];
+
+fn is_refused(rt: &impl Abort, alloc: Global, text: &[u8], said: LogError) {
+    for &size in &SHORT {
+        assert!(rt; refusal(alloc, text, size) == Some(said));
+    }
+}
+
+#[test]
+fn a_text_is_refused_as_by_read_log(rt: HostRuntime) {
+    for &(text, said) in &REFUSED {
+        is_refused(&rt, rt.alloc(), text, said);
+    }
+}
+
+const TWO_ENTRIES: &[u8] = b"70000 - 1000 7\n70000 - 500 69999\n";
+
+const SUMMED: &[u8] =
+    b"entries 10000\nspan 70000 70000\narrived 0 0\noffered 0 0\ndeparted 10000 7500000\ndropped 0 0\nused none\n\
+delay 7 69999 69999\n";
+
+// What is printed of ten thousand entries.
+fn summed(alloc: Global) -> Result<Bytes, LogError> {
+    let mut reader = ReportText::new(alloc)?;
+    reader.push(b"# base timestamp: 0\n");
+    for _ in 0..5000 {
+        reader.push(TWO_ENTRIES);
+    }
+    finished(alloc, reader)
+}
+
+#[test]
+fn ten_thousand_entries_are_summed(rt: HostRuntime) -> Result<(), Fail> {
+    assert!(rt; summed(rt.alloc())?.as_slice() == SUMMED);
+    Ok(())
+}

@@ -1,0 +1,258 @@
+// Schedules that are read, printed and made: worked values, and what no clause says.
+ghost use Rattle.std.specs.Prelude.{◌≤◌};
+
+use mm_base::limits::MOST_LINES;
+use mm_base::{Bytes, OutOfMemory, PieceReader};
+use packet_record::{
+    Draws, ScheduleError, ScheduleReader, ScheduleText, make_load, print_schedule, read_schedule,
+};
+use std::alloc::Global;
+use std::process::Abort;
+use std::test::Fail;
+
+fn moves<T: Send + Drop>(_value: T) {}
+
+fn shares<T: Sync>(_value: &T) {}
+
+// Whether the schedule of a text is printed so.
+fn is_printed(alloc: Global, text: &[u8], said: &[u8]) -> Result<bool, Fail> {
+    let schedule = read_schedule(alloc, text)?;
+    let printed = print_schedule(alloc, &schedule)?;
+    Ok(printed.as_slice() == said)
+}
+
+// How many rows an empty text has. Their schedule may be shared and sent.
+fn rows_of_nothing(alloc: Global) -> Result<usize, ScheduleError> {
+    let empty = read_schedule(alloc, b"")?;
+    let count = empty.rows().len();
+    shares(&empty);
+    moves(empty);
+    Ok(count)
+}
+
+// A text, and what is printed of its schedule.
+static PRINTED: [(&[u8], &[u8]); 2] = [
+    (b"05 up 0100", b"5 up 100\n"),
+    (
+        b"0 up 1\n9999999999 down 1504\n",
+        b"0 up 1\n9999999999 down 1504\n",
+    ),
+];
+
+#[test]
+fn prints_what_it_read(rt: HostRuntime) -> Result<(), Fail> {
+    for &(text, said) in &PRINTED {
+        assert!(rt; is_printed(rt.alloc(), text, said)?);
+    }
+    assert!(rt; rows_of_nothing(rt.alloc())? == 0);
+    Ok(())
+}
+
+// The number of a text's refusal, and the line that it names.
+fn refusal(alloc: Global, text: &[u8]) -> Option<(u32, u64)> {
+    match read_schedule(alloc, text) {
+        Ok(_) => None,
+        Err(fault) => Some((fault.number(), fault.line())),
+    }
+}
+
+// A text, the number of its refusal, and the line that it names.
+static REFUSED: [(&[u8], u32, u64); 9] = [
+    (b"0 up 1505", 2, 1),
+    (b"0 up 0", 2, 1),
+    (b"5 up 1\n\n", 1, 2),
+    (b"5 up 1\r\n", 1, 1),
+    (b"5  up 1", 1, 1),
+    (b"5 up 1 ", 1, 1),
+    (b"12345678901 up 1", 1, 1),
+    (b"5 up 1\n4 up 0\n", 2, 2),
+    (b"5 up 1\n4 down 7\n3 up\n", 3, 2),
+];
+
+#[test]
+fn refuses_the_first(rt: HostRuntime) {
+    for &(text, number, line) in &REFUSED {
+        assert!(rt; refusal(rt.alloc(), text) == Some((number, line)));
+    }
+}
+
+// Reads a piece. It says nothing of it, so that a test has only what it looks at.
+fn push(reading: &mut ScheduleText, piece: &[u8]) {
+    reading.push(piece);
+}
+
+// Whether the rows of a text that was read are printed so, or its refusal has this number and names this line.
+fn ends_as(
+    alloc: Global,
+    reading: ScheduleText,
+    said: Result<&[u8], (u32, u64)>,
+) -> Result<bool, OutOfMemory> {
+    match reading.finish() {
+        Ok(schedule) => {
+            let printed = print_schedule(alloc, &schedule)?;
+            Ok(said == Ok(printed.as_slice()))
+        }
+        Err(fault) => Ok(said == Err((fault.number(), fault.line()))),
+    }
+}
+
+// Whether a text in three pieces is read so.
+fn is_read_in_three(
+    alloc: Global,
+    first: &[u8],
+    second: &[u8],
+    third: &[u8],
+    said: Result<&[u8], (u32, u64)>,
+) -> Result<bool, OutOfMemory> {
+    let mut reading = ScheduleText::new(alloc, 0)?;
+    push(&mut reading, first);
+    push(&mut reading, second);
+    push(&mut reading, third);
+    ends_as(alloc, reading, said)
+}
+
+// A text of a front and a rest is read so, wherever the rest is cut in two.
+fn is_read_behind(
+    rt: &impl Abort,
+    alloc: Global,
+    front: &[u8],
+    rest: &[u8],
+    said: Result<&[u8], (u32, u64)>,
+) -> Result<(), Fail> {
+    for cut in 0..rest.len() + 1 {
+        let (second, third) = rest.split_at(cut);
+        assert!(rt; is_read_in_three(alloc, front, second, third, said)?);
+    }
+    Ok(())
+}
+
+// A text is read so, wherever it is cut in three.
+fn is_read(
+    rt: &impl Abort,
+    alloc: Global,
+    text: &[u8],
+    said: Result<&[u8], (u32, u64)>,
+) -> Result<(), Fail> {
+    for cut in 0..text.len() + 1 {
+        let (front, rest) = text.split_at(cut);
+        is_read_behind(rt, alloc, front, rest, said)?;
+    }
+    Ok(())
+}
+
+// A text, and what is printed of its rows, or the number of its refusal and the line that it names.
+static READ: [(&[u8], Result<&[u8], (u32, u64)>); 8] = [
+    (
+        b"05 up 0100\n7 down 1504\n7 up 1",
+        Ok(b"5 up 100\n7 down 1504\n7 up 1\n"),
+    ),
+    (
+        b"0000000001 down 0000000002\n1 up 3\n",
+        Ok(b"1 down 2\n1 up 3\n"),
+    ),
+    (b"", Ok(b"")),
+    (b"5 up 1\n\n6 up 1\n", Err((1, 2))),
+    (b"5 up 1\n4 up 1\n0 up 0\n", Err((3, 2))),
+    (b"5 up 1\n6 up 1505", Err((2, 2))),
+    (b"0000000001 down 0000000002 \n1 up 3\n", Err((1, 1))),
+    (
+        b"1 up 1\n0000000001 down 00000000020000000002 down 2",
+        Err((1, 2)),
+    ),
+];
+
+#[test]
+fn reads_a_text_wherever_it_is_cut(rt: HostRuntime) -> Result<(), Fail> {
+    for &(text, said) in &READ {
+        is_read(&rt, rt.alloc(), text, said)?;
+    }
+    Ok(())
+}
+
+// The text of the load of so many packets that is made of a number.
+fn load_text(alloc: Global, number: u64, packets: u32) -> Result<Bytes, OutOfMemory>
+    requires some { 1 ≤ packets }
+    requires few { packets ≤ MOST_LINES }
+{
+    let load = make_load(alloc, number, packets)?;
+    print_schedule(alloc, &load)
+}
+
+// How many rows a text has.
+fn count_rows(alloc: Global, text: &[u8]) -> Result<usize, ScheduleError> {
+    let schedule = read_schedule(alloc, text)?;
+    Ok(schedule.rows().len())
+}
+
+// Whether a text is read in pieces of so many bytes, and printed as it was.
+fn is_read_in_pieces(alloc: Global, text: &[u8], size: usize) -> Result<bool, OutOfMemory> {
+    let mut reading = ScheduleText::new(alloc, text.len())?;
+    for piece in text.chunks(size.max(1)) {
+        reading.push(piece);
+    }
+    ends_as(alloc, reading, Ok(text))
+}
+
+static SIZES: [usize; 5] = [1, 2, 13, 27, 65_536];
+
+fn is_read_in_any_pieces(rt: &impl Abort, alloc: Global, text: &[u8]) -> Result<(), Fail> {
+    for &size in &SIZES {
+        assert!(rt;
+            is_read_in_pieces(alloc, text, size)?,
+            "in pieces of {size}"
+        );
+    }
+    Ok(())
+}
+
+#[test]
+fn ten_thousand_rows_are_read_in_pieces_of_any_size(rt: HostRuntime) -> Result<(), Fail> {
+    let text = load_text(rt.alloc(), 7, 10_000)?;
+    assert!(rt; count_rows(rt.alloc(), text.as_slice())? == 10_000);
+    assert!(rt; is_printed(rt.alloc(), text.as_slice(), text.as_slice())?);
+    is_read_in_any_pieces(&rt, rt.alloc(), text.as_slice())
+}
+
+// A line, and how it is refused after those before it.
+static LINES: [(&[u8], Option<ScheduleError>); 3] = [
+    (b"7 down 40", None),
+    (b"6 down 40", Some(ScheduleError::Decreasing { line: 2 })),
+    (b"8 down 40", Some(ScheduleError::Decreasing { line: 2 })),
+];
+
+// How the next line is refused.
+fn next_refusal(reader: &mut ScheduleReader, line: &[u8]) -> Option<ScheduleError> {
+    match reader.next(line) {
+        Ok(_) => None,
+        Err(fault) => Some(fault),
+    }
+}
+
+#[test]
+fn refuses_again(rt: HostRuntime) {
+    let mut reader = ScheduleReader::new();
+    for &(line, said) in &LINES {
+        assert!(rt; next_refusal(&mut reader, line) == said);
+    }
+}
+
+// The first draws of the generator.
+static DRAWN: [u32; 11] = [
+    149, 11249, 57305, 38044, 35283, 24819, 26463, 18689, 25472, 9901, 21742,
+];
+
+fn draws_as_said(rt: &impl Abort) {
+    let mut draws = Draws::new(65537);
+    for &value in &DRAWN {
+        assert!(rt; draws.draw() == value);
+    }
+}
+
+const LOAD: &[u8] = b"1 up 366\n1 down 1483\n4 up 675\n";
+
+#[test]
+fn makes_loads(rt: HostRuntime) -> Result<(), Fail> {
+    assert!(rt; load_text(rt.alloc(), 1, 3)?.as_slice() == LOAD);
+    draws_as_said(&rt);
+    Ok(())
+}

@@ -1,0 +1,156 @@
+// Traces read, printed, played and made.
+use mm_base::{Bytes, OutOfMemory, write_decimal};
+use std::alloc::Global;
+use std::process::Abort;
+use std::test::Fail;
+use trace_reader::{Form, Trace, TraceError, make_trace, print_trace, read_trace};
+
+fn is_shared<T: Send + Sync>(_: &T) {}
+
+fn refusal(alloc: Global, text: &[u8]) -> Option<TraceError> {
+    match read_trace(alloc, text) {
+        Ok(_) => None,
+        Err(fault) => Some(fault),
+    }
+}
+
+// A text, and how it is refused.
+static TEXTS: [(&[u8], Option<TraceError>); 8] = [
+    (b"", Some(TraceError::Empty)),
+    (b"0\n", Some(TraceError::ZeroLength)),
+    (b"5\n4\n", Some(TraceError::Decreasing { line: 2 })),
+    (b"1\n\n2\n", Some(TraceError::BadLine { line: 2 })),
+    (
+        b"# mm-trace 2\n1 0\n",
+        Some(TraceError::BadBytes { line: 2 }),
+    ),
+    (b"# mm-trace 2\n", Some(TraceError::Empty)),
+    (
+        b"# mm-trace 2\n1 1 \n",
+        Some(TraceError::BadLine { line: 2 }),
+    ),
+    (b"007", None),
+];
+
+#[test]
+fn texts_are_refused_by_their_first_fault(rt: HostRuntime) {
+    for &(text, said) in &TEXTS {
+        assert!(rt; refusal(rt.alloc(), text) == said);
+    }
+}
+
+// The trace of a text.
+fn trace_of(alloc: Global, text: &[u8]) -> Result<Trace, TraceError> {
+    read_trace(alloc, text)
+}
+
+// Whether a trace is printed so.
+fn prints(alloc: Global, trace: &Trace, said: &[u8]) -> Result<bool, OutOfMemory> {
+    let text = print_trace(alloc, trace)?;
+    Ok(text.as_slice() == said)
+}
+
+// A copy of a text's trace is printed so.
+fn is_copied(rt: &impl Abort, alloc: Global, text: &[u8], said: &[u8]) -> Result<(), Fail> {
+    let trace = trace_of(alloc, text)?;
+    is_shared(&trace);
+    let copy = trace.copy()?;
+    assert!(rt; prints(alloc, &copy, said)?);
+    Ok(())
+}
+
+// A text that states bytes.
+const STATED: &[u8] = b"# mm-trace 2\n1 500\n2 3000\n";
+
+#[test]
+fn traces_are_printed(rt: HostRuntime) -> Result<(), Fail> {
+    is_copied(&rt, rt.alloc(), b"007", b"7\n")?;
+    let stated = trace_of(rt.alloc(), STATED)?;
+    assert!(rt; stated.form() == Form::MomentsAndBytes);
+    assert!(rt; prints(rt.alloc(), &stated, STATED)?);
+    Ok(())
+}
+
+// Ten thousand lines after a first one, each of a moment and this end.
+fn long_text(alloc: Global, first: &[u8], end: &[u8]) -> Result<Bytes, OutOfMemory> {
+    let mut text = Bytes::from_slice(alloc, first)?;
+    for moment in 0..10_000u64 {
+        write_decimal(&mut text, moment)?;
+        text.append(end)?;
+    }
+    Ok(text)
+}
+
+// Such a text is read and printed.
+fn is_printed_again(rt: &impl Abort, alloc: Global, first: &[u8], end: &[u8]) -> Result<(), Fail> {
+    let text = long_text(alloc, first, end)?;
+    let trace = trace_of(alloc, text.as_slice())?;
+    assert!(rt; trace.len() == 10_000);
+    assert!(rt; prints(alloc, &trace, text.as_slice())?);
+    Ok(())
+}
+
+#[test]
+fn ten_thousand_lines_are_read_and_printed(rt: HostRuntime) -> Result<(), Fail> {
+    is_printed_again(&rt, rt.alloc(), b"", b"\n")?;
+    is_printed_again(&rt, rt.alloc(), b"# mm-trace 2\n", b" 1000000\n")
+}
+
+// Whether opportunity number `j` is at this moment, over as many laps as it takes.
+fn is_at(trace: &Trace, j: u16, moment: u64) -> bool {
+    match trace.opportunity(u64::from(j), false) {
+        Some(o) => o.moment == moment,
+        None => false,
+    }
+}
+
+// The number of an opportunity, and its moment.
+static MOMENTS: [(u16, u64); 8] = [
+    (0, 0),
+    (1, 5),
+    (2, 5),
+    (3, 10),
+    (4, 10),
+    (5, 15),
+    (6, 15),
+    (7, 20),
+];
+
+fn are_at_their_moments(rt: &impl Abort, trace: &Trace) {
+    for &(j, moment) in &MOMENTS {
+        assert!(rt; is_at(trace, j, moment));
+    }
+}
+
+// Whether a trace has so many opportunities up to 15.
+fn has_up_to_15(trace: &Trace, once: bool, count: u64) -> bool {
+    trace.count_to(15, once) == count
+}
+
+#[test]
+fn a_trace_begins_again_at_its_last_moment(rt: HostRuntime) -> Result<(), Fail> {
+    let trace = trace_of(rt.alloc(), b"0\n5\n")?;
+    assert!(rt; has_up_to_15(&trace, false, 7));
+    assert!(rt; has_up_to_15(&trace, true, 2));
+    assert!(rt; trace.opportunity(2, true).is_none());
+    are_at_their_moments(&rt, &trace);
+    Ok(())
+}
+
+// The first lines of a made trace.
+const FIRST: &[u8] = b"3\n6\n9\n11\n12\n13\n14\n17\n20\n22\n24\n";
+
+// Whether the text of a trace begins so.
+fn begins(alloc: Global, trace: &Trace, first: &[u8]) -> Result<bool, OutOfMemory> {
+    let text = print_trace(alloc, trace)?;
+    Ok(text.as_slice().starts_with(first))
+}
+
+#[test]
+fn a_trace_is_made(rt: HostRuntime) -> Result<(), Fail> {
+    let trace = make_trace(rt.alloc(), 1)?;
+    assert!(rt; trace.len() == 100);
+    assert!(rt; begins(rt.alloc(), &trace, FIRST)?);
+    assert!(rt; trace.at(trace.len() - 1).moment == trace.last_moment());
+    Ok(())
+}
