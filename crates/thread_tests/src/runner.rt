@@ -1,0 +1,203 @@
+//! Runs over threads, with paces that hold some turns until others have begun.
+mod fed;
+mod paced;
+mod parts;
+
+use fed::feeds;
+use mm_base::{Bytes, MemDisk, NoPace, Pace, Text};
+use nest_runner::{run_stream, run_threads};
+use nest_spec::{Nest, RunResult, build, print_fates, read_nest};
+use packet_record::read_schedule;
+use std::alloc::{AllocError, Global};
+use std::marker::Sync;
+use std::process::Abort;
+use std::sync::Wait;
+use std::test::Fail;
+use std::thread::Threads;
+use trace_reader::read_trace;
+
+fn words_of(alloc: Global, text: &str) -> Result<Vec<String>, AllocError> {
+    text.split(' ')
+        .map(|word| String::from_str(alloc, word))
+        .try_collect(alloc)
+}
+
+// The nest of these words, each of whose traces is this one.
+fn nest_of(
+    rt: &impl Abort,
+    alloc: Global,
+    nest: &str,
+    trace: &[u8],
+    horizon: u64,
+) -> Result<Nest, Fail> {
+    let words = words_of(alloc, nest)?;
+    let words = read_nest(alloc, words.as_slice())?;
+    let mut traces = Vec::new(alloc);
+    for _ in words.traces() {
+        let trace = read_trace(alloc, trace)?;
+        traces.push(trace).map_err(AllocError::from)?;
+    }
+    assert!(rt; horizon <= 3_600_000);
+    assert!(rt; traces.len() == words.traces().len());
+    let opportunities = words.opportunities(traces.as_slice(), horizon);
+    assert!(rt; opportunities <= 16_000_000);
+    let nest = build(alloc, words, traces, 0, horizon)?;
+    Ok(nest)
+}
+
+// Which call runs a schedule.
+#[derive(Clone, Copy, Debug, PartialEq, Eq)]
+enum Call {
+    // The schedule is in memory.
+    Threads,
+    // It is read from a file.
+    Stream,
+}
+
+const CALLS: [Call; 2] = [Call::Threads, Call::Stream];
+
+// The result of a schedule, which is the file `s` where it is read from a file.
+fn run_by<Q: Pace + Sync, R: Threads + Wait + Sync>(
+    rt: &R,
+    alloc: Global,
+    call: Call,
+    nest: &Nest,
+    schedule: &[u8],
+    pace: &Q,
+) -> Result<RunResult, Fail> {
+    match call {
+        Call::Threads => {
+            let schedule = read_schedule(alloc, schedule)?;
+            Ok(run_threads(rt, alloc, nest, &schedule, pace)?)
+        }
+        Call::Stream => {
+            let name = Text::from_text(alloc, "s")?;
+            let bytes = Bytes::from_slice(alloc, schedule)?;
+            let mut files = Vec::new(alloc);
+            files.push((name, bytes)).map_err(AllocError::from)?;
+            let mut disk = MemDisk::new(alloc, files, Vec::new(alloc));
+            Ok(run_stream(rt, alloc, nest, &mut disk, "s", pace)?)
+        }
+    }
+}
+
+// Runs over threads, and compares the text of the fates.
+fn has_fates<Q: Pace + Sync, R: Threads + Wait + Abort + Sync>(
+    rt: &R,
+    alloc: Global,
+    call: Call,
+    nest: &Nest,
+    schedule: &[u8],
+    pace: &Q,
+    fates: &[u8],
+) -> Result<(), Fail> {
+    let result = run_by(rt, alloc, call, nest, schedule, pace)?;
+    let text = print_fates(alloc, result.fates())?;
+    assert_eq!(rt; text.as_slice(), fates);
+    Ok(())
+}
+
+// A nest, the trace of its links, its horizon, a schedule, and the fates that the composition of the shells gives.
+#[derive(Clone, Copy)]
+struct Case<'a> {
+    nest: &'a str,
+    trace: &'a [u8],
+    horizon: u64,
+    schedule: &'a [u8],
+    fates: &'a [u8],
+}
+
+const CASES: [Case<'static>; 4] = [
+    Case {
+        nest: "mm-delay 20",
+        trace: b"1\n",
+        horizon: 100,
+        schedule: b"80 up 100\n81 up 100\n101 up 100\n",
+        fates: b"1 up departed 100\n2 up inside 1\n3 up unsent\n",
+    },
+    Case {
+        nest: "mm-delay 10 mm-link t t",
+        trace: b"4\n",
+        horizon: 100,
+        schedule: b"0 up 100\n0 down 100\n",
+        fates: b"1 up departed 14\n2 down departed 12\n",
+    },
+    Case {
+        nest: "mm-link t t --uplink-queue=droptail --uplink-queue-args=bytes=250",
+        trace: b"10\n",
+        horizon: 10,
+        schedule: b"0 up 100\n0 up 200\n0 up 150\n",
+        fates: b"1 up departed 10\n2 up dropped 1 0\n3 up departed 10\n",
+    },
+    Case {
+        nest: "mm-delay 1",
+        trace: b"1\n",
+        horizon: 10,
+        schedule: b"",
+        fates: b"",
+    },
+];
+
+fn agrees<R: Threads + Wait + Abort + Sync>(
+    rt: &R,
+    alloc: Global,
+    call: Call,
+    case: &Case<'_>,
+) -> Result<(), Fail> {
+    let nest = nest_of(rt, alloc, case.nest, case.trace, case.horizon)?;
+    has_fates(rt, alloc, call, &nest, case.schedule, &NoPace, case.fates)
+}
+
+#[test]
+fn threads_give_the_composition(rt: HostRuntime) -> Result<(), Fail> {
+    for case in &CASES {
+        agrees(&rt, rt.alloc(), Call::Threads, case)?;
+    }
+    Ok(())
+}
+
+#[test]
+fn a_schedule_in_a_file_gives_the_composition(rt: HostRuntime) -> Result<(), Fail> {
+    for case in &CASES {
+        agrees(&rt, rt.alloc(), Call::Stream, case)?;
+    }
+    Ok(())
+}
+
+// So many rows, one a millisecond.
+fn rows_of(alloc: Global, count: u32) -> Result<String, AllocError> {
+    let mut text = String::new(alloc);
+    for moment in 1..=count {
+        text.push_str(format!(in alloc; "{moment} up 100\n")?.as_str())?;
+    }
+    Ok(text)
+}
+
+// Their fates behind a delay of 20.
+fn fates_of(alloc: Global, count: u32) -> Result<String, AllocError> {
+    let mut text = String::new(alloc);
+    for moment in 1..=count {
+        let departed = moment.saturating_add(20);
+        text.push_str(format!(in alloc; "{moment} up departed {departed}\n")?.as_str())?;
+    }
+    Ok(text)
+}
+
+// More rows than fit in a piece of a file.
+#[test]
+fn many_rows_pass(rt: HostRuntime) -> Result<(), Fail> {
+    let alloc = rt.alloc();
+    let schedule = rows_of(alloc, 10_000)?;
+    let fates = fates_of(alloc, 10_000)?;
+    let case = Case {
+        nest: "mm-delay 20",
+        trace: b"1\n",
+        horizon: 20_000,
+        schedule: schedule.as_bytes(),
+        fates: fates.as_bytes(),
+    };
+    for call in CALLS {
+        agrees(&rt, alloc, call, &case)?;
+    }
+    feeds(&rt, alloc, &case)
+}
