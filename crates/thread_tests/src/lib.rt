@@ -7,6 +7,10 @@ mod cell;
 #[cfg(test)]
 mod channel;
 #[cfg(test)]
+mod packets;
+#[cfg(test)]
 mod runner;
 #[cfg(test)]
 mod senders;
+#[cfg(test)]
+mod waiting;
