@@ -1,72 +1,111 @@
 //! A channel in one thread and between two, and the types that may cross threads.
-ghost use Rattle.std.specs.Prelude.{◌≡◌, ◌≤◌, ◌∷◌, []};
+ghost use Rattle.std.specs.Prelude.{◌≡◌, ◌≤◌, OnOk};
 ghost use Rattle.packet_record.specs.declared.item.FlowEnd.TheVariants.{Open};
-ghost use Rattle.packet_record.specs.Streams.{no_items};
+ghost use Rattle.packet_record.specs.Streams.{IsUpTo, MayFollow, after, no_items};
 ghost use Rattle.mark_channel.specs.Ends.{IsSameEnd};
-ghost use Rattle.mark_channel.specs.Feedings.{HasSentRows};
 
 mod begun;
+mod fed;
 
-use mark_channel::{FeedEnd, Feeds, Receiver, Sender, open, settle};
+use crate::packets::timed;
+use crate::waiting::{give_way, reached};
+use mark_channel::{Receiver, Sender, open, settle};
 use mm_base::OutOfMemory;
-use packet_record::{Direction, Item, Packet, Row, Timed};
+use packet_record::{Item, Packet, Timed};
 use std::alloc::Global;
-use std::slice;
+use std::process::Abort;
 use std::sync::Wait;
 use std::sync::atomic::{AtomicU64, Ordering};
 use std::test::Fail;
-use std::thread::{Threads, join_mut, yield_now};
+use std::thread::{Threads, join_mut};
 
 // An end may be sent to another thread.
 fn moves<T: Send>(_end: &T) {}
 
-fn timed(id: u32, moment: u64) -> Timed
-    ensures { result.moment ≡ moment }
+// Sends an item. It says of the end only what a next send needs.
+fn send_to<R: Wait>(rt: &R, sender: &mut Sender, item: Item)
+    requires follows { MayFollow sender.old.flow item }
+    requires within { IsUpTo sender.old.horizon item }
+    ensures flow { sender.new.flow ≡ after sender.old.flow item }
+    ensures same { IsSameEnd sender.old sender.new }
 {
-    Timed {
-        moment,
-        packet: Packet { id, size: 100 },
+    sender.send(rt, item);
+}
+
+// Receives an item. The end is refused.
+fn receive_one<R: Wait>(rt: &R, receiver: &mut Receiver) -> Result<Item, Fail>
+    requires { receiver.old.flow.end ≡ Open }
+    ensures open { OnOk result (receiver.new.flow.end ≡ Open) }
+    ensures same { IsSameEnd receiver.old receiver.new }
+{
+    let item = receiver.recv(rt);
+    match item {
+        Item::Packet(_) | Item::Mark(_) => Ok(item),
+        Item::End | Item::Broken => Err(Fail::from("the end came early")),
     }
 }
+
+// Receives items and then the last one, and compares each.
+fn receive_each<R: Wait + Abort>(
+    rt: &R,
+    receiver: &mut Receiver,
+    items: &[Item],
+    last: Item,
+) -> Result<(), Fail>
+    requires { receiver.old.flow.end ≡ Open }
+    ensures same { OnOk result (IsSameEnd receiver.old receiver.new) }
+{
+    for item in items {
+        assert!(rt; receive_one(rt, receiver)? == *item);
+    }
+    assert!(rt; receiver.recv(rt) == last);
+    Ok(())
+}
+
+const FIRST: [Item; 1] = [Item::Packet(Timed {
+    moment: 0,
+    packet: Packet { id: 1, size: 100 },
+})];
 
 #[test]
 fn carries_two(rt: HostRuntime) -> Result<(), Fail> {
     let (mut sender, mut receiver) = open(rt.alloc(), 2, 20)?;
     moves(&sender);
     moves(&receiver);
-    sender.send(&rt, Item::Packet(timed(1, 0)));
-    sender.send(&rt, Item::End);
-    let Item::Packet(first) = receiver.recv(&rt) else {
-        return Err(Fail::from("no packet"));
-    };
-    assert_eq!(rt; first, timed(1, 0));
-    let last = receiver.recv(&rt);
-    assert_eq!(rt; last, Item::End);
+    send_to(&rt, &mut sender, Item::Packet(timed(1, 0)));
+    send_to(&rt, &mut sender, Item::End);
+    receive_each(&rt, &mut receiver, &FIRST, Item::End)?;
     settle(sender, receiver);
     Ok(())
 }
+
+// Sends two marks at one moment, and a packet at it.
+fn send_marks<R: Wait>(rt: &R, sender: &mut Sender)
+    requires empty { sender.old.flow ≡ no_items }
+    requires horizon { sender.old.horizon ≡ 20 }
+    ensures same { IsSameEnd sender.old sender.new }
+{
+    send_to(rt, sender, Item::Mark(5));
+    send_to(rt, sender, Item::Mark(5));
+    send_to(rt, sender, Item::Packet(timed(1, 5)));
+    send_to(rt, sender, Item::Broken);
+}
+
+const MARKS: [Item; 3] = [
+    Item::Mark(5),
+    Item::Mark(5),
+    Item::Packet(Timed {
+        moment: 5,
+        packet: Packet { id: 1, size: 100 },
+    }),
+];
 
 // A mark at the moment of the one before is an item of its own.
 #[test]
 fn carries_each_mark_once(rt: HostRuntime) -> Result<(), Fail> {
     let (mut sender, mut receiver) = open(rt.alloc(), 4, 20)?;
-    sender.send(&rt, Item::Mark(5));
-    sender.send(&rt, Item::Mark(5));
-    sender.send(&rt, Item::Packet(timed(1, 5)));
-    sender.send(&rt, Item::Broken);
-    let Item::Mark(first) = receiver.recv(&rt) else {
-        return Err(Fail::from("no mark"));
-    };
-    let Item::Mark(second) = receiver.recv(&rt) else {
-        return Err(Fail::from("no second mark"));
-    };
-    assert_eq!(rt; (first, second), (5, 5));
-    let Item::Packet(third) = receiver.recv(&rt) else {
-        return Err(Fail::from("no packet"));
-    };
-    assert_eq!(rt; third, timed(1, 5));
-    let last = receiver.recv(&rt);
-    assert_eq!(rt; last, Item::Broken);
+    send_marks(&rt, &mut sender);
+    receive_each(&rt, &mut receiver, &MARKS, Item::Broken)?;
     settle(sender, receiver);
     Ok(())
 }
@@ -79,20 +118,9 @@ fn send_all<R: Wait>(rt: &R, sender: &mut Sender, count: u32, begun: &AtomicU64)
 {
     for number in 0..count {
         begun.fetch_add(1, Ordering::SeqCst);
-        sender.send(rt, Item::Packet(timed(number, number as u64)));
+        send_to(rt, sender, Item::Packet(timed(number, number as u64)));
     }
-    sender.send(rt, Item::End);
-}
-
-// Waits until a number is reached. False at the limit of turns.
-fn reached(number: &AtomicU64, goal: u64) -> bool {
-    for _ in 0..10_000_000 {
-        if number.load(Ordering::SeqCst) >= goal {
-            return true;
-        }
-        yield_now();
-    }
-    false
+    send_to(rt, sender, Item::End);
 }
 
 // Receives until the end, and counts the packets that come in their order.
@@ -115,7 +143,18 @@ fn receive_all<R: Wait>(rt: &R, receiver: &mut Receiver) -> u32
     unreachable!()
 }
 
-// Waits until so many sends have begun, gives way, and looks how many have begun. Then it receives all.
+// Waits until so many sends have begun, gives way, and looks how many have begun. 0 where so many didn't.
+fn count_held(begun: &AtomicU64, goal: u64) -> u64 {
+    let full = reached(begun, goal);
+    give_way();
+    if full {
+        begun.load(Ordering::SeqCst)
+    } else {
+        0
+    }
+}
+
+// Waits until so many sends have begun, and then receives all.
 fn receive_late<R: Wait>(
     rt: &R,
     receiver: &mut Receiver,
@@ -125,15 +164,7 @@ fn receive_late<R: Wait>(
     requires open { receiver.old.flow.end ≡ Open }
     ensures same { IsSameEnd receiver.old receiver.new }
 {
-    let full = reached(begun, goal);
-    for _ in 0..10_000 {
-        yield_now();
-    }
-    let held = if full {
-        begun.load(Ordering::SeqCst)
-    } else {
-        0
-    };
+    let held = count_held(begun, goal);
     (held, receive_all(rt, receiver))
 }
 
@@ -158,89 +189,25 @@ fn meet<R: Threads + Wait + Sync>(
     seen
 }
 
+// Sends a thousand packets: how many sends begin while nothing is received, and how many packets come then.
+fn hold<R: Threads + Wait + Sync>(
+    rt: &R,
+    alloc: Global,
+    capacity: u32,
+) -> Result<(u64, u32), OutOfMemory>
+    requires some { 1 ≤ capacity }
+    requires most { capacity ≤ 64 }
+{
+    let (mut sender, mut receiver) = open(alloc, capacity, 1000)?;
+    let seen = meet(rt, &mut sender, &mut receiver, u64::from(capacity) + 1);
+    settle(sender, receiver);
+    Ok(seen)
+}
+
 // As many items as the channel holds are sent while nothing is received, and one send more waits.
 #[test]
 fn holds_its_capacity_and_one_waits(rt: HostRuntime) -> Result<(), Fail> {
-    for capacity in [2u32, 64] {
-        let full = u64::from(capacity) + 1;
-        let (mut sender, mut receiver) = open(rt.alloc(), capacity, 1000)?;
-        let (held, came) = meet(&rt, &mut sender, &mut receiver, full);
-        settle(sender, receiver);
-        assert_eq!(rt; held, full);
-        assert_eq!(rt; came, 1000);
-    }
-    Ok(())
-}
-
-// Sends the row's packet where it goes in this direction and enters up to the horizon, and then the end.
-fn send_row<R: Wait>(rt: &R, to: &mut Sender, direction: Direction, horizon: u64, row: &Row)
-    requires empty { to.old.flow ≡ no_items }
-    requires within { to.old.horizon ≡ horizon }
-    ensures sent { HasSentRows direction horizon (row.now ∷ []) to.new.flow }
-    ensures same { IsSameEnd to.old to.new }
-{
-    if row.direction == direction && row.timed.moment <= horizon {
-        to.send(rt, Item::Packet(row.timed));
-    }
-    to.send(rt, Item::End);
-}
-
-// One row, and all that is fed.
-#[derive(Drop)]
-struct OneRow {
-    row: Row,
-}
-
-impl Feeds for OneRow {
-    ghost use Rattle.std.specs.Prelude.{◌∷◌, []};
-
-    ghost fed_rows = { λ s. s.row ∷ [] };
-
-    fn rows(&self) -> &[Row] {
-        slice::from_ref(&self.row)
-    }
-
-    fn feed<R: Threads + Wait + Sync>(
-        &mut self,
-        rt: &R,
-        horizon: u64,
-        up: &mut Sender,
-        down: &mut Sender,
-    ) -> FeedEnd {
-        send_row(rt, up, Direction::Up, horizon, &self.row);
-        send_row(rt, down, Direction::Down, horizon, &self.row);
-        FeedEnd::Ended
-    }
-}
-
-// Feeds two channels, and counts what each of them carried before its end.
-fn feed_two<F: Feeds, R: Threads + Wait + Sync>(
-    rt: &R,
-    alloc: Global,
-    feeds: &mut F,
-) -> Result<(FeedEnd, u32, u32), OutOfMemory> {
-    let (mut up, mut up_end) = open(alloc, 64, 20)?;
-    let (mut down, mut down_end) = open(alloc, 64, 20)?;
-    let end = feeds.feed(rt, 20, &mut up, &mut down);
-    let went_up = receive_all(rt, &mut up_end);
-    let went_down = receive_all(rt, &mut down_end);
-    settle(up, up_end);
-    settle(down, down_end);
-    Ok((end, went_up, went_down))
-}
-
-#[test]
-fn feeds_its_row_in_its_direction(rt: HostRuntime) -> Result<(), Fail> {
-    for (direction, up, down) in [(Direction::Up, 1, 0), (Direction::Down, 0, 1)] {
-        let mut feeds = OneRow {
-            row: Row {
-                direction,
-                timed: timed(0, 20),
-            },
-        };
-        assert_eq!(rt; feeds.rows().len(), 1);
-        let counts = feed_two(&rt, rt.alloc(), &mut feeds)?;
-        assert_eq!(rt; counts, (FeedEnd::Ended, up, down));
-    }
+    assert!(rt; hold(&rt, rt.alloc(), 2)? == (3, 1000));
+    assert!(rt; hold(&rt, rt.alloc(), 64)? == (65, 1000));
     Ok(())
 }

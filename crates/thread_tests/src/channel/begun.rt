@@ -3,6 +3,7 @@ ghost use Rattle.std.specs.Prelude.{◌≡◌};
 ghost use Rattle.std.specs.Thread.{IsSync};
 ghost use Rattle.packet_record.specs.declared.item.FlowEnd.TheVariants.{Open};
 
+use crate::waiting::give_way;
 use mark_channel::{Begun, Sender, open};
 use mm_base::OutOfMemory;
 use packet_record::Item;
@@ -11,14 +12,12 @@ use std::marker::Sync;
 use std::sync::Wait;
 use std::sync::atomic::{AtomicU64, Ordering};
 use std::test::Fail;
-use std::thread::{Threads, join_mut, yield_now};
+use std::thread::{Threads, join_mut};
 
 // Counts two workers, of which the second one begins late. Whether the wait had ended before.
 fn begin_late(begun: &Begun, waited: &AtomicU64) -> bool {
     begun.raise();
-    for _ in 0..10_000 {
-        yield_now();
-    }
+    give_way();
     let early = waited.load(Ordering::SeqCst) > 0;
     begun.raise();
     early
@@ -55,7 +54,7 @@ fn the_first_sender_waits_for_all_workers(rt: HostRuntime) -> Result<(), Fail> {
     let begun = Begun::new(2);
     let waited = AtomicU64::new(0);
     let ends = wait_beside(&rt, &begun, &waited, &mut up, &mut down);
-    assert_eq!(rt; ends, (false, true));
+    assert!(rt; ends == (false, true));
     Ok(())
 }
 
@@ -73,16 +72,16 @@ fn wait_once<R: Wait>(
     Ok(Some((up_end.recv(rt), down_end.recv(rt))))
 }
 
+const BROKEN: Option<(Item, Item)> = Some((Item::Broken, Item::Broken));
+
 // At the limit both directions are broken off, and at once for whoever waits later, though all have begun then.
 #[test]
 fn a_wait_at_its_limit_breaks_both_directions_off(rt: HostRuntime) -> Result<(), Fail> {
     let begun = Begun::with_looks(2, 100);
     begun.raise();
-    let first = wait_once(&rt, rt.alloc(), &begun)?;
+    assert!(rt; wait_once(&rt, rt.alloc(), &begun)? == BROKEN);
     begun.raise();
-    let later = wait_once(&rt, rt.alloc(), &begun)?;
-    assert_eq!(rt; first, Some((Item::Broken, Item::Broken)));
-    assert_eq!(rt; later, Some((Item::Broken, Item::Broken)));
+    assert!(rt; wait_once(&rt, rt.alloc(), &begun)? == BROKEN);
     Ok(())
 }
 
@@ -90,6 +89,6 @@ fn a_wait_at_its_limit_breaks_both_directions_off(rt: HostRuntime) -> Result<(),
 fn nobody_waits_where_all_have_begun(rt: HostRuntime) -> Result<(), Fail> {
     let begun = Begun::with_looks(1, 1);
     begun.raise();
-    assert_eq!(rt; wait_once(&rt, rt.alloc(), &begun)?, None);
+    assert!(rt; wait_once(&rt, rt.alloc(), &begun)?.is_none());
     Ok(())
 }
