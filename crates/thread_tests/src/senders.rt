@@ -26,13 +26,19 @@ fn senders_of<R: Abort>(rt: &R, alloc: Global, schedules: Vec<Schedule>) -> Resu
     Ok(Senders::new(alloc, schedules)?)
 }
 
-// Senders of the schedules that these texts are.
-fn senders_from<R: Abort>(rt: &R, alloc: Global, texts: &[&[u8]]) -> Result<Senders, Fail> {
+// The schedules that these texts are.
+fn schedules_of(alloc: Global, texts: &[&[u8]]) -> Result<Vec<Schedule>, Fail> {
     let mut schedules = Vec::new(alloc);
     for text in texts {
         let schedule = read_schedule(alloc, text)?;
         schedules.push(schedule).map_err(AllocError::from)?;
     }
+    Ok(schedules)
+}
+
+// Senders of them.
+fn senders_from<R: Abort>(rt: &R, alloc: Global, texts: &[&[u8]]) -> Result<Senders, Fail> {
+    let schedules = schedules_of(alloc, texts)?;
     senders_of(rt, alloc, schedules)
 }
 
@@ -154,4 +160,33 @@ fn numbers_of(alloc: Global, items: &[Item]) -> Result<Vec<u32>, AllocError> {
         }
     }
     Ok(numbers)
+}
+
+// How many of the items are packets.
+fn count_packets(items: &[Item]) -> u64 {
+    let mut count = 0u64;
+    for item in items {
+        if let Item::Packet(_) = item {
+            count = count.saturating_add(1);
+        }
+    }
+    count
+}
+
+// Whether the packets that were fed have these numbers, up and down.
+fn has_numbers(alloc: Global, fed: &Fed, ups: &[u32], downs: &[u32]) -> Result<bool, AllocError> {
+    let fed_up = numbers_of(alloc, fed.ups.as_slice())?;
+    let fed_down = numbers_of(alloc, fed.downs.as_slice())?;
+    Ok(fed_up.as_slice() == ups && fed_down.as_slice() == downs)
+}
+
+// What the senders of the schedules that these texts are feed up to a horizon.
+fn feed_texts<R: Threads + Wait + Sync + Abort>(
+    rt: &R,
+    alloc: Global,
+    texts: &[&[u8]],
+    horizon: u64,
+) -> Result<Fed, Fail> {
+    let mut senders = senders_from(rt, alloc, texts)?;
+    feed_all(rt, alloc, &mut senders, horizon)
 }
