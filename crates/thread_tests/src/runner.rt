@@ -4,7 +4,7 @@ mod paced;
 mod parts;
 
 use fed::feeds;
-use mm_base::{Bytes, MemDisk, NoPace, Pace, Text};
+use mm_base::{Bytes, MemDisk, NoPace, OutOfMemory, Pace, Text};
 use nest_runner::{run_stream, run_threads};
 use nest_spec::{Nest, RunResult, build, print_fates, read_nest};
 use packet_record::read_schedule;
@@ -14,12 +14,22 @@ use std::process::Abort;
 use std::sync::Wait;
 use std::test::Fail;
 use std::thread::Threads;
-use trace_reader::read_trace;
+use trace_reader::{Trace, read_trace};
 
 fn words_of(alloc: Global, text: &str) -> Result<Vec<String>, AllocError> {
     text.split(' ')
         .map(|word| String::from_str(alloc, word))
         .try_collect(alloc)
+}
+
+// So many times this trace.
+fn traces_of(alloc: Global, trace: &[u8], count: usize) -> Result<Vec<Trace>, Fail> {
+    let mut traces = Vec::new(alloc);
+    for _ in 0..count {
+        let trace = read_trace(alloc, trace)?;
+        traces.push(trace).map_err(AllocError::from)?;
+    }
+    Ok(traces)
 }
 
 // The nest of these words, each of whose traces is this one.
@@ -32,11 +42,7 @@ fn nest_of(
 ) -> Result<Nest, Fail> {
     let words = words_of(alloc, nest)?;
     let words = read_nest(alloc, words.as_slice())?;
-    let mut traces = Vec::new(alloc);
-    for _ in words.traces() {
-        let trace = read_trace(alloc, trace)?;
-        traces.push(trace).map_err(AllocError::from)?;
-    }
+    let traces = traces_of(alloc, trace, words.traces().len())?;
     assert!(rt; horizon <= 3_600_000);
     assert!(rt; traces.len() == words.traces().len());
     let opportunities = words.opportunities(traces.as_slice(), horizon);
@@ -56,7 +62,39 @@ enum Call {
 
 const CALLS: [Call; 2] = [Call::Threads, Call::Stream];
 
-// The result of a schedule, which is the file `s` where it is read from a file.
+// The result of a schedule in memory.
+fn run_from_memory<Q: Pace + Sync, R: Threads + Wait + Sync>(
+    rt: &R,
+    alloc: Global,
+    nest: &Nest,
+    schedule: &[u8],
+    pace: &Q,
+) -> Result<RunResult, Fail> {
+    let schedule = read_schedule(alloc, schedule)?;
+    Ok(run_threads(rt, alloc, nest, &schedule, pace)?)
+}
+
+// A disk whose one file is `s`.
+fn disk_of(alloc: Global, bytes: &[u8]) -> Result<MemDisk, Fail> {
+    let name = Text::from_text(alloc, "s")?;
+    let bytes = Bytes::from_slice(alloc, bytes)?;
+    let mut files = Vec::new(alloc);
+    files.push((name, bytes)).map_err(AllocError::from)?;
+    Ok(MemDisk::new(alloc, files, Vec::new(alloc)))
+}
+
+// The result of a schedule in the file `s`.
+fn run_from_file<Q: Pace + Sync, R: Threads + Wait + Sync>(
+    rt: &R,
+    alloc: Global,
+    nest: &Nest,
+    schedule: &[u8],
+    pace: &Q,
+) -> Result<RunResult, Fail> {
+    let mut disk = disk_of(alloc, schedule)?;
+    Ok(run_stream(rt, alloc, nest, &mut disk, "s", pace)?)
+}
+
 fn run_by<Q: Pace + Sync, R: Threads + Wait + Sync>(
     rt: &R,
     alloc: Global,
@@ -66,35 +104,15 @@ fn run_by<Q: Pace + Sync, R: Threads + Wait + Sync>(
     pace: &Q,
 ) -> Result<RunResult, Fail> {
     match call {
-        Call::Threads => {
-            let schedule = read_schedule(alloc, schedule)?;
-            Ok(run_threads(rt, alloc, nest, &schedule, pace)?)
-        }
-        Call::Stream => {
-            let name = Text::from_text(alloc, "s")?;
-            let bytes = Bytes::from_slice(alloc, schedule)?;
-            let mut files = Vec::new(alloc);
-            files.push((name, bytes)).map_err(AllocError::from)?;
-            let mut disk = MemDisk::new(alloc, files, Vec::new(alloc));
-            Ok(run_stream(rt, alloc, nest, &mut disk, "s", pace)?)
-        }
+        Call::Threads => run_from_memory(rt, alloc, nest, schedule, pace),
+        Call::Stream => run_from_file(rt, alloc, nest, schedule, pace),
     }
 }
 
-// Runs over threads, and compares the text of the fates.
-fn has_fates<Q: Pace + Sync, R: Threads + Wait + Abort + Sync>(
-    rt: &R,
-    alloc: Global,
-    call: Call,
-    nest: &Nest,
-    schedule: &[u8],
-    pace: &Q,
-    fates: &[u8],
-) -> Result<(), Fail> {
-    let result = run_by(rt, alloc, call, nest, schedule, pace)?;
+// Whether this is the text of the fates of a run.
+fn has_fates(alloc: Global, result: &RunResult, fates: &[u8]) -> Result<bool, OutOfMemory> {
     let text = print_fates(alloc, result.fates())?;
-    assert_eq!(rt; text.as_slice(), fates);
-    Ok(())
+    Ok(text.as_slice() == fates)
 }
 
 // A nest, the trace of its links, its horizon, a schedule, and the fates that the composition of the shells gives.
@@ -138,14 +156,31 @@ const CASES: [Case<'static>; 4] = [
     },
 ];
 
+fn nest_in(rt: &impl Abort, alloc: Global, case: &Case<'_>) -> Result<Nest, Fail> {
+    nest_of(rt, alloc, case.nest, case.trace, case.horizon)
+}
+
+// Runs a case over threads at this pace.
+fn agrees_at<Q: Pace + Sync, R: Threads + Wait + Abort + Sync>(
+    rt: &R,
+    alloc: Global,
+    call: Call,
+    case: &Case<'_>,
+    pace: &Q,
+) -> Result<(), Fail> {
+    let nest = nest_in(rt, alloc, case)?;
+    let result = run_by(rt, alloc, call, &nest, case.schedule, pace)?;
+    assert!(rt; has_fates(alloc, &result, case.fates)?);
+    Ok(())
+}
+
 fn agrees<R: Threads + Wait + Abort + Sync>(
     rt: &R,
     alloc: Global,
     call: Call,
     case: &Case<'_>,
 ) -> Result<(), Fail> {
-    let nest = nest_of(rt, alloc, case.nest, case.trace, case.horizon)?;
-    has_fates(rt, alloc, call, &nest, case.schedule, &NoPace, case.fates)
+    agrees_at(rt, alloc, call, case, &NoPace)
 }
 
 #[test]
@@ -183,6 +218,17 @@ fn fates_of(alloc: Global, count: u32) -> Result<String, AllocError> {
     Ok(text)
 }
 
+// Runs a case in each of the three ways.
+fn agrees_throughout<R: Threads + Wait + Abort + Sync>(
+    rt: &R,
+    alloc: Global,
+    case: &Case<'_>,
+) -> Result<(), Fail> {
+    agrees(rt, alloc, Call::Threads, case)?;
+    agrees(rt, alloc, Call::Stream, case)?;
+    feeds(rt, alloc, case)
+}
+
 // More rows than fit in a piece of a file.
 #[test]
 fn many_rows_pass(rt: HostRuntime) -> Result<(), Fail> {
@@ -196,8 +242,5 @@ fn many_rows_pass(rt: HostRuntime) -> Result<(), Fail> {
         schedule: schedule.as_bytes(),
         fates: fates.as_bytes(),
     };
-    for call in CALLS {
-        agrees(&rt, alloc, call, &case)?;
-    }
-    feeds(&rt, alloc, &case)
+    agrees_throughout(&rt, alloc, &case)
 }

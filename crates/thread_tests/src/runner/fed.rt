@@ -6,11 +6,11 @@ ghost use Rattle.packet_record.specs.Rows.{Rises, entering};
 ghost use Rattle.packet_record.specs.Streams.{no_items};
 ghost use Rattle.mark_channel.specs.Ends.{IsSameEnd};
 
-use super::{CASES, Case, nest_of};
+use super::{CASES, Case, has_fates, nest_in};
 use mark_channel::{FeedEnd, Feeds, Sender};
-use mm_base::NoPace;
+use mm_base::{NoPace, OutOfMemory};
 use nest_runner::run_feeds;
-use nest_spec::print_fates;
+use nest_spec::{Nest, RunResult};
 use packet_record::{Direction, Item, Row, Schedule, read_schedule, source_item};
 use std::alloc::Global;
 use std::marker::Sync;
@@ -159,18 +159,27 @@ fn fed_of(alloc: Global, case: &Case<'_>, ending: Ending) -> Result<FedSchedule,
     })
 }
 
+// The result of a run that is fed. It says nothing of it.
+fn run_fed<R: Threads + Wait + Sync>(
+    rt: &R,
+    alloc: Global,
+    nest: &Nest,
+    fed: &mut FedSchedule,
+) -> Result<RunResult, OutOfMemory> {
+    run_feeds(rt, alloc, nest, fed, &NoPace)
+}
+
 // Feeds a run, and compares the text of the fates.
 pub(super) fn feeds<R: Threads + Wait + Abort + Sync>(
     rt: &R,
     alloc: Global,
     case: &Case<'_>,
 ) -> Result<(), Fail> {
-    let nest = nest_of(rt, alloc, case.nest, case.trace, case.horizon)?;
+    let nest = nest_in(rt, alloc, case)?;
     let mut fed = fed_of(alloc, case, Ending::Whole)?;
-    let result = run_feeds(rt, alloc, &nest, &mut fed, &NoPace)?;
-    let text = print_fates(alloc, result.fates())?;
-    assert_eq!(rt; text.as_slice(), case.fates);
-    assert_eq!(rt; fed.calls, 1);
+    let result = run_fed(rt, alloc, &nest, &mut fed)?;
+    assert!(rt; has_fates(alloc, &result, case.fates)?);
+    assert!(rt; fed.calls == 1);
     Ok(())
 }
 
@@ -189,11 +198,10 @@ fn wants<R: Threads + Wait + Abort + Sync>(
     case: &Case<'_>,
     ending: Ending,
 ) -> Result<(), Fail> {
-    let nest = nest_of(rt, alloc, case.nest, case.trace, case.horizon)?;
+    let nest = nest_in(rt, alloc, case)?;
     let mut fed = fed_of(alloc, case, ending)?;
-    let result = run_feeds(rt, alloc, &nest, &mut fed, &NoPace);
-    assert!(rt; result.is_err());
-    assert_eq!(rt; fed.calls, 1);
+    assert!(rt; run_fed(rt, alloc, &nest, &mut fed).is_err());
+    assert!(rt; fed.calls == 1);
     Ok(())
 }
 

@@ -1,5 +1,6 @@
 // Paces that hold some turns until others have begun.
-use super::{CALLS, Call, fates_of, has_fates, nest_of, rows_of};
+use super::{CALLS, Call, Case, agrees_at, fates_of, rows_of};
+use crate::waiting::{give_way, reached};
 use mm_base::{Pace, Role};
 use std::alloc::Global;
 use std::marker::Sync;
@@ -7,20 +8,11 @@ use std::process::Abort;
 use std::sync::Wait;
 use std::sync::atomic::{AtomicU64, Ordering};
 use std::test::Fail;
-use std::thread::{Threads, yield_now};
+use std::thread::Threads;
 
-// How often a turn that is held gives way before the test gives up.
-const LIMIT: u32 = 10_000_000;
-
-// Holds a turn until a number is reached. False at the limit.
-fn reached(number: &AtomicU64, goal: u64) -> bool {
-    for _ in 0..LIMIT {
-        if number.load(Ordering::SeqCst) >= goal {
-            return true;
-        }
-        yield_now();
-    }
-    false
+// Whether a count is this.
+fn is_at(count: &AtomicU64, wanted: u64) -> bool {
+    count.load(Ordering::SeqCst) == wanted
 }
 
 // The first turns of the four workers of one shell wait until all four have begun.
@@ -43,6 +35,14 @@ impl Pace for Together {
     }
 }
 
+const TWO_ROWS: Case<'static> = Case {
+    nest: "mm-delay 20",
+    trace: b"1\n",
+    horizon: 100,
+    schedule: b"5 up 100\n6 up 100\n",
+    fates: b"1 up departed 25\n2 up departed 26\n",
+};
+
 fn runs_together<R: Threads + Wait + Abort + Sync>(
     rt: &R,
     alloc: Global,
@@ -52,19 +52,9 @@ fn runs_together<R: Threads + Wait + Abort + Sync>(
         begun: AtomicU64::new(0),
         limits: AtomicU64::new(0),
     };
-    let nest = nest_of(rt, alloc, "mm-delay 20", b"1\n", 100)?;
-    let fates = b"1 up departed 25\n2 up departed 26\n";
-    has_fates(
-        rt,
-        alloc,
-        call,
-        &nest,
-        b"5 up 100\n6 up 100\n",
-        &pace,
-        fates,
-    )?;
-    assert_eq!(rt; pace.begun.load(Ordering::SeqCst), 4);
-    assert_eq!(rt; pace.limits.load(Ordering::SeqCst), 0);
+    agrees_at(rt, alloc, call, &TWO_ROWS, &pace)?;
+    assert!(rt; is_at(&pace.begun, 4));
+    assert!(rt; is_at(&pace.limits, 0));
     Ok(())
 }
 
@@ -97,6 +87,14 @@ impl Pace for HeldSource {
     }
 }
 
+const ONE_UP_TWO_DOWN: Case<'static> = Case {
+    nest: "mm-link t t",
+    trace: b"5\n",
+    horizon: 20,
+    schedule: b"0 up 100\n10 down 100\n15 down 100\n",
+    fates: b"1 up departed 5\n2 down departed 15\n3 down departed 20\n",
+};
+
 fn goes_on_by_marks<R: Threads + Wait + Abort + Sync>(
     rt: &R,
     alloc: Global,
@@ -106,11 +104,8 @@ fn goes_on_by_marks<R: Threads + Wait + Abort + Sync>(
         collected: AtomicU64::new(0),
         limits: AtomicU64::new(0),
     };
-    let nest = nest_of(rt, alloc, "mm-link t t", b"5\n", 20)?;
-    let schedule = b"0 up 100\n10 down 100\n15 down 100\n";
-    let fates = b"1 up departed 5\n2 down departed 15\n3 down departed 20\n";
-    has_fates(rt, alloc, call, &nest, schedule, &pace, fates)?;
-    assert_eq!(rt; pace.limits.load(Ordering::SeqCst), 0);
+    agrees_at(rt, alloc, call, &ONE_UP_TWO_DOWN, &pace)?;
+    assert!(rt; is_at(&pace.limits, 0));
     Ok(())
 }
 
@@ -143,11 +138,32 @@ impl FullChannels {
         if !reached(count, ONE_TOO_MANY) {
             self.limits.fetch_add(1, Ordering::SeqCst);
         }
-        for _ in 0..10_000 {
-            yield_now();
-        }
+        give_way();
         if count.load(Ordering::SeqCst) > ONE_TOO_MANY {
             self.early.fetch_add(1, Ordering::SeqCst);
+        }
+    }
+
+    // A turn of the up feeder.
+    fn feed(&self, count: u64) {
+        if count == 1 {
+            self.wait_full(&self.source);
+        }
+        self.feeder.store(count, Ordering::SeqCst);
+    }
+
+    // A turn of the up drain.
+    fn take(&self, count: u64) {
+        if count == 1 && !reached(&self.feeder, 1_001) {
+            self.limits.fetch_add(1, Ordering::SeqCst);
+        }
+        self.drain.store(count, Ordering::SeqCst);
+    }
+
+    // A turn of the up collector.
+    fn collect(&self, count: u64) {
+        if count == 1 {
+            self.wait_full(&self.drain);
         }
     }
 }
@@ -156,26 +172,31 @@ impl Pace for FullChannels {
     fn turn<R: Wait>(&self, _rt: &R, role: Role, count: u64) {
         match role {
             Role::Source => self.source.store(count, Ordering::SeqCst),
-            Role::Feeder { up: true, .. } => {
-                if count == 1 {
-                    self.wait_full(&self.source);
-                }
-                self.feeder.store(count, Ordering::SeqCst);
-            }
-            Role::Drain { up: true, .. } => {
-                if count == 1 && !reached(&self.feeder, 1_001) {
-                    self.limits.fetch_add(1, Ordering::SeqCst);
-                }
-                self.drain.store(count, Ordering::SeqCst);
-            }
-            Role::Collector { up: true } => {
-                if count == 1 {
-                    self.wait_full(&self.drain);
-                }
-            }
+            Role::Feeder { up: true, .. } => self.feed(count),
+            Role::Drain { up: true, .. } => self.take(count),
+            Role::Collector { up: true } => self.collect(count),
             _ => {}
         }
     }
+}
+
+// A thousand rows over a delay, at this pace.
+fn agrees_with_thousand<Q: Pace + Sync, R: Threads + Wait + Abort + Sync>(
+    rt: &R,
+    alloc: Global,
+    call: Call,
+    pace: &Q,
+) -> Result<(), Fail> {
+    let schedule = rows_of(alloc, 1_000)?;
+    let fates = fates_of(alloc, 1_000)?;
+    let case = Case {
+        nest: "mm-delay 20",
+        trace: b"1\n",
+        horizon: 2_000,
+        schedule: schedule.as_bytes(),
+        fates: fates.as_bytes(),
+    };
+    agrees_at(rt, alloc, call, &case, pace)
 }
 
 fn fills_channels<R: Threads + Wait + Abort + Sync>(
@@ -190,20 +211,9 @@ fn fills_channels<R: Threads + Wait + Abort + Sync>(
         limits: AtomicU64::new(0),
         early: AtomicU64::new(0),
     };
-    let nest = nest_of(rt, alloc, "mm-delay 20", b"1\n", 2_000)?;
-    let schedule = rows_of(alloc, 1_000)?;
-    let fates = fates_of(alloc, 1_000)?;
-    has_fates(
-        rt,
-        alloc,
-        call,
-        &nest,
-        schedule.as_bytes(),
-        &pace,
-        fates.as_bytes(),
-    )?;
-    assert_eq!(rt; pace.limits.load(Ordering::SeqCst), 0);
-    assert_eq!(rt; pace.early.load(Ordering::SeqCst), 0);
+    agrees_with_thousand(rt, alloc, call, &pace)?;
+    assert!(rt; is_at(&pace.limits, 0));
+    assert!(rt; is_at(&pace.early, 0));
     Ok(())
 }
 
@@ -253,6 +263,14 @@ impl Pace for PassingOrder {
     }
 }
 
+const TWO_SHELLS: Case<'static> = Case {
+    nest: "mm-loss uplink 0 mm-loss uplink 0",
+    trace: b"1\n",
+    horizon: 9,
+    schedule: b"5 up 100\n5 down 100\n",
+    fates: b"1 up departed 5\n2 down departed 5\n",
+};
+
 fn has_numbers<R: Threads + Wait + Abort + Sync>(
     rt: &R,
     alloc: Global,
@@ -264,13 +282,10 @@ fn has_numbers<R: Threads + Wait + Abort + Sync>(
         seconds: AtomicU64::new(0),
         early: AtomicU64::new(0),
     };
-    let nest = nest_of(rt, alloc, "mm-loss uplink 0 mm-loss uplink 0", b"1\n", 9)?;
-    let schedule = b"5 up 100\n5 down 100\n";
-    let fates = b"1 up departed 5\n2 down departed 5\n";
-    has_fates(rt, alloc, call, &nest, schedule, &pace, fates)?;
+    agrees_at(rt, alloc, call, &TWO_SHELLS, &pace)?;
     // Each second shell is fed a packet, perhaps marks, and the end.
     assert!(rt; pace.seconds.load(Ordering::SeqCst) >= 4);
-    assert_eq!(rt; pace.early.load(Ordering::SeqCst), 0);
+    assert!(rt; is_at(&pace.early, 0));
     Ok(())
 }
 
