@@ -110,8 +110,8 @@ fn run_by<Q: Pace + Sync, R: Threads + Wait + Sync>(
 }
 
 // Whether this is the text of the fates of a run.
-fn has_fates(alloc: Global, result: &RunResult, fates: &[u8]) -> Result<bool, OutOfMemory> {
-    let text = print_fates(alloc, result.fates())?;
+fn has_fates(alloc: Global, run: &RunResult, fates: &[u8]) -> Result<bool, OutOfMemory> {
+    let text = print_fates(alloc, run.fates())?;
     Ok(text.as_slice() == fates)
 }
 

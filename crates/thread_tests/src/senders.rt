@@ -45,8 +45,8 @@ fn senders_from<R: Abort>(rt: &R, alloc: Global, texts: &[&[u8]]) -> Result<Send
 // What came out of the two channels.
 #[derive(Drop)]
 struct Fed {
-    ups: Vec<Item>,
-    downs: Vec<Item>,
+    pub ups: Vec<Item>,
+    pub downs: Vec<Item>,
 }
 
 // Receives until the end, and gathers the items.

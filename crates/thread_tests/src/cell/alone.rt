@@ -64,10 +64,11 @@ fn feed_then_take<R: Wait + Abort>(
     requires open { drain.old.flow.end ≡ Open }
     ensures fed { OnOk result (Fed feed.old item feed.new) }
     ensures open { OnOk result (drain.new.flow.end ≡ Open) }
-    ensures same { IsSameSeat feed.old feed.new × IsSameSeat drain.old drain.new }
+    ensures same { OnOk result (IsSameSeat feed.old feed.new × IsSameSeat drain.old drain.new) }
 {
     feed_to(rt, cell, feed, item)?;
-    take_each(rt, cell, drain, answers)
+    take_each(rt, cell, drain, answers)?;
+    Ok(())
 }
 
 // What the link gives before anything is fed.
@@ -80,7 +81,7 @@ const MARKED: [Taken; 3] = [
     Taken::NotYet { bound: 7 },
 ];
 
-const FED: [Taken; 1] = [Taken::Item(Item::Mark(14))];
+const PACKET_FED: [Taken; 1] = [Taken::Item(Item::Mark(14))];
 
 const ENDED: [Taken; 2] = [
     Taken::Item(Item::Packet(Timed {
@@ -104,7 +105,14 @@ fn pass_one<R: Wait + Abort>(
 {
     take_each(rt, cell, drain, &FRESH)?;
     feed_then_take(rt, cell, feed, drain, Item::Mark(7), &MARKED)?;
-    feed_then_take(rt, cell, feed, drain, Item::Packet(timed(1, 9)), &FED)?;
+    feed_then_take(
+        rt,
+        cell,
+        feed,
+        drain,
+        Item::Packet(timed(1, 9)),
+        &PACKET_FED,
+    )?;
     feed_then_take(rt, cell, feed, drain, Item::End, &ENDED)?;
     assert!(rt; take_from(rt, cell, drain, 1)? == Taken::Item(Item::End));
     Ok(())

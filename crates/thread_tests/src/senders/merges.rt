@@ -30,10 +30,12 @@ fn next_step(core: &mut MergeCore) -> Option<MergeStep> {
 // Takes what a merge gives until it needs an item of a sender: that sender, or 0 where it is over.
 fn take_given(core: &mut MergeCore, given: &mut Vec<Item>) -> Result<u32, OutOfMemory> {
     for _ in 0..10_000 {
-        match next_step(core) {
-            Some(MergeStep::Item(item)) => given.push(item)?,
-            Some(MergeStep::Need { sender }) => return Ok(sender),
-            None => return Ok(0),
+        let Some(step) = next_step(core) else {
+            return Ok(0);
+        };
+        match step {
+            MergeStep::Item(item) => given.push(item)?,
+            MergeStep::Need { sender } => return Ok(sender),
         }
     }
     Ok(0)
