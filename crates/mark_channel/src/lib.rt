@@ -6,15 +6,11 @@
 #![tactic(auto)]
 
 mod begun;
-#[cfg(test)]
-mod begun_tests;
 mod channel;
 mod feeds;
 mod receiver;
 mod rule;
 mod sender;
-#[cfg(test)]
-mod tests;
 
 pub use begun::Begun;
 pub use channel::{open, settle};

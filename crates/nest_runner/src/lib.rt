@@ -20,8 +20,6 @@ mod stages;
 mod stream;
 mod stream_error;
 mod streaming;
-#[cfg(test)]
-mod tests;
 pub mod work;
 
 pub use feeds::{run_feeds, run_nest_feeds};

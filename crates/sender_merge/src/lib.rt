@@ -3,10 +3,6 @@
 
 #[cfg(test)]
 mod begun_tests;
-#[cfg(test)]
-mod feed_fixture;
-#[cfg(test)]
-mod feed_tests;
 mod feeding;
 mod gates;
 mod incoming;
@@ -20,8 +16,6 @@ mod pace_tests;
 mod row_merge;
 mod senders;
 mod step;
-#[cfg(test)]
-mod tests;
 
 pub use merge_core::MergeCore;
 pub use row_merge::count_rows;

@@ -10,8 +10,6 @@
 mod cell;
 mod rule;
 mod seats;
-#[cfg(test)]
-mod tests;
 mod turns;
 mod view;
 

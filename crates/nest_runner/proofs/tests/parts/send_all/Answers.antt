@@ -1,8 +1,0 @@
-use Rattle.std.proofs.Common.{subst, sym}
-use Rattle.packet_record.specs.Rows.{Rises}
-use Rattle.packet_record.proofs.RowsLemmas.{rises-in_order}
-use Rattle.nest_runner.proofs.tests.parts.send_all.Goals as goal
-
-pub source-requires-clause-rises : goal.source-requires-clause-rises
-source-requires-clause-rises g c = subst (Rises 0) (sym c.rows.ensures.rows)
-    (rises-in_order 1 0 c.args.schedule.now c.rows.ensures.schedule.order)

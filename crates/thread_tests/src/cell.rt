@@ -1,0 +1,110 @@
+//! The cell in one thread and between two.
+ghost use Rattle.std.specs.Prelude.{◌≡◌, ◌≤◌, true, IfOk, IsOk, OnErr, OnOk};
+ghost use Rattle.packet_record.specs.declared.item.FlowEnd.TheVariants.{Open};
+ghost use Rattle.packet_record.specs.Streams.{IsUpTo, no_items};
+ghost use Rattle.shell_cell.specs.Seats.{Fed, FindsBroken, IsSameSeat, MayFeedAt, Took};
+
+mod alone;
+mod beside;
+
+use mm_base::OutOfMemory;
+use packet_queue::{QueueKind, QueueSpec};
+use packet_record::Item;
+use shell_cell::{DrainSeat, FeedSeat, ShellCell, open};
+use shell_state::{DirSpec, ShellState, Taken};
+use std::alloc::Global;
+use std::process::Abort;
+use std::sync::Wait;
+use std::test::Fail;
+use trace_reader::read_trace;
+
+// A link with the trace 5, 5, 9 and no limit on its queue.
+#[tactic(auto, unfolding(shell_core::specs::Shells::opportunities))]
+fn link(rt: &impl Abort, alloc: Global) -> Result<ShellState, Fail>
+    ensures { IfOk result (λ s. (s.fed ≡ no_items) × (s.taken ≡ no_items) × (s.horizon ≡ 20)) }
+{
+    let Ok(trace) = read_trace(alloc, b"5\n5\n9\n") else {
+        return Err(Fail::from("no trace"));
+    };
+    assert!(rt; trace.count_to(20, false) <= 16_000_000);
+    let queue = QueueSpec {
+        kind: QueueKind::Infinite,
+        packets: None,
+        bytes: None,
+    };
+    let spec = DirSpec::Link {
+        trace,
+        once: false,
+        queue,
+    };
+    Ok(ShellState::new(alloc, spec, 20)?)
+}
+
+// A cell of that link, with its seats.
+fn link_cell(rt: &impl Abort, alloc: Global) -> Result<(ShellCell, FeedSeat, DrainSeat), Fail>
+    ensures cells { IfOk result (λ r. (r.1.cell ≡ r.0) × (r.2.cell ≡ r.0)) }
+    ensures flows { IfOk result (λ r. (r.1.flow ≡ no_items) × (r.2.flow ≡ no_items)) }
+    ensures horizon { IfOk result (λ r. r.1.horizon ≡ 20) }
+{
+    let state = link(rt, alloc)?;
+    Ok(open(alloc, state)?)
+}
+
+// A delay of one millisecond.
+#[tactic(auto, unfolding(shell_core::specs::Shells::opportunities))]
+fn delay(alloc: Global) -> Result<ShellState, Fail>
+    ensures { IfOk result (λ s. (s.fed ≡ no_items) × (s.taken ≡ no_items) × (s.horizon ≡ 2000)) }
+{
+    Ok(ShellState::new(alloc, DirSpec::Delay { ms: 1 }, 2000)?)
+}
+
+// A cell of that delay, with its seats.
+fn delay_cell(alloc: Global) -> Result<(ShellCell, FeedSeat, DrainSeat), Fail>
+    ensures cells { IfOk result (λ r. (r.1.cell ≡ r.0) × (r.2.cell ≡ r.0)) }
+    ensures flows { IfOk result (λ r. (r.1.flow ≡ no_items) × (r.2.flow ≡ no_items)) }
+    ensures horizon { IfOk result (λ r. r.1.horizon ≡ 2000) }
+{
+    let state = delay(alloc)?;
+    Ok(open(alloc, state)?)
+}
+
+// Feeds the cell. It says of the seat only what a next feed needs.
+fn feed_to<R: Wait>(
+    rt: &R,
+    cell: &ShellCell,
+    seat: &mut FeedSeat,
+    item: Item,
+) -> Result<(), OutOfMemory>
+    requires own { seat.old.cell ≡ cell.now }
+    requires follows { MayFeedAt seat.old item }
+    requires within { IsUpTo seat.old.horizon item }
+    ensures fed { OnOk result (Fed seat.old item seat.new) }
+    ensures broken { seat.old.broken ≡ true → IsOk result × FindsBroken seat.old seat.new }
+    ensures err { OnErr result (seat.new ≡ seat.old) }
+    ensures same { IsSameSeat seat.old seat.new }
+{
+    cell.feed(rt, seat, item)
+}
+
+// Takes from the cell. It says of the seat only what a next take needs.
+fn take_from<R: Wait>(
+    rt: &R,
+    cell: &ShellCell,
+    seat: &mut DrainSeat,
+    most: u32,
+) -> Result<Taken, OutOfMemory>
+    requires own { seat.old.cell ≡ cell.now }
+    requires most { 1 ≤ most }
+    requires open { seat.old.flow.end ≡ Open }
+    ensures took { IfOk result (λ answer. Took seat.old answer seat.new) }
+    ensures same { IsSameSeat seat.old seat.new }
+{
+    cell.take(rt, seat, most)
+}
+
+// The state that a cell leaves. It says nothing of it, so that a test has only what it looks at.
+fn close(cell: ShellCell, feed: FeedSeat, drain: DrainSeat) -> ShellState
+    requires { (feed.cell ≡ cell) × (drain.cell ≡ cell) }
+{
+    cell.close(feed, drain)
+}

@@ -1,0 +1,94 @@
+//! Whoever sends the first item waits for all workers.
+ghost use Rattle.std.specs.Prelude.{◌≡◌};
+ghost use Rattle.std.specs.Thread.{IsSync};
+ghost use Rattle.packet_record.specs.declared.item.FlowEnd.TheVariants.{Open};
+
+use crate::waiting::give_way;
+use mark_channel::{Begun, Sender, open};
+use mm_base::OutOfMemory;
+use packet_record::Item;
+use std::alloc::Global;
+use std::marker::Sync;
+use std::sync::Wait;
+use std::sync::atomic::{AtomicU64, Ordering};
+use std::test::Fail;
+use std::thread::{Threads, join_mut};
+
+// Counts two workers, of which the second one begins late. Whether the wait had ended before.
+fn begin_late(begun: &Begun, waited: &AtomicU64) -> bool {
+    begun.raise();
+    give_way();
+    let early = waited.load(Ordering::SeqCst) > 0;
+    begun.raise();
+    early
+}
+
+// Waits for two workers beside a thread in which they begin: whether the wait ended too early, and whether all began.
+fn wait_beside<R: Threads + Wait + Sync>(
+    rt: &R,
+    begun: &Begun,
+    waited: &AtomicU64,
+    up: &mut Sender,
+    down: &mut Sender,
+) -> (bool, bool)
+    requires { (up.old.flow.end ≡ Open) × (down.old.flow.end ≡ Open) }
+{
+    join_mut(
+        rt,
+        &mut || begin_late(begun, waited),
+        &mut || -> bool
+            requires { (up.now.flow.end ≡ Open) × (down.now.flow.end ≡ Open) × IsSync R.row }
+        {
+            let all = begun.wait(rt, up, down).is_ok();
+            waited.fetch_add(1, Ordering::SeqCst);
+            all
+        },
+    )
+}
+
+#[test]
+fn the_first_sender_waits_for_all_workers(rt: HostRuntime) -> Result<(), Fail> {
+    let alloc = rt.alloc();
+    let (mut up, _up_end) = open(alloc, 1, 10)?;
+    let (mut down, _down_end) = open(alloc, 1, 10)?;
+    let begun = Begun::new(2);
+    let waited = AtomicU64::new(0);
+    let ends = wait_beside(&rt, &begun, &waited, &mut up, &mut down);
+    assert!(rt; ends == (false, true));
+    Ok(())
+}
+
+// Waits in two channels, in which nothing was sent. Whether all began, and what comes out of both where they didn't.
+fn wait_once<R: Wait>(
+    rt: &R,
+    alloc: Global,
+    begun: &Begun,
+) -> Result<Option<(Item, Item)>, OutOfMemory> {
+    let (mut up, mut up_end) = open(alloc, 1, 10)?;
+    let (mut down, mut down_end) = open(alloc, 1, 10)?;
+    if begun.wait(rt, &mut up, &mut down).is_ok() {
+        return Ok(None);
+    }
+    Ok(Some((up_end.recv(rt), down_end.recv(rt))))
+}
+
+const BROKEN: Option<(Item, Item)> = Some((Item::Broken, Item::Broken));
+
+// At the limit both directions are broken off, and at once for whoever waits later, though all have begun then.
+#[test]
+fn a_wait_at_its_limit_breaks_both_directions_off(rt: HostRuntime) -> Result<(), Fail> {
+    let begun = Begun::with_looks(2, 100);
+    begun.raise();
+    assert!(rt; wait_once(&rt, rt.alloc(), &begun)? == BROKEN);
+    begun.raise();
+    assert!(rt; wait_once(&rt, rt.alloc(), &begun)? == BROKEN);
+    Ok(())
+}
+
+#[test]
+fn nobody_waits_where_all_have_begun(rt: HostRuntime) -> Result<(), Fail> {
+    let begun = Begun::with_looks(1, 1);
+    begun.raise();
+    assert!(rt; wait_once(&rt, rt.alloc(), &begun)?.is_none());
+    Ok(())
+}

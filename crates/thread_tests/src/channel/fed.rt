@@ -1,0 +1,118 @@
+// One who feeds both directions of a run with one row.
+ghost use Rattle.std.specs.Prelude.{◌≡◌, ◌∷◌, []};
+ghost use Rattle.packet_record.specs.Streams.{no_items};
+ghost use Rattle.mark_channel.specs.Ends.{IsSameEnd};
+ghost use Rattle.mark_channel.specs.Feedings.{HasSentRows};
+
+use super::receive_all;
+use crate::packets::timed;
+use mark_channel::{FeedEnd, Feeds, Sender, open, settle};
+use mm_base::OutOfMemory;
+use packet_record::{Direction, Item, Row};
+use std::alloc::Global;
+use std::process::Abort;
+use std::slice;
+use std::sync::Wait;
+use std::test::Fail;
+use std::thread::Threads;
+
+// Sends the row's packet where it goes in this direction and enters up to the horizon, and then the end.
+fn send_row<R: Wait>(rt: &R, to: &mut Sender, direction: Direction, horizon: u64, row: &Row)
+    requires empty { to.old.flow ≡ no_items }
+    requires within { to.old.horizon ≡ horizon }
+    ensures sent { HasSentRows direction horizon (row.now ∷ []) to.new.flow }
+    ensures same { IsSameEnd to.old to.new }
+{
+    if row.direction == direction && row.timed.moment <= horizon {
+        to.send(rt, Item::Packet(row.timed));
+    }
+    to.send(rt, Item::End);
+}
+
+// One row, and all that is fed.
+#[derive(Drop)]
+struct OneRow {
+    row: Row,
+}
+
+impl Feeds for OneRow {
+    ghost use Rattle.std.specs.Prelude.{◌∷◌, []};
+
+    ghost fed_rows = { λ s. s.row ∷ [] };
+
+    fn rows(&self) -> &[Row] {
+        slice::from_ref(&self.row)
+    }
+
+    fn feed<R: Threads + Wait + Sync>(
+        &mut self,
+        rt: &R,
+        horizon: u64,
+        up: &mut Sender,
+        down: &mut Sender,
+    ) -> FeedEnd {
+        send_row(rt, up, Direction::Up, horizon, &self.row);
+        send_row(rt, down, Direction::Down, horizon, &self.row);
+        FeedEnd::Ended
+    }
+}
+
+// How many rows are fed. It says nothing of them.
+fn count_rows<F: Feeds>(feeds: &F) -> usize {
+    feeds.rows().len()
+}
+
+// Feeds two channels. It says nothing of what was sent.
+fn feed_both<F: Feeds, R: Threads + Wait + Sync>(
+    rt: &R,
+    feeds: &mut F,
+    horizon: u64,
+    up: &mut Sender,
+    down: &mut Sender,
+) -> FeedEnd
+    requires empty { (up.old.flow ≡ no_items) × (down.old.flow ≡ no_items) }
+    requires within { (up.old.horizon ≡ horizon) × (down.old.horizon ≡ horizon) }
+    ensures same { IsSameEnd up.old up.new × IsSameEnd down.old down.new }
+{
+    feeds.feed(rt, horizon, up, down)
+}
+
+// Feeds two channels, and counts what each of them carried before its end.
+fn feed_two<F: Feeds, R: Threads + Wait + Sync>(
+    rt: &R,
+    alloc: Global,
+    feeds: &mut F,
+) -> Result<(FeedEnd, u32, u32), OutOfMemory> {
+    let (mut up, mut up_end) = open(alloc, 64, 20)?;
+    let (mut down, mut down_end) = open(alloc, 64, 20)?;
+    let end = feed_both(rt, feeds, 20, &mut up, &mut down);
+    let went_up = receive_all(rt, &mut up_end);
+    let went_down = receive_all(rt, &mut down_end);
+    settle(up, up_end);
+    settle(down, down_end);
+    Ok((end, went_up, went_down))
+}
+
+// Feeds a row in this direction: so many packets go up, and so many down.
+fn is_fed<R: Threads + Wait + Abort + Sync>(
+    rt: &R,
+    alloc: Global,
+    direction: Direction,
+    up: u32,
+    down: u32,
+) -> Result<(), Fail> {
+    let row = Row {
+        direction,
+        timed: timed(0, 20),
+    };
+    let mut feeds = OneRow { row };
+    assert!(rt; count_rows(&feeds) == 1);
+    assert!(rt; feed_two(rt, alloc, &mut feeds)? == (FeedEnd::Ended, up, down));
+    Ok(())
+}
+
+#[test]
+fn feeds_its_row_in_its_direction(rt: HostRuntime) -> Result<(), Fail> {
+    is_fed(&rt, rt.alloc(), Direction::Up, 1, 0)?;
+    is_fed(&rt, rt.alloc(), Direction::Down, 0, 1)
+}

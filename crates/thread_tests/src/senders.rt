@@ -1,0 +1,192 @@
+//! Merges of flows, and senders that feed two channels beside two threads that receive.
+ghost use Rattle.std.specs.Prelude.{◌≡◌};
+ghost use Rattle.std.specs.Thread.{IsSync};
+ghost use Rattle.packet_record.specs.declared.item.FlowEnd.TheVariants.{Open};
+ghost use Rattle.packet_record.specs.Streams.{no_items};
+ghost use Rattle.mark_channel.specs.Ends.{IsSameEnd};
+
+mod feeds;
+mod merges;
+
+use mark_channel::{FeedEnd, Feeds, Receiver, Sender, open, settle};
+use packet_record::{Item, Schedule, read_schedule};
+use sender_merge::{Senders, count_rows};
+use std::alloc::{AllocError, Global};
+use std::marker::Sync;
+use std::process::Abort;
+use std::sync::Wait;
+use std::test::Fail;
+use std::thread::{Threads, join_mut};
+
+// Senders of these schedules.
+fn senders_of<R: Abort>(rt: &R, alloc: Global, schedules: Vec<Schedule>) -> Result<Senders, Fail> {
+    assert!(rt; !schedules.is_empty() && schedules.len() <= 16);
+    let lines = count_rows(schedules.as_slice());
+    assert!(rt; lines <= 1_000_000);
+    Ok(Senders::new(alloc, schedules)?)
+}
+
+// The schedules that these texts are.
+fn schedules_of(alloc: Global, texts: &[&[u8]]) -> Result<Vec<Schedule>, Fail> {
+    let mut schedules = Vec::new(alloc);
+    for text in texts {
+        let schedule = read_schedule(alloc, text)?;
+        schedules.push(schedule).map_err(AllocError::from)?;
+    }
+    Ok(schedules)
+}
+
+// Senders of them.
+fn senders_from<R: Abort>(rt: &R, alloc: Global, texts: &[&[u8]]) -> Result<Senders, Fail> {
+    let schedules = schedules_of(alloc, texts)?;
+    senders_of(rt, alloc, schedules)
+}
+
+// What came out of the two channels.
+#[derive(Drop)]
+struct Fed {
+    pub ups: Vec<Item>,
+    pub downs: Vec<Item>,
+}
+
+// Receives until the end, and gathers the items.
+fn receive_all<R: Wait>(rt: &R, from: &mut Receiver, items: &mut Vec<Item>)
+    requires { from.old.flow.end ≡ Open }
+    ensures same { IsSameEnd from.old from.new }
+{
+    for _ in rt.forever() {
+        let item = from.recv(rt);
+        let _ = items.push(item);
+        match item {
+            Item::Packet(_) | Item::Mark(_) => {}
+            Item::End | Item::Broken => return,
+        }
+    }
+    unreachable!()
+}
+
+// Receives from both channels beside each other.
+fn receive_both<R: Threads + Wait + Sync>(
+    rt: &R,
+    up: &mut Receiver,
+    down: &mut Receiver,
+    ups: &mut Vec<Item>,
+    downs: &mut Vec<Item>,
+)
+    requires { (up.old.flow.end ≡ Open) × (down.old.flow.end ≡ Open) }
+    ensures same { IsSameEnd up.old up.new × IsSameEnd down.old down.new }
+{
+    join_mut(
+        rt,
+        &mut ||
+            requires { (up.now.flow.end ≡ Open) × IsSync R.row }
+            ensures same { IsSameEnd up.entry.now up.exit.now }
+        { receive_all(rt, up, ups) },
+        &mut ||
+            requires { (down.now.flow.end ≡ Open) × IsSync R.row }
+            ensures same { IsSameEnd down.entry.now down.exit.now }
+        { receive_all(rt, down, downs) },
+    );
+}
+
+// Feeds two channels beside two threads that receive.
+fn feed_beside<R: Threads + Wait + Sync>(
+    rt: &R,
+    senders: &mut Senders,
+    horizon: u64,
+    up: &mut Sender,
+    down: &mut Sender,
+    up_end: &mut Receiver,
+    down_end: &mut Receiver,
+    ups: &mut Vec<Item>,
+    downs: &mut Vec<Item>,
+) -> FeedEnd
+    requires empty { (up.old.flow ≡ no_items) × (down.old.flow ≡ no_items) }
+    requires within { (up.old.horizon ≡ horizon) × (down.old.horizon ≡ horizon) }
+    requires going { (up_end.old.flow.end ≡ Open) × (down_end.old.flow.end ≡ Open) }
+    ensures up { IsSameEnd up.old up.new × IsSameEnd up_end.old up_end.new }
+    ensures down { IsSameEnd down.old down.new × IsSameEnd down_end.old down_end.new }
+{
+    let (end, _) = join_mut(
+        rt,
+        &mut || -> FeedEnd
+            requires { (up.now.flow ≡ no_items) × (down.now.flow ≡ no_items) × (up.now.horizon ≡ horizon)
+                × (down.now.horizon ≡ horizon) × IsSync R.row }
+            ensures same { IsSameEnd up.entry.now up.exit.now × IsSameEnd down.entry.now down.exit.now }
+        { senders.feed(rt, horizon, up, down) },
+        &mut ||
+            requires { (up_end.now.flow.end ≡ Open) × (down_end.now.flow.end ≡ Open) × IsSync R.row }
+            ensures same { IsSameEnd up_end.entry.now up_end.exit.now
+                × IsSameEnd down_end.entry.now down_end.exit.now }
+        { receive_both(rt, up_end, down_end, ups, downs) },
+    );
+    end
+}
+
+// Feeds two channels up to a horizon: what came out, where all was fed.
+fn feed_all<R: Threads + Wait + Sync + Abort>(
+    rt: &R,
+    alloc: Global,
+    senders: &mut Senders,
+    horizon: u64,
+) -> Result<Fed, Fail> {
+    let (mut up, mut up_end) = open(alloc, 64, horizon)?;
+    let (mut down, mut down_end) = open(alloc, 64, horizon)?;
+    let mut ups = Vec::new(alloc);
+    let mut downs = Vec::new(alloc);
+    let end = feed_beside(
+        rt,
+        senders,
+        horizon,
+        &mut up,
+        &mut down,
+        &mut up_end,
+        &mut down_end,
+        &mut ups,
+        &mut downs,
+    );
+    settle(up, up_end);
+    settle(down, down_end);
+    assert!(rt; end == FeedEnd::Ended);
+    Ok(Fed { ups, downs })
+}
+
+// The numbers of the packets among items.
+fn numbers_of(alloc: Global, items: &[Item]) -> Result<Vec<u32>, AllocError> {
+    let mut numbers = Vec::new(alloc);
+    for item in items {
+        if let Item::Packet(timed) = item {
+            numbers.push(timed.packet.id)?;
+        }
+    }
+    Ok(numbers)
+}
+
+// How many of the items are packets.
+fn count_packets(items: &[Item]) -> u64 {
+    let mut count = 0u64;
+    for item in items {
+        if let Item::Packet(_) = item {
+            count = count.saturating_add(1);
+        }
+    }
+    count
+}
+
+// Whether the packets that were fed have these numbers, up and down.
+fn has_numbers(alloc: Global, fed: &Fed, ups: &[u32], downs: &[u32]) -> Result<bool, AllocError> {
+    let fed_up = numbers_of(alloc, fed.ups.as_slice())?;
+    let fed_down = numbers_of(alloc, fed.downs.as_slice())?;
+    Ok(fed_up.as_slice() == ups && fed_down.as_slice() == downs)
+}
+
+// What the senders of the schedules that these texts are feed up to a horizon.
+fn feed_texts<R: Threads + Wait + Sync + Abort>(
+    rt: &R,
+    alloc: Global,
+    texts: &[&[u8]],
+    horizon: u64,
+) -> Result<Fed, Fail> {
+    let mut senders = senders_from(rt, alloc, texts)?;
+    feed_all(rt, alloc, &mut senders, horizon)
+}
