@@ -7,6 +7,8 @@ mod made;
 #[cfg(test)]
 mod make;
 #[cfg(test)]
+mod merge;
+#[cfg(test)]
 mod program;
 #[cfg(test)]
 mod replay;
