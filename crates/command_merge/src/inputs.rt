@@ -89,7 +89,7 @@ fn check_listed(
 }
 
 // Refuses the schedule of this name, where the schedules so far have so many lines in all.
-pub(crate) fn check_total(alloc: Global, name: &str, lines: usize) -> Result<(), Cause>
+fn check_total(alloc: Global, name: &str, lines: usize) -> Result<(), Cause>
     ensures refused { MatchResult result (λ _. refused_total name.now lines ≡ None)
         (λ cause. RefusesText (refused_total name.now lines) cause) }
     ensures few { OnOk result (lines ≤ 1000000) }

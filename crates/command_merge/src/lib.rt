@@ -7,7 +7,5 @@ mod inputs;
 mod job;
 mod list;
 mod merge;
-#[cfg(test)]
-mod tests;
 
 pub use merge::answer_merge;

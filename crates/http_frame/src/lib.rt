@@ -16,8 +16,6 @@ mod request_frames;
 mod request_head;
 mod response_frames;
 mod response_head;
-#[cfg(test)]
-mod tests;
 
 pub use errors::{FrameError, FrameFault, Step};
 pub use first::{first_request, first_response};

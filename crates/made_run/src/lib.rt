@@ -5,8 +5,6 @@ mod made;
 mod printing;
 mod run;
 mod summary;
-#[cfg(test)]
-mod tests;
 mod words;
 
 pub use run::make_summary;

@@ -17,8 +17,6 @@ mod replay;
 mod report;
 mod run;
 mod table;
-#[cfg(test)]
-mod tests;
 
 pub use make::{MakeWords, parse_make};
 pub use matching::{MatchWords, parse_match};

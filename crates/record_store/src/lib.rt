@@ -12,8 +12,6 @@ mod reading;
 mod record;
 mod server;
 mod store_error;
-#[cfg(test)]
-mod tests;
 
 pub use errors::PairError;
 pub use pairing::pair;

@@ -6,8 +6,6 @@ mod index_entries;
 mod index_scores;
 mod keys;
 mod matching;
-#[cfg(test)]
-mod tests;
 
 pub use index::Index;
 pub use matching::best;

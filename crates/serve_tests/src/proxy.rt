@@ -1,30 +1,18 @@
-// Connections between links in memory, and one over TCP.
-ghost use Rattle.std.specs.Prelude.{◌≤◌, IfOk};
-ghost use Rattle.mm_base.specs.MemLink.{IsUnused};
+// Connections between links in memory.
+ghost use Rattle.std.specs.Prelude.{◌≤◌};
 
 mod commands;
 mod limits;
+mod tcp;
 mod watched;
 
-use mm_base::{Bytes, EndError, Link, MemLink, OutOfMemory, Port, TcpPort};
-use record_proxy::{Dialer, ProxyEnd, TcpDialer, proxy_conn, proxy_main};
+use crate::links::{REQUEST, RESPONSE, link};
+use mm_base::{Link, OutOfMemory, Port};
+use record_proxy::{Dialer, ProxyEnd, proxy_conn, proxy_main};
 use record_store::Store;
 use std::alloc::Global;
-use std::process::Abort;
 use std::test::Fail;
 use test_outside::TestOutside;
-
-pub(crate) const REQUEST: &str = "GET / HTTP/1.1\r\nHost: a\r\n\r\n";
-
-pub(crate) const RESPONSE: &str = "HTTP/1.1 200 OK\r\nContent-Length: 2\r\n\r\nhi";
-
-pub(crate) fn link(alloc: Global, input: &str, most: usize, fails: &[u64]) -> Result<MemLink, Fail>
-    requires { 1 ≤ most }
-    ensures { IfOk result IsUnused }
-{
-    let input = Bytes::from_slice(alloc, input.as_bytes())?;
-    Ok(MemLink::new(alloc, input, most, fails.to_vec(alloc)?))
-}
 
 // The end of a connection. No test needs what the contract of `proxy_conn` says of it, and so this has none.
 pub(crate) fn end_of<C: Link, S: Link>(
@@ -56,7 +44,9 @@ pub(crate) fn status_of<P: Port, X: Dialer>(
 }
 
 // What a client and a server say, how many bytes of each are passed on, how many records are added, and how it ends.
-static ROWS: [(&str, &str, usize, usize, usize, ProxyEnd); 17] = [
+type Row = (&'static str, &'static str, usize, usize, usize, ProxyEnd);
+
+static ROWS: [Row; 17] = [
     ("", "", 0, 0, 0, ProxyEnd::Closed),
     (REQUEST, RESPONSE, 27, 40, 1, ProxyEnd::Closed),
     // an interim response before the final one
@@ -176,12 +166,13 @@ static ROWS: [(&str, &str, usize, usize, usize, ProxyEnd); 17] = [
     ),
 ];
 
+// Whether that is the front of a text of so many bytes.
+fn is_front(given: &[u8], text: &str, count: usize) -> bool {
+    given.len() == count && text.as_bytes().starts_with(given)
+}
+
 // Whether the ends, the bytes passed on and the records are these, where a read brings at most so many bytes.
-fn passes_so(
-    alloc: Global,
-    row: &(&str, &str, usize, usize, usize, ProxyEnd),
-    most: usize,
-) -> Result<bool, Fail>
+fn passes_so(alloc: Global, row: &Row, most: usize) -> Result<bool, Fail>
     requires { 1 ≤ most }
 {
     let mut client = link(alloc, row.0, most, &[])?;
@@ -190,8 +181,8 @@ fn passes_so(
     let end = end_of(alloc, &mut client, &mut server, 8080, &mut store)?;
     Ok(
         end == row.5
-            && row.0.as_bytes().get(..row.2) == Some(server.given())
-            && row.1.as_bytes().get(..row.3) == Some(client.given())
+            && is_front(server.given(), row.0, row.2)
+            && is_front(client.given(), row.1, row.3)
             && store.records().len() == row.4,
     )
 }
@@ -216,90 +207,50 @@ fn whole_answers(given: usize) -> usize {
     }
 }
 
+// What a client and a server say in two exchanges.
+const ASKED: &str = "GET / HTTP/1.1\r\nHost: a\r\n\r\nGET / HTTP/1.1\r\nHost: b\r\n\r\n";
+
+const SAID: &str = "HTTP/1.1 204 No Content\r\n\r\nHTTP/1.1 200 OK\r\nContent-Length: 2\r\n\r\nhi";
+
+// Whether fronts of these were given to the server and to the client, and there is a record of each answer that was
+// given whole.
+fn are_recorded(asked: &[u8], said: &[u8], store: &Store) -> bool {
+    ASKED.as_bytes().starts_with(asked)
+        && SAID.as_bytes().starts_with(said)
+        && store.records().len() == whole_answers(said.len())
+}
+
 // Two exchanges, where the calls of these numbers of the client's and of the server's link fail: how it ends, and
-// whether fronts of what was said were given, and there is a record of each answer that was given whole.
+// whether it is recorded.
 fn ends_with_fails(
     alloc: Global,
     client_fails: &[u64],
     server_fails: &[u64],
 ) -> Result<(ProxyEnd, bool), Fail> {
-    let asked = "GET / HTTP/1.1\r\nHost: a\r\n\r\nGET / HTTP/1.1\r\nHost: b\r\n\r\n";
-    let said = "HTTP/1.1 204 No Content\r\n\r\nHTTP/1.1 200 OK\r\nContent-Length: 2\r\n\r\nhi";
-    let mut client = link(alloc, asked, 1, client_fails)?;
-    let mut server = link(alloc, said, 1, server_fails)?;
+    let mut client = link(alloc, ASKED, 1, client_fails)?;
+    let mut server = link(alloc, SAID, 1, server_fails)?;
     let mut store = Store::new(alloc);
     let end = end_of(alloc, &mut client, &mut server, 80, &mut store)?;
-    let fronts = asked.as_bytes().starts_with(server.given())
-        && said.as_bytes().starts_with(client.given());
-    let recorded = store.records().len() == whole_answers(client.given().len());
-    Ok((end, fronts && recorded))
+    Ok((end, are_recorded(server.given(), client.given(), &store)))
 }
 
-// The client's link is read 55 times and written twice, the server's is written twice and read 67 times.
+// Whether a call of the client's link is a fault where there are so many. The link is read 55 times and written twice.
+fn client_fails_at(alloc: Global, call: u64) -> Result<bool, Fail> {
+    let (end, is_well) = ends_with_fails(alloc, &[call], &[])?;
+    Ok(is_well && (end == ProxyEnd::ClientFault) == (call <= 57))
+}
+
+// The same of the server's link, which is written twice and read 67 times.
+fn server_fails_at(alloc: Global, call: u64) -> Result<bool, Fail> {
+    let (end, is_well) = ends_with_fails(alloc, &[], &[call])?;
+    Ok(is_well && (end == ProxyEnd::ServerFault) == (call <= 69))
+}
+
 #[test]
 fn links_that_fail_were_given_fronts(rt: HostRuntime) -> Result<(), Fail> {
     for call in 1..80u64 {
-        let (end, is_well) = ends_with_fails(rt.alloc(), &[call], &[])?;
-        assert!(rt; is_well, "client at {call}");
-        assert_eq!(rt; end == ProxyEnd::ClientFault, call <= 57);
-        let (end, is_well) = ends_with_fails(rt.alloc(), &[], &[call])?;
-        assert!(rt; is_well, "server at {call}");
-        assert_eq!(rt; end == ProxyEnd::ServerFault, call <= 69);
+        assert!(rt; client_fails_at(rt.alloc(), call)?, "client at {call}");
+        assert!(rt; server_fails_at(rt.alloc(), call)?, "server at {call}");
     }
-    Ok(())
-}
-
-// The number of a port of TCP that is free, at which it listens now.
-fn listen(rt: &impl Abort, port: &mut TcpPort<HostRuntime>) -> Result<u16, Fail> {
-    assert_eq!(rt; port.listen(0), Ok(()));
-    Ok(port.number().ok_or("no number")?)
-}
-
-// A connection from a client in memory to a site passes its request and the site's response.
-fn passes_on<S: Link>(
-    rt: &impl Abort,
-    alloc: Global,
-    server: &mut S,
-    number: u16,
-) -> Result<(), Fail> {
-    let mut client = link(alloc, REQUEST, 65_536, &[])?;
-    let mut store = Store::new(alloc);
-    let end = end_of(alloc, &mut client, server, number, &mut store);
-    assert_eq!(rt; end, Ok(ProxyEnd::Closed));
-    assert_eq!(rt; client.given(), RESPONSE.as_bytes());
-    Ok(())
-}
-
-// The site was asked 27 bytes, and then the output was ended.
-fn was_asked<S: Link>(rt: &impl Abort, site: &mut S) {
-    let mut asked = [0u8; 64];
-    assert_eq!(rt; site.read(&mut asked), Ok(27));
-    assert_eq!(rt; site.read(&mut asked), Ok(0));
-}
-
-// A server of this process at a port of TCP, and a client in memory.
-#[test]
-fn a_connection_of_tcp_is_dialed(rt: HostRuntime) -> Result<(), Fail> {
-    let mut port = TcpPort::new(rt.clone()?);
-    let number = listen(&rt, &mut port)?;
-    let mut dialer = TcpDialer::new(rt.clone()?);
-    let mut dialed = dialer.dial(number).ok().ok_or("not dialed")?;
-    let mut site = port.accept().ok().flatten().ok_or("no link")?;
-    assert_eq!(rt; site.write(RESPONSE.as_bytes()), Ok(40));
-    passes_on(&rt, rt.alloc(), &mut dialed, number)?;
-    assert_eq!(rt; site.write(b"unread"), Ok(6));
-    assert_eq!(rt; dialer.finish(dialed), Ok(()));
-    was_asked(&rt, &mut site);
-    assert_eq!(rt; port.finish(site), Ok(()));
-    Ok(())
-}
-
-#[test]
-fn nobody_listens_at_a_port_that_was_let_go(rt: HostRuntime) -> Result<(), Fail> {
-    let mut port = TcpPort::new(rt.clone()?);
-    let number = listen(&rt, &mut port)?;
-    drop(port);
-    let mut dialer = TcpDialer::new(rt.clone()?);
-    assert!(rt; matches!(dialer.dial(number), Err(EndError::Failed)));
     Ok(())
 }

@@ -1,80 +1,54 @@
 // Sessions over links in memory.
-ghost use Rattle.std.specs.Prelude.{◌≤◌, IfOk};
-ghost use Rattle.mm_base.specs.MemLink.{IsUnused};
+ghost use Rattle.std.specs.Prelude.{◌≤◌};
 
 mod ports;
 mod watched;
 
-use mm_base::{Bytes, EndError, Link, MemLink, NoPace, Port, TcpPort};
-use record_store::{Store, pair};
+use crate::links::{REQUEST, RESPONSE, link, listen};
+use crate::store::paired;
+use crate::texts::{copies, long_field, long_message};
+use mm_base::{Link, MemLink, NoPace, Pace, Port, TcpPort};
+use record_store::Store;
 use replay_server::{ConnEnd, serve_conn};
 use std::alloc::Global;
 use std::io::{self, Write};
 use std::net::{Ipv4Addr, Net, Shutdown, SocketAddr, TcpListener, TcpStream};
-use std::process::Abort;
 use std::sync::Wait;
 use std::test::Fail;
 
-const REQUEST: &str = "GET / HTTP/1.1\r\nHost: a\r\n\r\n";
-
-const RESPONSE: &str = "HTTP/1.1 200 OK\r\nContent-Length: 2\r\n\r\nhi";
-
-fn store(alloc: Global, client: &str, server: &str) -> Result<Store, Fail> {
-    Ok(
-        pair(alloc, client.as_bytes(), server.as_bytes(), 0)
-            .ok()
-            .ok_or("no pairs")?,
-    )
+/// The store of one request.
+fn store_of_one(alloc: Global) -> Result<Store, Fail> {
+    Ok(paired(alloc, REQUEST.as_bytes(), RESPONSE.as_bytes(), 0)?)
 }
 
-fn link(alloc: Global, input: &str, most: usize, fails: &[u64]) -> Result<MemLink, Fail>
-    requires { 1 ≤ most }
-    ensures { IfOk result IsUnused }
-{
-    let input = Bytes::from_slice(alloc, input.as_bytes())?;
-    Ok(MemLink::new(alloc, input, most, fails.to_vec(alloc)?))
+/// How a session ends. No test needs what the contract of `serve_conn` says of it, and so this has none.
+fn end_of<R: Wait, L: Link, Q: Pace>(
+    rt: &R,
+    alloc: Global,
+    store: &Store,
+    link: &mut L,
+    number: u32,
+    pace: &Q,
+) -> ConnEnd {
+    serve_conn(rt, alloc, store, link, None, number, pace)
 }
 
-/// A session ended as it should. A comparison of its own keeps the proofs of the tests small.
-fn ends_as(rt: &impl Abort, end: ConnEnd, wanted: ConnEnd) {
-    assert_eq!(rt; end, wanted);
-}
-
-/// What was given is what should be.
-fn gives(rt: &impl Abort, given: &[u8], wanted: &[u8]) {
-    assert_eq!(rt; given, wanted);
-}
-
-/// A count is what it should be.
-fn counts(rt: &impl Abort, count: u64, wanted: u64) {
-    assert_eq!(rt; count, wanted);
-}
-
-/// A call of a port succeeded.
-fn succeeds(rt: &impl Abort, called: Result<(), EndError>) {
-    assert_eq!(rt; called, Ok(()));
-}
-
-/// A session over the link gives that and ends so.
-fn passes<R: Wait + Abort>(
+/// Whether a session over the link gives that and ends so.
+fn passes<R: Wait>(
     rt: &R,
     alloc: Global,
     store: &Store,
     mut link: MemLink,
-    given: &str,
+    given: &[u8],
     end: ConnEnd,
-) -> Result<(), Fail> {
-    ends_as(
-        rt,
-        serve_conn(rt, alloc, store, &mut link, None, 1, &NoPace),
-        end,
-    );
-    gives(rt, link.given(), given.as_bytes());
-    Ok(())
+) -> bool {
+    end_of(rt, alloc, store, &mut link, 1, &NoPace) == end && link.given() == given
 }
 
 // Input, what is given, and how the session ends, whatever the cut.
-const ROWS: [(&str, &str, ConnEnd); 9] = [
+type Row = (&'static str, &'static str, ConnEnd);
+
+static ROWS: [Row; 9] = [
     ("", "", ConnEnd::Closed),
     ("GET / HT", "", ConnEnd::Closed),
     (
@@ -114,15 +88,27 @@ const ROWS: [(&str, &str, ConnEnd); 9] = [
     ),
 ];
 
+/// Whether a row holds where a read brings at most so many bytes.
+fn holds<R: Wait>(
+    rt: &R,
+    alloc: Global,
+    store: &Store,
+    row: &Row,
+    most: usize,
+) -> Result<bool, Fail>
+    requires { 1 ≤ most }
+{
+    let link = link(alloc, row.0, most, &[])?;
+    Ok(passes(rt, alloc, store, link, row.1.as_bytes(), row.2))
+}
+
 #[test]
 fn sessions_answer_whole_requests(rt: HostRuntime) -> Result<(), Fail> {
     let alloc = rt.alloc();
-    let store = store(alloc, REQUEST, RESPONSE)?;
-    for (input, answers, end) in &ROWS {
-        let whole = link(alloc, input, 65_536, &[])?;
-        passes(&rt, alloc, &store, whole, answers, *end)?;
-        let cut = link(alloc, input, 1, &[])?;
-        passes(&rt, alloc, &store, cut, answers, *end)?;
+    let store = store_of_one(alloc)?;
+    for row in &ROWS {
+        assert!(rt; holds(&rt, alloc, &store, row, 65_536)?, "whole {}", row.0);
+        assert!(rt; holds(&rt, alloc, &store, row, 1)?, "cut {}", row.0);
     }
     Ok(())
 }
@@ -134,25 +120,28 @@ const CURL: &str =
 const CHUNKS: &str =
     "HTTP/1.1 200 OK\r\nContent-Encoding: gzip\r\nTransfer-Encoding: chunked\r\n\r\n3\r\nabc\r\n0\r\n\r\n";
 
-/// So many copies of a text, after a front.
-fn copies(alloc: Global, front: &[u8], text: &[u8], count: u32) -> Result<Bytes, Fail> {
-    let mut all = Bytes::from_slice(alloc, front)?;
-    for _ in 0..count {
-        all.append(text)?;
-    }
-    Ok(all)
+/// The store of that request.
+fn store_of_chunks(alloc: Global) -> Result<Store, Fail> {
+    Ok(paired(alloc, CURL.as_bytes(), CHUNKS.as_bytes(), 0)?)
 }
 
 #[test]
 fn recorded_chunks_come_as_they_are(rt: HostRuntime) -> Result<(), Fail> {
     let alloc = rt.alloc();
-    let store = store(alloc, CURL, CHUNKS)?;
-    let twice = copies(alloc, b"", CURL.as_bytes(), 2)?;
-    let mut link = MemLink::new(alloc, twice, 8, Vec::new(alloc));
-    let end = serve_conn(&rt, alloc, &store, &mut link, None, 1, &NoPace);
-    ends_as(&rt, end, ConnEnd::Closed);
+    let store = store_of_chunks(alloc)?;
     let answers = copies(alloc, b"", CHUNKS.as_bytes(), 2)?;
-    gives(&rt, link.given(), answers.as_slice());
+    let twice = copies(alloc, b"", CURL.as_bytes(), 2)?;
+    let link = MemLink::new(alloc, twice, 8, Vec::new(alloc));
+    assert!(rt;
+        passes(
+            &rt,
+            alloc,
+            &store,
+            link,
+            answers.as_slice(),
+            ConnEnd::Closed
+        )
+    );
     Ok(())
 }
 
@@ -167,19 +156,22 @@ fn asking_client<R: Net<Stream = TcpStream, Listener = TcpListener>>(
     Ok(client)
 }
 
+/// Whether a client's answer is the recorded one.
+fn is_answered(alloc: Global, client: &TcpStream) -> Result<bool, Fail> {
+    let answer = io::read_to_string(alloc, client)?;
+    Ok(answer.as_bytes() == CHUNKS.as_bytes())
+}
+
 #[test]
 fn a_client_over_tcp_gets_the_recorded_bytes(rt: HostRuntime) -> Result<(), Fail> {
     let alloc = rt.alloc();
-    let store = store(alloc, CURL, CHUNKS)?;
+    let store = store_of_chunks(alloc)?;
     let mut port = TcpPort::new(rt.clone()?);
-    succeeds(&rt, port.listen(0));
-    let client = asking_client(&rt, port.number().ok_or("no number")?)?;
+    let client = asking_client(&rt, listen(&mut port)?)?;
     let mut link = port.accept().ok().flatten().ok_or("no link")?;
-    let end = serve_conn(&rt, alloc, &store, &mut link, None, 1, &NoPace);
-    ends_as(&rt, end, ConnEnd::Closed);
-    let answer = io::read_to_string(alloc, &client)?;
-    gives(&rt, answer.as_bytes(), CHUNKS.as_bytes());
-    succeeds(&rt, port.finish(link));
+    assert!(rt; end_of(&rt, alloc, &store, &mut link, 1, &NoPace) == ConnEnd::Closed);
+    assert!(rt; is_answered(alloc, &client)?);
+    assert!(rt; port.finish(link).is_ok());
     Ok(())
 }
 
@@ -188,32 +180,28 @@ const BAD_REQUEST: &str =
 
 const REQUEST_LINE: &[u8] = b"GET / HTTP/1.1\r\n";
 
-/// A field's line of a thousand bytes.
-fn long_field(alloc: Global) -> Result<Bytes, Fail> {
-    let mut line = copies(alloc, b"A:", b"x", 996)?;
-    line.append(b"\r\n")?;
-    Ok(line)
-}
-
-/// A request line, so many copies of a field's line, and no head's end: that is refused.
-fn refuses_fields<R: Wait + Abort>(
-    rt: &R,
-    alloc: Global,
-    field: &[u8],
-    count: u32,
-) -> Result<(), Fail> {
-    let store = store(alloc, REQUEST, RESPONSE)?;
+/// Whether a request line, so many copies of a field's line, and no head's end are refused.
+fn refuses_fields<R: Wait>(rt: &R, alloc: Global, field: &[u8], count: u32) -> Result<bool, Fail> {
+    let store = store_of_one(alloc)?;
     let head = copies(alloc, REQUEST_LINE, field, count)?;
     let link = MemLink::new(alloc, head, 4_096, Vec::new(alloc));
-    passes(rt, alloc, &store, link, BAD_REQUEST, ConnEnd::BadRequest)
+    Ok(passes(
+        rt,
+        alloc,
+        &store,
+        link,
+        BAD_REQUEST.as_bytes(),
+        ConnEnd::BadRequest,
+    ))
 }
 
 #[test]
 fn heads_past_their_limits_are_refused(rt: HostRuntime) -> Result<(), Fail> {
     let alloc = rt.alloc();
-    let long = long_field(alloc)?;
-    refuses_fields(&rt, alloc, long.as_slice(), 66)?;
-    refuses_fields(&rt, alloc, b"A: 1\r\n", 101)
+    let long = long_field(alloc, b"x")?;
+    assert!(rt; refuses_fields(&rt, alloc, long.as_slice(), 66)?);
+    assert!(rt; refuses_fields(&rt, alloc, b"A: 1\r\n", 101)?);
+    Ok(())
 }
 
 // Two requests and their answers, of 40 and 45 bytes.
@@ -222,36 +210,28 @@ const TWO: &str = "GET / HTTP/1.1\r\nHost: a\r\n\r\nGET /x HTTP/1.1\r\nHost: a\r
 const TWO_ANSWERS: &str =
     "HTTP/1.1 200 OK\r\nContent-Length: 2\r\n\r\nhiHTTP/1.1 404 Not Found\r\nContent-Length: 0\r\n\r\n";
 
-/// Whether a session fails where that call of its link fails. What the link was given is a front of the answers, and
-/// all of them where it didn't fail.
-fn fails_at<R: Wait + Abort>(
-    rt: &R,
-    alloc: Global,
-    store: &Store,
-    call: u64,
-) -> Result<bool, Fail> {
+// A session of these has 58 calls of its link.
+const CALLS: u64 = 58;
+
+/// Whether a session fails at that call of its link, where it has so many, and ends well where it has fewer. What the
+/// link was given is a front of the answers, and all of them where it didn't fail.
+fn fails_at<R: Wait>(rt: &R, alloc: Global, store: &Store, call: u64) -> Result<bool, Fail> {
     let mut link = link(alloc, TWO, 1, &[call])?;
-    let end = serve_conn(rt, alloc, store, &mut link, None, 1, &NoPace);
-    if end == ConnEnd::LinkFault {
-        assert!(rt; TWO_ANSWERS.as_bytes().starts_with(link.given()));
-        return Ok(true);
+    let end = end_of(rt, alloc, store, &mut link, 1, &NoPace);
+    if call <= CALLS {
+        let is_front = TWO_ANSWERS.as_bytes().starts_with(link.given());
+        return Ok(end == ConnEnd::LinkFault && is_front);
     }
-    ends_as(rt, end, ConnEnd::Closed);
-    gives(rt, link.given(), TWO_ANSWERS.as_bytes());
-    Ok(false)
+    Ok(end == ConnEnd::Closed && link.given() == TWO_ANSWERS.as_bytes())
 }
 
 #[test]
 fn a_link_that_fails_was_given_a_front(rt: HostRuntime) -> Result<(), Fail> {
     let alloc = rt.alloc();
-    let store = store(alloc, REQUEST, RESPONSE)?;
-    let mut faults = 0u64;
+    let store = store_of_one(alloc)?;
     for call in 1..100u64 {
-        if fails_at(&rt, alloc, &store, call)? {
-            faults = faults.saturating_add(1);
-        }
+        assert!(rt; fails_at(&rt, alloc, &store, call)?, "at {call}");
     }
-    counts(&rt, faults, 58);
     Ok(())
 }
 
@@ -260,27 +240,26 @@ const EACH: usize = 65_535;
 
 const FULL_HEAD: &[u8] = b"POST / HTTP/1.1\r\nHost: a\r\nContent-Length: 65484\r\n\r\n";
 
-/// 1,025 requests, each of as many bytes as a read brings.
-fn more_than_the_limit(alloc: Global) -> Result<Bytes, Fail> {
-    let body = vec![in alloc; b'x'; 65_484]?;
-    let mut input = Bytes::with_capacity(alloc, 67_173_375)?;
-    for _ in 0..1_025 {
-        input.append(FULL_HEAD)?;
-        input.append(body.as_slice())?;
-    }
-    Ok(input)
+/// A link that says 1,025 requests, each of as many bytes as a read brings.
+fn more_than_the_limit(alloc: Global) -> Result<MemLink, Fail> {
+    let request = long_message(alloc, FULL_HEAD, 65_484)?;
+    let input = copies(alloc, b"", request.as_slice(), 1_025)?;
+    Ok(MemLink::new(alloc, input, EACH, Vec::new(alloc)))
+}
+
+/// How many bytes the link's next read brings.
+fn left_in<L: Link>(alloc: Global, link: &mut L) -> Result<usize, Fail> {
+    let mut left = vec![in alloc; 0u8; EACH]?;
+    Ok(link.read(left.as_mut_slice())?)
 }
 
 #[test]
 fn a_connection_brings_no_more_than_its_limit(rt: HostRuntime) -> Result<(), Fail> {
     let alloc = rt.alloc();
-    let store = store(alloc, REQUEST, RESPONSE)?;
-    let input = more_than_the_limit(alloc)?;
-    let mut link = MemLink::new(alloc, input, EACH, Vec::new(alloc));
-    let end = serve_conn(&rt, alloc, &store, &mut link, None, 1, &NoPace);
-    ends_as(&rt, end, ConnEnd::Full);
-    counts(&rt, link.given().len() as u64, 1_024 * 45);
-    let mut left = vec![in alloc; 0u8; EACH]?;
-    assert_eq!(rt; link.read(left.as_mut_slice()), Ok(64_511));
+    let store = store_of_one(alloc)?;
+    let mut link = more_than_the_limit(alloc)?;
+    assert!(rt; end_of(&rt, alloc, &store, &mut link, 1, &NoPace) == ConnEnd::Full);
+    assert!(rt; link.given().len() == 1_024 * 45);
+    assert!(rt; left_in(alloc, &mut link)? == 64_511);
     Ok(())
 }

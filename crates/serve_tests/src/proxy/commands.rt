@@ -1,5 +1,6 @@
 // The whole program over a disk, an `out`, a port and a dialer in memory.
-use super::{REQUEST, RESPONSE, link, status_of};
+use super::status_of;
+use crate::links::{REQUEST, RESPONSE, link};
 use mm_base::MemPort;
 use record_proxy::MemDialer;
 use std::alloc::Global;
@@ -49,6 +50,30 @@ const RUN: Run = Run {
     fails: NONE,
 };
 
+// A port of one client that says this. The calls of these numbers fail, of its link and of the port.
+fn port_of_one(
+    alloc: Global,
+    asked: &str,
+    link_fails: u64,
+    port_fails: u64,
+) -> Result<MemPort, Fail> {
+    let client = link(alloc, asked, 65_536, &[link_fails])?;
+    let clients = vec![in alloc; client]?;
+    Ok(MemPort::new(alloc, clients, vec![in alloc; port_fails]?))
+}
+
+// A dialer of one server that says this, likewise.
+fn dialer_of_one(
+    alloc: Global,
+    said: &str,
+    link_fails: u64,
+    dialer_fails: u64,
+) -> Result<MemDialer, Fail> {
+    let server = link(alloc, said, 65_536, &[link_fails])?;
+    let servers = vec![in alloc; server]?;
+    Ok(MemDialer::new(alloc, servers, vec![in alloc; dialer_fails]?))
+}
+
 // Whether a run has this status, prints this, and leaves this in the file `s`.
 fn ends_with(
     alloc: Global,
@@ -59,12 +84,8 @@ fn ends_with(
 ) -> Result<bool, Fail> {
     let words = words_of(alloc, run.words)?;
     let mut outside = TestOutside::new(alloc, &[], &[run.fails.disk], &[run.fails.out])?;
-    let client = link(alloc, run.asked, 65_536, &[run.fails.client])?;
-    let server = link(alloc, run.said, 65_536, &[run.fails.server])?;
-    let clients = vec![in alloc; client]?;
-    let servers = vec![in alloc; server]?;
-    let mut port = MemPort::new(alloc, clients, vec![in alloc; run.fails.port]?);
-    let mut dialer = MemDialer::new(alloc, servers, vec![in alloc; run.fails.dialer]?);
+    let mut port = port_of_one(alloc, run.asked, run.fails.client, run.fails.port)?;
+    let mut dialer = dialer_of_one(alloc, run.said, run.fails.server, run.fails.dialer)?;
     let answered = status_of(alloc, &words, &mut outside, &mut port, &mut dialer);
     Ok(answered == status && outside.is_left(printed, &[("s", store)]))
 }
@@ -181,24 +202,33 @@ fn other_words_ask_for_nothing(rt: HostRuntime) -> Result<(), Fail> {
     Ok(())
 }
 
+// A port of two clients that ask the same.
+fn port_of_two(alloc: Global) -> Result<MemPort, Fail> {
+    let first = link(alloc, REQUEST, 65_536, &[])?;
+    let second = link(alloc, REQUEST, 65_536, &[])?;
+    let clients = vec![in alloc; first, second]?;
+    Ok(MemPort::new(alloc, clients, Vec::new(alloc)))
+}
+
+// Whether two links are finished, the second of which was given nothing.
+fn are_finished(port: &MemPort) -> bool {
+    match port.finished() {
+        [_, second] => second.given().is_empty(),
+        _ => false,
+    }
+}
+
 // Two clients, and one server alone.
 #[test]
 fn a_client_for_which_nothing_is_dialed_is_broken(rt: HostRuntime) -> Result<(), Fail> {
     let alloc = rt.alloc();
     let words = words_of(alloc, "--port 80 --to 8080 --connections 2 --out s")?;
     let mut outside = TestOutside::new(alloc, &[], &[], &[])?;
-    let first = link(alloc, REQUEST, 65_536, &[])?;
-    let second = link(alloc, REQUEST, 65_536, &[])?;
-    let server = link(alloc, RESPONSE, 65_536, &[])?;
-    let clients = vec![in alloc; first, second]?;
-    let servers = vec![in alloc; server]?;
-    let mut port = MemPort::new(alloc, clients, Vec::new(alloc));
-    let mut dialer = MemDialer::new(alloc, servers, Vec::new(alloc));
-    let answered = status_of(alloc, &words, &mut outside, &mut port, &mut dialer);
-    assert_eq!(rt; answered, 0);
+    let mut port = port_of_two(alloc)?;
+    let mut dialer = dialer_of_one(alloc, RESPONSE, 0, 0)?;
+    assert!(rt; status_of(alloc, &words, &mut outside, &mut port, &mut dialer) == 0);
     assert!(rt; outside.is_left("closed 1 bad 0 broken 1 full 0\n", &[("s", STORE)]));
-    assert_eq!(rt; dialer.finished().len(), 1);
-    assert_eq!(rt; port.finished().len(), 2);
-    assert_eq!(rt; port.finished()[1].given().len(), 0);
+    assert!(rt; dialer.finished().len() == 1);
+    assert!(rt; are_finished(&port));
     Ok(())
 }

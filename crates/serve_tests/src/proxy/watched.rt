@@ -4,7 +4,8 @@ ghost use Rattle.std.specs.Prelude.{◌≡◌, ◌==◌, None, false, IfOk, IsEr
 ghost use Rattle.mm_base.specs.Link.{IsFresh};
 ghost use Rattle.mm_base.specs.MemLink.{mem_link_view};
 
-use super::{REQUEST, RESPONSE, status_of};
+use super::status_of;
+use crate::links::{REQUEST, RESPONSE};
 use mm_base::{Bytes, EndError, Link, MemLink, Port};
 use record_proxy::Dialer;
 use std::alloc::Global;
@@ -167,6 +168,19 @@ impl Dialer for WatchedNet {
     }
 }
 
+// Whether a net was used at the port of this number, has so many connections left, and ended each of 64 well.
+fn is_used(net: &WatchedNet, number: u16, left: u64) -> bool {
+    net.number == number && net.left == left && net.given == 64 && net.well == 64
+}
+
+// How many bytes a file has.
+fn length_of(outside: &TestOutside, name: &str) -> Option<usize> {
+    match outside.disk.file(name) {
+        Some(text) => Some(text.len()),
+        None => None,
+    }
+}
+
 // Of 65 clients that wait, 64 are served.
 #[test]
 fn each_of_many_clients_is_served_and_ended(rt: HostRuntime) -> Result<(), Fail> {
@@ -175,14 +189,10 @@ fn each_of_many_clients_is_served_and_ended(rt: HostRuntime) -> Result<(), Fail>
     let mut outside = TestOutside::new(alloc, &[], &[], &[])?;
     let mut port = WatchedNet::new(alloc, REQUEST, RESPONSE, 65);
     let mut dialer = WatchedNet::new(alloc, RESPONSE, REQUEST, 0);
-    let answered = status_of(alloc, &words, &mut outside, &mut port, &mut dialer);
-    assert_eq!(rt; answered, 0);
+    assert!(rt; status_of(alloc, &words, &mut outside, &mut port, &mut dialer) == 0);
     assert!(rt; outside.is_left("closed 64 bad 0 broken 0 full 0\n", &[]));
-    assert_eq!(rt;
-        outside.disk.file("s").map(|text| text.len()),
-        Some(10 + 64 * 91)
-    );
-    assert_eq!(rt; (port.number, port.left, port.well), (80, 1, 64));
-    assert_eq!(rt; (dialer.number, dialer.given, dialer.well), (8080, 64, 64));
+    assert!(rt; length_of(&outside, "s") == Some(10 + 64 * 91));
+    assert!(rt; is_used(&port, 80, 1));
+    assert!(rt; is_used(&dialer, 8080, 0));
     Ok(())
 }

@@ -1,9 +1,12 @@
 // What a session does beside its bytes: the turns of its pace, and the close of its output.
 ghost use Rattle.mm_base.specs.MemLink.{mem_link_view};
 
-use super::{REQUEST, RESPONSE, TWO, ends_as, link, store};
+use super::{TWO, end_of, store_of_one};
+use crate::links::link;
 use mm_base::{EndError, Link, MemLink, Pace, Role};
-use replay_server::{ConnEnd, serve_conn};
+use record_store::Store;
+use replay_server::ConnEnd;
+use std::alloc::Global;
 use std::sync::Wait;
 use std::sync::atomic::{AtomicU64, Ordering};
 use std::test::Fail;
@@ -109,7 +112,9 @@ impl Link for Watched<'_> {
 }
 
 // Input that comes byte by byte, the call that fails, how the session ends, and how many reads it begins.
-const ENDS: [(&str, u64, ConnEnd, u64); 5] = [
+type Row = (&'static str, u64, ConnEnd, u64);
+
+static ENDS: [Row; 5] = [
     ("", 0, ConnEnd::Closed, 1),
     (TWO, 0, ConnEnd::Closed, 56),
     (
@@ -122,17 +127,20 @@ const ENDS: [(&str, u64, ConnEnd, u64); 5] = [
     (TWO, 3, ConnEnd::LinkFault, 3),
 ];
 
+/// Whether a session ends so, with a turn for each read, one at its end, and one close of its output.
+fn ends_so<R: Wait>(rt: &R, alloc: Global, store: &Store, row: &Row) -> Result<bool, Fail> {
+    let turns = Turns::new();
+    let mut watched = Watched::new(link(alloc, row.0, 1, &[row.1])?, &turns);
+    let end = end_of(rt, alloc, store, &mut watched, NUMBER, &turns);
+    Ok(end == row.2 && watched.is_well() && turns.counts() == (row.3, 1, 0))
+}
+
 #[test]
 fn each_read_has_its_turn_and_each_end_closes_the_output(rt: HostRuntime) -> Result<(), Fail> {
     let alloc = rt.alloc();
-    let store = store(alloc, REQUEST, RESPONSE)?;
-    for (input, fails, end, reads) in ENDS {
-        let turns = Turns::new();
-        let mut watched = Watched::new(link(alloc, input, 1, &[fails])?, &turns);
-        let ended = serve_conn(&rt, alloc, &store, &mut watched, None, NUMBER, &turns);
-        ends_as(&rt, ended, end);
-        assert!(rt; watched.is_well(), "at {input}");
-        assert_eq!(rt; turns.counts(), (reads, 1, 0));
+    let store = store_of_one(alloc)?;
+    for row in &ENDS {
+        assert!(rt; ends_so(&rt, alloc, &store, row)?, "at {}", row.0);
     }
     Ok(())
 }

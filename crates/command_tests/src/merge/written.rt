@@ -1,5 +1,5 @@
 // What merges write.
-use super::{Left, leaves};
+use super::{Merge, leaves};
 use std::alloc::Global;
 use std::marker::Sync;
 use std::sync::Wait;
@@ -7,7 +7,7 @@ use std::test::Fail;
 use std::thread::Threads;
 use test_outside::ABSENT;
 
-// The last words, the list, the texts of the two schedules, and those of the fates and of the log `u`.
+// The words, the list, the texts of the two schedules, and those of the fates and of the log `u`.
 type Written = (
     &'static str,
     &'static str,
@@ -17,9 +17,11 @@ type Written = (
     &'static str,
 );
 
-const WRITTEN: [Written; 11] = [
+const DELAY: &str = "--senders l --out f --until 100 -- mm-delay 10";
+
+static WRITTEN: [Written; 11] = [
     (
-        "100 -- mm-delay 10",
+        DELAY,
         "s1\ns2\n",
         "0 up 100\n5 up 100\n",
         "0 up 200\n3 down 50\n",
@@ -27,7 +29,7 @@ const WRITTEN: [Written; 11] = [
         ABSENT,
     ),
     (
-        "10 -- mm-link t t --uplink-queue=droptail --uplink-queue-args=packets=1",
+        "--senders l --out f --until 10 -- mm-link t t --uplink-queue=droptail --uplink-queue-args=packets=1",
         "s1\ns2\n",
         "0 up 100\n",
         "0 up 100\n",
@@ -35,7 +37,7 @@ const WRITTEN: [Written; 11] = [
         ABSENT,
     ),
     (
-        "10 -- mm-link t t --uplink-log=u",
+        "--senders l --out f --until 10 -- mm-link t t --uplink-log=u",
         "s1\ns2\n",
         "0 up 100\n",
         "0 up 200\n",
@@ -44,7 +46,7 @@ const WRITTEN: [Written; 11] = [
     ),
     // the order of the list is that of the senders' numbers, and its last line may have no line feed
     (
-        "100 -- mm-delay 10",
+        DELAY,
         "s2\ns1",
         "0 up 100\n",
         "0 up 200\n",
@@ -53,7 +55,7 @@ const WRITTEN: [Written; 11] = [
     ),
     // an earlier moment goes before an earlier sender
     (
-        "100 -- mm-delay 10",
+        DELAY,
         "s1\ns2\n",
         "1 up 100\n",
         "0 up 200\n",
@@ -62,7 +64,7 @@ const WRITTEN: [Written; 11] = [
     ),
     // two senders of one schedule
     (
-        "100 -- mm-delay 10",
+        DELAY,
         "s1\ns1\n",
         "0 up 100\n2 up 100\n",
         "",
@@ -71,17 +73,17 @@ const WRITTEN: [Written; 11] = [
     ),
     // senders without a packet
     (
-        "100 -- mm-delay 10",
+        DELAY,
         "s1\ns2\n",
         "",
         "3 up 100\n",
         "2 1 up departed 13\n",
         ABSENT,
     ),
-    ("100 -- mm-delay 10", "s1\n", "", "", "", ABSENT),
+    (DELAY, "s1\n", "", "", "", ABSENT),
     // past the horizon, and within it alone on the way
     (
-        "10 -- mm-delay 10",
+        "--senders l --out f --until 10 -- mm-delay 10",
         "s1\ns2\n",
         "11 up 100\n",
         "0 up 100\n1 up 100\n",
@@ -89,7 +91,7 @@ const WRITTEN: [Written; 11] = [
         ABSENT,
     ),
     (
-        "10 --seed 7 -- mm-loss uplink 1",
+        "--senders l --out f --until 10 --seed 7 -- mm-loss uplink 1",
         "s1\ns2\n",
         "0 up 100\n",
         "0 down 100\n",
@@ -98,7 +100,7 @@ const WRITTEN: [Written; 11] = [
     ),
     // a carriage return belongs to a name
     (
-        "10 -- mm-delay 0",
+        "--senders l --out f --until 10 -- mm-delay 0",
         "r\r\n",
         "",
         "",
@@ -113,53 +115,28 @@ fn is_written<R: Threads + Wait + Sync>(
     alloc: Global,
     written: &Written,
 ) -> Result<bool, Fail> {
-    let (back, list, first, second, fates, log) = written;
-    let words = format!(in alloc; "--senders l --out f --until {back}")?;
-    let files = [
-        ("l", *list),
-        ("s1", *first),
-        ("s2", *second),
-        ("r\r", "1 up 100\n"),
-        ("t", "10\n"),
-    ];
-    let left = Left {
+    let (words, list, first, second, fates, log) = *written;
+    let merge = Merge {
+        words,
+        files: &[
+            ("l", list),
+            ("s1", first),
+            ("s2", second),
+            ("r\r", "1 up 100\n"),
+            ("t", "10\n"),
+        ],
+        fails: &[],
         status: 0,
         line: "",
-        files: &[("f", fates), ("u", log)],
+        left: &[("f", fates), ("u", log)],
     };
-    leaves(rt, alloc, words.as_str(), &files, &[], &left)
+    leaves(rt, alloc, &merge)
 }
 
 #[test]
 fn merges_write_their_fates_and_logs(rt: HostRuntime) -> Result<(), Fail> {
-    let alloc = rt.alloc();
     for written in &WRITTEN {
-        assert!(rt; is_written(&rt, alloc, written)?, "at {}", written.0);
+        assert!(rt; is_written(&rt, rt.alloc(), written)?, "at {}", written.0);
     }
-    Ok(())
-}
-
-// The fates of a packet of each of so many senders at one moment.
-fn equal_fates(alloc: Global, senders: u32) -> Result<String, Fail> {
-    let mut fates = String::new(alloc);
-    for sender in 1..senders.saturating_add(1) {
-        fates.push_str(format!(in alloc; "{sender} 1 up departed 10\n")?.as_str())?;
-    }
-    Ok(fates)
-}
-
-#[test]
-fn sixteen_equal_schedules(rt: HostRuntime) -> Result<(), Fail> {
-    let alloc = rt.alloc();
-    let list = "s\n".repeat(alloc, 16)?;
-    let fates = equal_fates(alloc, 16)?;
-    let left = Left {
-        status: 0,
-        line: "",
-        files: &[("f", fates.as_str())],
-    };
-    let words = "--until 100 --senders l --out f -- mm-delay 10";
-    let files = [("l", list.as_str()), ("s", "0 up 100\n")];
-    assert!(rt; leaves(&rt, alloc, words, &files, &[], &left)?);
     Ok(())
 }

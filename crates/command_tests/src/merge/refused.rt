@@ -1,9 +1,5 @@
 // What merges refuse.
-use super::{Left, leaves};
-use crate::inputs::check_total;
-use crate::list::{ListError, read_list};
-use command_ends::conclude;
-use mm_base::MemSink;
+use super::{Merge, leaves};
 use std::alloc::Global;
 use std::marker::Sync;
 use std::sync::Wait;
@@ -29,13 +25,11 @@ const MOST: &str = "--until 3600000 --senders l --out f -- mm-link t t";
 
 const FIVE: &str = "1\n1\n1\n1\n1\n";
 
-const SIXTEEN: &str = "s\ns\ns\ns\ns\ns\ns\ns\ns\ns\ns\ns\ns\ns\ns\ns\n";
-
 const SEVENTEEN: &str = "s\ns\ns\ns\ns\ns\ns\ns\ns\ns\ns\ns\ns\ns\ns\ns\ns\n";
 
 const EMPTY_AT_17: &str = "s\ns\ns\ns\ns\ns\ns\ns\ns\ns\ns\ns\ns\ns\ns\ns\n\n";
 
-const REFUSED: [Refused; 28] = [
+static REFUSED: [Refused; 28] = [
     // words
     (
         "--until 9 --senders l --out f mm-delay 1",
@@ -190,56 +184,27 @@ fn is_refused<R: Threads + Wait + Sync>(
     alloc: Global,
     refused: &Refused,
 ) -> Result<bool, Fail> {
-    let (words, list, schedule, trace, status, line) = refused;
-    let files = [("l", *list), ("s", *schedule), ("t", *trace)];
-    let left = Left {
-        status: *status,
+    let (words, list, schedule, trace, status, line) = *refused;
+    let merge = Merge {
+        words,
+        files: &[("l", list), ("s", schedule), ("t", trace)],
+        fails: &[],
+        status,
         line,
-        files: &[("f", ABSENT), ("u", ABSENT)],
+        left: &[("f", ABSENT), ("u", ABSENT)],
     };
-    leaves(rt, alloc, words, &files, &[], &left)
+    leaves(rt, alloc, &merge)
 }
 
 #[test]
 fn merges_are_refused_in_order(rt: HostRuntime) -> Result<(), Fail> {
-    let alloc = rt.alloc();
     for refused in &REFUSED {
         assert!(rt;
-            is_refused(&rt, alloc, refused)?,
+            is_refused(&rt, rt.alloc(), refused)?,
             "at {} of {}",
             refused.0,
             refused.1
         );
     }
-    Ok(())
-}
-
-#[test]
-fn lists_have_up_to_sixteen_names(rt: HostRuntime) -> Result<(), Fail> {
-    let alloc = rt.alloc();
-    assert_eq!(rt;
-        read_list(alloc, SIXTEEN.as_bytes())
-            .ok()
-            .map(|names| names.len()),
-        Some(16)
-    );
-    assert_eq!(rt;
-        read_list(alloc, b"a\n\xff\n").err(),
-        Some(ListError::BadName { line: 2 })
-    );
-    assert_eq!(rt;
-        read_list(alloc, b"a\xc3").err(),
-        Some(ListError::BadName { line: 1 })
-    );
-    Ok(())
-}
-
-#[test]
-fn schedules_have_so_many_lines_in_all(rt: HostRuntime) -> Result<(), Fail> {
-    let alloc = rt.alloc();
-    let mut out = MemSink::new(alloc, Vec::new(alloc));
-    assert!(rt; check_total(alloc, "y", 1_000_000).is_ok());
-    assert_eq!(rt; conclude(check_total(alloc, "y", 1_000_001), &mut out), 5);
-    assert!(rt; out.written() == b"mm: limit packets y\n".as_slice());
     Ok(())
 }

@@ -1,7 +1,21 @@
 // Disks that fail.
-use super::{Left, leaves};
+use super::{Merge, leaves};
+use std::alloc::Global;
+use std::marker::Sync;
+use std::sync::Wait;
 use std::test::Fail;
+use std::thread::Threads;
 use test_outside::ABSENT;
+
+const WORDS: &str = "--until 1 --senders l --out f -- mm-link t x --uplink-log=u";
+
+static FILES: [(&str, &str); 5] = [
+    ("t", "1\n"),
+    ("x", "1\n"),
+    ("l", "s\nz\n"),
+    ("s", "0 up 100\n"),
+    ("z", "2 down 100\n"),
+];
 
 // The first line of a log, which is appended by itself.
 const FIRST: &str = "# base timestamp: 0\n";
@@ -13,7 +27,9 @@ const FATES: &str = "1 1 up departed 1\n2 1 down unsent\n";
 // The call that fails, the status and the line, and what the files `u` and `f` hold then. The calls are: a size and a
 // read for each of `t`, `x`, the list and the schedules, a creation for each of `u` and `f`, an append for the first
 // line of `u`, and one for the lines of each file.
-const FAILING: [(u64, u8, &str, &str, &str); 16] = [
+type Failing = (u64, u8, &'static str, &'static str, &'static str);
+
+static FAILING: [Failing; 16] = [
     (1, 6, "mm: read fault t\n", ABSENT, ABSENT),
     (2, 6, "mm: read fault t\n", ABSENT, ABSENT),
     (3, 6, "mm: read fault x\n", ABSENT, ABSENT),
@@ -32,26 +48,28 @@ const FAILING: [(u64, u8, &str, &str, &str); 16] = [
     (16, 0, "", LOG, FATES),
 ];
 
+// Whether a merge whose disk fails at that call leaves what is stated.
+fn fails_so<R: Threads + Wait + Sync>(
+    rt: &R,
+    alloc: Global,
+    failing: &Failing,
+) -> Result<bool, Fail> {
+    let (call, status, line, log, fates) = *failing;
+    let merge = Merge {
+        words: WORDS,
+        files: &FILES,
+        fails: &[call],
+        status,
+        line,
+        left: &[("u", log), ("f", fates)],
+    };
+    leaves(rt, alloc, &merge)
+}
+
 #[test]
 fn each_call_of_the_disk_fails_in_turn(rt: HostRuntime) -> Result<(), Fail> {
-    let words = "--until 1 --senders l --out f -- mm-link t x --uplink-log=u";
-    let files = [
-        ("t", "1\n"),
-        ("x", "1\n"),
-        ("l", "s\nz\n"),
-        ("s", "0 up 100\n"),
-        ("z", "2 down 100\n"),
-    ];
-    for (call, status, line, log, fates) in FAILING {
-        let left = Left {
-            status,
-            line,
-            files: &[("u", log), ("f", fates)],
-        };
-        assert!(rt;
-            leaves(&rt, rt.alloc(), words, &files, &[call], &left)?,
-            "at {call}"
-        );
+    for failing in &FAILING {
+        assert!(rt; fails_so(&rt, rt.alloc(), failing)?, "at {}", failing.0);
     }
     Ok(())
 }

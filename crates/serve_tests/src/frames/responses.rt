@@ -1,0 +1,146 @@
+// Responses that come in any pieces.
+ghost use Rattle.std.specs.Prelude.{◌≡◌};
+
+use super::fault_number;
+use http_frame::{FrameFault, Response, ResponseFrames, Step};
+use std::alloc::Global;
+
+/// The next response, without what the contract of `next` says of it.
+fn next_response(frames: &mut ResponseFrames, to_head: bool) -> Result<Step<Response>, FrameFault>
+    ensures { frames.new.ended ≡ frames.old.ended }
+{
+    frames.next(to_head)
+}
+
+/// 1000 and the bytes of a message, and 100000 more where it closes.
+fn message_number(message: &Response) -> u64 {
+    let number = 1000u64.saturating_add(message.bytes.len() as u64);
+    if message.head.closes {
+        number.saturating_add(100000)
+    } else {
+        number
+    }
+}
+
+/// The number of a message; 0 for More; the number of an error.
+fn response_answer(frames: &mut ResponseFrames, to_head: bool) -> u64
+    ensures { frames.new.ended ≡ frames.old.ended }
+{
+    match next_response(frames, to_head) {
+        Ok(Step::Message(message)) => message_number(&message),
+        Ok(Step::More) => 0,
+        Err(fault) => fault_number(fault),
+    }
+}
+
+/// The answer that came before, or else the next one.
+fn first_answer(frames: &mut ResponseFrames, to_head: bool, before: u64) -> u64
+    ensures { frames.new.ended ≡ frames.old.ended }
+{
+    if before > 0 {
+        return before;
+    }
+    response_answer(frames, to_head)
+}
+
+/// The first answer but More to a response in two pieces, and the answer after the end of input. `None`: no memory.
+fn response_in_two(
+    alloc: Global,
+    to_head: bool,
+    first: &[u8],
+    second: &[u8],
+) -> Option<(u64, u64)> {
+    let mut frames = ResponseFrames::new(alloc);
+    frames.feed(first).ok()?;
+    let early = response_answer(&mut frames, to_head);
+    frames.feed(second).ok()?;
+    let before = first_answer(&mut frames, to_head, early);
+    frames.end();
+    Some((before, response_answer(&mut frames, to_head)))
+}
+
+/// The same in pieces of one byte.
+fn response_by_bytes(alloc: Global, to_head: bool, text: &[u8]) -> Option<(u64, u64)> {
+    let mut frames = ResponseFrames::new(alloc);
+    let mut before = 0;
+    'bytes: for byte in text {
+        frames.feed(&[*byte]).ok()?;
+        before = first_answer(&mut frames, to_head, before);
+    }
+    frames.end();
+    Some((before, response_answer(&mut frames, to_head)))
+}
+
+// A response, whether it answers a HEAD request, and the first answer but More and the one after the end of input.
+type Row = (&'static str, bool, (u64, u64));
+
+/// Whether those are the answers to a response cut at each place.
+fn are_answers_cut(alloc: Global, row: &Row) -> bool {
+    let text = row.0.as_bytes();
+    for cut in 0..text.len() {
+        let (first, second) = text.split_at(cut);
+        if response_in_two(alloc, row.1, first, second) != Some(row.2) {
+            return false;
+        }
+    }
+    true
+}
+
+/// Whether those are the answers to a response whole, cut at each place and byte by byte.
+fn are_response_answers(alloc: Global, row: &Row) -> bool {
+    are_answers_cut(alloc, row) && response_by_bytes(alloc, row.1, row.0.as_bytes()) == Some(row.2)
+}
+
+static RESPONSES: [Row; 12] = [
+    (
+        "HTTP/1.1 200 OK\r\nContent-Length: 2\r\n\r\nhi",
+        false,
+        (1040, 0),
+    ),
+    (
+        "HTTP/1.1 204 No Content\r\nContent-Length: 5\r\n\r\n",
+        false,
+        (1046, 0),
+    ),
+    (
+        "HTTP/1.1 200 OK\r\nContent-Length: 2\r\n\r\n",
+        true,
+        (1038, 0),
+    ),
+    ("HTTP/1.1 101 Switching\r\n\r\n", false, (8, 8)),
+    ("HTTP/1.1 099 Low\r\n\r\n", true, (8, 8)),
+    ("HTTP/1.1 200 OK\r\n\r\nabc", false, (0, 101022)),
+    (
+        "HTTP/1.1 200\r\nTransfer-Encoding: chunked\r\nContent-Length: x\r\n\r\n0\r\n\r\n",
+        false,
+        (1068, 0),
+    ),
+    (
+        "HTTP/1.1 200 OK\r\nContent-Length: 1x\r\n\r\n",
+        false,
+        (4, 4),
+    ),
+    (
+        "HTTP/1.1 200 OK\r\nTransfer-Encoding: gzip\r\n\r\n",
+        false,
+        (5, 5),
+    ),
+    ("HTTP/1.2 200 OK\r\n\r\n", false, (1, 1)),
+    (
+        "HTTP/1.1 304 Not Modified\r\nContent-Length: 5\r\n\r\n",
+        false,
+        (1048, 0),
+    ),
+    (
+        "HTTP/1.1 200 OK\r\nConnection: Close\r\nTransfer-Encoding: chunked\r\n\r\n2;a\r\nhi\r\n0\r\nA: b\r\n\r\n",
+        false,
+        (101086, 0),
+    ),
+];
+
+#[test]
+fn responses_in_any_pieces(rt: HostRuntime) {
+    for row in &RESPONSES {
+        assert!(rt; are_response_answers(rt.alloc(), row), "at {}", row.0);
+    }
+}

@@ -1,0 +1,176 @@
+// Pairing, reading and printing of stores.
+use crate::links::{REQUEST, RESPONSE};
+use crate::texts::copies;
+use mm_base::Bytes;
+use record_store::{PairError, Store, StoreError, StorePieces, pair, print_store, read_store};
+use std::alloc::Global;
+use std::test::Fail;
+
+/// What `pair` answers. No test needs what its contract says of that, and so this has none.
+pub(crate) fn paired(
+    alloc: Global,
+    client: &[u8],
+    server: &[u8],
+    port: u16,
+) -> Result<Store, PairError> {
+    pair(alloc, client, server, port)
+}
+
+/// What `read_store` answers, without its contract.
+pub(crate) fn stored(alloc: Global, text: &[u8]) -> Result<Store, StoreError> {
+    read_store(alloc, text)
+}
+
+/// The bytes of the one response, or how many records there are.
+fn only_response(store: &Store) -> (u32, u64) {
+    match store.records() {
+        [only] => (100, only.response.bytes.len() as u64),
+        other => (200, other.len() as u64),
+    }
+}
+
+/// The bytes of the one response, or the number of the error and its request.
+fn pairing(alloc: Global, client: &str, server: &str) -> (u32, u64) {
+    match paired(alloc, client.as_bytes(), server.as_bytes(), 80) {
+        Ok(store) => only_response(&store),
+        Err(error) => (error.number(), error.request()),
+    }
+}
+
+const INTERIM: &str = "HTTP/1.1 100 Continue\r\n\r\nHTTP/1.1 200 OK\r\nContent-Length: 2\r\n\r\nhi";
+
+// The two streams, and what `pairing` answers.
+static PAIRS: [(&str, &str, (u32, u64)); 8] = [
+    (REQUEST, RESPONSE, (100, 40)),
+    (REQUEST, INTERIM, (100, 40)),
+    (REQUEST, "", (3, 1)),
+    ("GET / HT", RESPONSE, (1, 1)),
+    (REQUEST, "HTTP/1.1 200", (2, 1)),
+    ("", RESPONSE, (4, 0)),
+    ("", "", (200, 0)),
+    (REQUEST, "HTTP/1.1 200 OK\r\n\r\nall the rest", (100, 31)),
+];
+
+#[test]
+fn pairs_of_one_request(rt: HostRuntime) {
+    for row in &PAIRS {
+        assert!(rt; pairing(rt.alloc(), row.0, row.1) == row.2, "at {}", row.1);
+    }
+}
+
+const PRINTED: &str =
+    "MMSTORE 2\nrecord http 0 27 40\nGET / HTTP/1.1\r\nHost: a\r\n\r\nHTTP/1.1 200 OK\r\nContent-Length: 2\r\n\r\nhi\n";
+
+const OLD: &str =
+    "MMSTORE 1\nrecord 27 40\nGET / HTTP/1.1\r\nHost: a\r\n\r\nHTTP/1.1 200 OK\r\nContent-Length: 2\r\n\r\nhi\n";
+
+// The same without its last line feed.
+const CUT: &str =
+    "MMSTORE 1\nrecord 27 40\nGET / HTTP/1.1\r\nHost: a\r\n\r\nHTTP/1.1 200 OK\r\nContent-Length: 2\r\n\r\nhi";
+
+const EMPTY: &str = "MMSTORE 2\n";
+
+// A store may be sent and shared.
+fn crosses<T: Send + Sync>(_value: &T) {}
+
+/// Whether that is printed of a store.
+fn is_printed(alloc: Global, store: &Store, wanted: &str) -> Result<bool, Fail> {
+    let text = print_store(alloc, store)?;
+    Ok(text.as_slice() == wanted.as_bytes())
+}
+
+/// Whether that is printed of the store that is read from a text.
+fn is_reprinted(alloc: Global, text: &str, wanted: &str) -> Result<bool, Fail> {
+    let store = stored(alloc, text.as_bytes())?;
+    is_printed(alloc, &store, wanted)
+}
+
+#[test]
+fn prints_and_reads(rt: HostRuntime) -> Result<(), Fail> {
+    let alloc = rt.alloc();
+    let store = paired(alloc, REQUEST.as_bytes(), RESPONSE.as_bytes(), 0)?;
+    crosses(&store);
+    assert!(rt; is_printed(alloc, &store, PRINTED)?);
+    assert!(rt; PRINTED.len() == 98);
+    assert!(rt; is_reprinted(alloc, PRINTED, PRINTED)?);
+    assert!(rt; is_reprinted(alloc, OLD, PRINTED)?);
+    assert!(rt; is_printed(alloc, &Store::new(alloc), EMPTY)?);
+    Ok(())
+}
+
+/// 100 and how many records there are, or the number of the refusal and what it names.
+fn reading(alloc: Global, text: &str) -> (u32, u64) {
+    match stored(alloc, text.as_bytes()) {
+        Ok(store) => (100, store.records().len() as u64),
+        Err(error) => (error.number(), error.place()),
+    }
+}
+
+// A text, and what `reading` answers.
+static TEXTS: [(&str, (u32, u64)); 14] = [
+    ("MMSTORE 3\n", (1, 0)),
+    ("MMSTORE 2", (1, 0)),
+    ("MMSTORE 1\nrecord 027 40\n..", (2, 10)),
+    ("MMSTORE 1\nrecord http 0 27 40\n", (2, 10)),
+    ("MMSTORE 2\nrecord 27 40\n", (2, 10)),
+    ("MMSTORE 2\nrecord ftp 0 27 40\n", (5, 10)),
+    ("MMSTORE 2\nrecord ftp 65536 27 40\n", (2, 10)),
+    ("MMSTORE 2\nrecord http 0 27 40", (3, 10)),
+    ("MMSTORE 1\nrecord 0 0\n\n", (4, 1)),
+    ("MMSTORE 1\nrecord 0 0\n.", (2, 21)),
+    ("MMSTORE 1\nrecord 100000000 0\n\n", (2, 10)),
+    ("MMSTORE 1\n", (100, 0)),
+    (OLD, (100, 1)),
+    (CUT, (3, 10)),
+];
+
+#[test]
+fn refusals_of_texts(rt: HostRuntime) {
+    for row in &TEXTS {
+        assert!(rt; reading(rt.alloc(), row.0) == row.1, "at {}", row.0);
+    }
+}
+
+/// A store's text, put together from its pieces.
+fn in_pieces(alloc: Global, store: &Store) -> Result<Bytes, Fail> {
+    let mut text = Bytes::new(alloc);
+    let mut pieces = StorePieces::new(alloc, store);
+    'pieces: while pieces.next()? {
+        text.append(pieces.piece())?;
+    }
+    Ok(text)
+}
+
+const LONG_HEAD: &[u8] = b"HTTP/1.1 200 OK\r\nContent-Length: 1000\r\n\r\n";
+
+/// A hundred requests and their answers, each of which has a body of a thousand digits.
+fn a_hundred(alloc: Global) -> Result<Store, Fail> {
+    let client = copies(alloc, b"", REQUEST.as_bytes(), 100)?;
+    let answer = copies(alloc, LONG_HEAD, b"0123456789", 100)?;
+    let server = copies(alloc, b"", answer.as_slice(), 100)?;
+    Ok(paired(alloc, client.as_slice(), server.as_slice(), 80)?)
+}
+
+/// Whether a store's pieces are put together to that.
+fn has_pieces(alloc: Global, store: &Store, wanted: &[u8]) -> Result<bool, Fail> {
+    let text = in_pieces(alloc, store)?;
+    Ok(text.as_slice() == wanted)
+}
+
+/// Whether the pieces of the store that is read from a text are put together to that text.
+fn has_its_pieces(alloc: Global, text: &[u8]) -> Result<bool, Fail> {
+    let store = stored(alloc, text)?;
+    has_pieces(alloc, &store, text)
+}
+
+#[test]
+fn a_hundred_records(rt: HostRuntime) -> Result<(), Fail> {
+    let alloc = rt.alloc();
+    let store = a_hundred(alloc)?;
+    assert!(rt; store.records().len() == 100);
+    let text = print_store(alloc, &store)?;
+    assert!(rt; text.len() == 10 + 100 * (23 + 27 + 1041 + 1));
+    assert!(rt; has_its_pieces(alloc, text.as_slice())?);
+    assert!(rt; has_pieces(alloc, &Store::new(alloc), EMPTY.as_bytes())?);
+    Ok(())
+}
