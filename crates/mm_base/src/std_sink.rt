@@ -4,8 +4,8 @@ ghost use Rattle.std.specs.Io.KnownBytes.{Appends, Keeps};
 ghost use Rattle.mm_base.specs.Counts.{Rose};
 ghost use Rattle.mm_base.specs.Sink.{sending, writer_view, CountsSinkFaults};
 
-use crate::interrupted::write_once;
 use crate::{EndError, Sink};
+use interrupted_calls::write_once;
 use std::io::{ErrorKind, Write};
 
 /// The standard output, or another writer of std. It tells no content, and adds to what its writer holds, where that is

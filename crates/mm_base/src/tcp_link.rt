@@ -2,8 +2,8 @@
 ghost use Rattle.std.specs.Prelude.{◌≡◌, ◌≤◌, None, false};
 ghost use Rattle.mm_base.specs.Counts.{Rose};
 
-use crate::interrupted::{read_once, write_once};
 use crate::{EndError, Link};
+use interrupted_calls::{read_once, write_once};
 use std::io::{self, ErrorKind};
 use std::net::{Shutdown, TcpStream};
 use std::time::Duration;

@@ -1,5 +1,5 @@
-// What no public call reaches: calls of a reader that are made again.
-use super::interrupted::{call_again, read_once};
+// Calls that are made again.
+use crate::{call_again, read_once};
 use std::cell::Cell;
 use std::io::{self, ErrorKind, Read};
 use std::test::Fail;

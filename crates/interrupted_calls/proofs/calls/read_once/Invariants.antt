@@ -1,7 +1,7 @@
 -- a call that is interrupted reads nothing
 use Rattle.std.proofs.Common.{◌≡◌, length}
 use Rattle.std.specs.Io.KnownBytes.{Keeps}
-use Rattle.mm_base.proofs.interrupted.read_once.Given as goal
+use Rattle.interrupted_calls.proofs.calls.read_once.Given as goal
 
 abbrev pub invariant-calls : goal.invariant-calls
 invariant-calls g l = (length l.buf ≡ length l.initial.buf)

@@ -4,8 +4,8 @@ ghost use Rattle.std.specs.Io.KnownBytes.{Appends, Consumes, IsAtEnd, Keeps};
 
 use std::io::{self, ErrorKind, Read, Write};
 
-// Makes a call for as long as a signal interrupts it.
-pub(crate) fn call_again<T: Drop, F: Fn() -> io::Result<T>>(call: F) -> io::Result<T>
+/// Makes a call for as long as a signal interrupts it.
+pub fn call_again<T: Drop, F: Fn() -> io::Result<T>>(call: F) -> io::Result<T>
     requires { F.IsAlwaysCallable call }
 {
     for _ in 0..u64::MAX {
@@ -17,8 +17,8 @@ pub(crate) fn call_again<T: Drop, F: Fn() -> io::Result<T>>(call: F) -> io::Resu
     Err(io::Error::from(ErrorKind::Interrupted))
 }
 
-// Reads once, into the front of a buffer, and answers how many bytes.
-pub(crate) fn read_once<R: Read>(reader: &mut R, buf: &mut [u8]) -> io::Result<usize>
+/// Reads once, into the front of a buffer, and answers how many bytes.
+pub fn read_once<R: Read>(reader: &mut R, buf: &mut [u8]) -> io::Result<usize>
     ensures within { IfOk result (λ n. n ≤ length buf.old) }
     ensures bytes { IfOk result (λ n. Consumes (R.remaining reader.old) (R.remaining reader.new) (take n buf.new)) }
     ensures end { IfOk result (λ n. n ≡ 0 → 0 < length buf.old → IsAtEnd (R.remaining reader.new)) }
@@ -33,9 +33,9 @@ pub(crate) fn read_once<R: Read>(reader: &mut R, buf: &mut [u8]) -> io::Result<u
     Err(io::Error::from(ErrorKind::Interrupted))
 }
 
-// Writes bytes of the front of a piece, and answers how many: at least one, where the piece isn't empty. A writer that
-// takes nothing of it is an error.
-pub(crate) fn write_once<W: Write>(writer: &mut W, piece: &[u8]) -> io::Result<usize>
+/// Writes bytes of the front of a piece, and answers how many: at least one, where the piece isn't empty. A writer that
+/// takes nothing of it is an error.
+pub fn write_once<W: Write>(writer: &mut W, piece: &[u8]) -> io::Result<usize>
     ensures within { IfOk result (λ n. n ≤ length piece.now) }
     ensures some { IfOk result (λ n. 0 < length piece.now → 0 < n) }
     ensures bytes { IfOk result (λ n. Appends (W.contents writer.old) (W.contents writer.new) (take n piece.now)) }
