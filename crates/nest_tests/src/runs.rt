@@ -37,20 +37,20 @@ fn logs_text(alloc: Global, logs: &[NamedLog]) -> Result<Bytes, OutOfMemory> {
     Ok(text)
 }
 
-fn is_as_said(rt: &impl Abort, alloc: Global, case: &Case, run: &RunResult) {
+// Whether a run gives what is said.
+fn is_as_said(rt: &impl Abort, alloc: Global, case: &Case, run: &RunResult) -> bool {
     let fates = print_fates(alloc, run.fates()).expect(rt, "memory");
-    assert!(rt; fates.as_slice() == case.fates, "of {}", case.words);
     let logs = logs_text(alloc, run.logs()).expect(rt, "memory");
-    assert!(rt; logs.as_slice() == case.logs, "of {}", case.words);
+    fates.as_slice() == case.fates && logs.as_slice() == case.logs
 }
 
-fn play(rt: &impl Abort, alloc: Global, case: &Case) {
+// Whether both runs give what is said.
+fn are_as_said(rt: &impl Abort, alloc: Global, case: &Case) -> bool {
     let nest = nest_of(rt, alloc, case.words, case.trace, case.horizon);
     let schedule = schedule_of(rt, alloc, case.schedule);
     let plain = plain_run(rt, alloc, &nest, &schedule);
-    is_as_said(rt, alloc, case, &plain);
     let stepped = stepped_run(rt, alloc, &nest, &schedule, &[]);
-    is_as_said(rt, alloc, case, &stepped);
+    is_as_said(rt, alloc, case, &plain) && is_as_said(rt, alloc, case, &stepped)
 }
 
 static CASES: [Case; 6] = [
@@ -110,7 +110,7 @@ static CASES: [Case; 6] = [
 #[test]
 fn small_nests_give_what_is_said(rt: HostRuntime) {
     for case in &CASES {
-        play(&rt, rt.alloc(), case);
+        assert!(rt; are_as_said(&rt, rt.alloc(), case), "of {}", case.words);
     }
 }
 

@@ -76,8 +76,8 @@ fn fails_at<R: Threads + Wait + Sync>(
     alloc: Global,
     call: u64,
     status: u8,
-    line: &str,
-    u: &str,
+    line: &'static str,
+    u: &'static str,
 ) -> Result<bool, OutOfMemory> {
     let words = "--until 2 --schedule s --out f --order o -- mm-link t t --uplink-log=u";
     let left = Left {

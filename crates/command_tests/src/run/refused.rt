@@ -49,7 +49,7 @@ fn is_no_nest<R: Threads + Wait + Sync>(
     rt: &R,
     alloc: Global,
     nest: &str,
-    line: &str,
+    line: &'static str,
 ) -> Result<bool, OutOfMemory> {
     let words = format!(in alloc; "--until 9 --schedule s --out f -- {nest}")?;
     let left = Left {

@@ -32,20 +32,36 @@ fn many_fates(alloc: Global) -> Result<String, AllocError> {
 
 const MANY: &str = "--until 1 --schedule s --out f -- mm-delay 1";
 
-// Whether a run of this schedule, whose call of this number fails, leaves this and these fates.
-fn streams<R: Threads + Wait + Sync>(
+// Whether a run of this schedule in this way leaves these fates.
+fn passes<R: Threads + Wait + Sync>(
+    rt: &R,
+    alloc: Global,
+    way: &str,
+    schedule: &str,
+    fates: &str,
+) -> Result<bool, OutOfMemory> {
+    let words = format!(in alloc; "{way} {MANY}")?;
+    let left = Left {
+        status: 0,
+        line: "",
+        files: &[("f", fates)],
+    };
+    leaves(rt, alloc, words.as_str(), &[("s", schedule)], &[], &left)
+}
+
+// Whether a run of this schedule, whose call of this number fails, is answered so, and leaves no fates.
+fn is_refused<R: Threads + Wait + Sync>(
     rt: &R,
     alloc: Global,
     schedule: &str,
     fails: u64,
     status: u8,
-    line: &str,
-    fates: &str,
+    line: &'static str,
 ) -> Result<bool, OutOfMemory> {
     let left = Left {
         status,
         line,
-        files: &[("f", fates)],
+        files: &[("f", ABSENT)],
     };
     leaves(rt, alloc, MANY, &[("s", schedule)], &[fails], &left)
 }
@@ -64,11 +80,11 @@ fn many_lines_are_streamed(rt: HostRuntime) {
     let alloc = rt.alloc();
     let fates = many_fates(alloc).expect(&rt, "memory");
     let text = many_lines(alloc, 10_000, &[]).expect(&rt, "memory");
-    let is_left = streams(&rt, alloc, text.as_str(), 0, 0, "", fates.as_str());
+    let is_left = passes(&rt, alloc, "", text.as_str(), fates.as_str());
     assert!(rt; is_left.expect(&rt, "memory"));
     for &(refused, fails, status, line) in &FAULTS {
         let text = many_lines(alloc, 10_000, refused).expect(&rt, "memory");
-        let is_left = streams(&rt, alloc, text.as_str(), fails, status, line, ABSENT);
+        let is_left = is_refused(&rt, alloc, text.as_str(), fails, status, line);
         assert!(rt; is_left.expect(&rt, "memory"), "at {line}");
     }
 }
@@ -86,26 +102,9 @@ fn a_refused_schedule_is_read_to_its_end(rt: HostRuntime) {
     let alloc = rt.alloc();
     let text = many_lines(alloc, 20_000, &[1]).expect(&rt, "memory");
     for &(fails, status, line) in &CALLS {
-        let is_left = streams(&rt, alloc, text.as_str(), fails, status, line, ABSENT);
+        let is_left = is_refused(&rt, alloc, text.as_str(), fails, status, line);
         assert!(rt; is_left.expect(&rt, "memory"), "at call {fails}");
     }
-}
-
-// Whether a run of this schedule in this way leaves these fates.
-fn passes<R: Threads + Wait + Sync>(
-    rt: &R,
-    alloc: Global,
-    way: &str,
-    schedule: &str,
-    fates: &str,
-) -> Result<bool, OutOfMemory> {
-    let words = format!(in alloc; "{way} {MANY}")?;
-    let left = Left {
-        status: 0,
-        line: "",
-        files: &[("f", fates)],
-    };
-    leaves(rt, alloc, words.as_str(), &[("s", schedule)], &[], &left)
 }
 
 #[test]

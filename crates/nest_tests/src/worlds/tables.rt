@@ -16,7 +16,7 @@ static TAKES: [u32; 3] = [3, 4, 5];
 // Takes these steps, each of which must change the world.
 fn play(rt: &impl Abort, world: &mut World<'_>, actors: &[u32]) {
     for actor in actors {
-        assert!(rt; step(rt, world, *actor), "step {actor}");
+        assert!(rt; step(rt, world, *actor));
     }
 }
 
