@@ -2,12 +2,12 @@
 ghost use Rattle.std.specs.Prelude.{IfOk};
 ghost use Rattle.mm_base.specs.MemLink.{IsUnused};
 
+use command_ends::Cause;
 use command_replay::answer_replay;
-use mm_base::{Bytes, MemLink, MemPort, NoPace};
+use mm_base::{Bytes, MemLink, MemPort, NoPace, OutOfMemory};
 use std::alloc::Global;
 use std::marker::Sync;
 use std::sync::Wait;
-use std::test::Fail;
 use std::thread::Threads;
 use test_outside::{TestOutside, words_of};
 
@@ -25,11 +25,39 @@ const FOUND: &str = "HTTP/1.1 200 OK\r\nContent-Length: 2\r\n\r\nhi";
 
 const MISSING: &str = "HTTP/1.1 404 Not Found\r\nContent-Length: 0\r\n\r\n";
 
-fn link(alloc: Global, input: &str, fails: &[u64]) -> Result<MemLink, Fail>
+fn link(alloc: Global, input: &str, fails: &[u64]) -> Result<MemLink, OutOfMemory>
     ensures { IfOk result IsUnused }
 {
     let input = Bytes::from_slice(alloc, input.as_bytes())?;
     Ok(MemLink::new(alloc, input, 1, fails.to_vec(alloc)?))
+}
+
+// A port with two links. Its call of this number fails, and the third of the first link.
+fn port_of_two(alloc: Global, fails: u64) -> Result<MemPort, OutOfMemory> {
+    let fails = vec![in alloc; fails]?;
+    let first = link(alloc, TWO, &[3])?;
+    let second = link(alloc, TWO, &[])?;
+    let links = vec![in alloc; first, second]?;
+    Ok(MemPort::new(alloc, links, fails))
+}
+
+// The answer of `replay`, without what its contract says of it.
+fn answered<R: Threads + Wait + Sync>(
+    rt: &R,
+    alloc: Global,
+    words: &[String],
+    outside: &mut TestOutside,
+    port: &mut MemPort,
+) -> Result<(), Cause> {
+    answer_replay(
+        rt,
+        alloc,
+        words,
+        &mut outside.disk,
+        &mut outside.out,
+        port,
+        &NoPace,
+    )
 }
 
 // Whether the words after `replay`, over a disk with this store and a port with two links, have this status and print
@@ -42,132 +70,126 @@ fn ends_with<R: Threads + Wait + Sync>(
     fails: (u64, u64, u64),
     status: u8,
     printed: &str,
-) -> Result<bool, Fail> {
+) -> Result<bool, OutOfMemory> {
     let words = words_of(alloc, words)?;
     let mut outside = TestOutside::new(alloc, &[("s", store)], &[fails.0], &[fails.1])?;
-    let first = link(alloc, TWO, &[3])?;
-    let second = link(alloc, TWO, &[])?;
-    let links = vec![in alloc; first, second]?;
-    let mut port = MemPort::new(alloc, links, vec![in alloc; fails.2]?);
-    let answer = answer_replay(
-        rt,
-        alloc,
-        &words,
-        &mut outside.disk,
-        &mut outside.out,
-        &mut port,
-        &NoPace,
-    );
+    let mut port = port_of_two(alloc, fails.2)?;
+    let answer = answered(rt, alloc, &words, &mut outside, &mut port);
     Ok(outside.ends_with(answer, status, printed, &[("s", store)]))
 }
 
 const SERVED: &str = "closed 1 bad 0 broken 1 full 0\n";
 
+const SERVE_TWO: &str = "--store s --port 80 --connections 2";
+
+// The words, which calls of the disk, of `out` and of the port fail, the status, and what is printed.
+static SERVINGS: [(&str, (u64, u64, u64), u8, &str); 6] = [
+    (SERVE_TWO, (0, 0, 0), 0, SERVED),
+    (
+        "--connections=3 --port=0080 --store=s",
+        (0, 0, 0),
+        0,
+        SERVED,
+    ),
+    (
+        "--store s --port 80 --connections 1",
+        (0, 0, 0),
+        0,
+        "closed 0 bad 0 broken 1 full 0\n",
+    ),
+    (SERVE_TWO, (0, 1, 0), 7, ""),
+    (SERVE_TWO, (1, 0, 0), 6, "mm: read fault s\n"),
+    (
+        "--store t --port 80 --connections 2",
+        (0, 0, 0),
+        3,
+        "mm: absent t\n",
+    ),
+];
+
 #[test]
-fn a_serving_prints_how_connections_ended(rt: HostRuntime) -> Result<(), Fail> {
-    for (words, fails, status, printed) in [
-        ("--store s --port 80 --connections 2", (0, 0, 0), 0, SERVED),
-        (
-            "--connections=3 --port=0080 --store=s",
-            (0, 0, 0),
-            0,
-            SERVED,
-        ),
-        (
-            "--store s --port 80 --connections 1",
-            (0, 0, 0),
-            0,
-            "closed 0 bad 0 broken 1 full 0\n",
-        ),
-        ("--store s --port 80 --connections 2", (0, 1, 0), 7, ""),
-        (
-            "--store s --port 80 --connections 2",
-            (1, 0, 0),
-            6,
-            "mm: read fault s\n",
-        ),
-        (
-            "--store t --port 80 --connections 2",
-            (0, 0, 0),
-            3,
-            "mm: absent t\n",
-        ),
-    ] {
-        let is_left = ends_with(&rt, rt.alloc(), words, STORE, fails, status, printed)?;
-        assert!(rt; is_left, "at {words}");
+fn a_serving_prints_how_connections_ended(rt: HostRuntime) {
+    for &(words, fails, status, printed) in &SERVINGS {
+        let is_left = ends_with(&rt, rt.alloc(), words, STORE, fails, status, printed);
+        assert!(rt; is_left.expect(&rt, "memory"), "at {words}");
     }
-    Ok(())
 }
+
+const NET_FAULT: &str = "mm: net fault\n";
 
 // The calls of the port are listening, two of accepting, and two of finishing.
 #[test]
-fn a_port_that_fails_is_a_fault_of_the_net(rt: HostRuntime) -> Result<(), Fail> {
+fn a_port_that_fails_is_a_fault_of_the_net(rt: HostRuntime) {
     for call in 1..6u64 {
-        let is_left = ends_with(
-            &rt,
-            rt.alloc(),
-            "--store s --port 80 --connections 2",
-            STORE,
-            (0, 0, call),
-            8,
-            "mm: net fault\n",
-        )?;
-        assert!(rt; is_left, "at {call}");
+        let fails = (0, 0, call);
+        let is_left = ends_with(&rt, rt.alloc(), SERVE_TWO, STORE, fails, 8, NET_FAULT);
+        assert!(rt; is_left.expect(&rt, "memory"), "at {call}");
     }
-    Ok(())
 }
 
+// The words, the text of the store, the status, and what is printed.
+static REFUSED: [(&str, &str, u8, &str); 8] = [
+    (
+        "--store s --port 0 --connections 2",
+        STORE,
+        2,
+        "mm: usage\n",
+    ),
+    (
+        "--store s --port 65536 --connections 2",
+        STORE,
+        2,
+        "mm: usage\n",
+    ),
+    (
+        "--store s --port 80 --connections 0",
+        STORE,
+        2,
+        "mm: usage\n",
+    ),
+    (
+        "--store s --port 80 --connections 65",
+        STORE,
+        2,
+        "mm: usage\n",
+    ),
+    ("--store s --port 80", STORE, 2, "mm: usage\n"),
+    (
+        "--store s --port 80 --connections 2 --site-port 0",
+        STORE,
+        2,
+        "mm: usage\n",
+    ),
+    (SERVE_TWO, "MMSTORE 3\n", 4, "mm: bad input s 1 0\n"),
+    (
+        SERVE_TWO,
+        "MMSTORE 1\nrecord 0 0\n\n",
+        4,
+        "mm: bad input s 4 1\n",
+    ),
+];
+
 #[test]
-fn words_and_stores_are_refused(rt: HostRuntime) -> Result<(), Fail> {
-    for (words, store, status, printed) in [
-        (
-            "--store s --port 0 --connections 2",
-            STORE,
-            2,
-            "mm: usage\n",
-        ),
-        (
-            "--store s --port 65536 --connections 2",
-            STORE,
-            2,
-            "mm: usage\n",
-        ),
-        (
-            "--store s --port 80 --connections 0",
-            STORE,
-            2,
-            "mm: usage\n",
-        ),
-        (
-            "--store s --port 80 --connections 65",
-            STORE,
-            2,
-            "mm: usage\n",
-        ),
-        ("--store s --port 80", STORE, 2, "mm: usage\n"),
-        (
-            "--store s --port 80 --connections 2 --site-port 0",
-            STORE,
-            2,
-            "mm: usage\n",
-        ),
-        (
-            "--store s --port 80 --connections 2",
-            "MMSTORE 3\n",
-            4,
-            "mm: bad input s 1 0\n",
-        ),
-        (
-            "--store s --port 80 --connections 2",
-            "MMSTORE 1\nrecord 0 0\n\n",
-            4,
-            "mm: bad input s 4 1\n",
-        ),
-    ] {
-        let is_left = ends_with(&rt, rt.alloc(), words, store, (0, 0, 0), status, printed)?;
-        assert!(rt; is_left, "at {words}");
+fn words_and_stores_are_refused(rt: HostRuntime) {
+    for &(words, store, status, printed) in &REFUSED {
+        let is_left = ends_with(&rt, rt.alloc(), words, store, (0, 0, 0), status, printed);
+        assert!(rt; is_left.expect(&rt, "memory"), "at {words}");
     }
-    Ok(())
+}
+
+// A port with a link that asks once.
+fn port_of_one(alloc: Global) -> Result<MemPort, OutOfMemory> {
+    let only = link(alloc, "GET / HTTP/1.1\r\nHost: a\r\n\r\n", &[])?;
+    let links = vec![in alloc; only]?;
+    Ok(MemPort::new(alloc, links, Vec::new(alloc)))
+}
+
+// Whether the first link of a port that is finished was given this.
+fn was_given(port: &MemPort, said: &[u8]) -> bool {
+    match port.finished().first() {
+        Some(link) => link.given() == said,
+        None => false,
+    }
 }
 
 // Whether the words after `replay`, over the store of port 80 and a link with a request, give this answer.
@@ -175,42 +197,33 @@ fn gives<R: Threads + Wait + Sync>(
     rt: &R,
     alloc: Global,
     words: &str,
-    answer: &str,
-) -> Result<bool, Fail> {
+    said: &str,
+) -> Result<bool, OutOfMemory> {
     let words = words_of(alloc, words)?;
     let mut outside = TestOutside::new(alloc, &[("s", STORE_OF_80)], &[], &[])?;
-    let only = link(alloc, "GET / HTTP/1.1\r\nHost: a\r\n\r\n", &[])?;
-    let links = vec![in alloc; only]?;
-    let mut port = MemPort::new(alloc, links, Vec::new(alloc));
-    let answered = answer_replay(
-        rt,
-        alloc,
-        &words,
-        &mut outside.disk,
-        &mut outside.out,
-        &mut port,
-        &NoPace,
-    );
-    let given = port.finished().first().ok_or("none is finished")?.given();
-    Ok(answered.is_ok() && given == answer.as_bytes())
+    let mut port = port_of_one(alloc)?;
+    let answer = answered(rt, alloc, &words, &mut outside, &mut port);
+    Ok(answer.is_ok() && was_given(&port, said.as_bytes()))
 }
 
+// The words, and what is answered.
+static SITES: [(&str, &str); 4] = [
+    ("--store s --port 80 --connections 1", FOUND),
+    ("--store s --port 8080 --connections 1", MISSING),
+    (
+        "--store s --port 8080 --connections 1 --site-port 80",
+        FOUND,
+    ),
+    (
+        "--store s --port 80 --connections 1 --site-port 443",
+        MISSING,
+    ),
+];
+
 #[test]
-fn requests_are_asked_at_the_port_of_the_site(rt: HostRuntime) -> Result<(), Fail> {
-    for (words, answer) in [
-        ("--store s --port 80 --connections 1", FOUND),
-        ("--store s --port 8080 --connections 1", MISSING),
-        (
-            "--store s --port 8080 --connections 1 --site-port 80",
-            FOUND,
-        ),
-        (
-            "--store s --port 80 --connections 1 --site-port 443",
-            MISSING,
-        ),
-    ] {
-        let is_given = gives(&rt, rt.alloc(), words, answer)?;
-        assert!(rt; is_given, "at {words}");
+fn requests_are_asked_at_the_port_of_the_site(rt: HostRuntime) {
+    for &(words, said) in &SITES {
+        let is_given = gives(&rt, rt.alloc(), words, said);
+        assert!(rt; is_given.expect(&rt, "memory"), "at {words}");
     }
-    Ok(())
 }

@@ -1,7 +1,7 @@
 // Reports of logs in memory.
 use command_report::answer_report;
-use std::alloc::Global;
-use std::test::Fail;
+use mm_base::OutOfMemory;
+use std::alloc::{AllocError, Global};
 use test_outside::{TestOutside, words_of};
 
 // The log of five packets through a queue of two.
@@ -21,88 +21,98 @@ fn ends_with(
     fails: (u64, u64),
     status: u8,
     printed: &str,
-) -> Result<bool, Fail> {
+) -> Result<bool, OutOfMemory> {
     let words = words_of(alloc, words)?;
     let mut outside = TestOutside::new(alloc, &[("l", log)], &[fails.0], &[fails.1])?;
     let answer = answer_report(alloc, &words, &mut outside.disk, &mut outside.out);
     Ok(outside.ends_with(answer, status, printed, &[("l", log)]))
 }
 
-#[test]
-fn reports_are_printed(rt: HostRuntime) -> Result<(), Fail> {
-    for (log, status, printed) in [
-        (LOG, 0, REPORT),
-        ("# base timestamp: 0\n", 0, "empty\n"),
-        (
-            "# base timestamp: 0\n0 + 1504\n0 + 1504\n1 # 500\n2 # 3000\n2 - 1504 2\n2 - 1504 2\n3 # 500\n4 # 3000\n",
-            0,
-            "entries 8\nspan 0 4\narrived 2 3008\noffered 4 7000\ndeparted 2 3008\ndropped 0 0\nused 429\ndelay 2 2 2\n",
-        ),
-        (
-            "# base timestamp: 0\n7 + 40\n",
-            0,
-            "entries 1\nspan 7 7\narrived 1 40\noffered 0 0\ndeparted 0 0\ndropped 0 0\nused none\ndelay none\n",
-        ),
-        ("", 4, "mm: bad input l 1 0\n"),
-        (
-            "# base timestamp: 0\n1 # 1504\n1 x 9\n",
-            4,
-            "mm: bad input l 2 3\n",
-        ),
-        (
-            "# base timestamp: 0\n1 # 1504\n0 # 1504\n",
-            4,
-            "mm: bad input l 3 3\n",
-        ),
-    ] {
-        let is_left = ends_with(rt.alloc(), "--log l", log, (0, 0), status, printed)?;
-        assert!(rt; is_left, "at {printed}");
-    }
-    Ok(())
-}
+// The log, the status, and what is printed.
+static LOGS: [(&str, u8, &str); 7] = [
+    (LOG, 0, REPORT),
+    ("# base timestamp: 0\n", 0, "empty\n"),
+    (
+        "# base timestamp: 0\n0 + 1504\n0 + 1504\n1 # 500\n2 # 3000\n2 - 1504 2\n2 - 1504 2\n3 # 500\n4 # 3000\n",
+        0,
+        "entries 8\nspan 0 4\narrived 2 3008\noffered 4 7000\ndeparted 2 3008\ndropped 0 0\nused 429\ndelay 2 2 2\n",
+    ),
+    (
+        "# base timestamp: 0\n7 + 40\n",
+        0,
+        "entries 1\nspan 7 7\narrived 1 40\noffered 0 0\ndeparted 0 0\ndropped 0 0\nused none\ndelay none\n",
+    ),
+    ("", 4, "mm: bad input l 1 0\n"),
+    (
+        "# base timestamp: 0\n1 # 1504\n1 x 9\n",
+        4,
+        "mm: bad input l 2 3\n",
+    ),
+    (
+        "# base timestamp: 0\n1 # 1504\n0 # 1504\n",
+        4,
+        "mm: bad input l 3 3\n",
+    ),
+];
 
 #[test]
-fn words_are_refused(rt: HostRuntime) -> Result<(), Fail> {
-    for (words, status, line) in [
-        ("", 2, "mm: usage\n"),
-        ("--log", 2, "mm: usage\n"),
-        ("--log l --log l", 2, "mm: usage\n"),
-        ("--log l x", 2, "mm: usage\n"),
-        ("--log l --", 2, "mm: usage\n"),
-        ("--log=l --out f", 2, "mm: usage\n"),
-        ("--log=x", 3, "mm: absent x\n"),
-    ] {
-        let is_left = ends_with(rt.alloc(), words, LOG, (0, 0), status, line)?;
-        assert!(rt; is_left, "at {words}");
+fn reports_are_printed(rt: HostRuntime) {
+    for &(log, status, printed) in &LOGS {
+        let is_left = ends_with(rt.alloc(), "--log l", log, (0, 0), status, printed);
+        assert!(rt; is_left.expect(&rt, "memory"), "at {printed}");
     }
-    Ok(())
 }
 
+// The words, the status, and what is printed.
+static REFUSED: [(&str, u8, &str); 7] = [
+    ("", 2, "mm: usage\n"),
+    ("--log", 2, "mm: usage\n"),
+    ("--log l --log l", 2, "mm: usage\n"),
+    ("--log l x", 2, "mm: usage\n"),
+    ("--log l --", 2, "mm: usage\n"),
+    ("--log=l --out f", 2, "mm: usage\n"),
+    ("--log=x", 3, "mm: absent x\n"),
+];
+
 #[test]
-fn each_call_fails_in_turn(rt: HostRuntime) -> Result<(), Fail> {
-    // The disk is asked for a size and a piece, and `out` takes the report in one call.
-    for (fails, status, printed) in [
-        ((1, 9), 6, "mm: read fault l\n"),
-        ((2, 9), 6, "mm: read fault l\n"),
-        ((9, 1), 7, ""),
-        ((9, 9), 0, REPORT),
-    ] {
-        let is_left = ends_with(rt.alloc(), "--log l", LOG, fails, status, printed)?;
-        assert!(rt; is_left, "at {printed}");
+fn words_are_refused(rt: HostRuntime) {
+    for &(words, status, line) in &REFUSED {
+        let is_left = ends_with(rt.alloc(), words, LOG, (0, 0), status, line);
+        assert!(rt; is_left.expect(&rt, "memory"), "at {words}");
     }
-    Ok(())
 }
 
-// A log of many pieces is refused at its last line, which is counted over all of them.
+// Which calls fail, the status, and what is printed. The disk is asked for a size and a piece, and `out` takes the
+// report in one call.
+static FAULTS: [((u64, u64), u8, &str); 4] = [
+    ((1, 9), 6, "mm: read fault l\n"),
+    ((2, 9), 6, "mm: read fault l\n"),
+    ((9, 1), 7, ""),
+    ((9, 9), 0, REPORT),
+];
+
 #[test]
-fn the_line_is_that_of_the_file(rt: HostRuntime) -> Result<(), Fail> {
-    let alloc = rt.alloc();
+fn each_call_fails_in_turn(rt: HostRuntime) {
+    for &(fails, status, printed) in &FAULTS {
+        let is_left = ends_with(rt.alloc(), "--log l", LOG, fails, status, printed);
+        assert!(rt; is_left.expect(&rt, "memory"), "at {printed}");
+    }
+}
+
+fn long_log(alloc: Global) -> Result<String, AllocError> {
     let mut log = String::from_str(alloc, "# base timestamp: 0\n")?;
     for _ in 0..20000 {
         log.push_str("1 # 1504\n")?;
     }
     log.push_str("0 # 1504\n")?;
+    Ok(log)
+}
+
+// A log of many pieces is refused at its last line, which is counted over all of them.
+#[test]
+fn the_line_is_that_of_the_file(rt: HostRuntime) {
+    let log = long_log(rt.alloc()).expect(&rt, "memory");
     let line = "mm: bad input l 3 20002\n";
-    assert!(rt; ends_with(alloc, "--log l", log.as_str(), (0, 0), 4, line)?);
-    Ok(())
+    let is_left = ends_with(rt.alloc(), "--log l", log.as_str(), (0, 0), 4, line);
+    assert!(rt; is_left.expect(&rt, "memory"));
 }

@@ -1,10 +1,10 @@
 // `run` over files in memory.
+use command_ends::{Cause, conclude};
 use command_run::answer_run;
-use mm_base::{NoPace, Pace};
-use std::alloc::Global;
+use mm_base::{Disk, MemSink, NoPace, OutOfMemory, Pace};
+use std::alloc::{AllocError, Global};
 use std::marker::Sync;
 use std::sync::Wait;
-use std::test::Fail;
 use std::thread::Threads;
 use test_outside::{TestOutside, words_of};
 
@@ -25,7 +25,24 @@ struct Left<'a> {
 }
 
 // The options of each way in which packets pass a nest, the last of which takes the schedule's bytes for an order.
-const WAYS: [&str; 3] = ["", "--plain", "--order s"];
+static WAYS: [&str; 3] = ["", "--plain", "--order s"];
+
+// The answer of `run`, without what its contract says of it.
+fn answered<R: Threads + Wait + Sync, D: Disk, Q: Pace + Sync>(
+    rt: &R,
+    alloc: Global,
+    words: &[String],
+    disk: &mut D,
+    pace: &Q,
+) -> Result<(), Cause> {
+    answer_run(rt, alloc, words, disk, pace)
+}
+
+// Whether an answer has this status, and this line on `out`.
+fn concludes(alloc: Global, answer: Result<(), Cause>, status: u8, line: &str) -> bool {
+    let mut out = MemSink::new(alloc, Vec::new(alloc));
+    conclude(answer, &mut out) == status && out.written() == line.as_bytes()
+}
 
 // Whether the words, over a disk with these files, whose calls of these numbers fail, leave this.
 fn leaves<R: Threads + Wait + Sync>(
@@ -35,7 +52,7 @@ fn leaves<R: Threads + Wait + Sync>(
     files: &[(&str, &str)],
     fails: &[u64],
     left: &Left<'_>,
-) -> Result<bool, Fail> {
+) -> Result<bool, OutOfMemory> {
     leaves_by(rt, alloc, words, files, fails, &NoPace, left)
 }
 
@@ -48,9 +65,29 @@ fn leaves_by<R: Threads + Wait + Sync, Q: Pace + Sync>(
     fails: &[u64],
     pace: &Q,
     left: &Left<'_>,
-) -> Result<bool, Fail> {
+) -> Result<bool, OutOfMemory> {
     let words = words_of(alloc, words)?;
     let mut outside = TestOutside::new(alloc, files, fails, &[])?;
-    let answer = answer_run(rt, alloc, &words, &mut outside.disk, pace);
+    let answer = answered(rt, alloc, &words, &mut outside.disk, pace);
     Ok(outside.ends_with(answer, left.status, left.line, left.files))
+}
+
+// Adds so many lines, each a number from 1 on and this text.
+fn push_numbered(
+    alloc: Global,
+    lines: &mut String,
+    count: u32,
+    text: &str,
+) -> Result<(), AllocError> {
+    for number in 1..=count {
+        lines.push_str(format!(in alloc; "{number}{text}")?.as_str())?;
+    }
+    Ok(())
+}
+
+// So many lines, each a number from 1 on and this text, after a first line.
+fn numbered(alloc: Global, first: &str, count: u32, text: &str) -> Result<String, AllocError> {
+    let mut lines = String::from_str(alloc, first)?;
+    push_numbered(alloc, &mut lines, count, text)?;
+    Ok(lines)
 }

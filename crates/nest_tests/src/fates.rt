@@ -1,8 +1,9 @@
 // The text of each kind of fate, and the types that may cross threads.
 use nest_spec::{Fate, FateRow, Nest, NestWords, RunResult, print_fates};
 use packet_record::Direction;
+use std::alloc::Global;
 use std::marker::{Send, Sync};
-use std::test::Fail;
+use std::process::Abort;
 
 fn is_shared<T: Send + Sync>(_: &T) {}
 
@@ -39,13 +40,16 @@ static ROWS: [FateRow; 4] = [
     },
 ];
 
+const LINES: &[u8] = b"1 up departed 25\n2 down dropped 1 0\n3 up inside 8\n1000000 down unsent\n";
+
+// The text of these fates is this.
+fn are_printed(rt: &impl Abort, alloc: Global, fates: &[FateRow], said: &[u8]) {
+    let text = print_fates(alloc, fates).expect(rt, "memory");
+    assert!(rt; text.as_slice() == said);
+}
+
 #[test]
-fn each_fate_has_its_line(rt: HostRuntime) -> Result<(), Fail> {
-    let text = print_fates(rt.alloc(), &ROWS)?;
-    assert_eq!(rt;
-        text.as_slice(),
-        b"1 up departed 25\n2 down dropped 1 0\n3 up inside 8\n1000000 down unsent\n".as_slice()
-    );
-    assert_eq!(rt; print_fates(rt.alloc(), &[])?.len(), 0);
-    Ok(())
+fn each_fate_has_its_line(rt: HostRuntime) {
+    are_printed(&rt, rt.alloc(), &ROWS, LINES);
+    are_printed(&rt, rt.alloc(), &[], b"");
 }

@@ -1,21 +1,14 @@
 // Generated cases for tests.
 ghost use Rattle.std.specs.Prelude.{◌<◌};
 
-use mm_base::{Bytes, write_decimal};
+use crate::inputs::{packets_of, trace_of};
+use crate::packets::put_line;
+use mm_base::{Bytes, OutOfMemory};
 use packet_queue::{QueueKind, QueueSpec};
-use packet_record::{Timed, read_schedule};
+use packet_record::Timed;
 use std::alloc::Global;
-use std::test::Fail;
-use trace_reader::{Opportunity, Trace, read_trace};
-
-pub fn packets_of(alloc: Global, schedule: &[u8]) -> Result<Vec<Timed>, Fail> {
-    let schedule = read_schedule(alloc, schedule)?;
-    let mut packets = Vec::new(alloc);
-    for row in schedule.rows() {
-        packets.push(row.timed)?;
-    }
-    Ok(packets)
-}
+use std::process::Abort;
+use trace_reader::{Opportunity, Trace};
 
 // Numbers below a limit, one after another.
 #[derive(Drop)]
@@ -43,39 +36,48 @@ impl Numbers {
     }
 }
 
-pub fn some_trace(alloc: Global, numbers: &mut Numbers) -> Result<Trace, Fail> {
-    let mut text = Bytes::new(alloc);
-    text.append(b"# mm-trace 2\n")?;
+// The bytes of an opportunity.
+fn some_bytes(numbers: &mut Numbers) -> u64 {
+    u64::from(numbers.below(3))
+        .saturating_mul(700)
+        .saturating_add(1)
+}
+
+fn trace_text(alloc: Global, numbers: &mut Numbers) -> Result<Bytes, OutOfMemory> {
+    let mut text = Bytes::from_slice(alloc, b"# mm-trace 2\n")?;
     let mut moment: u64 = 0;
     for _ in 0..3 {
         moment = moment.saturating_add(u64::from(numbers.below(4)));
-        write_decimal(&mut text, moment)?;
-        text.append(b" ")?;
-        write_decimal(
-            &mut text,
-            u64::from(numbers.below(3))
-                .saturating_mul(700)
-                .saturating_add(1),
-        )?;
-        text.append(b"\n")?;
+        put_line(&mut text, moment, b" ", some_bytes(numbers))?;
     }
-    write_decimal(&mut text, moment.saturating_add(1))?;
-    text.append(b" 1504\n")?;
-    Ok(read_trace(alloc, text.as_slice())?)
+    put_line(&mut text, moment.saturating_add(1), b" ", 1504)?;
+    Ok(text)
 }
 
-pub fn some_packets(alloc: Global, numbers: &mut Numbers) -> Result<Vec<Timed>, Fail> {
+pub fn some_trace(rt: &impl Abort, alloc: Global, numbers: &mut Numbers) -> Trace {
+    let text = trace_text(alloc, numbers).expect(rt, "memory");
+    trace_of(rt, alloc, text.as_slice())
+}
+
+// The size of a packet.
+fn some_size(numbers: &mut Numbers) -> u64 {
     let sizes = [1, 100, 700, 1504];
+    sizes[usize::from(numbers.below(4))]
+}
+
+fn schedule_text(alloc: Global, numbers: &mut Numbers) -> Result<Bytes, OutOfMemory> {
     let mut text = Bytes::new(alloc);
     let mut moment: u64 = 0;
     for _ in 0..9 {
         moment = moment.saturating_add(u64::from(numbers.below(3)));
-        write_decimal(&mut text, moment)?;
-        text.append(b" up ")?;
-        write_decimal(&mut text, sizes[usize::from(numbers.below(4))])?;
-        text.append(b"\n")?;
+        put_line(&mut text, moment, b" up ", some_size(numbers))?;
     }
-    packets_of(alloc, text.as_slice())
+    Ok(text)
+}
+
+pub fn some_packets(rt: &impl Abort, alloc: Global, numbers: &mut Numbers) -> Vec<Timed> {
+    let text = schedule_text(alloc, numbers).expect(rt, "memory");
+    packets_of(rt, alloc, text.as_slice())
 }
 
 pub fn some_queue(numbers: &mut Numbers) -> QueueSpec {
@@ -104,7 +106,7 @@ pub fn opportunities_to(
     trace: &Trace,
     once: bool,
     horizon: u64,
-) -> Result<Vec<Opportunity>, Fail> {
+) -> Result<Vec<Opportunity>, OutOfMemory> {
     let mut opps = Vec::new(alloc);
     for j in 0..200 {
         if let Some(o) = trace.opportunity(j, once) {

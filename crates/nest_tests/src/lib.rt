@@ -5,9 +5,9 @@
 #[cfg(test)]
 mod fates;
 #[cfg(test)]
-mod gathered;
-#[cfg(test)]
 mod generated;
+#[cfg(test)]
+mod inputs;
 #[cfg(test)]
 mod link_runs;
 #[cfg(test)]

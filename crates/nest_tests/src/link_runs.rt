@@ -14,7 +14,7 @@ use packet_queue::QueueSpec;
 use packet_record::Timed;
 use shell_log::Entry;
 use std::alloc::Global;
-use std::test::Fail;
+use std::process::Abort;
 use trace_reader::Trace;
 
 // Lets one packet in, not before the last.
@@ -31,8 +31,8 @@ fn feed_one(link: &mut LinkCore, last: u64, t: Timed) -> Result<(), OutOfMemory>
     link.arrive(t)
 }
 
-// Lets these packets in, whose moments may not decrease.
-fn feed(link: &mut LinkCore, horizon: u64, packets: &[Timed]) -> Result<(), Fail>
+// Lets these packets in. False: the moments decrease somewhere, or pass the horizon.
+fn feed(link: &mut LinkCore, horizon: u64, packets: &[Timed]) -> Result<bool, OutOfMemory>
     requires horizon { link.old.horizon ≡ horizon }
     requires arrivals { link.old.arrivals ≡ [] }
     requires burnt { link.old.burnt ≡ 0 }
@@ -40,23 +40,23 @@ fn feed(link: &mut LinkCore, horizon: u64, packets: &[Timed]) -> Result<(), Fail
     let mut last = 0;
     'feeding: for t in packets {
         if t.moment < last || t.moment > horizon {
-            return Err(Fail::new("a packet out of order"));
+            return Ok(false);
         }
         feed_one(link, last, *t)?;
         last = t.moment;
     }
-    Ok(())
+    Ok(true)
 }
 
 // A link before any arrival, over all that arrives.
-fn feed_all(mut link: LinkCore, horizon: u64, packets: &[Timed]) -> Result<LinkCore, Fail>
+fn feed_all(rt: &impl Abort, mut link: LinkCore, horizon: u64, packets: &[Timed]) -> LinkCore
     requires horizon { link.horizon ≡ horizon }
     requires arrivals { link.arrivals ≡ [] }
     requires burnt { link.burnt ≡ 0 }
 {
-    feed(&mut link, horizon, packets)?;
-    link.burn(horizon, u32::MAX)?;
-    Ok(link)
+    assert!(rt; feed(&mut link, horizon, packets).expect(rt, "memory"));
+    link.burn(horizon, u32::MAX).expect(rt, "memory");
+    link
 }
 
 // A link's direction and how long it runs.
@@ -79,31 +79,36 @@ impl Setting {
 }
 
 // The link after these packets, one by one.
-pub fn run_singly(alloc: Global, setting: &Setting, packets: &[Timed]) -> Result<LinkCore, Fail> {
-    if !setting.fits() {
-        return Err(Fail::new("too long"));
-    }
+pub fn run_singly(
+    rt: &impl Abort,
+    alloc: Global,
+    setting: &Setting,
+    packets: &[Timed],
+) -> Result<LinkCore, OutOfMemory> {
+    assert!(rt; setting.fits());
     let trace = setting.trace.copy()?;
     let link = LinkCore::new(alloc, trace, setting.once, setting.queue, setting.horizon)?;
-    feed_all(link, setting.horizon, packets)
+    Ok(feed_all(rt, link, setting.horizon, packets))
 }
 
 // The link over all these packets.
-pub fn run_over(alloc: Global, setting: &Setting, packets: &[Timed]) -> Result<Passage, Fail> {
-    if !setting.fits() {
-        return Err(Fail::new("too long"));
-    }
+pub fn run_over(
+    rt: &impl Abort,
+    alloc: Global,
+    setting: &Setting,
+    packets: &[Timed],
+) -> Result<Passage, OutOfMemory> {
+    assert!(rt; setting.fits());
     let trace = setting.trace.copy()?;
-    let arrivals = in_order(alloc, setting.horizon, packets)?;
-    let passage = run_link(
+    let arrivals = in_order(rt, alloc, setting.horizon, packets)?;
+    run_link(
         alloc,
         trace,
         setting.once,
         setting.queue,
         setting.horizon,
         arrivals,
-    )?;
-    Ok(passage)
+    )
 }
 
 #[derive(Drop)]
@@ -113,8 +118,15 @@ pub struct Pieces {
     pub longest: usize,
 }
 
+fn add_piece(all: &mut Pieces, piece: &[Entry]) -> Result<(), OutOfMemory> {
+    all.number = all.number.saturating_add(1);
+    all.longest = all.longest.max(piece.len());
+    all.entries.extend_from_slice(piece)?;
+    Ok(())
+}
+
 // The pieces of a log put together.
-pub fn put_together(alloc: Global, log: LinkLog) -> Result<Pieces, Fail> {
+pub fn put_together(alloc: Global, log: LinkLog) -> Result<Pieces, OutOfMemory> {
     let mut all = Pieces {
         entries: Vec::new(alloc),
         number: 0,
@@ -122,9 +134,7 @@ pub fn put_together(alloc: Global, log: LinkLog) -> Result<Pieces, Fail> {
     };
     let mut pieces = log.pieces();
     'pieces: while pieces.next()? {
-        all.entries.extend_from_slice(pieces.piece())?;
-        all.number = all.number.saturating_add(1);
-        all.longest = all.longest.max(pieces.piece().len());
+        add_piece(&mut all, pieces.piece())?;
     }
     Ok(all)
 }

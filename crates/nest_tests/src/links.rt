@@ -1,19 +1,15 @@
 // Worked cases of a link, and generated ones beside a plain slow program: one by one and over whole lists.
-use crate::generated::{
-    Numbers, opportunities_to, packets_of, some_packets, some_queue, some_trace,
-};
+use crate::generated::{Numbers, opportunities_to, some_packets, some_queue, some_trace};
+use crate::inputs::{packets_of, queue_of, trace_of};
 use crate::link_runs::{Setting, put_together, run_over, run_singly};
 use crate::packets::are_listed;
 use crate::slow::{Slow, slow_link};
-use link_core::LinkLog;
-use mm_base::Bytes;
-use packet_queue::read_queue;
+use link_core::{LinkCore, LinkLog, Passage};
+use mm_base::OutOfMemory;
 use packet_record::Timed;
-use shell_log::{Entry, print_log};
+use shell_log::{Entry, Log, print_log};
 use std::alloc::Global;
 use std::process::Abort;
-use std::test::Fail;
-use trace_reader::read_trace;
 
 struct Case {
     trace: &'static [u8],
@@ -27,41 +23,55 @@ struct Case {
     log: &'static [u8],
 }
 
-fn setting(alloc: Global, case: &Case) -> Result<Setting, Fail> {
-    Ok(Setting {
-        trace: read_trace(alloc, case.trace)?,
+fn setting_of(rt: &impl Abort, alloc: Global, case: &Case) -> Setting {
+    Setting {
+        trace: trace_of(rt, alloc, case.trace),
         once: case.once,
-        queue: read_queue(case.queue.0, case.queue.1)?,
+        queue: queue_of(rt, case.queue.0, case.queue.1),
         horizon: case.horizon,
-    })
+    }
+}
+
+// A log that isn't written out yet, written out.
+pub fn written(rt: &impl Abort, log: Option<LinkLog>) -> Log {
+    log.expect(rt, "a log").into_log().expect(rt, "memory")
 }
 
 // The text of a log that isn't written out yet is this.
-fn is_log(rt: &impl Abort, alloc: Global, log: Option<LinkLog>, said: &[u8]) -> Result<(), Fail> {
-    let log = log.ok_or("no log")?.into_log()?;
-    assert_eq!(rt; print_log(alloc, &log)?.as_slice(), said);
-    Ok(())
+fn is_log(rt: &impl Abort, alloc: Global, log: Option<LinkLog>, said: &[u8]) {
+    let text = print_log(alloc, &written(rt, log)).expect(rt, "memory");
+    assert!(rt; text.as_slice() == said);
 }
 
 // What the whole list gives.
-fn is_as_said(rt: &impl Abort, alloc: Global, case: &Case) -> Result<(), Fail> {
-    let packets = packets_of(alloc, case.schedule)?;
-    let whole = run_over(alloc, &setting(alloc, case)?, &packets)?;
-    are_listed(rt, alloc, &whole.departed, case.departed)?;
-    are_listed(rt, alloc, &whole.lost, case.lost)?;
-    assert_eq!(rt; whole.held.as_slice(), case.inside);
-    is_log(rt, alloc, whole.log, case.log)
+fn over_all(rt: &impl Abort, alloc: Global, case: &Case) -> Passage {
+    let packets = packets_of(rt, alloc, case.schedule);
+    let setting = setting_of(rt, alloc, case);
+    run_over(rt, alloc, &setting, packets.as_slice()).expect(rt, "memory")
+}
+
+fn is_as_said(rt: &impl Abort, alloc: Global, case: &Case) {
+    let whole = over_all(rt, alloc, case);
+    are_listed(rt, alloc, &whole.departed, case.departed);
+    are_listed(rt, alloc, &whole.lost, case.lost);
+    assert!(rt; whole.held.as_slice() == case.inside);
+    is_log(rt, alloc, whole.log, case.log);
 }
 
 // What the packets give one by one.
-fn is_as_said_singly(rt: &impl Abort, alloc: Global, case: &Case) -> Result<(), Fail> {
-    let packets = packets_of(alloc, case.schedule)?;
-    let link = run_singly(alloc, &setting(alloc, case)?, &packets)?;
-    are_listed(rt, alloc, link.departed(), case.departed)?;
-    are_listed(rt, alloc, link.lost(), case.lost)?;
-    assert_eq!(rt; link.inside()?.as_slice(), case.inside);
-    assert_eq!(rt; link.next_opportunity(), None);
-    Ok(())
+fn singly(rt: &impl Abort, alloc: Global, case: &Case) -> LinkCore {
+    let packets = packets_of(rt, alloc, case.schedule);
+    let setting = setting_of(rt, alloc, case);
+    run_singly(rt, alloc, &setting, packets.as_slice()).expect(rt, "memory")
+}
+
+fn is_as_said_singly(rt: &impl Abort, alloc: Global, case: &Case) {
+    let link = singly(rt, alloc, case);
+    are_listed(rt, alloc, link.departed(), case.departed);
+    are_listed(rt, alloc, link.lost(), case.lost);
+    let inside = link.inside().expect(rt, "memory");
+    assert!(rt; inside.as_slice() == case.inside);
+    assert!(rt; link.next_opportunity().is_none());
 }
 
 static CASES: [Case; 8] = [
@@ -159,12 +169,11 @@ static CASES: [Case; 8] = [
 ];
 
 #[test]
-fn worked_cases(rt: HostRuntime) -> Result<(), Fail> {
+fn worked_cases(rt: HostRuntime) {
     for case in &CASES {
-        is_as_said(&rt, rt.alloc(), case)?;
-        is_as_said_singly(&rt, rt.alloc(), case)?;
+        is_as_said(&rt, rt.alloc(), case);
+        is_as_said_singly(&rt, rt.alloc(), case);
     }
-    Ok(())
 }
 
 // A generated link, its packets, and what the slow program says of them.
@@ -175,128 +184,122 @@ struct Generated {
     slow: Slow,
 }
 
-fn draw_case(alloc: Global, numbers: &mut Numbers) -> Result<Generated, Fail> {
-    let setting = Setting {
-        trace: some_trace(alloc, numbers)?,
+fn draw_setting(rt: &impl Abort, alloc: Global, numbers: &mut Numbers) -> Setting {
+    Setting {
+        trace: some_trace(rt, alloc, numbers),
         once: numbers.below(4) == 0,
         queue: some_queue(numbers),
         horizon: 20,
-    };
-    let packets = some_packets(alloc, numbers)?;
+    }
+}
+
+fn slow_of(alloc: Global, setting: &Setting, packets: &[Timed]) -> Result<Slow, OutOfMemory> {
     let opps = opportunities_to(alloc, &setting.trace, setting.once, 20)?;
-    let slow = slow_link(alloc, &setting.queue, &opps, &packets, 20)?;
-    Ok(Generated {
+    slow_link(alloc, &setting.queue, opps.as_slice(), packets, 20)
+}
+
+fn draw_case(rt: &impl Abort, alloc: Global, numbers: &mut Numbers) -> Generated {
+    let setting = draw_setting(rt, alloc, numbers);
+    let packets = some_packets(rt, alloc, numbers);
+    let slow = slow_of(alloc, &setting, packets.as_slice()).expect(rt, "memory");
+    Generated {
         setting,
         packets,
         slow,
-    })
+    }
 }
 
-fn agrees_singly(rt: &impl Abort, alloc: Global, case: &Generated) -> Result<(), Fail> {
-    let link = run_singly(alloc, &case.setting, &case.packets)?;
+fn agrees_singly(rt: &impl Abort, alloc: Global, case: &Generated) {
+    let link = run_singly(rt, alloc, &case.setting, &case.packets).expect(rt, "memory");
     assert!(rt; link.departed() == case.slow.departed.as_slice());
     assert!(rt; link.lost() == case.slow.lost.as_slice());
-    Ok(())
 }
 
-fn agrees_over_all(rt: &impl Abort, alloc: Global, case: &Generated) -> Result<(), Fail> {
-    let whole = run_over(alloc, &case.setting, &case.packets)?;
-    let slow = &case.slow;
-    assert!(rt; whole.departed.as_slice() == slow.departed.as_slice());
-    assert!(rt; whole.lost.as_slice() == slow.lost.as_slice());
-    let gone = slow.departed.len().saturating_add(slow.lost.len());
-    assert_eq!(rt; whole.held.len().saturating_add(gone), case.packets.len());
-    agrees_with_log(rt, alloc, whole.log, &slow.log)
-}
-
-fn agrees_with_log(
-    rt: &impl Abort,
-    alloc: Global,
-    log: Option<LinkLog>,
-    said: &[Entry],
-) -> Result<(), Fail> {
-    let pieces = put_together(alloc, log.ok_or("no log")?)?;
+fn agrees_with_log(rt: &impl Abort, alloc: Global, log: Option<LinkLog>, said: &[Entry]) {
+    let pieces = put_together(alloc, log.expect(rt, "a log")).expect(rt, "memory");
     assert!(rt; pieces.entries.as_slice() == said);
-    Ok(())
+}
+
+fn agrees_over_all(rt: &impl Abort, alloc: Global, case: &Generated) {
+    let whole = run_over(rt, alloc, &case.setting, &case.packets).expect(rt, "memory");
+    assert!(rt; whole.departed.as_slice() == case.slow.departed.as_slice());
+    assert!(rt; whole.lost.as_slice() == case.slow.lost.as_slice());
+    let gone = whole.departed.len().saturating_add(whole.lost.len());
+    assert!(rt; whole.held.len().saturating_add(gone) == case.packets.len());
+    agrees_with_log(rt, alloc, whole.log, &case.slow.log);
 }
 
 #[test]
-fn generated_cases_are_as_the_slow_program_says(rt: HostRuntime) -> Result<(), Fail> {
+fn generated_cases_are_as_the_slow_program_says(rt: HostRuntime) {
     let mut numbers = Numbers::new(7);
     for _ in 0..120 {
-        let case = draw_case(rt.alloc(), &mut numbers)?;
-        agrees_singly(&rt, rt.alloc(), &case)?;
-        agrees_over_all(&rt, rt.alloc(), &case)?;
+        let case = draw_case(&rt, rt.alloc(), &mut numbers);
+        agrees_singly(&rt, rt.alloc(), &case);
+        agrees_over_all(&rt, rt.alloc(), &case);
     }
-    Ok(())
 }
 
-// An opportunity of 1504 bytes each millisecond up to the horizon.
-fn each_millisecond(alloc: Global, horizon: u64) -> Result<Setting, Fail> {
-    Ok(Setting {
-        trace: read_trace(alloc, b"1\n")?,
+// A link over which these packets go, with an opportunity of 1504 bytes each millisecond up to the horizon.
+fn each_millisecond(rt: &impl Abort, alloc: Global, horizon: u64, packets: &[Timed]) -> Passage {
+    let setting = Setting {
+        trace: trace_of(rt, alloc, b"1\n"),
         once: false,
-        queue: read_queue("infinite", "")?,
+        queue: queue_of(rt, "infinite", ""),
         horizon,
-    })
+    };
+    run_over(rt, alloc, &setting, packets).expect(rt, "memory")
 }
 
-fn is_opportunity(entry: &Entry) -> bool {
-    matches!(entry, Entry::Opportunity { .. })
+// How many opportunities a log has.
+fn count_opportunities(entries: &[Entry]) -> usize {
+    let mut count: usize = 0;
+    for entry in entries {
+        if matches!(entry, Entry::Opportunity { .. }) {
+            count = count.saturating_add(1);
+        }
+    }
+    count
 }
 
 // Four packets, two of them at first, with many thousand opportunities between them; the last one stays inside.
 const GAP: &[u8] = b"0 up 1504\n0 up 1504\n15000 up 700\n30000 up 1504\n";
 
-fn count_opportunities(entries: &[Entry]) -> usize {
-    entries.iter().filter(|e| is_opportunity(e)).count()
+fn over_gap(rt: &impl Abort, alloc: Global) -> Passage {
+    let packets = packets_of(rt, alloc, GAP);
+    each_millisecond(rt, alloc, 30_000, packets.as_slice())
 }
 
 // A log in pieces has many short ones, which have the entries of the same log written out, and an opportunity each
 // millisecond.
-fn is_in_pieces(
-    rt: &impl Abort,
-    alloc: Global,
-    log: Option<LinkLog>,
-    same: Option<LinkLog>,
-) -> Result<(), Fail> {
-    let pieces = put_together(alloc, log.ok_or("no log")?)?;
-    let written = same.ok_or("no log")?.into_log()?;
-    assert!(rt; pieces.entries.as_slice() == written.entries());
+fn is_in_pieces(rt: &impl Abort, alloc: Global, log: Option<LinkLog>, same: Option<LinkLog>) {
+    let pieces = put_together(alloc, log.expect(rt, "a log")).expect(rt, "memory");
+    let log = written(rt, same);
+    assert!(rt; pieces.entries.as_slice() == log.entries());
     assert!(rt; pieces.number > 10 && pieces.longest < 5_000);
-    assert_eq!(rt; count_opportunities(written.entries()), 30_000);
-    Ok(())
+    assert!(rt; count_opportunities(log.entries()) == 30_000);
 }
 
 #[test]
-fn a_log_in_pieces_is_the_whole_log(rt: HostRuntime) -> Result<(), Fail> {
+fn a_log_in_pieces_is_the_whole_log(rt: HostRuntime) {
     let alloc = rt.alloc();
-    let packets = packets_of(alloc, GAP)?;
-    let setting = each_millisecond(alloc, 30_000)?;
-    let whole = run_over(alloc, &setting, &packets)?;
-    are_listed(&rt, alloc, &whole.departed, b"1 1\n2 2\n3 15001\n")?;
-    assert_eq!(rt; whole.held.as_slice(), [4].as_slice());
-    let again = run_over(alloc, &setting, &packets)?;
-    is_in_pieces(&rt, alloc, whole.log, again.log)
+    let whole = over_gap(&rt, alloc);
+    are_listed(&rt, alloc, &whole.departed, b"1 1\n2 2\n3 15001\n");
+    assert!(rt; whole.held.as_slice() == [4].as_slice());
+    let again = over_gap(&rt, alloc);
+    is_in_pieces(&rt, alloc, whole.log, again.log);
 }
 
 // A link over which nothing goes logs so many opportunities, and a log of none has no piece.
-fn logs_opportunities(
-    rt: &impl Abort,
-    alloc: Global,
-    horizon: u64,
-    count: usize,
-) -> Result<(), Fail> {
-    let whole = run_over(alloc, &each_millisecond(alloc, horizon)?, &[])?;
-    let pieces = put_together(alloc, whole.log.ok_or("no log")?)?;
-    assert_eq!(rt; pieces.entries.len(), count);
-    assert!(rt; pieces.entries.iter().all(is_opportunity));
-    assert_eq!(rt; pieces.number == 0, count == 0);
-    Ok(())
+fn logs_opportunities(rt: &impl Abort, alloc: Global, horizon: u64, count: usize) {
+    let whole = each_millisecond(rt, alloc, horizon, &[]);
+    let pieces = put_together(alloc, whole.log.expect(rt, "a log")).expect(rt, "memory");
+    assert!(rt; pieces.entries.len() == count);
+    assert!(rt; count_opportunities(&pieces.entries) == count);
+    assert!(rt; (pieces.number == 0) == (count == 0));
 }
 
 #[test]
-fn a_link_without_arrivals_has_its_opportunities(rt: HostRuntime) -> Result<(), Fail> {
-    logs_opportunities(&rt, rt.alloc(), 3_000, 3_000)?;
-    logs_opportunities(&rt, rt.alloc(), 0, 0)
+fn a_link_without_arrivals_has_its_opportunities(rt: HostRuntime) {
+    logs_opportunities(&rt, rt.alloc(), 3_000, 3_000);
+    logs_opportunities(&rt, rt.alloc(), 0, 0);
 }

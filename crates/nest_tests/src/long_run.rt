@@ -1,13 +1,10 @@
 // One run of eight shells of all kinds in both directions, and a count of it that knows no shell's rule.
-use crate::gathered::run_schedule;
-use crate::nests::nest_of;
-use nest_plain::run_plain;
+use crate::nests::{nest_of, plain_run, stepped_run};
 use nest_spec::{Fate, FateRow, NamedLog, RunResult};
-use packet_record::{Direction, Row, make_load};
+use packet_record::{Direction, Row, Schedule, make_load};
 use shell_log::{Entry, Log};
 use std::alloc::Global;
 use std::process::Abort;
-use std::test::Fail;
 
 const ROWS: u32 = 10_000;
 
@@ -15,11 +12,11 @@ const ROWS: u32 = 10_000;
 const HORIZON: u64 = 14_000;
 
 // 1504 bytes every second millisecond on the average, in a lap of 60 ms with a gap.
-const TRACE: &[u8] =
+static TRACE: &[u8] =
     b"# mm-trace 2\n0 700\n4 3000\n9 1504\n10 6000\n22 4000\n23 9000\n35 1504\n50 20000\n60 800\n";
 
 // Delays, losses both ways, and links with all three queues, each of which logs both sides.
-const WORDS: &str = "mm-delay 7 \
+static WORDS: &str = "mm-delay 7 \
     mm-loss uplink 0.02 \
     mm-link t t --uplink-log 3u --downlink-log 3d --uplink-queue=droptail --uplink-queue-args=packets=12 \
     --downlink-queue=drophead --downlink-queue-args=bytes=9000 -- \
@@ -33,7 +30,7 @@ const WORDS: &str = "mm-delay 7 \
 const DELAYS: u64 = 58;
 
 // What the fates of a direction come to, from a shell on.
-#[derive(Clone, Copy, PartialEq, Eq, Debug)]
+#[derive(Clone, Copy)]
 struct Counts {
     departed: u64,
     dropped: u64,
@@ -130,21 +127,31 @@ fn are_their_own(rows: &[Row], fates: &[FateRow], direction: Direction) -> bool 
     rows.len() == fates.len()
 }
 
+// How many rows go in a direction.
+fn count_rows(rows: &[Row], direction: Direction) -> u64 {
+    let mut count = 0;
+    for row in rows {
+        count = more(count, row.direction == direction);
+    }
+    count
+}
+
+static ALL: [u32; 8] = [1, 2, 3, 4, 5, 6, 7, 8];
+
 // Each packet of the direction has departed, or was dropped, or is inside, or is unsent, and some of each.
 fn add_up(rows: &[Row], fates: &[FateRow], direction: Direction) -> bool {
-    let counts = counted(fates, direction, &[1, 2, 3, 4, 5, 6, 7, 8]);
+    let counts = counted(fates, direction, &ALL);
     let all = counts
         .departed
         .saturating_add(counts.dropped)
         .saturating_add(counts.inside)
         .saturating_add(counts.unsent);
-    let of_direction = rows.iter().filter(|row| row.direction == direction).count();
     let some = counts
         .departed
         .min(counts.dropped)
         .min(counts.inside)
         .min(counts.unsent);
-    all == of_direction as u64 && some > 0
+    all == count_rows(rows, direction) && some > 0
 }
 
 // How many packets a log says arrived, departed and were dropped.
@@ -217,43 +224,48 @@ fn is_as_logged(side: Side, log: &Log, fates: &[FateRow]) -> bool {
     lines(log) == (arrived, passed, here.dropped)
 }
 
-fn are_as_logged(rt: &impl Abort, logs: &[NamedLog], fates: &[FateRow]) {
-    assert_eq!(rt; logs.len(), SIDES.len());
+fn are_as_logged(logs: &[NamedLog], fates: &[FateRow]) -> bool {
     for (side, named) in SIDES.iter().zip(logs.iter()) {
-        assert!(rt;
-            is_as_logged(*side, &named.log, fates),
-            "at {}",
-            named.name.as_str()
-        );
+        if !is_as_logged(*side, &named.log, fates) {
+            return false;
+        }
     }
+    logs.len() == SIDES.len()
 }
 
-fn are_same(rt: &impl Abort, these: &[NamedLog], those: &[NamedLog]) {
-    assert_eq!(rt; these.len(), those.len());
+fn is_same(this: &NamedLog, that: &NamedLog) -> bool {
+    this.name.as_str() == that.name.as_str() && this.log.entries() == that.log.entries()
+}
+
+fn are_same(these: &[NamedLog], those: &[NamedLog]) -> bool {
     for (this, that) in these.iter().zip(those.iter()) {
-        assert!(rt; this.name.as_str() == that.name.as_str());
-        assert!(rt; this.log.entries() == that.log.entries());
+        if !is_same(this, that) {
+            return false;
+        }
     }
+    these.len() == those.len()
 }
 
-// Each row has one fate, of which there are all kinds, and the logs say the same.
-fn is_whole(rt: &impl Abort, rows: &[Row], run: &RunResult) {
-    for direction in [Direction::Up, Direction::Down] {
-        assert!(rt; are_their_own(rows, run.fates(), direction));
-        assert!(rt; add_up(rows, run.fates(), direction));
-    }
-    are_as_logged(rt, run.logs(), run.fates());
+// Each row of a direction has one fate, of which there are all kinds.
+fn is_whole(rows: &[Row], run: &RunResult, direction: Direction) -> bool {
+    are_their_own(rows, run.fates(), direction) && add_up(rows, run.fates(), direction)
 }
 
+fn load(rt: &impl Abort, alloc: Global) -> Schedule {
+    make_load(alloc, 9, ROWS).expect(rt, "memory")
+}
+
+// The logs say what the fates say.
 #[test]
-fn each_packet_of_a_long_run_has_one_fate(rt: HostRuntime) -> Result<(), Fail> {
+fn each_packet_of_a_long_run_has_one_fate(rt: HostRuntime) {
     let alloc = rt.alloc();
-    let nest = nest_of(&rt, alloc, WORDS, TRACE, HORIZON)?;
-    let schedule = make_load(alloc, 9, ROWS)?;
-    let run = run_plain(alloc, &nest, &schedule)?;
-    is_whole(&rt, schedule.rows(), &run);
-    let gathered = run_schedule(alloc, &nest, &schedule)?;
-    assert!(rt; gathered.fates() == run.fates());
-    are_same(&rt, gathered.logs(), run.logs());
-    Ok(())
+    let nest = nest_of(&rt, alloc, WORDS, TRACE, HORIZON);
+    let schedule = load(&rt, alloc);
+    let run = plain_run(&rt, alloc, &nest, &schedule);
+    assert!(rt; is_whole(schedule.rows(), &run, Direction::Up));
+    assert!(rt; is_whole(schedule.rows(), &run, Direction::Down));
+    assert!(rt; are_as_logged(run.logs(), run.fates()));
+    let stepped = stepped_run(&rt, alloc, &nest, &schedule, &[]);
+    assert!(rt; stepped.fates() == run.fates());
+    assert!(rt; are_same(stepped.logs(), run.logs()));
 }

@@ -1,15 +1,14 @@
 // Runs of small nests, each at once over whole lists and by states: their fates and logs.
-use crate::gathered::run_schedule;
-use crate::nests::nest_of;
+use crate::inputs::schedule_of;
+use crate::nests::{nest_of, plain_run, stepped_run};
 use link_core::LinkLog;
-use mm_base::Bytes;
-use nest_plain::{run_nest, run_plain};
-use nest_spec::{Named, NamedLog, RunResult, print_fates, unpack_fates};
-use packet_record::read_schedule;
+use mm_base::{Bytes, OutOfMemory};
+use nest_plain::{NestRun, UnwrittenLog, run_nest};
+use nest_spec::{Named, NamedLog, Nest, PackedFate, RunResult, print_fates, unpack_fates};
+use packet_record::Schedule;
 use shell_log::{Entry, print_log};
 use std::alloc::Global;
 use std::process::Abort;
-use std::test::Fail;
 
 // A nest, each of whose traces is the same, and what its run must give: the text of the fates, and of each log after
 // its name.
@@ -22,30 +21,36 @@ struct Case {
     logs: &'static [u8],
 }
 
-// The text of each log after its name.
-fn logs_text(alloc: Global, logs: &[NamedLog]) -> Result<Bytes, Fail> {
+// Adds the text of a log after its name.
+fn put_log(alloc: Global, text: &mut Bytes, named: &NamedLog) -> Result<(), OutOfMemory> {
+    let log = print_log(alloc, &named.log)?;
+    text.append(named.name.as_str().as_bytes())?;
+    text.append(b"\n")?;
+    text.append(log.as_slice())
+}
+
+fn logs_text(alloc: Global, logs: &[NamedLog]) -> Result<Bytes, OutOfMemory> {
     let mut text = Bytes::new(alloc);
     for named in logs {
-        text.append(named.name.as_str().as_bytes())?;
-        text.append(b"\n")?;
-        text.append(print_log(alloc, &named.log)?.as_slice())?;
+        put_log(alloc, &mut text, named)?;
     }
     Ok(text)
 }
 
-fn is_as_said(rt: &impl Abort, alloc: Global, case: &Case, run: &RunResult) -> Result<(), Fail> {
-    let fates = print_fates(alloc, run.fates())?;
-    assert_eq!(rt; fates.as_slice(), case.fates, "of {}", case.words);
-    let logs = logs_text(alloc, run.logs())?;
-    assert_eq!(rt; logs.as_slice(), case.logs, "of {}", case.words);
-    Ok(())
+// Whether a run gives what is said.
+fn is_as_said(rt: &impl Abort, alloc: Global, case: &Case, run: &RunResult) -> bool {
+    let fates = print_fates(alloc, run.fates()).expect(rt, "memory");
+    let logs = logs_text(alloc, run.logs()).expect(rt, "memory");
+    fates.as_slice() == case.fates && logs.as_slice() == case.logs
 }
 
-fn play(rt: &impl Abort, alloc: Global, case: &Case) -> Result<(), Fail> {
-    let nest = nest_of(rt, alloc, case.words, case.trace, case.horizon)?;
-    let schedule = read_schedule(alloc, case.schedule)?;
-    is_as_said(rt, alloc, case, &run_plain(alloc, &nest, &schedule)?)?;
-    is_as_said(rt, alloc, case, &run_schedule(alloc, &nest, &schedule)?)
+// Whether both runs give what is said.
+fn are_as_said(rt: &impl Abort, alloc: Global, case: &Case) -> bool {
+    let nest = nest_of(rt, alloc, case.words, case.trace, case.horizon);
+    let schedule = schedule_of(rt, alloc, case.schedule);
+    let plain = plain_run(rt, alloc, &nest, &schedule);
+    let stepped = stepped_run(rt, alloc, &nest, &schedule, &[]);
+    is_as_said(rt, alloc, case, &plain) && is_as_said(rt, alloc, case, &stepped)
 }
 
 static CASES: [Case; 6] = [
@@ -103,38 +108,51 @@ static CASES: [Case; 6] = [
 ];
 
 #[test]
-fn small_nests_give_what_is_said(rt: HostRuntime) -> Result<(), Fail> {
+fn small_nests_give_what_is_said(rt: HostRuntime) {
     for case in &CASES {
-        play(&rt, rt.alloc(), case)?;
+        assert!(rt; are_as_said(&rt, rt.alloc(), case), "of {}", case.words);
     }
-    Ok(())
 }
 
 // A log that is still to be made has these entries, in one piece.
-fn is_one_piece(rt: &impl Abort, log: LinkLog, entries: &[Entry]) -> Result<(), Fail> {
+fn is_one_piece(rt: &impl Abort, log: LinkLog, entries: &[Entry]) {
     let mut pieces = log.pieces();
-    assert!(rt; pieces.next()?);
+    assert!(rt; pieces.next().expect(rt, "memory"));
     assert!(rt; pieces.piece() == entries);
-    assert!(rt; !pieces.next()?);
-    Ok(())
+    assert!(rt; !pieces.next().expect(rt, "memory"));
+}
+
+// The logs that are still to be made have the names and entries of these.
+fn are_made(rt: &impl Abort, logs: Vec<UnwrittenLog>, written: &[NamedLog]) {
+    let mut rest = written.iter();
+    for Named { name, log } in logs {
+        let Some(same) = rest.next() else {
+            panic!(rt; "no log");
+        };
+        assert!(rt; name.as_str() == same.name.as_str());
+        is_one_piece(rt, log, same.log.entries());
+    }
+}
+
+fn has_fates(rt: &impl Abort, alloc: Global, fates: &[PackedFate], run: &RunResult) {
+    let rows = unpack_fates(alloc, fates).expect(rt, "memory");
+    assert!(rt; rows.as_slice() == run.fates());
+}
+
+// A run whose logs aren't written out.
+fn unwritten_run(rt: &impl Abort, alloc: Global, nest: &Nest, schedule: &Schedule) -> NestRun {
+    run_nest(alloc, nest, schedule).expect(rt, "memory")
 }
 
 #[test]
-fn makes_the_logs_that_are_written_out(rt: HostRuntime) -> Result<(), Fail> {
+fn makes_the_logs_that_are_written_out(rt: HostRuntime) {
     let alloc = rt.alloc();
     let words = "mm-link t t --uplink-log u --downlink-log d";
-    let nest = nest_of(&rt, alloc, words, b"2\n", 4)?;
-    let schedule = read_schedule(alloc, b"0 up 1000\n1 down 700\n")?;
-    let whole = run_plain(alloc, &nest, &schedule)?;
-    let (fates, logs) = run_nest(alloc, &nest, &schedule)?.into_parts();
-    let rows = unpack_fates(alloc, fates.as_slice())?;
-    assert!(rt; rows.as_slice() == whole.fates());
-    assert_eq!(rt; logs.len(), 2);
-    let mut written = whole.logs().iter();
-    for Named { name, log } in logs {
-        let same = written.next().ok_or("no log")?;
-        assert_eq!(rt; name.as_str(), same.name.as_str());
-        is_one_piece(&rt, log, same.log.entries())?;
-    }
-    Ok(())
+    let nest = nest_of(&rt, alloc, words, b"2\n", 4);
+    let schedule = schedule_of(&rt, alloc, b"0 up 1000\n1 down 700\n");
+    let whole = plain_run(&rt, alloc, &nest, &schedule);
+    let (fates, logs) = unwritten_run(&rt, alloc, &nest, &schedule).into_parts();
+    has_fates(&rt, alloc, fates.as_slice(), &whole);
+    assert!(rt; logs.len() == 2);
+    are_made(&rt, logs, whole.logs());
 }

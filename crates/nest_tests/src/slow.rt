@@ -27,16 +27,22 @@ fn size_of_all(packets: &[Timed]) -> u64 {
     sum
 }
 
+// The bytes of the packets before a moment.
+fn size_before(packets: &[Timed], moment: u64) -> u64 {
+    let mut sum: u64 = 0;
+    for t in packets {
+        if t.moment < moment {
+            sum = sum.saturating_add(u64::from(t.packet.size));
+        }
+    }
+    sum
+}
+
 fn sent(kept: &[Timed], opps: &[Opportunity], until: u64) -> u64 {
     let mut sum: u64 = 0;
     for o in opps {
         if o.moment <= until {
-            let mut before: u64 = 0;
-            for t in kept {
-                if t.moment < o.moment {
-                    before = before.saturating_add(u64::from(t.packet.size));
-                }
-            }
+            let before = size_before(kept, o.moment);
             sum = sum.saturating_add(u64::from(o.bytes)).min(before);
         }
     }
@@ -54,30 +60,51 @@ fn fits(queue: &QueueSpec, packets: &[Timed]) -> bool {
     within(queue.packets, packets.len() as u64) && within(queue.bytes, size_of_all(packets))
 }
 
-// What is kept of the packets that wait and a new one, after those ahead; and what is lost.
+// Keeps a packet, or loses it at a moment.
+fn put(after: &mut Kept, t: Timed, is_lost: bool, moment: u64) -> Result<(), OutOfMemory> {
+    if is_lost {
+        after.lost.push(Timed {
+            moment,
+            packet: t.packet,
+        })?;
+    } else {
+        after.kept.push(t)?;
+    }
+    Ok(())
+}
+
+// Keeps and loses of the packets that wait, the last of which comes at this moment.
 fn queued(
     queue: &QueueSpec,
-    mut after: Kept,
+    after: &mut Kept,
     waiting: &[Timed],
-    t: Timed,
-) -> Result<Kept, OutOfMemory> {
+    moment: u64,
+) -> Result<(), OutOfMemory> {
     let tail_fits = fits(queue, waiting);
     let mut dropping = queue.kind == QueueKind::DropHead;
     for i in 0..waiting.len() {
         dropping = dropping && !fits(queue, &waiting[i..]);
         let last = i + 1 == waiting.len();
-        if dropping || (last && queue.kind == QueueKind::DropTail && !tail_fits) {
-            after.lost.push(Timed {
-                moment: t.moment,
-                packet: waiting[i].packet,
-            })?;
-        } else {
-            after.kept.push(waiting[i])?;
-        }
+        let cut = last && queue.kind == QueueKind::DropTail && !tail_fits;
+        put(after, waiting[i], dropping || cut, moment)?;
     }
-    Ok(after)
+    Ok(())
 }
 
+// How many of these packets, the first ones, leave or have left when so many bytes are sent.
+fn count_gone(kept: &[Timed], bytes: u64) -> usize {
+    let mut sum: u64 = 0;
+    let mut count: usize = 0;
+    for t in kept {
+        if sum < bytes {
+            count = count.saturating_add(1);
+        }
+        sum = sum.saturating_add(u64::from(t.packet.size));
+    }
+    count
+}
+
+// What is kept of those that were kept and a new packet, and what that loses.
 fn arrive(
     alloc: Global,
     queue: &QueueSpec,
@@ -85,23 +112,15 @@ fn arrive(
     kept: &[Timed],
     t: Timed,
 ) -> Result<Kept, OutOfMemory> {
-    let gone = sent(kept, opps, t.moment);
+    let gone = count_gone(kept, sent(kept, opps, t.moment)).min(kept.len());
+    let mut waiting = Vec::from_slice(alloc, &kept[gone..])?;
+    waiting.push(t)?;
     let mut after = Kept {
-        kept: Vec::new(alloc),
+        kept: Vec::from_slice(alloc, &kept[..gone])?,
         lost: Vec::new(alloc),
     };
-    let mut waiting = Vec::new(alloc);
-    let mut sum: u64 = 0;
-    for k in kept {
-        if sum >= gone {
-            waiting.push(*k)?;
-        } else {
-            after.kept.push(*k)?;
-        }
-        sum = sum.saturating_add(u64::from(k.packet.size));
-    }
-    waiting.push(t)?;
-    queued(queue, after, &waiting, t)
+    queued(queue, &mut after, waiting.as_slice(), t.moment)?;
+    Ok(after)
 }
 
 // The number of the first opportunity with which so many bytes are sent, or how many there are.
@@ -186,9 +205,7 @@ fn keep(
     };
     for t in arrivals {
         let after = arrive(alloc, queue, opps, &all.kept, *t)?;
-        for lost in &after.lost {
-            all.lost.push(*lost)?;
-        }
+        all.lost.extend_from_slice(after.lost.as_slice())?;
         all.kept = after.kept;
     }
     Ok(all)
@@ -243,6 +260,23 @@ fn log_arrivals(
     Ok(())
 }
 
+// What happens up to the horizon, moment by moment.
+fn log_all(
+    alloc: Global,
+    queue: &QueueSpec,
+    opps: &[Opportunity],
+    arrivals: &[Timed],
+    kept: &[Timed],
+    horizon: u16,
+) -> Result<Vec<Entry>, OutOfMemory> {
+    let mut log = Vec::new(alloc);
+    for moment in 0..=horizon {
+        log_opportunities(&mut log, kept, opps, u64::from(moment))?;
+        log_arrivals(alloc, &mut log, queue, opps, arrivals, u64::from(moment))?;
+    }
+    Ok(log)
+}
+
 pub fn slow_link(
     alloc: Global,
     queue: &QueueSpec,
@@ -252,11 +286,7 @@ pub fn slow_link(
 ) -> Result<Slow, OutOfMemory> {
     let Kept { kept, lost } = keep(alloc, queue, opps, arrivals)?;
     let departed = depart(alloc, &kept, opps)?;
-    let mut log = Vec::new(alloc);
-    for moment in 0..=horizon {
-        log_opportunities(&mut log, &kept, opps, u64::from(moment))?;
-        log_arrivals(alloc, &mut log, queue, opps, arrivals, u64::from(moment))?;
-    }
+    let log = log_all(alloc, queue, opps, arrivals, &kept, horizon)?;
     Ok(Slow {
         departed,
         lost,

@@ -1,37 +1,35 @@
 // The words for nests, and each refusal.
-use crate::nests::words_of;
+use crate::nests::{nest_words_of, words_of};
 use mm_base::Text;
 use nest_spec::{NestError, read_nest};
 use std::alloc::Global;
 use std::process::Abort;
-use std::test::Fail;
 
-// The texts are these.
-fn are(rt: &impl Abort, texts: &[Text], said: &[&str]) {
-    assert_eq!(rt; texts.len(), said.len());
+// Whether the texts are these.
+fn are(texts: &[Text], said: &[&str]) -> bool {
     for (text, name) in texts.iter().zip(said.iter()) {
-        assert_eq!(rt; text.as_str(), *name);
+        let is_same = text.as_str() == *name;
+        if !is_same {
+            return false;
+        }
     }
+    texts.len() == said.len()
 }
 
+const THREE_SHELLS: &str =
+    "mm-delay 0020 mm-link --uplink-log=u a --once b --downlink-log d -- mm-loss downlink .5";
+
 #[test]
-fn reads_a_nest(rt: HostRuntime) -> Result<(), Fail> {
-    let text =
-        "mm-delay 0020 mm-link --uplink-log=u a --once b --downlink-log d -- mm-loss downlink .5";
-    let words = words_of(rt.alloc(), text)?;
-    let nest = read_nest(rt.alloc(), words.as_slice())?;
-    assert_eq!(rt; nest.shells().len(), 3);
-    are(&rt, nest.traces(), &["a", "b"]);
-    are(&rt, nest.logs(), &["u", "d"]);
-    Ok(())
+fn reads_a_nest(rt: HostRuntime) {
+    let nest = nest_words_of(&rt, rt.alloc(), THREE_SHELLS);
+    assert!(rt; nest.shells().len() == 3);
+    assert!(rt; are(nest.traces(), &["a", "b"]));
+    assert!(rt; are(nest.logs(), &["u", "d"]));
 }
 
 #[test]
 fn refuses_no_words(rt: HostRuntime) {
-    match read_nest(rt.alloc(), &[]) {
-        Ok(_) => assert!(rt; false),
-        Err(fault) => assert_eq!(rt; fault, NestError::NoShell),
-    }
+    assert!(rt; matches!(read_nest(rt.alloc(), &[]), Err(NestError::NoShell)));
 }
 
 const NINE: &str =
@@ -75,26 +73,18 @@ static REFUSED: [(&str, u32, u32, Option<u32>); 29] = [
     ("mm-link a b --uplink-log=x --uplink-log", 6, 5, None),
 ];
 
-fn is_refused(
-    rt: &impl Abort,
-    alloc: Global,
-    row: (&str, u32, u32, Option<u32>),
-) -> Result<(), Fail> {
-    let words = words_of(alloc, row.0)?;
+fn is_refused(rt: &impl Abort, alloc: Global, text: &str, said: (u32, u32, Option<u32>)) -> bool {
+    let words = words_of(alloc, text).expect(rt, "memory");
     match read_nest(alloc, words.as_slice()) {
-        Ok(_) => assert!(rt; false, "{} was read", row.0),
-        Err(fault) => {
-            let said = (fault.number(), fault.place(), fault.inner());
-            assert_eq!(rt; said, (row.1, row.2, row.3), "at {}", row.0);
-        }
+        Ok(_) => false,
+        Err(fault) => (fault.number(), fault.place(), fault.inner()) == said,
     }
-    Ok(())
 }
 
 #[test]
-fn refuses_the_first(rt: HostRuntime) -> Result<(), Fail> {
-    for row in &REFUSED {
-        is_refused(&rt, rt.alloc(), *row)?;
+fn refuses_the_first(rt: HostRuntime) {
+    for &(text, number, place, inner) in &REFUSED {
+        let is_said = is_refused(&rt, rt.alloc(), text, (number, place, inner));
+        assert!(rt; is_said, "at {text}");
     }
-    Ok(())
 }

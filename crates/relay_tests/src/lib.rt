@@ -3,7 +3,11 @@
 #![tactic(auto)]
 
 #[cfg(test)]
+mod clocks;
+#[cfg(test)]
 mod line;
+#[cfg(test)]
+mod nests;
 #[cfg(test)]
 mod program;
 #[cfg(test)]

@@ -1,40 +1,10 @@
 // A line with ample memory.
+use crate::nests::nest_of;
 use mm_base::OutOfMemory;
 use nest_line::Line;
-use nest_spec::{Nest, build, read_nest};
 use packet_record::{Direction, Item, Packet, Timed};
-use std::alloc::{AllocError, Global};
+use std::alloc::Global;
 use std::process::Abort;
-use std::test::Fail;
-use trace_reader::{Trace, read_trace};
-
-fn words_of(alloc: Global, text: &str) -> Result<Vec<String>, AllocError> {
-    text.split(' ')
-        .map(|word| String::from_str(alloc, word))
-        .try_collect(alloc)
-}
-
-// So many traces of one opportunity each 4 ms.
-fn traces_of(alloc: Global, count: usize) -> Result<Vec<Trace>, Fail> {
-    let mut traces = Vec::new(alloc);
-    for _ in 0..count {
-        let trace = read_trace(alloc, b"4\n")?;
-        traces.push(trace).map_err(OutOfMemory::from)?;
-    }
-    Ok(traces)
-}
-
-// A delay of 2 ms and a link, up to 20 ms.
-fn delay_and_link(rt: &impl Abort, alloc: Global) -> Result<Nest, Fail> {
-    let words = words_of(alloc, "mm-delay 2 mm-link t t")?;
-    let words = read_nest(alloc, words.as_slice())?;
-    let traces = traces_of(alloc, words.traces().len())?;
-    assert!(rt; traces.len() == words.traces().len());
-    let opportunities = words.opportunities(traces.as_slice(), 20);
-    assert!(rt; opportunities <= 16_000_000);
-    let nest = build(alloc, words, traces, 0, 20)?;
-    Ok(nest)
-}
 
 // Whether the packet has left at this moment, and no other.
 fn left_at(line: &Line, moment: u64) -> bool {
@@ -44,11 +14,9 @@ fn left_at(line: &Line, moment: u64) -> bool {
     }
 }
 
-// Down, the first shell comes first: the packet comes to the link at 3.
-#[test]
-fn a_packet_passes_a_delay_and_a_link(rt: HostRuntime) -> Result<(), Fail> {
-    let alloc = rt.alloc();
-    let nest = delay_and_link(&rt, alloc)?;
+// A packet down a delay of 2 ms and a link. Down, the first shell comes first: the packet comes to the link at 3.
+fn pass(rt: &impl Abort, alloc: Global) -> Result<(), OutOfMemory> {
+    let nest = nest_of(rt, alloc, "mm-delay 2 mm-link t t", 20);
     assert!(rt; nest.horizon() == 20);
     let line = Line::new(alloc, &nest, Direction::Down)?;
     assert!(rt; line.departed().is_empty());
@@ -60,4 +28,9 @@ fn a_packet_passes_a_delay_and_a_link(rt: HostRuntime) -> Result<(), Fail> {
     assert!(rt; left_at(&line, 4));
     assert!(rt; line.states().len() == 2);
     Ok(())
+}
+
+#[test]
+fn a_packet_passes_a_delay_and_a_link(rt: HostRuntime) {
+    pass(&rt, rt.alloc()).expect(&rt, "memory");
 }

@@ -1,9 +1,10 @@
 // Disks that fail.
 use super::{Left, leaves};
+use mm_base::OutOfMemory;
 use std::alloc::Global;
 use std::marker::Sync;
+use std::process::Abort;
 use std::sync::Wait;
-use std::test::Fail;
 use std::thread::Threads;
 use test_outside::ABSENT;
 
@@ -26,7 +27,7 @@ const DOWN: &str = "# base timestamp: 0\n1 # 1504\n2 # 1504\n";
 
 // The calls are: a size and a read for each of `t`, `x` and `s`, a creation for each of `u`, `d` and `f`, an append for
 // the first line of `u` and of `d`, and one for the lines of each file.
-const ONE_LINK: [Failing; 15] = [
+static ONE_LINK: [Failing; 15] = [
     (1, 6, "mm: read fault t\n", ABSENT, ABSENT, ABSENT),
     (2, 6, "mm: read fault t\n", ABSENT, ABSENT, ABSENT),
     (3, 6, "mm: read fault x\n", ABSENT, ABSENT, ABSENT),
@@ -44,38 +45,49 @@ const ONE_LINK: [Failing; 15] = [
     (15, 0, "", UP, DOWN, "1 up departed 2\n"),
 ];
 
-// Whether a run of these words leaves, at each failing call, what is stated.
-fn fails_in_turn<R: Threads + Wait + Sync>(
+// Whether a run of these words leaves, at a failing call, what is stated.
+fn fails_at<R: Threads + Wait + Sync>(
+    rt: &R,
+    alloc: Global,
+    words: &str,
+    files: &[(&str, &str)],
+    failing: &Failing,
+) -> Result<bool, OutOfMemory> {
+    let (call, status, line, u, d, f) = *failing;
+    let left = Left {
+        status,
+        line,
+        files: &[("u", u), ("d", d), ("f", f)],
+    };
+    leaves(rt, alloc, words, files, &[call], &left)
+}
+
+fn fails_in_turn<R: Abort + Threads + Wait + Sync>(
     rt: &R,
     alloc: Global,
     words: &str,
     files: &[(&str, &str)],
     failing: &[Failing],
-) -> Result<bool, Fail> {
-    for (call, status, line, u, d, f) in failing {
-        let left = Left {
-            status: *status,
-            line,
-            files: &[("u", u), ("d", d), ("f", f)],
-        };
-        if !leaves(rt, alloc, words, files, &[*call], &left)? {
-            return Ok(false);
-        }
+) {
+    for row in failing {
+        let fails = fails_at(rt, alloc, words, files, row).expect(rt, "memory");
+        assert!(rt; fails, "at call {} of {words}", row.0);
     }
-    Ok(true)
+}
+
+static LINK_FILES: [(&str, &str); 3] = [("t", "1\n"), ("x", "1\n"), ("s", "1 up 1504\n")];
+
+fn fails_by<R: Abort + Threads + Wait + Sync>(rt: &R, alloc: Global, way: &str) {
+    let nest = "-- mm-link t x --downlink-log=d --uplink-log=u";
+    let words = format!(in alloc; "--until 2 --schedule s --out f {way} {nest}");
+    let words = words.expect(rt, "memory");
+    fails_in_turn(rt, alloc, words.as_str(), &LINK_FILES, &ONE_LINK);
 }
 
 #[test]
-fn each_call_of_the_disk_fails_in_turn(rt: HostRuntime) -> Result<(), Fail> {
-    let alloc = rt.alloc();
-    let nest = "-- mm-link t x --downlink-log=d --uplink-log=u";
-    let files = [("t", "1\n"), ("x", "1\n"), ("s", "1 up 1504\n")];
-    for way in ["", "--plain"] {
-        let words = format!(in alloc; "--until 2 --schedule s --out f {way} {nest}")?;
-        let fails = fails_in_turn(&rt, alloc, words.as_str(), &files, &ONE_LINK)?;
-        assert!(rt; fails, "at {words}");
-    }
-    Ok(())
+fn each_call_of_the_disk_fails_in_turn(rt: HostRuntime) {
+    fails_by(&rt, rt.alloc(), "");
+    fails_by(&rt, rt.alloc(), "--plain");
 }
 
 const LINK_UP: &str =
@@ -84,7 +96,7 @@ const LINK_UP: &str =
 const LINK_DOWN: &str = "# base timestamp: 0\n2 # 1504\n2 + 100\n4 # 1504\n4 - 100 2\n";
 
 // A delay before the link changes no call of the disk.
-const DELAY_AND_LINK: [Failing; 15] = [
+static DELAY_AND_LINK: [Failing; 15] = [
     (1, 6, "mm: read fault t\n", ABSENT, ABSENT, ABSENT),
     (2, 6, "mm: read fault t\n", ABSENT, ABSENT, ABSENT),
     (3, 6, "mm: read fault v\n", ABSENT, ABSENT, ABSENT),
@@ -109,12 +121,15 @@ const DELAY_AND_LINK: [Failing; 15] = [
     ),
 ];
 
+static DELAY_FILES: [(&str, &str); 3] = [
+    ("t", "1\n"),
+    ("v", "2\n"),
+    ("s", "0 up 100\n0 down 100\n"),
+];
+
 #[test]
-fn threads_stop_at_each_failing_call(rt: HostRuntime) -> Result<(), Fail> {
+fn threads_stop_at_each_failing_call(rt: HostRuntime) {
     let words =
         "--until 4 --schedule s --out f -- mm-delay 2 mm-link t v --uplink-log=u --downlink-log=d";
-    let files = [("t", "1\n"), ("v", "2\n"), ("s", "0 up 100\n0 down 100\n")];
-    let fails = fails_in_turn(&rt, rt.alloc(), words, &files, &DELAY_AND_LINK)?;
-    assert!(rt; fails);
-    Ok(())
+    fails_in_turn(&rt, rt.alloc(), words, &DELAY_FILES, &DELAY_AND_LINK);
 }

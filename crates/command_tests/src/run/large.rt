@@ -1,11 +1,12 @@
 // Inputs past their size.
 ghost use Rattle.std.specs.Prelude.{◌^◌, ◌-◌, None, false};
 
-use command_ends::conclude;
-use command_run::answer_run;
-use mm_base::{Disk, DiskError, MemSink, NoPace};
+use super::{answered, concludes};
+use mm_base::{Disk, DiskError, NoPace, OutOfMemory};
 use std::alloc::Global;
-use std::test::Fail;
+use std::marker::Sync;
+use std::sync::Wait;
+use std::thread::Threads;
 use test_outside::words_of;
 
 // A disk that tells no files, and on which each has one byte more than an input may have. None is read or written.
@@ -40,23 +41,30 @@ impl Disk for LargeDisk {
     }
 }
 
+// Whether a run with these last words is refused by this line, whose status is 5.
+fn is_refused<R: Threads + Wait + Sync>(
+    rt: &R,
+    alloc: Global,
+    back: &str,
+    line: &str,
+) -> Result<bool, OutOfMemory> {
+    let words = format!(in alloc; "--until 9 --schedule s --out f {back}")?;
+    let words = words_of(alloc, words.as_str())?;
+    let answer = answered(rt, alloc, &words, &mut LargeDisk, &NoPace);
+    Ok(concludes(alloc, answer, 5, line))
+}
+
+// The last words, and the line.
+static LARGE: [(&str, &str); 3] = [
+    ("-- mm-link t t", "mm: limit file t\n"),
+    ("--order o -- mm-delay 20", "mm: limit file o\n"),
+    ("-- mm-delay 20", "mm: limit file s\n"),
+];
+
 #[test]
-fn files_past_their_size_are_refused(rt: HostRuntime) -> Result<(), Fail> {
-    let alloc = rt.alloc();
-    for (back, line) in [
-        ("-- mm-link t t", "mm: limit file t\n"),
-        ("--order o -- mm-delay 20", "mm: limit file o\n"),
-        ("-- mm-delay 20", "mm: limit file s\n"),
-    ] {
-        let words = format!(in alloc; "--until 9 --schedule s --out f {back}")?;
-        let words = words_of(alloc, words.as_str())?;
-        let mut out = MemSink::new(alloc, Vec::new(alloc));
-        let answer = answer_run(&rt, alloc, &words, &mut LargeDisk, &NoPace);
-        let status = conclude(answer, &mut out);
-        assert!(rt;
-            status == 5 && out.written() == line.as_bytes(),
-            "at {line}"
-        );
+fn files_past_their_size_are_refused(rt: HostRuntime) {
+    for &(back, line) in &LARGE {
+        let is_said = is_refused(&rt, rt.alloc(), back, line);
+        assert!(rt; is_said.expect(&rt, "memory"), "at {line}");
     }
-    Ok(())
 }

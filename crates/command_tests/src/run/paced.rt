@@ -1,11 +1,10 @@
 // Runs over threads some of whose turns are held.
-use super::{Left, leaves_by};
-use mm_base::{Pace, Role};
+use super::{Left, leaves_by, numbered};
+use mm_base::{OutOfMemory, Pace, Role};
 use std::alloc::{AllocError, Global};
 use std::marker::Sync;
 use std::sync::Wait;
 use std::sync::atomic::{AtomicU64, Ordering};
-use std::test::Fail;
 use std::thread::{Threads, yield_now};
 
 // How often a turn that is held gives way before the test gives up.
@@ -148,7 +147,7 @@ fn is_kept<R: Threads + Wait + Sync>(
     schedule: &str,
     holds: &[Hold],
     fates: &str,
-) -> Result<bool, Fail> {
+) -> Result<bool, OutOfMemory> {
     let words = format!(in alloc; "--schedule s --out f --until {words}")?;
     let files = [("t", "5\n"), ("s", schedule)];
     let pace = Held {
@@ -175,53 +174,56 @@ const fn begins_with(role: Role, other: Role) -> Hold {
     }
 }
 
-#[test]
-fn four_workers_run_beside_each_other(rt: HostRuntime) -> Result<(), Fail> {
-    let workers = [UP_FEEDER, UP_DRAIN, DOWN_FEEDER, DOWN_DRAIN];
-    let mut holds = Vec::new(rt.alloc());
-    for role in workers {
-        for other in workers {
-            holds.push(begins_with(role, other))?;
-        }
+static WORKERS: [Role; 4] = [UP_FEEDER, UP_DRAIN, DOWN_FEEDER, DOWN_DRAIN];
+
+fn push_beginnings(holds: &mut Vec<Hold>, role: Role) -> Result<(), OutOfMemory> {
+    for other in &WORKERS {
+        holds.push(begins_with(role, *other))?;
     }
-    let kept = is_kept(
-        &rt,
-        rt.alloc(),
-        "100 -- mm-delay 20",
-        "5 up 100\n6 up 100\n",
-        holds.as_slice(),
-        "1 up departed 25\n2 up departed 26\n",
-    )?;
-    assert!(rt; kept);
     Ok(())
 }
 
+// The first turn of each worker waits until all have begun.
+fn beginnings(alloc: Global) -> Result<Vec<Hold>, OutOfMemory> {
+    let mut holds = Vec::new(alloc);
+    for role in &WORKERS {
+        push_beginnings(&mut holds, *role)?;
+    }
+    Ok(holds)
+}
+
+#[test]
+fn four_workers_run_beside_each_other(rt: HostRuntime) {
+    let alloc = rt.alloc();
+    let holds = beginnings(alloc).expect(&rt, "memory");
+    let schedule = "5 up 100\n6 up 100\n";
+    let fates = "1 up departed 25\n2 up departed 26\n";
+    let words = "100 -- mm-delay 20";
+    let kept = is_kept(&rt, alloc, words, schedule, holds.as_slice(), fates);
+    assert!(rt; kept.expect(&rt, "memory"));
+}
+
 // The source waits at its third line until the up collector has a packet.
-const THIRD_LINE: Hold = Hold {
+static THIRD_LINE: [Hold; 1] = [Hold {
     role: Role::Source,
     count: 3,
     other: UP_COLLECTOR,
     goal: 1,
     stays: false,
-};
+}];
 
 #[test]
-fn a_mark_lets_a_link_go_on(rt: HostRuntime) -> Result<(), Fail> {
-    let kept = is_kept(
-        &rt,
-        rt.alloc(),
-        "20 -- mm-link t t",
-        "0 up 100\n10 down 100\n15 down 100\n",
-        &[THIRD_LINE],
-        "1 up departed 5\n2 down departed 15\n3 down departed 20\n",
-    )?;
-    assert!(rt; kept);
-    Ok(())
+fn a_mark_lets_a_link_go_on(rt: HostRuntime) {
+    let words = "20 -- mm-link t t";
+    let schedule = "0 up 100\n10 down 100\n15 down 100\n";
+    let fates = "1 up departed 5\n2 down departed 15\n3 down departed 20\n";
+    let kept = is_kept(&rt, rt.alloc(), words, schedule, &THIRD_LINE, fates);
+    assert!(rt; kept.expect(&rt, "memory"));
 }
 
 // The up feeder begins once the source has begun the line after those that the channel and its own hands hold; the up
 // drain once all was fed, and the up collector once the channel behind the drain is full.
-const FULL_CHANNELS: [Hold; 3] = [
+static FULL_CHANNELS: [Hold; 3] = [
     Hold {
         role: UP_FEEDER,
         count: 1,
@@ -245,22 +247,21 @@ const FULL_CHANNELS: [Hold; 3] = [
     },
 ];
 
-// A thousand lines, one a millisecond, and their fates.
-fn thousand(alloc: Global) -> Result<(String, String), AllocError> {
-    let mut lines = String::new(alloc);
+// The fates of a thousand packets, one a millisecond from 1 on, past a delay of 20.
+fn thousand_fates(alloc: Global) -> Result<String, AllocError> {
     let mut fates = String::new(alloc);
     for moment in 1..1_001u32 {
         let departed = moment + 20;
-        lines.push_str(format!(in alloc; "{moment} up 100\n")?.as_str())?;
         fates.push_str(format!(in alloc; "{moment} up departed {departed}\n")?.as_str())?;
     }
-    Ok((lines, fates))
+    Ok(fates)
 }
 
 #[test]
-fn channels_hold_sixty_four_items(rt: HostRuntime) -> Result<(), Fail> {
+fn channels_hold_sixty_four_items(rt: HostRuntime) {
     let alloc = rt.alloc();
-    let (lines, fates) = thousand(alloc)?;
+    let lines = numbered(alloc, "", 1_000, " up 100\n").expect(&rt, "memory");
+    let fates = thousand_fates(alloc).expect(&rt, "memory");
     let kept = is_kept(
         &rt,
         alloc,
@@ -268,7 +269,6 @@ fn channels_hold_sixty_four_items(rt: HostRuntime) -> Result<(), Fail> {
         lines.as_str(),
         &FULL_CHANNELS,
         fates.as_str(),
-    )?;
-    assert!(rt; kept);
-    Ok(())
+    );
+    assert!(rt; kept.expect(&rt, "memory"));
 }

@@ -2,14 +2,12 @@
 ghost use Rattle.std.specs.Prelude.{◌^◌, ◌-◌, None, false};
 
 use super::paced::{Held, Hold, Turns, UP_COLLECTOR};
-use super::{Left, WAYS, leaves};
-use command_ends::conclude;
-use command_run::answer_run;
-use mm_base::{Disk, DiskError, MemSink, NoPace, Role};
+use super::{Left, WAYS, answered, concludes, leaves, numbered};
+use mm_base::{Disk, DiskError, NoPace, OutOfMemory, Role};
 use std::alloc::{AllocError, Global};
 use std::marker::Sync;
+use std::process::Abort;
 use std::sync::Wait;
-use std::test::Fail;
 use std::thread::Threads;
 use test_outside::{ABSENT, words_of};
 
@@ -29,79 +27,95 @@ fn many_lines(alloc: Global, count: u32, refused: &[u32]) -> Result<String, Allo
 
 // The fates of 10,000 packets that depart at 1.
 fn many_fates(alloc: Global) -> Result<String, AllocError> {
-    let mut text = String::new(alloc);
-    for line in 1..10_001u32 {
-        text.push_str(format!(in alloc; "{line} up departed 1\n")?.as_str())?;
-    }
-    Ok(text)
+    numbered(alloc, "", 10_000, " up departed 1\n")
 }
 
 const MANY: &str = "--until 1 --schedule s --out f -- mm-delay 1";
 
-#[test]
-fn many_lines_are_streamed(rt: HostRuntime) -> Result<(), Fail> {
-    let alloc = rt.alloc();
-    let fates = many_fates(alloc)?;
-    // The calls are: a size, and two reads. A fault of reading is answered before a refusal.
-    let rows: [(&[u32], u64, u8, &str, &str); 5] = [
-        (&[], 0, 0, "", fates.as_str()),
-        (&[9_999], 0, 4, "mm: bad input s 1 9999\n", ABSENT),
-        (&[1, 2], 0, 4, "mm: bad input s 1 1\n", ABSENT),
-        (&[], 3, 6, "mm: read fault s\n", ABSENT),
-        (&[1, 2], 3, 6, "mm: read fault s\n", ABSENT),
-    ];
-    for (refused, fails, status, line, fates) in rows {
-        let text = many_lines(alloc, 10_000, refused)?;
-        let left = Left {
-            status,
-            line,
-            files: &[("f", fates)],
-        };
-        let is_left = leaves(&rt, alloc, MANY, &[("s", text.as_str())], &[fails], &left)?;
-        assert!(rt; is_left, "at {line}");
-    }
-    Ok(())
-}
-
-#[test]
-fn a_refused_schedule_is_read_to_its_end(rt: HostRuntime) -> Result<(), Fail> {
-    let alloc = rt.alloc();
-    // The calls are: a size, and three reads. A fifth call isn't made.
-    let text = many_lines(alloc, 20_000, &[1])?;
-    for (fails, status, line) in [
-        (2, 6, "mm: read fault s\n"),
-        (3, 6, "mm: read fault s\n"),
-        (4, 6, "mm: read fault s\n"),
-        (5, 4, "mm: bad input s 1 1\n"),
-    ] {
-        let left = Left {
-            status,
-            line,
-            files: &[("f", ABSENT)],
-        };
-        let is_left = leaves(&rt, alloc, MANY, &[("s", text.as_str())], &[fails], &left)?;
-        assert!(rt; is_left, "at call {fails}");
-    }
-    Ok(())
-}
-
-#[test]
-fn many_lines_pass_in_each_way(rt: HostRuntime) -> Result<(), Fail> {
-    let alloc = rt.alloc();
-    let text = many_lines(alloc, 10_000, &[])?;
-    let fates = many_fates(alloc)?;
+// Whether a run of this schedule in this way leaves these fates.
+fn passes<R: Threads + Wait + Sync>(
+    rt: &R,
+    alloc: Global,
+    way: &str,
+    schedule: &str,
+    fates: &str,
+) -> Result<bool, OutOfMemory> {
+    let words = format!(in alloc; "{way} {MANY}")?;
     let left = Left {
         status: 0,
         line: "",
-        files: &[("f", fates.as_str())],
+        files: &[("f", fates)],
     };
-    for way in WAYS {
-        let words = format!(in alloc; "{way} {MANY}")?;
-        let files = [("s", text.as_str())];
-        let is_left = leaves(&rt, alloc, words.as_str(), &files, &[], &left)?;
-        assert!(rt; is_left, "at {words}");
+    leaves(rt, alloc, words.as_str(), &[("s", schedule)], &[], &left)
+}
+
+// Whether a run of this schedule, whose call of this number fails, is answered so, and leaves no fates.
+fn is_refused<R: Threads + Wait + Sync>(
+    rt: &R,
+    alloc: Global,
+    schedule: &str,
+    fails: u64,
+    status: u8,
+    line: &'static str,
+) -> Result<bool, OutOfMemory> {
+    let left = Left {
+        status,
+        line,
+        files: &[("f", ABSENT)],
+    };
+    leaves(rt, alloc, MANY, &[("s", schedule)], &[fails], &left)
+}
+
+// The lines that are refused, which call fails, the status and the line. The calls are: a size, and two reads. A fault
+// of reading is answered before a refusal.
+static FAULTS: [(&[u32], u64, u8, &str); 4] = [
+    (&[9_999], 0, 4, "mm: bad input s 1 9999\n"),
+    (&[1, 2], 0, 4, "mm: bad input s 1 1\n"),
+    (&[], 3, 6, "mm: read fault s\n"),
+    (&[1, 2], 3, 6, "mm: read fault s\n"),
+];
+
+#[test]
+fn many_lines_are_streamed(rt: HostRuntime) {
+    let alloc = rt.alloc();
+    let fates = many_fates(alloc).expect(&rt, "memory");
+    let text = many_lines(alloc, 10_000, &[]).expect(&rt, "memory");
+    let is_left = passes(&rt, alloc, "", text.as_str(), fates.as_str());
+    assert!(rt; is_left.expect(&rt, "memory"));
+    for &(refused, fails, status, line) in &FAULTS {
+        let text = many_lines(alloc, 10_000, refused).expect(&rt, "memory");
+        let is_left = is_refused(&rt, alloc, text.as_str(), fails, status, line);
+        assert!(rt; is_left.expect(&rt, "memory"), "at {line}");
     }
-    Ok(())
+}
+
+// Which call fails, the status and the line. The calls are: a size, and three reads. A fifth call isn't made.
+static CALLS: [(u64, u8, &str); 4] = [
+    (2, 6, "mm: read fault s\n"),
+    (3, 6, "mm: read fault s\n"),
+    (4, 6, "mm: read fault s\n"),
+    (5, 4, "mm: bad input s 1 1\n"),
+];
+
+#[test]
+fn a_refused_schedule_is_read_to_its_end(rt: HostRuntime) {
+    let alloc = rt.alloc();
+    let text = many_lines(alloc, 20_000, &[1]).expect(&rt, "memory");
+    for &(fails, status, line) in &CALLS {
+        let is_left = is_refused(&rt, alloc, text.as_str(), fails, status, line);
+        assert!(rt; is_left.expect(&rt, "memory"), "at call {fails}");
+    }
+}
+
+#[test]
+fn many_lines_pass_in_each_way(rt: HostRuntime) {
+    let alloc = rt.alloc();
+    let text = many_lines(alloc, 10_000, &[]).expect(&rt, "memory");
+    let fates = many_fates(alloc).expect(&rt, "memory");
+    for &way in &WAYS {
+        let is_left = passes(&rt, alloc, way, text.as_str(), fates.as_str());
+        assert!(rt; is_left.expect(&rt, "memory"), "at {way}");
+    }
 }
 
 // A disk that tells no files. Each read takes at most so many bytes of one text, and all that is written is kept. It
@@ -156,41 +170,60 @@ impl Disk for NotingDisk<'_> {
 }
 
 // The source waits at its 5,000th line until the up collector has a packet.
-const MIDDLE_LINE: Hold = Hold {
+static MIDDLE_LINE: [Hold; 1] = [Hold {
     role: Role::Source,
     count: 5_000,
     other: UP_COLLECTOR,
     goal: 1,
     stays: false,
-};
+}];
 
-#[test]
-fn packets_pass_before_the_schedule_is_read(rt: HostRuntime) -> Result<(), Fail> {
-    let alloc = rt.alloc();
-    let text = many_lines(alloc, 10_000, &[])?;
-    let fates = many_fates(alloc)?;
-    let pace = Held {
-        holds: &[MIDDLE_LINE],
-        turns: Turns::new(),
-    };
+// Whether the disk was asked for no more than a piece, a packet was collected before the second piece was read, and
+// this was written.
+fn was_noted(disk: &NotingDisk<'_>, written: &str) -> bool {
+    disk.asked <= 65_536
+        && matches!(disk.early, Some(true))
+        && disk.written.as_slice() == written.as_bytes()
+}
+
+// Whether a run of this schedule at this pace writes these fates, and reads as it should.
+fn is_noted<'a, R: Threads + Wait + Sync>(
+    rt: &R,
+    alloc: Global,
+    schedule: &'a str,
+    pace: &'a Held<'a>,
+    fates: &str,
+) -> Result<bool, OutOfMemory> {
+    let words = words_of(alloc, MANY)?;
     let mut disk = NotingDisk {
-        text: text.as_bytes(),
+        text: schedule.as_bytes(),
         most: usize::MAX,
         written: Vec::new(alloc),
         turns: &pace.turns,
         asked: 0,
         early: None,
     };
-    let words = words_of(alloc, MANY)?;
-    let mut out = MemSink::new(alloc, Vec::new(alloc));
-    let answer = answer_run(&rt, alloc, &words, &mut disk, &pace);
-    assert_eq!(rt; conclude(answer, &mut out), 0);
-    assert_eq!(rt; disk.written.as_slice(), fates.as_bytes());
-    assert!(rt; disk.asked <= 65_536 && matches!(disk.early, Some(true)));
-    assert_eq!(rt; pace.turns.count(Role::Source), 10_000);
-    assert!(rt; pace.turns.were_kept());
-    Ok(())
+    let answer = answered(rt, alloc, &words, &mut disk, pace);
+    Ok(concludes(alloc, answer, 0, "") && was_noted(&disk, fates))
 }
+
+#[test]
+fn packets_pass_before_the_schedule_is_read(rt: HostRuntime) {
+    let alloc = rt.alloc();
+    let text = many_lines(alloc, 10_000, &[]).expect(&rt, "memory");
+    let fates = many_fates(alloc).expect(&rt, "memory");
+    let pace = Held {
+        holds: &MIDDLE_LINE,
+        turns: Turns::new(),
+    };
+    let is_said = is_noted(&rt, alloc, text.as_str(), &pace, fates.as_str());
+    assert!(rt; is_said.expect(&rt, "memory"));
+    assert!(rt; pace.turns.count(Role::Source) == 10_000);
+    assert!(rt; pace.turns.were_kept());
+}
+
+// A schedule, the status, the line and the fates.
+type Cut = (&'static str, u8, &'static str, &'static str);
 
 // Whether a schedule, of which each read takes at most so many bytes, has this status and leaves this line and these
 // fates.
@@ -198,9 +231,10 @@ fn is_cut<R: Threads + Wait + Sync>(
     rt: &R,
     alloc: Global,
     most: usize,
-    cut: &(&str, u8, &str, &str),
-) -> Result<bool, Fail> {
+    cut: &Cut,
+) -> Result<bool, OutOfMemory> {
     let turns = Turns::new();
+    let words = words_of(alloc, "--until 9 --schedule s --out f -- mm-delay 1")?;
     let mut disk = NotingDisk {
         text: cut.0.as_bytes(),
         most,
@@ -209,19 +243,13 @@ fn is_cut<R: Threads + Wait + Sync>(
         asked: 0,
         early: None,
     };
-    let words = words_of(alloc, "--until 9 --schedule s --out f -- mm-delay 1")?;
-    let mut out = MemSink::new(alloc, Vec::new(alloc));
-    let answer = answer_run(rt, alloc, &words, &mut disk, &NoPace);
-    let status = conclude(answer, &mut out);
-    Ok(
-        status == cut.1
-            && out.written() == cut.2.as_bytes()
-            && disk.written.as_slice() == cut.3.as_bytes(),
-    )
+    let answer = answered(rt, alloc, &words, &mut disk, &NoPace);
+    let is_said = concludes(alloc, answer, cut.1, cut.2);
+    Ok(is_said && disk.written.as_slice() == cut.3.as_bytes())
 }
 
 // Schedules whose last line has no line feed, one that is refused in it, and one whose second line is too long.
-const CUT: [(&str, u8, &str, &str); 3] = [
+static SCHEDULES: [Cut; 3] = [
     (
         "0 up 100\n0000000001 down 0000001504\n5 up 7",
         0,
@@ -237,16 +265,16 @@ const CUT: [(&str, u8, &str, &str); 3] = [
     ),
 ];
 
-#[test]
-fn lines_are_cut_anywhere(rt: HostRuntime) -> Result<(), Fail> {
-    for most in 1..=27 {
-        for cut in &CUT {
-            assert!(rt;
-                is_cut(&rt, rt.alloc(), most, cut)?,
-                "by {most} of {}",
-                cut.0
-            );
-        }
+fn are_cut<R: Abort + Threads + Wait + Sync>(rt: &R, alloc: Global, most: usize) {
+    for cut in &SCHEDULES {
+        let is_said = is_cut(rt, alloc, most, cut).expect(rt, "memory");
+        assert!(rt; is_said, "by {most} of {}", cut.0);
     }
-    Ok(())
+}
+
+#[test]
+fn lines_are_cut_anywhere(rt: HostRuntime) {
+    for most in 1..=27 {
+        are_cut(&rt, rt.alloc(), most);
+    }
 }

@@ -1,9 +1,10 @@
 // What runs write.
-use super::{Left, WAYS, leaves};
+use super::{Left, WAYS, leaves, numbered};
+use mm_base::OutOfMemory;
 use std::alloc::Global;
 use std::marker::Sync;
+use std::process::Abort;
 use std::sync::Wait;
-use std::test::Fail;
 use std::thread::Threads;
 use test_outside::ABSENT;
 
@@ -16,7 +17,7 @@ type Written = (
     &'static str,
 );
 
-const WRITTEN: [Written; 15] = [
+static ROWS: [Written; 15] = [
     (
         "100 -- mm-delay 20",
         "",
@@ -124,7 +125,7 @@ fn is_written<R: Threads + Wait + Sync>(
     alloc: Global,
     way: &str,
     written: &Written,
-) -> Result<bool, Fail> {
+) -> Result<bool, OutOfMemory> {
     let (words, trace, schedule, fates, log) = *written;
     let words = format!(in alloc; "--schedule s --out=f {way} --until {words}")?;
     let files = [("t", trace), ("s", schedule)];
@@ -136,37 +137,46 @@ fn is_written<R: Threads + Wait + Sync>(
     leaves(rt, alloc, words.as_str(), &files, &[], &left)
 }
 
-#[test]
-fn logs_and_fates_are_written_in_each_way(rt: HostRuntime) -> Result<(), Fail> {
-    for way in WAYS {
-        for (at, written) in WRITTEN.iter().enumerate() {
-            assert!(rt;
-                is_written(&rt, rt.alloc(), way, written)?,
-                "row {at} by {way}"
-            );
-        }
+fn are_written<R: Abort + Threads + Wait + Sync>(rt: &R, alloc: Global, way: &str) {
+    for row in &ROWS {
+        let is_said = is_written(rt, alloc, way, row).expect(rt, "memory");
+        assert!(rt; is_said, "at {} by {way}", row.0);
     }
-    Ok(())
 }
 
 #[test]
-fn a_log_of_many_pieces_is_written_whole(rt: HostRuntime) -> Result<(), Fail> {
-    let alloc = rt.alloc();
-    let mut log = String::from_str(alloc, "# base timestamp: 0\n")?;
-    for moment in 1..5001 {
-        log.push_str(format!(in alloc; "{moment} # 1504\n")?.as_str())?;
+fn logs_and_fates_are_written_in_each_way(rt: HostRuntime) {
+    for &way in &WAYS {
+        are_written(&rt, rt.alloc(), way);
     }
+}
+
+static FILES: [(&str, &str); 2] = [("t", "1\n"), ("s", "")];
+
+// Whether a run of no packets in this way writes this log.
+fn writes_log<R: Threads + Wait + Sync>(
+    rt: &R,
+    alloc: Global,
+    way: &str,
+    log: &str,
+) -> Result<bool, OutOfMemory> {
     let link = "-- mm-link t t --uplink-log u";
+    let words = format!(in alloc; "--until 5000 --schedule s --out f {way} {link}")?;
     let left = Left {
         status: 0,
         line: "",
-        files: &[("u", log.as_str())],
+        files: &[("u", log)],
     };
-    let files = [("t", "1\n"), ("s", "")];
-    for way in WAYS {
-        let words = format!(in alloc; "--until 5000 --schedule s --out f {way} {link}")?;
-        let is_left = leaves(&rt, alloc, words.as_str(), &files, &[], &left)?;
-        assert!(rt; is_left, "at {words}");
+    leaves(rt, alloc, words.as_str(), &FILES, &[], &left)
+}
+
+#[test]
+fn a_log_of_many_pieces_is_written_whole(rt: HostRuntime) {
+    let alloc = rt.alloc();
+    let log = numbered(alloc, "# base timestamp: 0\n", 5_000, " # 1504\n");
+    let log = log.expect(&rt, "memory");
+    for &way in &WAYS {
+        let is_said = writes_log(&rt, alloc, way, log.as_str());
+        assert!(rt; is_said.expect(&rt, "memory"), "at {way}");
     }
-    Ok(())
 }

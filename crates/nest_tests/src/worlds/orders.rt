@@ -1,12 +1,12 @@
 // Runs by orders, against the fates that the composition of the shells gives.
-use super::nest_of;
-use mm_base::Bytes;
-use nest_core::{World, run_order, run_worlds};
-use nest_spec::{Fate, print_fates};
-use packet_record::{make_load, read_schedule};
+use crate::inputs::schedule_of;
+use crate::nests::{nest_of, stepped_run};
+use mm_base::OutOfMemory;
+use nest_core::{World, Worlds, run_worlds};
+use nest_spec::{Fate, FateRow, print_fates};
+use packet_record::{Schedule, make_load};
 use std::alloc::{AllocError, Global};
 use std::process::Abort;
-use std::test::Fail;
 
 // A nest, the trace of its links, its horizon, a schedule, and its fates.
 struct Case {
@@ -17,7 +17,7 @@ struct Case {
     fates: &'static [u8],
 }
 
-const CASES: [Case; 4] = [
+static CASES: [Case; 4] = [
     Case {
         nest: "mm-delay 10 mm-link t t",
         trace: b"4\n",
@@ -48,13 +48,19 @@ const CASES: [Case; 4] = [
     },
 ];
 
-// The text of the fates of a run by an order.
-fn fates_by(rt: &impl Abort, alloc: Global, case: &Case, order: &[u8]) -> Result<Bytes, Fail> {
-    let nest = nest_of(rt, alloc, case.nest, case.trace, case.horizon)?;
-    let schedule = read_schedule(alloc, case.schedule)?;
-    let run = run_order(alloc, &nest, &schedule, order)?;
-    let text = print_fates(alloc, run.fates())?;
-    Ok(text)
+// Whether a run by an order has the fates that are said.
+fn has_fates(rt: &impl Abort, alloc: Global, case: &Case, order: &[u8]) -> bool {
+    let nest = nest_of(rt, alloc, case.nest, case.trace, case.horizon);
+    let schedule = schedule_of(rt, alloc, case.schedule);
+    let run = stepped_run(rt, alloc, &nest, &schedule, order);
+    let text = print_fates(alloc, run.fates()).expect(rt, "memory");
+    text.as_slice() == case.fates
+}
+
+fn gives_the_composition(rt: &impl Abort, alloc: Global, order: &[u8]) {
+    for case in &CASES {
+        assert!(rt; has_fates(rt, alloc, case, order), "of {}", case.nest);
+    }
 }
 
 // All bytes from 0 to 255.
@@ -67,16 +73,11 @@ fn all_bytes(alloc: Global) -> Result<Vec<u8>, AllocError> {
 }
 
 #[test]
-fn every_order_gives_the_composition(rt: HostRuntime) -> Result<(), Fail> {
-    let alloc = rt.alloc();
-    let all = all_bytes(alloc)?;
-    for case in &CASES {
-        for order in [&[], [0; 3].as_slice(), all.as_slice()] {
-            let fates = fates_by(&rt, alloc, case, order)?;
-            assert_eq!(rt; fates.as_slice(), case.fates);
-        }
-    }
-    Ok(())
+fn every_order_gives_the_composition(rt: HostRuntime) {
+    let all = all_bytes(rt.alloc()).expect(&rt, "memory");
+    gives_the_composition(&rt, rt.alloc(), &[]);
+    gives_the_composition(&rt, rt.alloc(), &[0; 3]);
+    gives_the_composition(&rt, rt.alloc(), all.as_slice());
 }
 
 // The moment of the first packet that was collected, or 0 where there is none.
@@ -87,28 +88,45 @@ fn first_moment(world: &World<'_>) -> u64 {
     }
 }
 
-#[test]
-fn the_worlds_of_an_order_are_finished(rt: HostRuntime) -> Result<(), Fail> {
-    let alloc = rt.alloc();
-    let nest = nest_of(&rt, alloc, "mm-delay 10 mm-link t t", b"4\n", 100)?;
-    let schedule = read_schedule(alloc, b"0 up 100\n0 down 100\n")?;
+// Whether these worlds are finished, of so many numbers, and first collected at these moments.
+fn are_finished(worlds: &Worlds<'_>, numbers: u32, up: u64, down: u64) -> bool {
+    worlds.finished()
+        && worlds.numbers() == numbers
+        && first_moment(worlds.up()) == up
+        && first_moment(worlds.down()) == down
+}
+
+fn end_by_an_order(rt: &impl Abort, alloc: Global) -> Result<bool, OutOfMemory> {
+    let nest = nest_of(rt, alloc, "mm-delay 10 mm-link t t", b"4\n", 100);
+    let schedule = schedule_of(rt, alloc, b"0 up 100\n0 down 100\n");
     let worlds = run_worlds(alloc, &nest, &schedule, &[7, 250])?;
-    assert!(rt; worlds.finished());
-    assert_eq!(rt; worlds.numbers(), 20);
-    assert_eq!(rt; first_moment(worlds.up()), 14);
-    assert_eq!(rt; first_moment(worlds.down()), 12);
-    Ok(())
+    Ok(are_finished(&worlds, 20, 14, 12))
 }
 
 #[test]
-fn ten_thousand_packets_depart(rt: HostRuntime) -> Result<(), Fail> {
-    let alloc = rt.alloc();
-    let nest = nest_of(&rt, alloc, "mm-delay 20", b"1\n", 3_600_000)?;
-    let schedule = make_load(alloc, 1, 10_000)?;
-    let run = run_order(alloc, &nest, &schedule, &[7])?;
-    assert_eq!(rt; run.fates().len(), 10_000);
-    for row in run.fates() {
-        assert!(rt; matches!(row.fate, Fate::Departed { .. }), "row {}", row.id);
+fn the_worlds_of_an_order_are_finished(rt: HostRuntime) {
+    assert!(rt; end_by_an_order(&rt, rt.alloc()).expect(&rt, "memory"));
+}
+
+fn all_depart(fates: &[FateRow]) -> bool {
+    for row in fates {
+        if !matches!(row.fate, Fate::Departed { .. }) {
+            return false;
+        }
     }
-    Ok(())
+    true
+}
+
+fn load(rt: &impl Abort, alloc: Global) -> Schedule {
+    make_load(alloc, 1, 10_000).expect(rt, "memory")
+}
+
+#[test]
+fn ten_thousand_packets_depart(rt: HostRuntime) {
+    let alloc = rt.alloc();
+    let nest = nest_of(&rt, alloc, "mm-delay 20", b"1\n", 3_600_000);
+    let schedule = load(&rt, alloc);
+    let run = stepped_run(&rt, alloc, &nest, &schedule, &[7]);
+    assert!(rt; run.fates().len() == 10_000);
+    assert!(rt; all_depart(run.fates()));
 }

@@ -1,12 +1,15 @@
 // Worlds that are stepped by drawn numbers, against what leaves the last shell when all packets pass one shell after
 // the other.
-use super::nest_of;
+ghost use Rattle.std.specs.Prelude.{◌≤◌};
+
+use super::step;
+use crate::nests::nest_of;
+use mm_base::OutOfMemory;
 use nest_core::World;
 use nest_spec::Nest;
-use packet_record::{Direction, Draws, Schedule, make_load};
+use packet_record::{Direction, Draws, Schedule, Timed, make_load};
 use std::alloc::Global;
 use std::process::Abort;
-use std::test::Fail;
 
 // A nest, the trace of its links, its horizon, the number of a load of 16 packets, and the ids and moments of what
 // leaves the last shell in each direction.
@@ -22,7 +25,7 @@ struct Walk {
 const EIGHT_SHELLS: &str =
     "mm-delay 1 mm-link t t mm-loss uplink .2 mm-delay 0 mm-link t t mm-delay 3 mm-loss downlink .25 mm-delay 2";
 
-const WALKS: [Walk; 3] = [
+static WALKS: [Walk; 3] = [
     Walk {
         nest: "mm-link t t --uplink-queue=drophead --uplink-queue-args=packets=2",
         trace: b"4\n11\n",
@@ -78,79 +81,96 @@ const WALKS: [Walk; 3] = [
     },
 ];
 
-// What was collected are the first of these.
-fn is_front(rt: &impl Abort, world: &World<'_>, departed: &[(u32, u64)]) -> Result<(), Fail> {
-    let packets = world.collected().packets();
-    assert!(rt; packets.len() <= departed.len());
+// Whether these packets are the first of those.
+fn are_first(packets: &[Timed], departed: &[(u32, u64)]) -> bool {
     for (packet, (id, moment)) in packets.iter().zip(departed) {
-        assert_eq!(rt; packet.packet.id, *id);
-        assert_eq!(rt; packet.moment, *moment);
+        let is_same = packet.packet.id == *id && packet.moment == *moment;
+        if !is_same {
+            return false;
+        }
     }
-    Ok(())
+    packets.len() <= departed.len()
 }
 
-// Takes the step of an actor.
-fn step(rt: &impl Abort, world: &mut World<'_>, actor: u32) -> Result<(), Fail> {
-    assert!(rt; actor < world.actors());
-    world.step(actor)?;
-    Ok(())
+// What was collected are the first of these.
+fn is_front(world: &World<'_>, departed: &[(u32, u64)]) -> bool {
+    are_first(world.collected().packets(), departed)
 }
 
 // Takes some hundred steps of drawn actors, after each of which what was collected are the first of these.
-fn wander(
-    rt: &impl Abort,
-    world: &mut World<'_>,
-    number: u64,
-    departed: &[(u32, u64)],
-) -> Result<(), Fail> {
+fn wander(rt: &impl Abort, world: &mut World<'_>, number: u64, departed: &[(u32, u64)]) {
     let mut draws = Draws::new(number);
     for _ in 0..400 {
         let actor = draws.draw() % world.actors();
-        step(rt, world, actor)?;
-        is_front(rt, world, departed)?;
+        step(rt, world, actor);
+        assert!(rt; is_front(world, departed));
     }
-    Ok(())
 }
 
-// Takes rounds of all actors in turn. These are many enough.
-fn finish(rt: &impl Abort, world: &mut World<'_>) -> Result<(), Fail> {
+// Takes a step of each actor in turn.
+fn round(rt: &impl Abort, world: &mut World<'_>) {
+    for actor in 0..world.actors() {
+        step(rt, world, actor);
+    }
+}
+
+// Takes rounds of all actors. These are many enough.
+fn finish(rt: &impl Abort, world: &mut World<'_>) {
     for _ in 0..100 {
-        for actor in 0..world.actors() {
-            step(rt, world, actor)?;
-        }
+        round(rt, world);
     }
     assert!(rt; world.finished());
     assert!(rt; world.quiet());
-    Ok(())
 }
 
-// Whatever the steps, a direction collects these.
+// Whatever the steps, a direction whose channels hold so many items collects these.
 fn collects(
     rt: &impl Abort,
     alloc: Global,
     nest: &Nest,
     direction: Direction,
     schedule: &Schedule,
+    capacity: u32,
     departed: &[(u32, u64)],
-) -> Result<(), Fail> {
-    for capacity in [1, 2, 64] {
-        let mut world = World::new(alloc, nest, direction, schedule, capacity)?;
-        wander(rt, &mut world, u64::from(capacity), departed)?;
-        finish(rt, &mut world)?;
-        assert_eq!(rt; world.collected().packets().len(), departed.len());
-        is_front(rt, &world, departed)?;
-    }
+) -> Result<(), OutOfMemory>
+    requires some { 1 ≤ capacity }
+    requires most { capacity ≤ 64 }
+{
+    let mut world = World::new(alloc, nest, direction, schedule, capacity)?;
+    wander(rt, &mut world, u64::from(capacity), departed);
+    finish(rt, &mut world);
+    assert!(rt; world.collected().packets().len() == departed.len());
+    assert!(rt; is_front(&world, departed));
     Ok(())
 }
 
+fn collects_by_each(
+    rt: &impl Abort,
+    alloc: Global,
+    nest: &Nest,
+    direction: Direction,
+    schedule: &Schedule,
+    departed: &[(u32, u64)],
+) {
+    collects(rt, alloc, nest, direction, schedule, 1, departed).expect(rt, "memory");
+    collects(rt, alloc, nest, direction, schedule, 2, departed).expect(rt, "memory");
+    collects(rt, alloc, nest, direction, schedule, 64, departed).expect(rt, "memory");
+}
+
+fn load(rt: &impl Abort, alloc: Global, number: u64) -> Schedule {
+    make_load(alloc, number, 16).expect(rt, "memory")
+}
+
+fn is_walked(rt: &impl Abort, alloc: Global, walk: &Walk) {
+    let nest = nest_of(rt, alloc, walk.nest, walk.trace, walk.horizon);
+    let schedule = load(rt, alloc, walk.load);
+    collects_by_each(rt, alloc, &nest, Direction::Up, &schedule, walk.up);
+    collects_by_each(rt, alloc, &nest, Direction::Down, &schedule, walk.down);
+}
+
 #[test]
-fn drawn_steps_collect_the_composition(rt: HostRuntime) -> Result<(), Fail> {
-    let alloc = rt.alloc();
+fn drawn_steps_collect_the_composition(rt: HostRuntime) {
     for walk in &WALKS {
-        let nest = nest_of(&rt, alloc, walk.nest, walk.trace, walk.horizon)?;
-        let schedule = make_load(alloc, walk.load, 16)?;
-        collects(&rt, alloc, &nest, Direction::Up, &schedule, walk.up)?;
-        collects(&rt, alloc, &nest, Direction::Down, &schedule, walk.down)?;
+        is_walked(&rt, rt.alloc(), walk);
     }
-    Ok(())
 }
