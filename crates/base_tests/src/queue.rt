@@ -1,7 +1,6 @@
 // Words for a queue, and what each kind drops.
-ghost use Rattle.std.specs.Prelude.{◌≤◌};
+ghost use Rattle.std.specs.Prelude.{◌≡◌, ◌≤◌, ◌-◌};
 
-use mm_base::OutOfMemory;
 use packet_queue::{PacketQueue, QueueKind, QueueSpec, read_queue};
 use packet_record::{Packet, Timed};
 use std::alloc::Global;
@@ -50,31 +49,33 @@ fn words_are_read(rt: HostRuntime) {
     assert!(rt; read_queue("drophead", "packets=0, bytes=300") == Ok(dropping_head(300)));
 }
 
-// How many packets are dropped, and of how many bytes, where a packet comes in.
-fn dropped(queue: &mut PacketQueue, id: u32, size: u16) -> Result<(u64, u64), OutOfMemory>
+// How many packets are dropped, and of how many bytes, where a packet comes in for which there is room.
+fn dropped(queue: &mut PacketQueue, id: u32, size: u16) -> (u64, u64)
     requires some { 1 ≤ size }
     requires most { size ≤ 1504 }
+    requires room { 1 ≤ queue.old.spare }
+    ensures room { queue.new.spare ≡ queue.old.spare - 1 }
 {
-    queue.reserve(1)?;
     let packet = Packet { id, size };
     let gone = queue.enqueue(Timed { moment: 7, packet });
-    Ok((gone.packets, gone.bytes))
+    (gone.packets, gone.bytes)
 }
 
 // Each of three packets comes in that is larger than the one before.
-fn drops_to_the_last(rt: &impl Abort, queue: &mut PacketQueue) -> Result<(), Fail> {
-    assert!(rt; dropped(queue, 1, 100)? == (0, 0));
-    assert!(rt; dropped(queue, 2, 200)? == (1, 100));
+fn drops_to_the_last(rt: &impl Abort, queue: &mut PacketQueue)
+    requires room { 3 ≤ queue.old.spare }
+{
+    assert!(rt; dropped(queue, 1, 100) == (0, 0));
+    assert!(rt; dropped(queue, 2, 200) == (1, 100));
     assert!(rt; queue.bytes() == 200);
-    assert!(rt; dropped(queue, 3, 300)? == (2, 500));
-    Ok(())
+    assert!(rt; dropped(queue, 3, 300) == (2, 500));
 }
 
 #[test]
 fn drophead_may_drop_the_new_packet(rt: HostRuntime) -> Result<(), Fail> {
     let mut queue = PacketQueue::new(rt.alloc(), dropping_head(250));
     queue.reserve(3)?;
-    drops_to_the_last(&rt, &mut queue)?;
+    drops_to_the_last(&rt, &mut queue);
     assert!(rt; queue.len() == 0);
     assert!(rt; queue.lost().len() == 3);
     assert!(rt; queue.dequeue().is_none());
@@ -85,7 +86,8 @@ fn drophead_may_drop_the_new_packet(rt: HostRuntime) -> Result<(), Fail> {
 fn full_queue(alloc: Global, kind: &str, args: &str) -> Result<PacketQueue, Fail> {
     let mut queue = PacketQueue::new(alloc, read_queue(kind, args)?);
     for id in 1..10_001 {
-        dropped(&mut queue, id, 1000)?;
+        queue.reserve(1)?;
+        dropped(&mut queue, id, 1000);
     }
     Ok(queue)
 }

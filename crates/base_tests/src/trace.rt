@@ -1,5 +1,5 @@
 // Traces read, printed, played and made.
-use mm_base::{Bytes, OutOfMemory, write_decimal};
+use mm_base::OutOfMemory;
 use std::alloc::Global;
 use std::process::Abort;
 use std::test::Fail;
@@ -72,28 +72,27 @@ fn traces_are_printed(rt: HostRuntime) -> Result<(), Fail> {
 }
 
 // Ten thousand lines after a first one, each of a moment and this end.
-fn long_text(alloc: Global, first: &[u8], end: &[u8]) -> Result<Bytes, OutOfMemory> {
-    let mut text = Bytes::from_slice(alloc, first)?;
-    for moment in 0..10_000u64 {
-        write_decimal(&mut text, moment)?;
-        text.append(end)?;
+fn long_text(alloc: Global, first: &str, end: &str) -> Result<String, Fail> {
+    let mut text = String::from_str(alloc, first)?;
+    for moment in 0..10_000u32 {
+        text.push_str(format!(in alloc; "{moment}{end}")?.as_str())?;
     }
     Ok(text)
 }
 
 // Such a text is read and printed.
-fn is_printed_again(rt: &impl Abort, alloc: Global, first: &[u8], end: &[u8]) -> Result<(), Fail> {
+fn is_printed_again(rt: &impl Abort, alloc: Global, first: &str, end: &str) -> Result<(), Fail> {
     let text = long_text(alloc, first, end)?;
-    let trace = trace_of(alloc, text.as_slice())?;
+    let trace = trace_of(alloc, text.as_bytes())?;
     assert!(rt; trace.len() == 10_000);
-    assert!(rt; prints(alloc, &trace, text.as_slice())?);
+    assert!(rt; prints(alloc, &trace, text.as_bytes())?);
     Ok(())
 }
 
 #[test]
 fn ten_thousand_lines_are_read_and_printed(rt: HostRuntime) -> Result<(), Fail> {
-    is_printed_again(&rt, rt.alloc(), b"", b"\n")?;
-    is_printed_again(&rt, rt.alloc(), b"# mm-trace 2\n", b" 1000000\n")
+    is_printed_again(&rt, rt.alloc(), "", "\n")?;
+    is_printed_again(&rt, rt.alloc(), "# mm-trace 2\n", " 1000000\n")
 }
 
 // Whether opportunity number `j` is at this moment, over as many laps as it takes.

@@ -5,6 +5,7 @@ ghost use Rattle.shell_core.specs.Shells.{IsInRange, opportunities};
 use super::{feed, is_over, take_one};
 use crate::inputs::{queue_of, rate_of, trace_of};
 use crate::packets::{in_order, many_packets};
+use link_core::LinkLog;
 use mm_base::OutOfMemory;
 use mm_base::limits::MOST_OPPORTUNITIES;
 use packet_record::{Item, Timed};
@@ -31,33 +32,37 @@ fn goes_on(answer: Option<Taken>) -> bool {
     }
 }
 
-// Takes until there is nothing to take yet, or all was taken, and not more often than this.
-fn drain(state: &mut ShellState, most: u32) -> Result<(), OutOfMemory>
-    requires { state.old.horizon ≡ 1000 }
+// Takes until there is nothing to take yet, or all was taken, and not more often than this. Each take burns at most so
+// many opportunities.
+fn drain(state: &mut ShellState, most: u32, burn: u32) -> Result<(), OutOfMemory>
+    requires horizon { state.old.horizon ≡ 1000 }
+    requires some { 1 ≤ burn }
     ensures { state.new.horizon ≡ 1000 }
 {
     'takes: for _ in 0..most {
-        if !goes_on(take_one(state, 256)?) {
+        if !goes_on(take_one(state, burn)?) {
             break;
         }
     }
     Ok(())
 }
 
-// Feeds the packets one by one, takes at most so often after each, and all after the end. False: one was refused.
+// Feeds the packets one by one, takes at most so often after each, and all after the end, as much at once as can be where
+// nothing was taken before. False: one was refused.
 fn pass(state: &mut ShellState, packets: &[Timed], most: u32) -> Result<bool, OutOfMemory>
     requires { state.old.horizon ≡ 1000 }
 {
+    let burn = if most == 0 { u32::MAX } else { 256 };
     'packets: for t in packets {
         if !feed(state, 1000, Item::Packet(*t))? {
             return Ok(false);
         }
-        drain(state, most)?;
+        drain(state, most, burn)?;
     }
     if !feed(state, 1000, Item::End)? {
         return Ok(false);
     }
-    drain(state, MOST_TAKES)?;
+    drain(state, MOST_TAKES, burn)?;
     Ok(true)
 }
 
@@ -88,11 +93,20 @@ fn at_once(rt: &impl Abort, alloc: Global, spec: DirSpec) -> Result<Passage, Out
     run_whole(alloc, spec, 1000, packets)
 }
 
-fn is_same(one: &Passage, other: &Passage) -> bool {
-    one.departed.as_slice() == other.departed.as_slice()
+// Whether two links' logs have the same entries, or neither has one.
+fn is_same_log(one: Option<LinkLog>, other: Option<LinkLog>) -> Result<bool, OutOfMemory> {
+    match (one, other) {
+        (Some(one), Some(other)) => Ok(one.into_log()?.entries() == other.into_log()?.entries()),
+        (None, None) => Ok(true),
+        _ => Ok(false),
+    }
+}
+
+fn is_same(one: Passage, other: Passage) -> Result<bool, OutOfMemory> {
+    let is_same = one.departed.as_slice() == other.departed.as_slice()
         && one.lost.as_slice() == other.lost.as_slice()
-        && one.held.as_slice() == other.held.as_slice()
-        && one.log.is_some() == other.log.is_some()
+        && one.held.as_slice() == other.held.as_slice();
+    Ok(is_same && is_same_log(one.log, other.log)?)
 }
 
 // How many of the ten thousand packets depart, are lost and stay inside. A state must give the same as the whole list.
@@ -108,8 +122,9 @@ fn totals(
 {
     let singly = one_by_one(rt, alloc, spec, most)?;
     let whole = at_once(rt, alloc, other)?;
-    assert!(rt; is_same(&singly, &whole));
-    Ok([whole.departed.len(), whole.lost.len(), whole.held.len()])
+    let counts = [whole.departed.len(), whole.lost.len(), whole.held.len()];
+    assert!(rt; is_same(singly, whole)?);
+    Ok(counts)
 }
 
 #[tactic(auto, unfolding(shell_core::specs::Shells::opportunities))]
