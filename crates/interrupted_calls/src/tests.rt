@@ -1,10 +1,11 @@
 // Calls that are made again.
-use crate::{call_again, read_once};
+use crate::{call_again, read_once, write_once};
 use std::cell::Cell;
-use std::io::{self, ErrorKind, Read};
+use std::io::{self, ErrorKind, Read, Write};
 use std::test::Fail;
 
-// A reader that gives the same bytes at each call, and of which a signal interrupts every other one.
+// A reader that gives the same bytes at each call, and a writer that adds to them, two at most at each call. A signal
+// interrupts every other call.
 #[derive(Drop)]
 struct Halting {
     bytes: Vec<u8>,
@@ -20,6 +21,24 @@ impl Read for Halting {
         let count = buf.len().min(self.bytes.len());
         buf[..count].copy_from_slice(&self.bytes[..count]);
         Ok(count)
+    }
+}
+
+impl Write for Halting {
+    fn write(&mut self, piece: &[u8]) -> io::Result<usize> {
+        self.interrupts = !self.interrupts;
+        if !self.interrupts {
+            return Err(io::Error::from(ErrorKind::Interrupted));
+        }
+        let front = &piece[..piece.len().min(2)];
+        match self.bytes.extend_from_slice(front) {
+            Ok(()) => Ok(front.len()),
+            Err(_) => Err(io::Error::from(ErrorKind::OutOfMemory)),
+        }
+    }
+
+    fn flush(&mut self) -> io::Result<()> {
+        Ok(())
     }
 }
 
@@ -43,6 +62,8 @@ fn calls_that_are_interrupted_are_made_again(rt: HostRuntime) -> Result<(), Fail
     };
     let mut buf = [0u8; 4];
     assert!(rt; read_once(&mut halting, &mut buf)? == 2);
+    assert!(rt; write_once(&mut halting, b"abc")? == 2);
+    assert!(rt; halting.bytes.as_slice() == [1, 2, b'a', b'b'].as_slice());
     assert!(rt; third_call()? == "third");
     Ok(())
 }

@@ -25,13 +25,11 @@ use Rattle.packet_record.specs.Schedules.{first_fault}
 use Rattle.packet_record.proofs.PartLemmas.{awaits_any}
 use Rattle.packet_record.proofs.RowsLemmas.{rises-in_order}
 use Rattle.mark_channel.specs.Ends.{End}
-use Rattle.nest_spec.specs.Nests.{NestParts, directions_of}
 use Rattle.nest_runner.specs.declared.lane.Lane.{Lane}
-use Rattle.nest_runner.specs.Lanes.{HasRun, IsDonePath, IsSameLane, IsWired}
+use Rattle.nest_runner.specs.Lanes.{HasCarried, IsDonePath}
 use Rattle.nest_runner.specs.Sent.{HasSent}
 use Rattle.nest_runner.specs.Streaming.{HasStreamCause, of_disk, of_schedule}
 use Rattle.nest_runner.specs.StreamParts.{AllSent, IsStreamed}
-use Rattle.nest_runner.proofs.Chains.{still_wired}
 use Rattle.nest_runner.proofs.Sending.{all_sent, rest_of}
 
 -- the rows behind the first ones
@@ -170,15 +168,11 @@ text_cause old new name read schedule_errors.TooMany streamed fault = record {
   cause = λ e. cc e;
 }
 
--- The rows that a source sent through a lane went through a direction of the nest.
-pub streamed_run : (d : Direction) (nest : NestParts) (h : ℕ) (sent rows : List Row) (old new : Lane)
-    → IsWired nest.horizon (directions_of d nest) old → IsSameLane old new → h ≡ nest.horizon → rows ≡ sent
-    → AllSent d h sent new.head → IsDonePath new.path → HasRun d nest rows new
-streamed_run d nest h sent rows old new wired same horizon is all done = record {
-  wired = still_wired nest.horizon (directions_of d nest) old new wired same;
-  carried = record {
-    sent = all.packets ∙ ap (λ k. entering d k sent) horizon ∙ ap (entering d nest.horizon) (sym is);
-    over = all.over;
-    done = done;
-  };
+-- The rows that a source sent into a lane were carried through it.
+pub streamed_lane : (d : Direction) (h : ℕ) (sent rows : List Row) (lane : Lane) → rows ≡ sent
+    → AllSent d h sent lane.head → IsDonePath lane.path → HasCarried (entering d h rows) lane
+streamed_lane d h sent rows lane is all done = record {
+  sent = all.packets ∙ ap (entering d h) (sym is);
+  over = all.over;
+  done = done;
 }

@@ -6,10 +6,11 @@ ghost use Rattle.mm_base.specs.Files.{IsAbsent};
 ghost use Rattle.file_pieces.specs.Pieces.{HasSize};
 ghost use Rattle.packet_record.specs.declared.packet.Direction.TheVariants.{Up, Down};
 ghost use Rattle.packet_record.specs.PartsRead.{HasRead};
+ghost use Rattle.packet_record.specs.Rows.{entering};
 ghost use Rattle.packet_record.specs.Streams.{no_items};
 ghost use Rattle.mark_channel.specs.Ends.{IsSameEnd};
 ghost use Rattle.nest_runner.specs.Ends.{IfEnded};
-ghost use Rattle.nest_runner.specs.Lanes.{HasEnded, HasRun, IsDonePath, IsFreshLane, IsFreshPath, IsSameLane};
+ghost use Rattle.nest_runner.specs.Lanes.{HasCarried, HasEnded, HasRun, IsDonePath, IsFreshLane, IsFreshPath, IsSameLane};
 ghost use Rattle.nest_runner.specs.Lanes.{IsSamePath};
 ghost use Rattle.nest_runner.specs.Streaming.{HasStreamCause, IsScheduleOf, StreamsTo};
 ghost use Rattle.nest_runner.specs.StreamParts.{AllSent, IsStreamed};
@@ -92,30 +93,52 @@ fn run_file<D: Disk, Q: Pace + Sync, R: Threads + Wait + Sync>(
     ensures stopped { IfErr result (λ e. HasStreamCause (D.view disk.old) (D.view disk.new) name.now e) }
     ensures only_reads { OnlyReads (D.view disk.old) (D.view disk.new) }
 {
-    let mut text = ScheduleText::new(alloc, size as usize)?;
-    let mut piece = piece_buffer(alloc, size)?;
     let mut up = Lane::open(alloc, nest, Direction::Up)?;
     let mut down = Lane::open(alloc, nest, Direction::Down)?;
+    let horizon = nest.horizon();
     let shells = nest.shells();
+    let schedule = carry_file(
+        rt, alloc, disk, name, size, horizon, &mut up, &mut down, shells, pace,
+    )?;
+    Ok((schedule, up, down))
+}
+
+// Reads the schedule in a file of so many bytes, and carries its rows through both lanes meanwhile: these rows, where
+// every stream in the lanes came to its end.
+fn carry_file<D: Disk, Q: Pace + Sync, R: Threads + Wait + Sync>(
+    rt: &R,
+    alloc: Global,
+    disk: &mut D,
+    name: &str,
+    size: u64,
+    horizon: u64,
+    up: &mut Lane,
+    down: &mut Lane,
+    shells: u32,
+    pace: &Q,
+) -> Result<Schedule, StreamError>
+    requires size { HasSize (D.view disk.old).files name.now size }
+    requires fresh { IsFreshLane horizon up.old × IsFreshLane horizon down.old }
+    requires few { (length up.old.path.stages.items ≤ 8) × (length down.old.path.stages.items ≤ 8) }
+    ensures schedule { IfOk result (λ s. IsScheduleOf (D.view disk.old).files name.now s) }
+    ensures up { IfOk result (λ s. HasCarried (entering Up horizon s) up.new) }
+    ensures down { IfOk result (λ s. HasCarried (entering Down horizon s) down.new) }
+    ensures same { OnOk result (IsSameLane up.old up.new × IsSameLane down.old down.new) }
+    ensures stopped { IfErr result (λ e. HasStreamCause (D.view disk.old) (D.view disk.new) name.now e) }
+    ensures only_reads { OnlyReads (D.view disk.old) (D.view disk.new) }
+{
+    let mut text = ScheduleText::new(alloc, size as usize)?;
+    let mut piece = piece_buffer(alloc, size)?;
+    let piece = piece.as_mut_slice();
     let (end, read) = stream_lanes(
-        rt,
-        disk,
-        name,
-        size,
-        piece.as_mut_slice(),
-        &mut text,
-        nest.horizon(),
-        &mut up,
-        &mut down,
-        shells,
-        pace,
+        rt, disk, name, size, piece, &mut text, horizon, up, down, shells, pace,
     );
     read?;
     let schedule = text.into_schedule()?;
     let WorkEnd::Ended = end else {
         return Err(StreamError::OutOfMemory);
     };
-    Ok((schedule, up, down))
+    Ok(schedule)
 }
 
 // Runs the source of the schedule in a file beside the paths of both directions.

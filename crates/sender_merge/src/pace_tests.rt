@@ -7,7 +7,7 @@ ghost use Rattle.mark_channel.specs.Ends.{IsSameEnd};
 
 use crate::{Senders, count_rows};
 use mark_channel::{FeedEnd, Receiver, Sender, open, settle};
-use mm_base::{Pace, Role};
+use mm_base::{NoPace, Pace, Role};
 use packet_record::{Item, Schedule, read_schedule};
 use std::alloc::{AllocError, Global};
 use std::marker::Sync;
@@ -95,7 +95,7 @@ fn feed_paced<Q: Pace + Sync, R: Threads + Wait + Sync + Abort>(
     pace: &Q,
 ) -> Result<Vec<Item>, Fail> {
     let (mut up, mut up_end) = open(alloc, 64, horizon)?;
-    let (mut down, down_end) = open(alloc, 64, horizon)?;
+    let (mut down, mut down_end) = open(alloc, 64, horizon)?;
     let mut ups = Vec::new(alloc);
     let end = feed_beside(
         rt,
@@ -107,8 +107,11 @@ fn feed_paced<Q: Pace + Sync, R: Threads + Wait + Sync + Abort>(
         &mut ups,
         pace,
     );
+    let mut downs = Vec::new(alloc);
+    receive_all(rt, &mut down_end, &mut downs, &NoPace);
     settle(up, up_end);
     settle(down, down_end);
+    assert!(rt; downs.last() == Some(&Item::End));
     assert!(rt; end == FeedEnd::Ended);
     Ok(ups)
 }

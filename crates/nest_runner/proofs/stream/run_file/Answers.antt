@@ -1,50 +1,28 @@
-use Rattle.std.proofs.Common.{◌≡◌, None, subst, sym}
-use Rattle.std.proofs.lemmas.Result.{err_from_is_err_and}
+use Rattle.std.proofs.Common.{ℕ, subst}
 use Rattle.packet_record.specs.declared.packet.Direction.TheVariants.{Up, Down}
-use Rattle.nest_runner.specs.declared.ends.WorkEnd.{WorkEnd}
-use Rattle.nest_runner.specs.declared.stream_error.StreamError.{StreamError}
-use Rattle.nest_runner.specs.Ends.{IfEnded}
-use Rattle.nest_runner.specs.Lanes.{IsDonePath}
-use Rattle.nest_runner.specs.Streaming.{HasStreamCause}
-use Rattle.nest_runner.specs.StreamParts.{AllSent}
-use Rattle.nest_runner.proofs.Chains.{carried_ended}
-use Rattle.nest_runner.proofs.Streamed.{disk_cause, ok_has, streamed_run}
+use Rattle.packet_record.specs.Rows.{entering}
+use Rattle.nest_runner.specs.Lanes.{HasCarried}
+use Rattle.nest_runner.proofs.Chains.{carried_ended, still_wired}
 use Rattle.nest_runner.proofs.stream.run_file.Goals as goal
-
-pub returns-in_err-read-clause-stopped : goal.returns-in_err-read-clause-stopped
-returns-in_err-read-clause-stopped g c =
-    let p = err_from_is_err_and c.from_residual-in_err-read.result c.from_residual-in_err-read.ensures.1 in
-    let ran = c.stream_lanes-end in
-    let name = c.args.name.now in
-    let old = g.D.Disk.view c.args.disk.now in
-    let new = g.D.Disk.view ran.new.disk in
-    rw p.1 (subst (λ (e : StreamError). HasStreamCause old new name e) (sym p.2)
-    (disk_cause old new name ran.result.1 _ c.in_err-read.was ran.ensures.absent ran.ensures.cause))
 
 pub returns-clause-up : goal.returns-clause-up
 returns-clause-up g c =
-    let ran = c.stream_lanes-end in
-    let h = c.horizon.result in
-    let rows = ran.new.text.gathered.rows in
-    let sent = ok_has ran.result.1 _ (ran.new.text.gathered.refused ≡ None → AllSent Up h rows ran.new.up.head
-    × AllSent Down h rows ran.new.down.head) c.in_ok-read.was ran.ensures.sent c.in_ok-schedule.ensures.rows.1 in
-    let done = subst (λ (e : WorkEnd). IfEnded e (IsDonePath ran.new.up.path × IsDonePath ran.new.down.path))
-    c.in-Ended.is ran.ensures.done in
-    streamed_run Up c.args.nest.now h rows c.in_ok-schedule.schedule c.in_ok-up.up ran.new.up
-    c.in_ok-up.ensures.wired ran.ensures.same.0 c.horizon.ensures.value c.in_ok-schedule.ensures.rows.0 sent.0 done.0
+    let ran = c.in_ok-schedule in
+    record {
+      wired = still_wired _ _ _ _ c.in_ok-up.ensures.wired ran.ensures.same.0;
+      carried = subst (λ (h : ℕ). HasCarried (entering Up h ran.schedule) c.carry_file.new.up) c.horizon.ensures.value
+          ran.ensures.up;
+    }
 
 pub returns-clause-down : goal.returns-clause-down
 returns-clause-down g c =
-    let ran = c.stream_lanes-end in
-    let h = c.horizon.result in
-    let rows = ran.new.text.gathered.rows in
-    let sent = ok_has ran.result.1 _ (ran.new.text.gathered.refused ≡ None → AllSent Up h rows ran.new.up.head
-    × AllSent Down h rows ran.new.down.head) c.in_ok-read.was ran.ensures.sent c.in_ok-schedule.ensures.rows.1 in
-    let done = subst (λ (e : WorkEnd). IfEnded e (IsDonePath ran.new.up.path × IsDonePath ran.new.down.path))
-    c.in-Ended.is ran.ensures.done in
-    streamed_run Down c.args.nest.now h rows c.in_ok-schedule.schedule c.in_ok-down.down ran.new.down
-    c.in_ok-down.ensures.wired ran.ensures.same.1 c.horizon.ensures.value c.in_ok-schedule.ensures.rows.0 sent.1 done.1
+    let ran = c.in_ok-schedule in
+    record {
+      wired = still_wired _ _ _ _ c.in_ok-down.ensures.wired ran.ensures.same.1;
+      carried = subst (λ (h : ℕ). HasCarried (entering Down h ran.schedule) c.carry_file.new.down)
+          c.horizon.ensures.value ran.ensures.down;
+    }
 
 pub returns-clause-ended : goal.returns-clause-ended
 returns-clause-ended g c =
-    (carried_ended _ _ (returns-clause-up g c).carried, carried_ended _ _ (returns-clause-down g c).carried)
+    (carried_ended _ _ c.in_ok-schedule.ensures.up, carried_ended _ _ c.in_ok-schedule.ensures.down)
