@@ -10,7 +10,7 @@ returns-clause-up g c =
     let ran = c.in_ok-schedule in
     record {
       wired = still_wired _ _ _ _ c.in_ok-up.ensures.wired ran.ensures.same.0;
-      carried = subst (λ (h : ℕ). HasCarried (entering Up h ran.schedule) c.carry_file.new.up) c.horizon.ensures.value
+      carried = subst (λ (h : ℕ). HasCarried (entering Up h ran.schedule) c.carry_file.new.up) c.horizon-horizon.ensures.value
           ran.ensures.up;
     }
 
@@ -20,7 +20,7 @@ returns-clause-down g c =
     record {
       wired = still_wired _ _ _ _ c.in_ok-down.ensures.wired ran.ensures.same.1;
       carried = subst (λ (h : ℕ). HasCarried (entering Down h ran.schedule) c.carry_file.new.down)
-          c.horizon.ensures.value ran.ensures.down;
+          c.horizon-horizon.ensures.value ran.ensures.down;
     }
 
 pub returns-clause-ended : goal.returns-clause-ended
