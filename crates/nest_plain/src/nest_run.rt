@@ -46,7 +46,8 @@ impl NestRun {
         (self.fates, self.logs)
     }
 
-    /// The same with its fates as rows and its logs written out, each of which lets its arrivals go. `OutOfMemory` is want of memory.
+    /// The same with its fates as rows and its logs written out, each of which lets its arrivals go. `OutOfMemory` is
+    /// want of memory.
     pub fn into_result(self) -> Result<RunResult, OutOfMemory>
         ensures { IfOk result (λ r. r ≡ self) }
     {
