@@ -2,7 +2,5 @@
 #![tactic(auto)]
 
 mod calls;
-#[cfg(test)]
-mod tests;
 
 pub use calls::{call_again, read_once, write_once};

@@ -14,9 +14,6 @@ use std::alloc::Global;
 // How many items a channel of a sender holds.
 const CAPACITY: u32 = 64;
 
-// How many threads merge, one for each direction.
-const MERGES: u64 = 2;
-
 // The sending ends of each sender, its receiving ends in both directions, and which of the senders and merges have
 // begun.
 #[derive(Drop)]
@@ -28,8 +25,13 @@ pub(crate) struct Gates {
 }
 
 impl Gates {
-    // Opens the channels of so many senders, for a run up to a horizon.
-    pub fn open(alloc: Global, horizon: u64, senders: usize) -> Result<Gates, OutOfMemory>
+    // Opens the channels of so many senders, for a run up to a horizon, whose threads wait for each other by `begun`.
+    pub fn open(
+        alloc: Global,
+        horizon: u64,
+        senders: usize,
+        begun: Begun,
+    ) -> Result<Gates, OutOfMemory>
         ensures fresh { IfOk result (λ g. AllFresh horizon g.outlets.items g.ups.items g.downs.items) }
         ensures long { IfOk result (λ g. length g.outlets.items ≡ senders) }
     {
@@ -37,7 +39,7 @@ impl Gates {
             outlets: Vec::with_capacity(alloc, senders)?,
             ups: Vec::with_capacity(alloc, senders)?,
             downs: Vec::with_capacity(alloc, senders)?,
-            begun: Begun::new((senders as u64).saturating_add(MERGES)),
+            begun,
         };
         for _ in 0..senders {
             gates.add(alloc, horizon)?;

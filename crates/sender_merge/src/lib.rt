@@ -1,8 +1,6 @@
 //! Several senders as one: the merge of their flows, packet by packet, by what each has sent so far.
 #![tactic(auto)]
 
-#[cfg(test)]
-mod begun_tests;
 mod feeding;
 mod gates;
 mod incoming;
@@ -11,8 +9,6 @@ mod looks;
 mod merge_core;
 mod merger;
 mod outlet;
-#[cfg(test)]
-mod pace_tests;
 mod row_merge;
 mod senders;
 mod step;

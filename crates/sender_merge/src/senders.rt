@@ -1,5 +1,5 @@
 // Several senders that feed one nest.
-ghost use Rattle.std.specs.Prelude.{◌≡◌, ◌≢◌, ◌≤◌, length, IfOk};
+ghost use Rattle.std.specs.Prelude.{◌≡◌, ◌≢◌, ◌≤◌, ◌+◌, length, IfOk};
 ghost use Rattle.packet_record.specs.declared.item.FlowEnd.TheVariants.{Open};
 ghost use Rattle.packet_record.specs.declared.packet.Direction.TheVariants.{Up, Down};
 ghost use Rattle.packet_record.specs.Streams.{no_items};
@@ -12,13 +12,16 @@ ghost use Rattle.sender_merge.specs.RowLists.{rows_in};
 use crate::feeding::run;
 use crate::gates::Gates;
 use crate::row_merge::merge_from;
-use mark_channel::{FeedEnd, Feeds, Sender};
+use mark_channel::{Begun, FeedEnd, Feeds, Sender};
 use mm_base::{NoPace, OutOfMemory, Pace};
 use packet_record::{Item, Row, Schedule};
 use std::alloc::Global;
 use std::marker::{Model, Sync};
 use std::sync::Wait;
 use std::thread::Threads;
+
+// How many threads merge, one for each direction.
+const MERGES: u64 = 2;
 
 /// From 1 to 16 senders, each with a schedule and a thread of its own, that feed one nest up to a horizon in
 /// milliseconds. Contracts see the list of their schedules, the first sender's first.
@@ -66,12 +69,21 @@ impl Senders {
         })
     }
 
-    /// Feeds as `feed` does, and asks the pace before each row of each sender, in its thread, with the row's place in
-    /// its schedule from 1.
-    pub(crate) fn feed_at<Q: Pace + Sync, R: Threads + Wait + Sync>(
+    /// How many threads feed: one for each sender, and one for each direction that merges what they send.
+    pub fn threads(&self) -> u64
+        ensures { result ≡ length self.now + 2 }
+    {
+        self.schedules.len() as u64 + MERGES
+    }
+
+    /// Feeds as `feed` does, whose threads wait for each other by `begun`, and asks the pace before each row of each
+    /// sender, in its thread, with the row's place in its schedule from 1. Where `begun` waits for more than `threads`,
+    /// all senders break off, and the feeding answers `OutOfMemory`.
+    pub fn feed_at<Q: Pace + Sync, R: Threads + Wait + Sync>(
         &mut self,
         rt: &R,
         horizon: u64,
+        begun: Begun,
         up: &mut Sender,
         down: &mut Sender,
         pace: &Q,
@@ -85,7 +97,7 @@ impl Senders {
         ensures same { IsSameEnd up.old up.new × IsSameEnd down.old down.new }
     {
         let schedules = self.schedules.as_slice();
-        let Ok(gates) = Gates::open(self.alloc, horizon, schedules.len()) else {
+        let Ok(gates) = Gates::open(self.alloc, horizon, schedules.len(), begun) else {
             up.send(rt, Item::Broken);
             down.send(rt, Item::Broken);
             return FeedEnd::OutOfMemory;
@@ -95,7 +107,7 @@ impl Senders {
 }
 
 // Feeds through these channels, and settles them.
-pub(crate) fn feed_through<Q: Pace + Sync, R: Threads + Wait + Sync>(
+fn feed_through<Q: Pace + Sync, R: Threads + Wait + Sync>(
     rt: &R,
     alloc: Global,
     schedules: &[Schedule],
@@ -138,6 +150,7 @@ impl Feeds for Senders {
         up: &mut Sender,
         down: &mut Sender,
     ) -> FeedEnd {
-        self.feed_at(rt, horizon, up, down, &NoPace)
+        let begun = Begun::new(self.threads());
+        self.feed_at(rt, horizon, begun, up, down, &NoPace)
     }
 }

@@ -2,7 +2,7 @@
 use packet_record::{Item, Timed};
 
 /// The head of a sender: its first packet that wasn't given.
-#[derive(Clone, Copy, Debug, PartialEq, Eq)]
+#[derive(Clone, Copy, PartialEq, Eq)]
 pub(crate) struct Head {
     /// The number of the sender, counted from 1.
     pub sender: u32,
@@ -11,7 +11,7 @@ pub(crate) struct Head {
 }
 
 /// What a merge does next.
-#[derive(Clone, Copy, Debug, PartialEq, Eq)]
+#[derive(Clone, Copy, PartialEq, Eq)]
 pub enum MergeStep {
     /// It gives an item.
     Item(Item),

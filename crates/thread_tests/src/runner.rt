@@ -52,7 +52,7 @@ fn nest_of(
 }
 
 // Which call runs a schedule.
-#[derive(Clone, Copy, Debug, PartialEq, Eq)]
+#[derive(Clone, Copy, PartialEq, Eq)]
 enum Call {
     // The schedule is in memory.
     Threads,

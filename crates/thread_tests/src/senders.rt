@@ -5,10 +5,13 @@ ghost use Rattle.packet_record.specs.declared.item.FlowEnd.TheVariants.{Open};
 ghost use Rattle.packet_record.specs.Streams.{no_items};
 ghost use Rattle.mark_channel.specs.Ends.{IsSameEnd};
 
+mod begun;
 mod feeds;
 mod merges;
+mod paced;
 
 use mark_channel::{FeedEnd, Feeds, Receiver, Sender, open, settle};
+use mm_base::{NoPace, Pace, Role};
 use packet_record::{Item, Schedule, read_schedule};
 use sender_merge::{Senders, count_rows};
 use std::alloc::{AllocError, Global};
@@ -49,14 +52,21 @@ struct Fed {
     pub downs: Vec<Item>,
 }
 
-// Receives until the end, and gathers the items.
-fn receive_all<R: Wait>(rt: &R, from: &mut Receiver, items: &mut Vec<Item>)
+// Receives what goes up, or what goes down, until the end, and gathers the items. The pace is asked after each.
+fn receive_all<Q: Pace, R: Wait>(
+    rt: &R,
+    from: &mut Receiver,
+    items: &mut Vec<Item>,
+    up: bool,
+    pace: &Q,
+)
     requires { from.old.flow.end ≡ Open }
     ensures same { IsSameEnd from.old from.new }
 {
     for _ in rt.forever() {
         let item = from.recv(rt);
         let _ = items.push(item);
+        pace.turn(rt, Role::Collector { up }, items.len() as u64);
         match item {
             Item::Packet(_) | Item::Mark(_) => {}
             Item::End | Item::Broken => return,
@@ -81,11 +91,11 @@ fn receive_both<R: Threads + Wait + Sync>(
         &mut ||
             requires { (up.now.flow.end ≡ Open) × IsSync R.row }
             ensures same { IsSameEnd up.entry.now up.exit.now }
-        { receive_all(rt, up, ups) },
+        { receive_all(rt, up, ups, true, &NoPace) },
         &mut ||
             requires { (down.now.flow.end ≡ Open) × IsSync R.row }
             ensures same { IsSameEnd down.entry.now down.exit.now }
-        { receive_all(rt, down, downs) },
+        { receive_all(rt, down, downs, false, &NoPace) },
     );
 }
 

@@ -99,7 +99,7 @@ fn cut_both<R: Wait>(rt: &R, up: &mut Sender, down: &mut Sender)
 }
 
 // How a feeding ends after its rows.
-#[derive(Clone, Copy, Debug, PartialEq, Eq)]
+#[derive(Clone, Copy, PartialEq, Eq)]
 enum Ending {
     // By the end.
     Whole,

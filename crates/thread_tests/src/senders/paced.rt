@@ -5,53 +5,19 @@ ghost use Rattle.packet_record.specs.declared.item.FlowEnd.TheVariants.{Open};
 ghost use Rattle.packet_record.specs.Streams.{no_items};
 ghost use Rattle.mark_channel.specs.Ends.{IsSameEnd};
 
-use crate::{Senders, count_rows};
-use mark_channel::{FeedEnd, Receiver, Sender, open, settle};
+use super::{numbers_of, receive_all, senders_from};
+use crate::waiting::reached;
+use mark_channel::{Begun, FeedEnd, Receiver, Sender, open, settle};
 use mm_base::{NoPace, Pace, Role};
-use packet_record::{Item, Schedule, read_schedule};
-use std::alloc::{AllocError, Global};
+use packet_record::Item;
+use sender_merge::Senders;
+use std::alloc::Global;
 use std::marker::Sync;
 use std::process::Abort;
 use std::sync::Wait;
 use std::sync::atomic::{AtomicU64, Ordering};
 use std::test::Fail;
-use std::thread::{Threads, join_mut, yield_now};
-
-// The schedules that these texts are.
-fn schedules_of(alloc: Global, texts: &[&[u8]]) -> Result<Vec<Schedule>, Fail> {
-    let mut schedules = Vec::new(alloc);
-    for text in texts {
-        let schedule = read_schedule(alloc, text)?;
-        schedules.push(schedule).map_err(AllocError::from)?;
-    }
-    Ok(schedules)
-}
-
-// Senders of the schedules that these texts are.
-fn senders_of<R: Abort>(rt: &R, alloc: Global, texts: &[&[u8]]) -> Result<Senders, Fail> {
-    let schedules = schedules_of(alloc, texts)?;
-    assert!(rt; !schedules.is_empty() && schedules.len() <= 16);
-    let lines = count_rows(schedules.as_slice());
-    assert!(rt; lines <= 1_000_000);
-    Ok(Senders::new(alloc, schedules)?)
-}
-
-// Receives until the end, and gathers the items. The pace is asked after each.
-fn receive_all<Q: Pace, R: Wait>(rt: &R, from: &mut Receiver, items: &mut Vec<Item>, pace: &Q)
-    requires { from.old.flow.end ≡ Open }
-    ensures same { IsSameEnd from.old from.new }
-{
-    for _ in rt.forever() {
-        let item = from.recv(rt);
-        let _ = items.push(item);
-        pace.turn(rt, Role::Collector { up: true }, items.len() as u64);
-        match item {
-            Item::Packet(_) | Item::Mark(_) => {}
-            Item::End | Item::Broken => return,
-        }
-    }
-    unreachable!()
-}
+use std::thread::{Threads, join_mut};
 
 // Feeds two channels beside a thread that receives what goes up. What goes down has room in its channel.
 fn feed_beside<Q: Pace + Sync, R: Threads + Wait + Sync>(
@@ -76,11 +42,14 @@ fn feed_beside<Q: Pace + Sync, R: Threads + Wait + Sync>(
             requires { (up.now.flow ≡ no_items) × (down.now.flow ≡ no_items) × (up.now.horizon ≡ horizon)
                 × (down.now.horizon ≡ horizon) × IsSync R.row × IsSync Q.row }
             ensures same { IsSameEnd up.entry.now up.exit.now × IsSameEnd down.entry.now down.exit.now }
-        { senders.feed_at(rt, horizon, up, down, pace) },
+        {
+            let begun = Begun::new(senders.threads());
+            senders.feed_at(rt, horizon, begun, up, down, pace)
+        },
         &mut ||
             requires { (up_end.now.flow.end ≡ Open) × IsSync R.row × IsSync Q.row }
             ensures same { IsSameEnd up_end.entry.now up_end.exit.now }
-        { receive_all(rt, up_end, ups, pace) },
+        { receive_all(rt, up_end, ups, true, pace) },
     );
     end
 }
@@ -108,37 +77,12 @@ fn feed_paced<Q: Pace + Sync, R: Threads + Wait + Sync + Abort>(
         pace,
     );
     let mut downs = Vec::new(alloc);
-    receive_all(rt, &mut down_end, &mut downs, &NoPace);
+    receive_all(rt, &mut down_end, &mut downs, false, &NoPace);
     settle(up, up_end);
     settle(down, down_end);
     assert!(rt; downs.last() == Some(&Item::End));
     assert!(rt; end == FeedEnd::Ended);
     Ok(ups)
-}
-
-// The numbers of the packets among items.
-fn numbers_of(alloc: Global, items: &[Item]) -> Result<Vec<u32>, AllocError> {
-    let mut numbers = Vec::new(alloc);
-    for item in items {
-        if let Item::Packet(timed) = item {
-            numbers.push(timed.packet.id)?;
-        }
-    }
-    Ok(numbers)
-}
-
-// How often a turn that is held gives way before the test gives up.
-const LIMIT: u32 = 10_000_000;
-
-// Waits until the count has come so far, and says whether it did.
-fn reaches(count: &AtomicU64, wanted: u64) -> bool {
-    for _ in 0..LIMIT {
-        if count.load(Ordering::SeqCst) >= wanted {
-            return true;
-        }
-        yield_now();
-    }
-    false
 }
 
 // The first turn of each sender waits until two have begun.
@@ -154,7 +98,7 @@ impl Pace for Together {
             return;
         }
         self.begun.fetch_add(1, Ordering::SeqCst);
-        if !reaches(&self.begun, 2) {
+        if !reached(&self.begun, 2) {
             self.limits.fetch_add(1, Ordering::SeqCst);
         }
     }
@@ -168,7 +112,7 @@ fn two_senders_run_beside_each_other(rt: HostRuntime) -> Result<(), Fail> {
         begun: AtomicU64::new(0),
         limits: AtomicU64::new(0),
     };
-    let mut senders = senders_of(&rt, rt.alloc(), &TWO)?;
+    let mut senders = senders_from(&rt, rt.alloc(), &TWO)?;
     let ups = feed_paced(&rt, rt.alloc(), &mut senders, 5, &pace)?;
     let numbers = numbers_of(rt.alloc(), ups.as_slice())?;
     assert!(rt; numbers.as_slice() == [1, 2].as_slice());
@@ -188,7 +132,7 @@ impl Pace for Soon {
     fn turn<R: Wait>(&self, _rt: &R, role: Role, count: u64) {
         match role {
             Role::Collector { up: true } => self.received.store(count, Ordering::SeqCst),
-            Role::Source if count == 3 && !reaches(&self.received, 1) => {
+            Role::Source if count == 3 && !reached(&self.received, 1) => {
                 self.limits.fetch_add(1, Ordering::SeqCst);
             }
             _ => {}
@@ -207,7 +151,7 @@ fn packets_are_given_before_a_sender_has_ended(rt: HostRuntime) -> Result<(), Fa
         received: AtomicU64::new(0),
         limits: AtomicU64::new(0),
     };
-    let mut senders = senders_of(&rt, rt.alloc(), &TWO_OF_FOUR)?;
+    let mut senders = senders_from(&rt, rt.alloc(), &TWO_OF_FOUR)?;
     let ups = feed_paced(&rt, rt.alloc(), &mut senders, 5, &pace)?;
     let numbers = numbers_of(rt.alloc(), ups.as_slice())?;
     assert!(rt; numbers.len() == 8);

@@ -1,5 +1,5 @@
-// Calls that are made again.
-use crate::{call_again, read_once, write_once};
+//! Calls of the system that a signal interrupts.
+use interrupted_calls::{call_again, read_once, write_once};
 use std::cell::Cell;
 use std::io::{self, ErrorKind, Read, Write};
 use std::test::Fail;
