@@ -7,7 +7,7 @@ use nest_spec::{FateRow, PackedFate, put_fate};
 use std::alloc::Global;
 
 // The fate of a packet that a line of a sender gave, by the packet's number in the merge.
-#[derive(Clone, Copy, Debug, PartialEq, Eq)]
+#[derive(Clone, Copy, PartialEq, Eq)]
 pub(crate) struct SenderFate(pub FateRow);
 
 impl SenderFate {

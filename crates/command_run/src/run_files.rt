@@ -1,9 +1,9 @@
 // The files that a run writes: its logs, in order, and then its fates.
-ghost use Rattle.std.specs.Prelude.{◌≡◌, ◌⊎◌, ◌≤◌, ◌-◌, ℕ, length, take, map, IfErr, OnOk, OnErr};
+ghost use Rattle.std.specs.Prelude.{◌≡◌, ◌⊎◌, ◌≤◌, ◌<◌, ◌-◌, ℕ, length, take, map, IfErr, OnOk, OnErr};
 ghost use Rattle.std.specs.List.{flat_map};
 ghost use Rattle.mm_base.specs.Disk.{OnlyWrites, HasWriteCause};
-ghost use Rattle.mm_base.specs.Files.{holding};
-ghost use Rattle.shell_log.specs.LogText.{log_text};
+ghost use Rattle.mm_base.specs.Files.{holding, lengthened};
+ghost use Rattle.shell_log.specs.LogText.{lines_text, log_text};
 ghost use Rattle.nest_plain.specs.Unwritten.{unwritten};
 ghost use Rattle.command_ends.specs.Outputs.{HoldsSome, holding_all, named_text};
 ghost use Rattle.command_ends.specs.Stops.{StopsAtOutput, StopsWriting};
@@ -13,15 +13,54 @@ ghost use Rattle.command_run.specs.Run.{log_file, run_files};
 use crate::passing::Passed;
 use crate::whole_logs::write_whole_logs;
 use command_ends::{Cause, file_written};
-use link_core::LinkLog;
+use link_core::{LinkLog, LogPieces};
 use mm_base::{Disk, DiskError, LineBuffer, PrintLine, append_lines, save, save_lines};
 use nest_plain::{NestRun, UnwrittenLog};
 use nest_spec::{Named, RunResult};
 use shell_log::HEADER;
 use std::alloc::Global;
 
+// Adds a line for each entry that is to come at the end of a file, piece by piece as they are made. After a refusal a
+// front of their text was added: none of it, or not all.
+fn append_pieces<D: Disk>(
+    disk: &mut D,
+    name: &str,
+    lines: &mut LineBuffer,
+    pieces: &mut LogPieces,
+) -> Result<(), DiskError>
+    ensures ok { OnOk result
+        ((D.view disk.new).files ≡ lengthened name.now (lines_text pieces.old.rest) (D.view disk.old).files) }
+    ensures err { let text = lines_text pieces.old.rest in OnErr result ((n : ℕ) × (n < length text)
+        × ((D.view disk.new).files ≡ lengthened name.now (take n text) (D.view disk.old).files)) }
+    ensures only_writes { OnlyWrites (D.view disk.old) (D.view disk.new) }
+    ensures cause { HasWriteCause (D.view disk.old) (D.view disk.new) result }
+{
+    'pieces: while pieces.next()? {
+        append_lines(disk, name, lines, pieces.piece())?;
+    }
+    Ok(())
+}
+
 // Makes the file hold a log's text: its first line, and then a line for each entry, written piece by piece as the log
 // is made. After a refusal the file is as before, or it holds a front of the text: none, or not all.
+fn save_pieces<D: Disk>(
+    disk: &mut D,
+    name: &str,
+    lines: &mut LineBuffer,
+    log: LinkLog,
+) -> Result<(), DiskError>
+    ensures ok { OnOk result ((D.view disk.new).files ≡ holding name.now (log_text log) (D.view disk.old).files) }
+    ensures err { OnErr result (HoldsSome (named_text name.now (log_text log)) (D.view disk.old).files
+        (D.view disk.new).files) }
+    ensures only_writes { OnlyWrites (D.view disk.old) (D.view disk.new) }
+    ensures cause { HasWriteCause (D.view disk.old) (D.view disk.new) result }
+{
+    save(disk, name, HEADER)?;
+    let mut pieces = log.pieces();
+    append_pieces(disk, name, lines, &mut pieces)
+}
+
+// The same with a buffer of its own.
 fn save_log<D: Disk>(alloc: Global, disk: &mut D, name: &str, log: LinkLog) -> Result<(), DiskError>
     ensures ok { OnOk result ((D.view disk.new).files ≡ holding name.now (log_text log) (D.view disk.old).files) }
     ensures err { OnErr result (HoldsSome (named_text name.now (log_text log)) (D.view disk.old).files
@@ -30,12 +69,7 @@ fn save_log<D: Disk>(alloc: Global, disk: &mut D, name: &str, log: LinkLog) -> R
     ensures cause { HasWriteCause (D.view disk.old) (D.view disk.new) result }
 {
     let mut lines = LineBuffer::new(alloc)?;
-    let mut pieces = log.pieces();
-    save(disk, name, HEADER)?;
-    'pieces: while pieces.next()? {
-        append_lines(disk, name, &mut lines, pieces.piece())?;
-    }
-    Ok(())
+    save_pieces(disk, name, &mut lines, log)
 }
 
 // Writes the file of a log, and lets the log go.

@@ -1,5 +1,5 @@
 // A request from a file that has nothing else.
-ghost use Rattle.std.specs.Prelude.{◌≡◌, ◌≢◌, ℕ, List, IfOk, IfErr};
+ghost use Rattle.std.specs.Prelude.{◌≡◌, ◌≢◌, ℕ, false, List, [], None, IfOk, IfErr};
 ghost use Rattle.mm_base.specs.Disk.{OnlyReads};
 ghost use Rattle.command_ends.specs.Readings.{Done};
 ghost use Rattle.command_ends.specs.Stops.{IsInput, RefusesBy, StopsReading};
@@ -50,6 +50,15 @@ fn read_head(alloc: Global, text: &[u8]) -> Result<RequestHead, RequestError>
     ensures refused { IfErr result (RefusesRequest text.now) }
 {
     let mut frames = RequestFrames::new(alloc);
+    only_head(&mut frames, text)
+}
+
+// The head of the request that a text is, by a reader that has read nothing.
+fn only_head(frames: &mut RequestFrames, text: &[u8]) -> Result<RequestHead, RequestError>
+    requires { frames.old ≡ record { unread = []; ended = false; failed = None } }
+    ensures whole { IfOk result (IsOneRequest text.now) }
+    ensures refused { IfErr result (RefusesRequest text.now) }
+{
     frames.feed(text)?;
     match frames.next_head() {
         Ok(Step::Message(head)) => {

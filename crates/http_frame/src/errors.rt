@@ -51,7 +51,7 @@ pub enum FrameFault {
 }
 
 /// What `next` found.
-#[derive(Debug, Drop)]
+#[derive(Drop)]
 pub enum Step<M> {
     Message(M),
     /// More bytes are needed.

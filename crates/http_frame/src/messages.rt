@@ -24,7 +24,7 @@ pub struct Request {
 }
 
 /// What a response's head says.
-#[derive(Clone, Copy, Debug, PartialEq, Eq)]
+#[derive(Clone, Copy, PartialEq, Eq)]
 pub struct ResponseHead {
     pub status: u16,
     /// A Connection field has the item `close`, or the body ends where the input ends.

@@ -8,7 +8,7 @@ use mm_base::{EndError, OutOfMemory};
 use nest_spec::RunResult;
 
 /// Why a relay that is done took no further turn.
-#[derive(Clone, Copy, Debug, PartialEq, Eq)]
+#[derive(Clone, Copy, PartialEq, Eq)]
 pub enum RelayEnd {
     /// The clock's moment was above the horizon.
     Horizon,

@@ -1,5 +1,5 @@
 // The relay.
-ghost use Rattle.std.specs.Prelude.{◌≡◌, ◌≤◌, IfOk, IsErrOf, OnErr, length};
+ghost use Rattle.std.specs.Prelude.{◌≡◌, ◌≤◌, IfOk, IsErrOf, OnErr};
 ghost use Rattle.mm_base.specs.Counts.{Rose};
 ghost use Rattle.live_relay.specs.Relays.{IsRelayed, IsStopped};
 ghost use Rattle.live_relay.specs.Wires.{CountsWireFaults};
@@ -7,19 +7,11 @@ ghost use Rattle.live_relay.specs.Wires.{CountsWireFaults};
 use crate::relay_state::Relay;
 use crate::stamps::MOST;
 use crate::{Clock, RelayError, RelayResult, Wire};
-use mm_base::OutOfMemory;
 use nest_spec::Nest;
 use std::alloc::Global;
 
 // The room for a datagram: one byte more than a packet has, so that a longer one shows.
 const ROOM: usize = MOST + 1;
-
-// So many bytes of room.
-fn zeros(alloc: Global, count: usize) -> Result<Vec<u8>, OutOfMemory>
-    ensures { IfOk result (λ zeros. length zeros.items ≡ count) }
-{
-    Ok(vec![in alloc; 0u8; count]?)
-}
 
 /// Lets datagrams pass a nest, in at most so many turns, 1 to 1,000,000.
 ///
@@ -50,14 +42,14 @@ pub fn relay<C: Clock, W: Wire>(
 {
     let horizon = nest.horizon();
     let mut relay = Relay::new(alloc, nest)?;
-    let mut room = zeros(alloc, ROOM)?;
+    let mut room = [0u8; ROOM];
     let mut last = 0;
     'turns: for _taken in 0..turns {
         let moment = clock.now();
         if moment > horizon {
             return relay.end_at_horizon(alloc, nest, wire, moment);
         }
-        relay = relay.turn(nest, moment, wire, room.as_mut_slice())?;
+        relay = relay.turn(nest, moment, wire, &mut room)?;
         last = moment;
     }
     Ok(relay.end_after_turns(alloc, nest, last)?)

@@ -6,7 +6,7 @@ use mm_base::OutOfMemory;
 
 /// The delays of a log's departures, in milliseconds: of n delays in order, those at the ranks n / 2 and 95 n / 100,
 /// counted from 1 and rounded up, and the greatest.
-#[derive(Clone, Copy, Debug, PartialEq, Eq)]
+#[derive(Clone, Copy, PartialEq, Eq)]
 pub struct Delays {
     pub median: u64,
     pub p95: u64,
@@ -14,7 +14,7 @@ pub struct Delays {
 }
 
 /// What a log comes to. A pair is a number of packets, or of opportunities, and their bytes.
-#[derive(Clone, Copy, Debug, PartialEq, Eq)]
+#[derive(Clone, Copy, PartialEq, Eq)]
 pub struct Report {
     /// How many entries there are.
     pub entries: u64,

@@ -8,7 +8,7 @@ ghost use Rattle.loss_core.specs.Rates.{parts_of, whole_of, fraction_of, billion
 use mm_base::read_decimal;
 
 /// The share of packets that a loss drops, in billionths: 0 drops none, 1,000,000,000 drops all.
-#[derive(Clone, Copy, Debug, PartialEq, Eq)]
+#[derive(Clone, Copy, PartialEq, Eq)]
 pub struct Rate {
     billionths: u32,
     pub ghost most: { billionths ≤ 1000000000 },

@@ -16,7 +16,7 @@ use std::sync::Wait;
 use std::thread::Threads;
 
 /// How a feeding ended.
-#[derive(Clone, Copy, Debug, PartialEq, Eq)]
+#[derive(Clone, Copy, PartialEq, Eq)]
 pub enum FeedEnd {
     /// All rows up to the horizon were sent, and the end in both directions.
     Ended,

@@ -1,11 +1,12 @@
 -- A text of lines of which a front is written to a file, and a piece is still kept.
-use Rattle.std.proofs.Common.{◌≡◌, ℕ, ◌+◌, ◌<◌, ◌≤◌, ◌++◌, List, length, take, Option, Result, Ok, Err, OnErr, ap, sym}
+use Rattle.std.proofs.Common.{◌≡◌, ◌⊎◌, inl, inr, ℕ, ◌+◌, ◌-◌, ◌<◌, ◌≤◌, ◌++◌, List, length, take, Option, Result, Ok}
+use Rattle.std.proofs.Common.{Err, OnErr, ap, sym}
 use Rattle.std.proofs.Common.{◌∙◌, arith, length-append}
 use Rattle.std.proofs.Math.Seq.{take-append-add}
 use Rattle.std.proofs.lemmas.List.{append_assoc, take-append-le}
 use Rattle.std.proofs.lemmas.List.Concat.{flat_map-append}
 use Rattle.std.specs.List.{flat_map}
-use Rattle.mm_base.specs.Files.{Files, lengthened}
+use Rattle.mm_base.specs.Files.{Files, holding, lengthened}
 
 pub on_err : {T E P : Type 0} (r : Result T E) → P → OnErr r P
 on_err (Ok x) p = tt
@@ -34,3 +35,18 @@ adds_front told after name whole front piece rest n is short adds =
     ap (take (length front + n)) is ∙ take-append-le (length front + n) (front ++ piece) rest within
     ∙ take-append-add front piece n in
     (length front + n, omega arith, adds ∙ ap (λ l. lengthened name l told) (sym same))
+
+-- the file is as before, or has a front of a first part of the text
+pub first_held : (told after : Option Files) (name first rest : List ℕ)
+    → (after ≡ told) ⊎ ((n : ℕ) × (n ≤ length first - 1) × (after ≡ holding name (take n first) told))
+    → (after ≡ told) ⊎ ((n : ℕ) × (n ≤ length (first ++ rest) - 1)
+    × (after ≡ holding name (take n (first ++ rest)) told))
+first_held told after name first rest (inl same) = inl same
+first_held told after name first rest (inr p) =
+    let short = p.1 in
+    inr (
+      p.0,
+      omega (arith, length-append first rest),
+      p.2
+          ∙ ap (λ l. holding name l told) (sym (take-append-le p.0 first rest (omega arith))),
+    )

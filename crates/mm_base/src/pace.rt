@@ -3,7 +3,7 @@ use std::sync::Wait;
 
 /// Who takes a turn. Shells are counted from 1, outermost first, and connections from 1 in the order in which they
 /// came.
-#[derive(Clone, Copy, Debug, PartialEq, Eq)]
+#[derive(Clone, Copy, PartialEq, Eq)]
 pub enum Role {
     Source,
     Feeder { up: bool, shell: u32 },
@@ -19,7 +19,7 @@ pub trait Pace {
 }
 
 /// A pace that lets every turn begin at once.
-#[derive(Clone, Copy, Debug, PartialEq, Eq)]
+#[derive(Clone, Copy, PartialEq, Eq)]
 pub struct NoPace;
 
 impl Pace for NoPace {

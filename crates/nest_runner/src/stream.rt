@@ -10,8 +10,8 @@ ghost use Rattle.packet_record.specs.Rows.{entering};
 ghost use Rattle.packet_record.specs.Streams.{no_items};
 ghost use Rattle.mark_channel.specs.Ends.{IsSameEnd};
 ghost use Rattle.nest_runner.specs.Ends.{IfEnded};
-ghost use Rattle.nest_runner.specs.Lanes.{HasCarried, HasEnded, HasRun, IsDonePath, IsFreshLane, IsFreshPath, IsSameLane};
-ghost use Rattle.nest_runner.specs.Lanes.{IsSamePath};
+ghost use Rattle.nest_runner.specs.Lanes.{HasCarried, HasEnded, HasRun, IsDonePath, IsFreshLane, IsFreshPath};
+ghost use Rattle.nest_runner.specs.Lanes.{IsSameLane, IsSamePath};
 ghost use Rattle.nest_runner.specs.Streaming.{HasStreamCause, IsScheduleOf, StreamsTo};
 ghost use Rattle.nest_runner.specs.StreamParts.{AllSent, IsStreamed};
 

@@ -3,7 +3,7 @@ use packet_record::Direction;
 
 /// What became of one packet of a run. Moments are milliseconds from the run's start, and shells
 /// are numbered from 1, the outermost first.
-#[derive(Clone, Copy, Debug, PartialEq, Eq)]
+#[derive(Clone, Copy, PartialEq, Eq)]
 pub enum Fate {
     /// It left its last shell at this moment.
     Departed { moment: u64 },
@@ -16,7 +16,7 @@ pub enum Fate {
 }
 
 /// A packet of a run by its number and its direction, with its fate.
-#[derive(Clone, Copy, Debug, PartialEq, Eq)]
+#[derive(Clone, Copy, PartialEq, Eq)]
 pub struct FateRow {
     pub id: u32,
     pub direction: Direction,

@@ -7,7 +7,7 @@ use packet_queue::QueueSpec;
 use packet_record::Direction;
 
 /// The three shells.
-#[derive(Clone, Copy, Debug, PartialEq, Eq)]
+#[derive(Clone, Copy, PartialEq, Eq)]
 pub enum ShellKind {
     /// `mm-delay`
     Delay,
@@ -18,14 +18,14 @@ pub enum ShellKind {
 }
 
 /// One direction of a link: its queue, and whether its log has a name.
-#[derive(Clone, Copy, Debug, PartialEq, Eq)]
+#[derive(Clone, Copy, PartialEq, Eq)]
 pub struct LinkSide {
     pub queue: QueueSpec,
     pub logged: bool,
 }
 
 /// What the words of a shell say, without the names of its traces and logs.
-#[derive(Clone, Copy, Debug, PartialEq, Eq)]
+#[derive(Clone, Copy, PartialEq, Eq)]
 pub enum ShellWords {
     /// `mm-delay D`, in milliseconds.
     Delay {

@@ -1,7 +1,7 @@
 // Which queue a link has.
 
 /// What a queue does where a packet would pass its limits.
-#[derive(Clone, Copy, Debug, PartialEq, Eq)]
+#[derive(Clone, Copy, PartialEq, Eq)]
 pub enum QueueKind {
     /// It has no limit.
     Infinite,
@@ -12,7 +12,7 @@ pub enum QueueKind {
 }
 
 /// A queue's kind and its limits, in packets and in bytes. A limit of 0 is the same as none.
-#[derive(Clone, Copy, Debug, PartialEq, Eq)]
+#[derive(Clone, Copy, PartialEq, Eq)]
 pub struct QueueSpec {
     pub kind: QueueKind,
     pub packets: Option<u64>,

@@ -3,7 +3,7 @@ use crate::Timed;
 use std::collections::LinkedList;
 
 /// What a shell is fed and what is taken from it.
-#[derive(Clone, Copy, Debug, PartialEq, Eq)]
+#[derive(Clone, Copy, PartialEq, Eq)]
 pub enum Item {
     /// A packet at its moment.
     Packet(Timed),
@@ -16,7 +16,7 @@ pub enum Item {
 }
 
 /// How a stream of items ended, if it did.
-#[derive(Clone, Copy, Debug, PartialEq, Eq)]
+#[derive(Clone, Copy, PartialEq, Eq)]
 pub enum FlowEnd {
     /// It goes on.
     Open,

@@ -5,7 +5,7 @@ ghost use Rattle.packet_record.specs.Reaches.{nowhere, reach_after, IsNext};
 use crate::{FlowEnd, Item};
 
 /// How far a stream of items has come.
-#[derive(Clone, Copy, Debug, PartialEq, Eq)]
+#[derive(Clone, Copy, PartialEq, Eq)]
 pub struct Reach {
     /// The greatest moment that any item named, in milliseconds; 0 at first.
     pub bound: u64,

@@ -1,7 +1,7 @@
 // How connections end.
 
 /// How a proxied connection ended.
-#[derive(Clone, Copy, Debug, PartialEq, Eq)]
+#[derive(Clone, Copy, PartialEq, Eq)]
 pub enum ProxyEnd {
     /// The client's input ended between requests, or an answer was given whose request or response closes.
     Closed,

@@ -1,6 +1,6 @@
 -- One more request, response or answer at the end of those that were read.
-use Rattle.std.proofs.Common.{Bool, ◌≡◌, ◌∙◌, ℕ, ◌+◌, ◌<◌, ◌≤◌, List, [], ◌∷◌, ◌++◌, length, drop, refl, sym, ap, subst}
-use Rattle.std.proofs.Common.{arith, length-append, length-drop}
+use Rattle.std.proofs.Common.{Bool, ◌≡◌, ◌∙◌, ℕ, ◌+◌, ◌<◌, ◌≤◌, List, [], ◌∷◌, ◌++◌, length, drop, refl, sym, ap}
+use Rattle.std.proofs.Common.{subst, Err, arith, length-append, length-drop}
 use Rattle.std.proofs.Math.Seq.{drop-append_seam}
 use Rattle.std.proofs.lemmas.List.{drop-drop}
 use Rattle.std.proofs.lemmas.List.Sums.{count_by-le-length}
@@ -10,7 +10,9 @@ use Rattle.http_frame.specs.Runs.{IsRequestOf, IsResponseOf, AreRequests, Begins
 use Rattle.http_frame.specs.declared.messages.Request.{Request}
 use Rattle.http_frame.specs.declared.messages.Response.{Response}
 use Rattle.http_frame.proofs.WindowLemmas.{request_lines, response_lines}
-use Rattle.record_store.specs.Pairs.{IsThen, AreInterim, IsAnswer, AreAnswers}
+use Rattle.record_store.specs.Pairs.{IsThen, AreInterim, IsAnswer, AreAnswers, Reaches, Pairs, AnswerSays}
+use Rattle.record_store.specs.declared.errors.PairError.{PairError}
+use Rattle.record_store.specs.declared.errors.PairError.TheVariants as errors
 use Rattle.record_store.specs.declared.record.Record.{Record}
 
 pub request_some : (m : Request) → IsRequestOf m → 0 < length m.bytes
@@ -98,3 +100,15 @@ pub is_then : (to_head : Bool) (bytes : List ℕ) (m : Response) (after : List �
     → after ≡ b.after → IsThen to_head bytes m after
 is_then to_head bytes m after b e = subst (IsThen to_head bytes m) (sym e)
     (record { is = b.is; split = b.split; stops = b.stops })
+
+-- what the bytes have for one request, where there is no answer, is why there are no pairs
+pub pairs_lack : (client server : List ℕ) (port n : ℕ) (m : Request) (left : List ℕ) (e : PairError)
+    → Reaches client server port n m left → AnswerSays n m.head.head_only left (Err e)
+    → Pairs client server port (Err e)
+pairs_lack client server port n m left (errors.BadRequest k) here says = absurd says
+pairs_lack client server port n m left (errors.BadResponse k) here says =
+    (m, left, says.1, subst (λ j. Reaches client server port j m left) (sym says.0) here, says.2, says.3, says.4)
+pairs_lack client server port n m left (errors.Unanswered k) here says =
+    (m, left, subst (λ j. Reaches client server port j m left) (sym says.0) here, says.1)
+pairs_lack client server port n m left errors.ExtraResponse here says = absurd says
+pairs_lack client server port n m left errors.OutOfMemory here says = tt

@@ -5,8 +5,7 @@ use Rattle.http_frame.specs.Runs.{IsResponseOf, AreRequests, BeginsWithNone, Beg
 use Rattle.http_frame.specs.declared.messages.Request.{Request}
 use Rattle.http_frame.specs.declared.messages.Response.{Response}
 use Rattle.record_store.specs.declared.record.Record.{Record}
-use Rattle.record_store.specs.declared.server.Found.{Found}
-use Rattle.record_store.specs.declared.server.Found.TheVariants as found
+use Rattle.record_store.specs.declared.server.Answer.{Answer}
 use Rattle.record_store.specs.declared.errors.PairError.{PairError}
 use Rattle.record_store.specs.declared.errors.PairError.TheVariants as errors
 
@@ -74,10 +73,13 @@ Pairs client server port (Err errors.ExtraResponse) =
     × AreAnswers port server ms rs rest × (0 < length rest)
 Pairs client server port (Err errors.OutOfMemory) = Unit {0}
 
--- what the bytes have for one request
-abbrev pub AnswerSays : Bool → List ℕ → Found → Type 0
-AnswerSays to_head bytes (found.Final skipped m) =
-    (skipped + length m.bytes ≤ length bytes) × IsAnswer to_head bytes m (drop (skipped + length m.bytes) bytes)
-AnswerSays to_head bytes found.Unanswered = AfterInterim to_head bytes []
-AnswerSays to_head bytes found.Bad = (before : List ℕ) × AfterInterim to_head bytes before
-    × BeginsWithNoResponse to_head before × (0 < length before)
+-- what the bytes have for request number n
+abbrev pub AnswerSays : ℕ → Bool → List ℕ → Result Answer PairError → Type 0
+AnswerSays n to_head bytes (Ok a) = (a.end ≤ length bytes) × IsAnswer to_head bytes a.response (drop a.end bytes)
+AnswerSays n to_head bytes (Err (errors.BadRequest k)) = ⊥
+AnswerSays n to_head bytes (Err (errors.BadResponse k)) =
+    (k ≡ n) × (before : List ℕ) × AfterInterim to_head bytes before × BeginsWithNoResponse to_head before
+    × (0 < length before)
+AnswerSays n to_head bytes (Err (errors.Unanswered k)) = (k ≡ n) × AfterInterim to_head bytes []
+AnswerSays n to_head bytes (Err errors.ExtraResponse) = ⊥
+AnswerSays n to_head bytes (Err errors.OutOfMemory) = Unit {0}

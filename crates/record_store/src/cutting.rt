@@ -8,7 +8,7 @@ use crate::store_error::StoreError;
 
 /// A record's port, and where its parts stand, counted from the record's place: the request begins, the response
 /// begins, and the response ends, before the line feed that ends the record.
-#[derive(Clone, Copy, Debug, PartialEq, Eq)]
+#[derive(Clone, Copy, PartialEq, Eq)]
 pub struct Cut {
     pub port: u16,
     pub request: usize,

@@ -8,14 +8,14 @@ use crate::store_error::StoreError;
 use mm_base::{read_canonical, split_word};
 
 /// The two forms of a store's text. Records of form 1 have port 0.
-#[derive(Clone, Copy, Debug, PartialEq, Eq)]
+#[derive(Clone, Copy, PartialEq, Eq)]
 pub enum Form {
     One,
     Two,
 }
 
 /// What a header says: the port, and the lengths of the request and of the response.
-#[derive(Clone, Copy, Debug, PartialEq, Eq)]
+#[derive(Clone, Copy, PartialEq, Eq)]
 pub struct Header {
     pub port: u16,
     pub request: usize,

@@ -8,7 +8,7 @@ ghost use Rattle.record_store.specs.Pairs.{Pairs, RefusesRequests};
 
 use crate::errors::PairError;
 use crate::record::{Record, Store};
-use crate::server::{Found, answer_at, from_place};
+use crate::server::{answer_at, from_place};
 use http_frame::{Request, first_request};
 use std::alloc::Global;
 
@@ -53,18 +53,13 @@ fn pair_streams(alloc: Global, client: &[u8], server: &[u8], port: u16) -> Resul
     let mut place = 0;
     'answers: for request in requests {
         let n = store.records().len() as u64 + 1;
-        match answer_at(alloc, request.head.head_only, from_place(server, place))? {
-            Found::Final(skipped, response) => {
-                place += skipped + response.bytes.len();
-                store.add(Record {
-                    port,
-                    request,
-                    response,
-                })?;
-            }
-            Found::Unanswered => return Err(PairError::Unanswered { n }),
-            Found::Bad => return Err(PairError::BadResponse { n }),
-        }
+        let answer = answer_at(alloc, n, request.head.head_only, from_place(server, place))?;
+        place += answer.end;
+        store.add(Record {
+            port,
+            request,
+            response: answer.response,
+        })?;
     }
     if place < server.len() {
         return Err(PairError::ExtraResponse);

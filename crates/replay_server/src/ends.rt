@@ -1,7 +1,7 @@
 // How connections and servings end.
 
 /// How a connection ended.
-#[derive(Clone, Copy, Debug, PartialEq, Eq)]
+#[derive(Clone, Copy, PartialEq, Eq)]
 pub enum ConnEnd {
     /// After the first answer that closes, or at the end of the input.
     Closed,
@@ -16,7 +16,7 @@ pub enum ConnEnd {
 }
 
 /// How many connections ended in each way, but for want of memory.
-#[derive(Clone, Copy, Debug, PartialEq, Eq)]
+#[derive(Clone, Copy, PartialEq, Eq)]
 pub struct Served {
     pub closed: u32,
     pub bad: u32,

@@ -3,7 +3,7 @@ ghost use Rattle.std.specs.Prelude.{◌≡◌};
 
 /// One line of a log, at a moment in milliseconds from the start of the run. Sizes are in bytes. Every number of an
 /// entry in a log has at most ten digits, so that what is printed is read again.
-#[derive(Clone, Copy, Debug, PartialEq, Eq)]
+#[derive(Clone, Copy, PartialEq, Eq)]
 pub enum Entry {
     /// A packet of 1 to 1504 bytes came in.
     Arrival {

@@ -2,7 +2,7 @@
 use packet_record::Item;
 
 /// What a take answers.
-#[derive(Clone, Copy, Debug, PartialEq, Eq)]
+#[derive(Clone, Copy, PartialEq, Eq)]
 pub enum Taken {
     /// The next item of the stream of what leaves.
     Item(Item),

@@ -2,7 +2,7 @@
 ghost use Rattle.std.specs.Prelude.{◌≤◌};
 
 /// A chance to deliver 1 to 1000000 bytes, at a moment in milliseconds from the start of the run.
-#[derive(Clone, Copy, Debug, PartialEq, Eq)]
+#[derive(Clone, Copy, PartialEq, Eq)]
 pub struct Opportunity {
     /// Whole milliseconds from the start of the run.
     pub moment: u64,
@@ -13,7 +13,7 @@ pub struct Opportunity {
 }
 
 /// What the lines of a trace's text state.
-#[derive(Clone, Copy, Debug, PartialEq, Eq)]
+#[derive(Clone, Copy, PartialEq, Eq)]
 pub enum Form {
     /// A moment alone; each opportunity has 1504 bytes, which is 1500 and the 4 bytes of the TUN header (mm-link).
     Moments,

@@ -95,6 +95,15 @@ returns-clause-found g c =
     (c.in_ok-check_listed.ensures list checked) c.read_input.ensures.only_reads names
     c.in_ok-schedules.ensures.items c.in_ok-load_schedules.ensures.found
 
+pub returns-clause-some : goal.returns-clause-some
+returns-clause-some g c =
+    let adds = c.in_ok-load_schedules.ensures.found in
+    let all = ap length (adds.added ∙ ap (λ l. l ++ adds.more) c.in_ok-schedules.ensures.items) in
+    let count = schedule_count adds.have in
+    let names : length (map (λ name. name.now) c.as_slice-3.result.now) ≡ length c.in_ok-names.names.items =
+    length-map c.as_slice-3.result.now (λ name. name.now) ∙ ap length c.as_slice-3.ensures.value in
+    omega (arith, all, count, names, c.in_ok-names.ensures.some)
+
 pub returns-clause-few : goal.returns-clause-few
 returns-clause-few g c =
     let adds = c.in_ok-load_schedules.ensures.found in

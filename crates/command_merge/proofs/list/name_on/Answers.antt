@@ -10,3 +10,6 @@ returns-clause-some c =
 pub returns-clause-none : goal.returns-clause-none
 returns-clause-none c =
     name_missing _ _ c.args.line.now c.from_utf8.result c.ok.result c.ok.ensures.value c.from_utf8.ensures.cases
+
+pub returns-then-is_empty-clause-some : goal.returns-then-is_empty-clause-some
+returns-then-is_empty-clause-some c = search rules

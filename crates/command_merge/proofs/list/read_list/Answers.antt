@@ -30,3 +30,9 @@ loop-line-preserved c =
           ∙ ap (line_fault (length names + 1)) (sym step)
           ∙ c.loop-line.invariant.exact;
     }
+
+pub returns-then-is_empty-clause-some : goal.returns-then-is_empty-clause-some
+returns-then-is_empty-clause-some c = search rules
+
+pub returns-then-is_empty-clause-exact : goal.returns-then-is_empty-clause-exact
+returns-then-is_empty-clause-exact c = search rules

@@ -1,4 +1,4 @@
-use Rattle.std.proofs.Common.{List, subst, sym}
+use Rattle.std.proofs.Common.{List, subst, sym, rules}
 use Rattle.std.proofs.lemmas.Result.{err_from_is_err_and}
 use Rattle.trace_reader.specs.Traces.{TraceView}
 use Rattle.command_ends.specs.Causes.{Text}
@@ -39,3 +39,6 @@ returns-in_err-check_count-clause-stopped g c =
     c.in_err-check_count.field-0.0) c.as_slice.ensures.value c.in_err-check_count.ensures.refused in
     rw p.1 (subst (λ (k : Cause). StopsReading (run_inputs job c.args.words) old new k) (sym p.2)
     (count_stop job c.args.words old new found.0 traces c.in_err-check_count.field-0.0 have refused))
+
+pub returns-clause-found : goal.returns-clause-found
+returns-clause-found g c = search rules

@@ -1,6 +1,5 @@
 use Rattle.std.proofs.Common.{◌≡◌, ◌≤◌, ◌<◌, ◌+◌, ◌∙◌, inl, inr, ap, arith, length, sym, subst, refl}
-use Rattle.std.proofs.Common.{List}
-use Rattle.std.proofs.lemmas.List.{with_items_is}
+use Rattle.std.proofs.Common.{List, rules}
 use Rattle.std.proofs.lemmas.Result.{on_err_weaker}
 use Rattle.mm_base.proofs.Then.{CountsFaults-none, CountsFaults-then}
 use Rattle.live_relay.specs.declared.outcome.RelayResult.{RelayResult}
@@ -19,10 +18,6 @@ pub returns-in_err-relay-clause-stopped : goal.returns-in_err-relay-clause-stopp
 returns-in_err-relay-clause-stopped g c = on_err_any _ c.from_residual.result
     (stops_first c.args.nest.now c.args.turns (g.C.Clock.view c.args.clock.now) (g.W.Wire.view c.args.wire.now))
 
-pub returns-in_err-room-clause-stopped : goal.returns-in_err-room-clause-stopped
-returns-in_err-room-clause-stopped g c = on_err_any _ c.from_residual-in_err-room.result
-    (stops_first c.args.nest.now c.args.turns (g.C.Clock.view c.args.clock.now) (g.W.Wire.view c.args.wire.now))
-
 pub turns-init : goal.turns-init
 turns-init g c =
     let current = c.in_ok-relay.ensures in
@@ -33,7 +28,6 @@ turns-init g c =
           (none_due c.args.nest.now Server relay.up current.up);
       opened = refl;
       counts = CountsFaults-none _ _ (g.W.Wire.view c.args.wire.now);
-      room = c.in_ok-room.ensures;
     }
 
 pub returns-then-moment-horizon-clause-relayed : goal.returns-then-moment-horizon-clause-relayed
@@ -62,6 +56,28 @@ returns-then-moment-horizon-clause-stopped g c =
     (g.C.Clock.view c.now-moment.new.self) _ _ (g.W.Wire.view c.end_at_horizon.new.wire) c.turns.relay c.turns.last
     course c.turns-test.true c.now-moment.ensures.latest c.now-moment.ensures.told s.stops (inl s.same))
     c.end_at_horizon.ensures.err
+
+pub end_at_horizon-requires : goal.end_at_horizon-requires
+end_at_horizon-requires g c =
+    let course = c.turns.invariant.course in
+    let before = course.before in
+    let never = c.now-moment.ensures.never_falls in
+    let is = course.last_is in
+    record { turns = course.turns; current = course.current; before = omega arith }
+
+pub turn-requires-clause-stands : goal.turn-requires-clause-stands
+turn-requires-clause-stands g c =
+    let course = c.turns.invariant.course in
+    let before = course.before in
+    let never = c.now-moment.ensures.never_falls in
+    let is = course.last_is in
+    record { turns = course.turns; current = course.current; before = omega arith }
+
+pub end_after_turns-requires : goal.end_after_turns-requires
+end_after_turns-requires g c =
+    let course = c.turns.invariant.course in
+    let is = course.last_is in
+    record { turns = course.turns; current = course.current; before = omega arith }
 
 pub turn-requires-clause-few : goal.turn-requires-clause-few
 turn-requires-clause-few g c =
@@ -92,10 +108,7 @@ returns-in_err-relay-2-clause-stopped g c =
     (inr within))
 
 pub turn-requires-clause-room : goal.turn-requires-clause-room
-turn-requires-clause-room g c =
-    let lent = ap length c.as_mut_slice.ensures.value in
-    let room = c.turns.invariant.room in
-    omega arith
+turn-requires-clause-room g c = search rules
 
 pub turns-preserved : goal.turns-preserved
 turns-preserved g c =
@@ -105,12 +118,6 @@ turns-preserved g c =
     let le : c.turns.last ≤ c.now-moment.result = omega arith in
     let within : c.now-moment.result ≤ c.args.nest.now.horizon =
     let early = c.if-moment-horizon.false in let is = c.horizon-horizon.ensures.value in omega arith in
-    let lent = ap length c.as_mut_slice.ensures.value in
-    let kept = c.turn.auto.buf in
-    let ok = c.turns.room.ok in
-    let room = c.turns.invariant.room in
-    let long : length c.turn.new.buf ≡ c.turns.room.len = omega arith in
-    let full : length c.turn.new.buf ≡ 1505 = omega arith in
     record {
       course = course_turned c.args.nest.now c.turns._taken c.now-moment.result _ _
           (g.C.Clock.view c.now-moment.new.self) _ _ (g.W.Wire.view c.turn.new.wire) c.turns.relay
@@ -119,7 +126,6 @@ turns-preserved g c =
           (subst (λ n. n ≤ c.now-moment.result) course.last_is le));
       opened = c.turn.ensures.opened ∙ c.turns.invariant.opened;
       counts = CountsFaults-then c.turns.invariant.counts c.turn.ensures.counts;
-      room = ap length (with_items_is c.turns.room c.turn.new.buf long) ∙ full;
     }
 
 pub returns-in_err-end_after_turns-clause-stopped : goal.returns-in_err-end_after_turns-clause-stopped

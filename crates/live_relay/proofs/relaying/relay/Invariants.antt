@@ -1,6 +1,6 @@
 use Rattle.live_relay.specs.Wires.{CountsWireFaults}
 use Rattle.live_relay.proofs.Coursing.{Course}
-use Rattle.std.proofs.Common.{◌≡◌, length}
+use Rattle.std.proofs.Common.{◌≡◌}
 use Rattle.live_relay.proofs.relaying.relay.Given as goal
 
 abbrev pub invariant-turns : goal.invariant-turns
@@ -9,5 +9,4 @@ invariant-turns g l = record {
       (g.W.Wire.view l.wire) l.relay l.last;
   opened : (g.W.Wire.view l.wire).opened ≡ (g.W.Wire.view l.fn.wire).opened;
   counts : CountsWireFaults (g.W.Wire.view l.fn.wire) (g.W.Wire.view l.wire);
-  room : length l.room.items ≡ 1505;
 }

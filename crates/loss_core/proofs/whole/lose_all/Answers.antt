@@ -1,4 +1,5 @@
 use Rattle.std.proofs.Common.{◌≡◌, ◌+◌, true, false, ap, sym, ◌∙◌, arith, rules}
+use Rattle.std.proofs.lemmas.Grind.{common_steps}
 use Rattle.loss_core.specs.Losses.{drops}
 use Rattle.loss_core.proofs.Wholes.{one_lost, one_passes}
 use Rattle.loss_core.proofs.whole.lose_all.Goals as goal
@@ -30,3 +31,6 @@ loop-t-preserved g c =
             lost_room = search rules;
           }
     ]
+
+pub returns-clause-departed : goal.returns-clause-departed
+returns-clause-departed g c = grind (arith, common_steps)

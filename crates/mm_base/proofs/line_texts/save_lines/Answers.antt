@@ -4,7 +4,12 @@ use Rattle.std.specs.List.{flat_map}
 use Rattle.std.proofs.lemmas.Result.{on_ok_weaker, on_err_weaker}
 use Rattle.mm_base.specs.Files.{holding}
 use Rattle.mm_base.proofs.FilesLemmas.{holding-lengthened}
+use Rattle.mm_base.proofs.LineTextsLemmas.{first_held, on_err}
 use Rattle.mm_base.proofs.line_texts.save_lines.Goals as goal
+
+pub returns-in_err-save-clause-err : goal.returns-in_err-save-clause-err
+returns-in_err-save-clause-err g c =
+    on_err _ (first_held _ _ c.args.name.now c.args.first.now _ c.in_err-save.ensures.err)
 
 pub returns-clause-ok : goal.returns-clause-ok
 returns-clause-ok g c =

@@ -1,5 +1,6 @@
 use Rattle.std.proofs.Common.{◌≡◌, ◌-◌, ◌<◌, ℕ, ◌++◌, List, Some, false, length, take, drop, get_or, subst, sym, ◌∙◌}
 use Rattle.std.proofs.Common.{arith, rules, length-drop}
+use Rattle.std.proofs.lemmas.Grind.{common_steps}
 use Rattle.std.proofs.lemmas.List.{take_all}
 use Rattle.mm_base.specs.Numbers.{is_digit, decimal_of}
 use Rattle.mm_base.proofs.SplitLemmas.{front_read, front_every}
@@ -32,3 +33,9 @@ returns-clause-every c =
     λ word rest n cut e other.
     let both = front_every text word rest n c.loop-count.value k cut e other inv.within inv.digits inv.value stops in
     (both.0, whole ∙ both.1)
+
+pub returns-then-count-eq0-clause-every : goal.returns-then-count-eq0-clause-every
+returns-then-count-eq0-clause-every c = grind (arith, common_steps)
+
+pub returns-then-count-eq0-clause-none : goal.returns-then-count-eq0-clause-none
+returns-then-count-eq0-clause-none c = search rules

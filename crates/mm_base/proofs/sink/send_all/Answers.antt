@@ -1,4 +1,5 @@
 use Rattle.std.proofs.Common.{◌-◌, length, drop, ap, ◌∙◌, arith, length-drop}
+use Rattle.std.proofs.lemmas.Grind.{common_steps}
 use Rattle.std.proofs.lemmas.List.{length-take}
 use Rattle.mm_base.specs.Sink.{sending}
 use Rattle.mm_base.proofs.SinkLemmas.{sent_more}
@@ -20,3 +21,6 @@ loop-at-preserved g c = record {
       (next_piece c.args.bytes.now c.loop-at.at c.in_ok-at.field-0);
   counts = CountsFaults-then c.loop-at.invariant.counts c.write.ensures.counts;
 }
+
+pub returns-clause-ok : goal.returns-clause-ok
+returns-clause-ok g c = grind (arith, common_steps)

@@ -1,4 +1,4 @@
-use Rattle.std.proofs.Common.{subst, sym}
+use Rattle.std.proofs.Common.{subst, sym, rules}
 use Rattle.packet_record.specs.Moments.{AreUpTo, Rise}
 use Rattle.packet_record.proofs.RowsLemmas.{rise-entering, up_to-entering}
 use Rattle.nest_plain.proofs.plain.run_direction.Goals as goal
@@ -11,3 +11,12 @@ pub run_shells-requires-clause-within : goal.run_shells-requires-clause-within
 run_shells-requires-clause-within c =
     subst (AreUpTo c.horizon-horizon.result) (sym c.in_ok-arrived.ensures)
     (up_to-entering c.args.direction c.horizon-horizon.result c.args.rows.now)
+
+pub returns-clause-fates : goal.returns-clause-fates
+returns-clause-fates c = search rules
+
+pub returns-clause-logs : goal.returns-clause-logs
+returns-clause-logs c = search rules
+
+pub returns-clause-built : goal.returns-clause-built
+returns-clause-built c = search rules

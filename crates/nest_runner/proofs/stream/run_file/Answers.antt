@@ -10,8 +10,8 @@ returns-clause-up g c =
     let ran = c.in_ok-schedule in
     record {
       wired = still_wired _ _ _ _ c.in_ok-up.ensures.wired ran.ensures.same.0;
-      carried = subst (λ (h : ℕ). HasCarried (entering Up h ran.schedule) c.carry_file.new.up) c.horizon-horizon.ensures.value
-          ran.ensures.up;
+      carried = subst (λ (h : ℕ). HasCarried (entering Up h ran.schedule) c.carry_file.new.up)
+          c.horizon-horizon.ensures.value ran.ensures.up;
     }
 
 pub returns-clause-down : goal.returns-clause-down

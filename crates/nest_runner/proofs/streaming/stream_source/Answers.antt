@@ -1,3 +1,4 @@
+use Rattle.std.proofs.Common.{rules}
 use Rattle.nest_runner.specs.StreamParts.{IsStreamed}
 use Rattle.nest_runner.proofs.Streamed.{none_refused, on_ok, refused_streamed, some_refused, whole_streamed}
 use Rattle.nest_runner.proofs.streaming.stream_source.Goals as goal
@@ -22,3 +23,9 @@ returns-clause-text g c =
     (c.in-Ok.ensures.whole
     (none_refused mid.gathered.refused c.is_refused.result c.if-is_refused.false c.is_refused.ensures))
     c.end_stream.ensures.all
+
+pub stream_pieces-requires-clause-empty : goal.stream_pieces-requires-clause-empty
+stream_pieces-requires-clause-empty g c = search rules
+
+pub stream_pieces-requires-clause-none : goal.stream_pieces-requires-clause-none
+stream_pieces-requires-clause-none g c = search rules

@@ -1,4 +1,5 @@
-use Rattle.std.proofs.Common.{ap, length, refl, rules, subst, sym, ◌∙◌}
+use Rattle.std.proofs.Common.{ap, length, refl, rules, subst, sym, ◌∙◌, arith}
+use Rattle.std.proofs.lemmas.Grind.{common_steps}
 use Rattle.std.proofs.lemmas.Result.{on_ok_weaker}
 use Rattle.packet_record.specs.Moments.{AreUpTo}
 use Rattle.packet_record.proofs.MomentsLemmas.{up_to_higher}
@@ -87,3 +88,6 @@ gather_shells-requires t c =
         ),
       ),
     )
+
+pub returns-clause-logs : goal.returns-clause-logs
+returns-clause-logs t c = grind (arith, common_steps)

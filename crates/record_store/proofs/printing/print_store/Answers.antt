@@ -1,4 +1,4 @@
-use Rattle.std.proofs.Common.{◌≡◌, ◌∙◌, ◌<◌, List, length, get_or, ap, arith}
+use Rattle.std.proofs.Common.{◌≡◌, ◌∙◌, ◌<◌, List, length, get_or, ap, arith, rules}
 use Rattle.record_store.specs.declared.record.Record.{Record}
 use Rattle.record_store.proofs.PrintLemmas.{record_more}
 use Rattle.record_store.proofs.printing.print_store.Goals as goal
@@ -11,3 +11,6 @@ loop-record-preserved c =
     record_more c.args.store.now at.record-index c.record-item.result at.out c.write_record.new.out within
     (c.record-item.is ∙ ap (λ (rs : List Record). get_or rs at.record-index c.record-item.result) same) at.invariant
     c.in_ok-write_record.ensures
+
+pub loop-record-init : goal.loop-record-init
+loop-record-init c = search rules

@@ -8,12 +8,13 @@ returns-then-response-ge200 c =
     let bytes = c.args.bytes.now in
     let place = c.interim.place in
     let m = c.in-Some.response in
-    let n = place + length m.bytes in
+    let n = place + c.len.result in
+    let n_is : n ≡ place + length m.bytes = ap (λ k. place + k) c.len.ensures in
     let b : BeginsResponse c.args.to_head (drop place bytes) m =
     subst (λ ys. FirstResponse c.args.to_head ys (Some m)) c.from_place.ensures
     (rw c.in-Some.is at c.in_ok-response.ensures) in
-    let after_is : drop n bytes ≡ b.after = drop_after bytes m.bytes b.after place n b.split refl in (
-      place_inside bytes m.bytes b.after place n c.interim.invariant.inside b.split refl,
+    let after_is : drop n bytes ≡ b.after = drop_after bytes m.bytes b.after place n b.split n_is in (
+      place_inside bytes m.bytes b.after place n c.interim.invariant.inside b.split n_is,
       record {
         before = drop place bytes;
         passed = c.interim.invariant.passed;
@@ -27,7 +28,7 @@ interim-smaller c =
     let b = rw c.in-Some.is at c.in_ok-response.ensures in
     omega (
       arith,
-      c.len-place.ensures,
+      c.len.ensures,
       response_some c.args.to_head c.in-Some.response b.is,
       c.interim-test.true,
       c.interim.invariant.inside,
@@ -38,8 +39,8 @@ interim-preserved c =
     let bytes = c.args.bytes.now in
     let place = c.interim.place in
     let m = c.in-Some.response in
-    let n = place + c.len-place.result in
-    let n_is : n ≡ place + length m.bytes = ap (λ k. place + k) c.len-place.ensures in
+    let n = place + c.len.result in
+    let n_is : n ≡ place + length m.bytes = ap (λ k. place + k) c.len.ensures in
     let b : BeginsResponse c.args.to_head (drop place bytes) m =
     subst (λ ys. FirstResponse c.args.to_head ys (Some m)) c.from_place.ensures
     (rw c.in-Some.is at c.in_ok-response.ensures) in
@@ -61,5 +62,10 @@ returns-in-None c =
     let place = c.interim.place in
     let none : BeginsWithNoResponse c.args.to_head (drop place bytes) =
     subst (λ ys. FirstResponse c.args.to_head ys None) c.from_place.ensures
-    (rw c.in-None.is at c.in_ok-response.ensures) in
-    (drop place bytes, c.interim.invariant.passed, none, omega (arith, length-drop place bytes, c.interim-test.true))
+    (rw c.in-None.is at c.in_ok-response.ensures) in (
+      refl,
+      drop place bytes,
+      c.interim.invariant.passed,
+      none,
+      omega (arith, length-drop place bytes, c.interim-test.true),
+    )

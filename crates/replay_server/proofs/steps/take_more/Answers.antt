@@ -1,4 +1,4 @@
-use Rattle.std.proofs.Common.{sym, subst}
+use Rattle.std.proofs.Common.{sym, subst, rules}
 use Rattle.replay_server.specs.Links.{IsServed}
 use Rattle.replay_server.proofs.StepLemmas.{flush_spilt, flushed_on, is_full}
 use Rattle.replay_server.proofs.steps.take_more.Goals as goal
@@ -21,3 +21,6 @@ returns-clause-goes_on g c =
     c.read_more.ensures.goes_on store site start
     (flushed_on start _ c.args.talk.now p _ c.flush.new.gathered _ c.in_default.ensures.pours)
     c.in_default.ensures.ok whole may
+
+pub read_more-requires-clause-few : goal.read_more-requires-clause-few
+read_more-requires-clause-few g c = search rules

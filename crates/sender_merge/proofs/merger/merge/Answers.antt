@@ -1,4 +1,4 @@
-use Rattle.std.proofs.Common.{◌∙◌, ap}
+use Rattle.std.proofs.Common.{◌∙◌, ap, rules}
 use Rattle.mark_channel.specs.Ends.{End, IsSameEnd}
 use Rattle.sender_merge.proofs.Inletting.{same-on}
 use Rattle.sender_merge.proofs.merger.merge.Goals as goal
@@ -19,3 +19,6 @@ returns-clause-same g c =
       )
     ] in
     (same-on c.args.inlets.now c.merge_all.new.inlets c.receive_rest.new.inlets was.0 c.receive_rest.ensures.same, ends)
+
+pub returns-clause-merged : goal.returns-clause-merged
+returns-clause-merged g c = search rules

@@ -1,4 +1,4 @@
-use Rattle.std.proofs.Common.{◌∙◌, ap, sym, subst, refl}
+use Rattle.std.proofs.Common.{◌∙◌, ap, sym, subst, refl, rules}
 use Rattle.packet_record.specs.declared.item.Item.{Item}
 use Rattle.packet_record.specs.declared.item.Stream.{Stream}
 use Rattle.packet_record.specs.Streams.{after}
@@ -77,3 +77,6 @@ returns-in_err-receive_one-in-Need-clause-same g c =
       same-on c.args.inlets.now c.loop.inlets c.receive_one.new.inlets i.4 c.receive_one.ensures.same,
       (c.send_next.ensures.same.0 ∙ i.5.0, c.send_next.ensures.same.1 ∙ i.5.1),
     )
+
+pub returns-in-Item-Broken-clause-merged : goal.returns-in-Item-Broken-clause-merged
+returns-in-Item-Broken-clause-merged g c = search rules

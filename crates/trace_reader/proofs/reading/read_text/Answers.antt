@@ -39,3 +39,6 @@ loop-line-preserved c =
           ∙ ap (first_fault form (length list) c.loop-line.low) (sym step)
           ∙ c.loop-line.invariant.exact;
     }
+
+pub from_list-requires : goal.from_list-requires
+from_list-requires c = search rules

@@ -1,4 +1,5 @@
-use Rattle.std.proofs.Common.{Result, Ok, Err, OnErr, ◌∙◌}
+use Rattle.std.proofs.Common.{Result, Ok, Err, OnErr, ◌∙◌, arith}
+use Rattle.std.proofs.lemmas.Grind.{common_steps}
 use Rattle.link_core.proofs.PlayLemmas.{same_rest, rest_some}
 use Rattle.link_core.proofs.parts.Parts.fill.Goals as goal
 
@@ -41,3 +42,6 @@ returns-in_err-step-clause-err g c =
     let some = rest_some g.gone c.step.new.self now.sound (now.link.logged ∙ was.logged) now.playable
     c.in_err-step.ensures.err in
     where_err c.from_residual.result some
+
+pub returns-then-not-branch-clause-none : goal.returns-then-not-branch-clause-none
+returns-then-not-branch-clause-none g c = grind (arith, common_steps)

@@ -1,4 +1,4 @@
-use Rattle.std.proofs.Common.{◌∙◌, List, ap, subst, sym}
+use Rattle.std.proofs.Common.{◌∙◌, List, ap, subst, sym, rules}
 use Rattle.packet_record.specs.declared.packet.Row.{Row}
 use Rattle.packet_record.specs.Rows.{AreApart}
 use Rattle.live_relay.specs.declared.stamps.Stamps.{Stamps}
@@ -45,3 +45,6 @@ into_result-requires-clause-apart g c =
     let ended = c.in_ok-relay.ensures s.turns s.current in
     subst AreApart (sym (ap (λ (x : Stamps). x.rows.items) c.in_ok-send_due.ensures.same.stamps ∙ ended.stamps.rows))
     (apart s.turns)
+
+pub returns-clause-result : goal.returns-clause-result
+returns-clause-result g c = search rules

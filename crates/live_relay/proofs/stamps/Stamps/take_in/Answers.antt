@@ -21,3 +21,6 @@ returns-clause-row c =
 pub returns-clause-rows : goal.returns-clause-rows
 returns-clause-rows c = c.in_ok-push-2.ensures.items
     ∙ ap (λ (l : List Row). c.args.self.now.rows.items ++ l) (returns-clause-row c)
+
+pub returns-in_default-packet_after-clause-refused : goal.returns-in_default-packet_after-clause-refused
+returns-in_default-packet_after-clause-refused c = search rules

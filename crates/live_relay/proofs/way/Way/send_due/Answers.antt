@@ -1,4 +1,4 @@
-use Rattle.std.proofs.Common.{◌≡◌, ◌∙◌, ◌-◌, List, Option, ap, sym, subst, map, take, drop, length}
+use Rattle.std.proofs.Common.{◌≡◌, ◌∙◌, ◌-◌, List, Option, ap, sym, subst, map, take, drop, length, rules}
 use Rattle.std.specs.Option.{option_map}
 use Rattle.packet_record.specs.declared.packet.Timed.{Timed}
 use Rattle.packet_record.specs.Moments.{Rise}
@@ -34,3 +34,6 @@ returns-clause-ok g c =
     ∙ ap (λ (l : List Timed). option_map (sending_all c.args.side (map (bytes_in c.args.pieces.now) l))
     (g.W.Wire.view c.args.wire.now).told)
     (rest ∙ ap (λ (l : List Timed). drop w.sent (up_to c.args.moment l)) c.departed-departed.ensures.departed)
+
+pub returns-clause-sent : goal.returns-clause-sent
+returns-clause-sent g c = search rules

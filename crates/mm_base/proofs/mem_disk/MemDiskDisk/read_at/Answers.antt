@@ -12,3 +12,12 @@ returns-then-is_failing-clause-call c = record {
     λ _. search rules,
   );
 }
+
+pub returns-then-is_failing-clause-counted : goal.returns-then-is_failing-clause-counted
+returns-then-is_failing-clause-counted c = search rules
+
+pub returns-in-Some-clause-counted : goal.returns-in-Some-clause-counted
+returns-in-Some-clause-counted c = search rules
+
+pub returns-in-None-clause-counted : goal.returns-in-None-clause-counted
+returns-in-None-clause-counted c = search rules

@@ -1,4 +1,4 @@
-use Rattle.std.proofs.Common.{◌++◌, ◌∷◌, [], ap, arith}
+use Rattle.std.proofs.Common.{◌++◌, ◌∷◌, [], ap, arith, rules}
 use Rattle.packet_record.specs.Packets.{bytes}
 use Rattle.packet_queue.specs.Queues.{excess}
 use Rattle.packet_queue.specs.View.{Queue}
@@ -12,3 +12,9 @@ returns-in-DropHead-clause-few c =
     let same = ap bytes (by_head c.self.inside.spec c.self.inside.waiting.items c.args.t c.in-DropHead.is).1 in
     let seen = ap (λ (q : Queue). bytes (excess q.spec (q.packets ++ c.args.t ∷ []))) c.self.view_is in
     omega arith
+
+pub returns-else-would_fit-clause-packets : goal.returns-else-would_fit-clause-packets
+returns-else-would_fit-clause-packets c = search rules
+
+pub returns-else-would_fit-clause-bytes : goal.returns-else-would_fit-clause-bytes
+returns-else-would_fit-clause-bytes c = search rules

@@ -1,4 +1,5 @@
-use Rattle.std.proofs.Common.{◌++◌, append_assoc, subst, sym, ◌∙◌}
+use Rattle.std.proofs.Common.{◌++◌, append_assoc, subst, sym, ◌∙◌, arith}
+use Rattle.std.proofs.lemmas.Grind.{common_steps}
 use Rattle.mm_base.specs.Lines.{lines_of}
 use Rattle.packet_record.specs.PartsRead.{IsLeft}
 use Rattle.packet_record.proofs.PartLemmas.{awaits_any}
@@ -14,3 +15,6 @@ returns-then-is_refused-clause-read c = λ text read rest.
     subst (IsLeft ((text ++ piece) ++ rest) rest) c.self.view_is
     (awaits_any (lines_of ((text ++ piece) ++ rest)) _ (lines_of (c.self.inside.kept ++ rest)) c.self.inside.rows
     refused inside)
+
+pub returns-clause-read : goal.returns-clause-read
+returns-clause-read c = grind (arith, common_steps)

@@ -1,4 +1,5 @@
-use Rattle.std.proofs.Common.{◌≡◌, ◌<◌, length, ap, subst}
+use Rattle.std.proofs.Common.{◌≡◌, ◌<◌, length, ap, subst, rules, arith}
+use Rattle.std.proofs.lemmas.Grind.{common_steps}
 use Rattle.std.specs.Prelude.{List}
 use Rattle.record_store.specs.declared.record.Record.{Record}
 use Rattle.record_store.proofs.PrintLemmas.{left_some}
@@ -14,3 +15,9 @@ returns-in-Err-clause-err c =
     subst (λ p. 0 < length p.rest) c.self.view_is
     (left_some c.self.inside.begun c.self.inside.records.now
     (subst (λ (rs : List Record). 0 < length rs) same c.in-Err.ensures.err))
+
+pub returns-in-Ok-clause-same : goal.returns-in-Ok-clause-same
+returns-in-Ok-clause-same c = search rules
+
+pub returns-in-Ok-clause-none : goal.returns-in-Ok-clause-none
+returns-in-Ok-clause-none c = grind (arith, common_steps)

@@ -12,3 +12,6 @@ store-requires g c = (
       (subst (λ (k : Call). IsDone k c.args.seat.now.me c.args.word) (sym c.requires.call) c.requires.spends)
       (search rules),
 )
+
+pub returns-clause-spent : goal.returns-clause-spent
+returns-clause-spent g c = search rules

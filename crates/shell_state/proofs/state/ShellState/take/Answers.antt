@@ -1,4 +1,4 @@
-use Rattle.std.proofs.Common.{subst, sym, ap, ◌∙◌, ◌≡◌}
+use Rattle.std.proofs.Common.{subst, sym, ap, ◌∙◌, ◌≡◌, rules}
 use Rattle.packet_record.specs.declared.item.FlowEnd.TheVariants.{Open}
 use Rattle.shell_state.specs.States.{State}
 use Rattle.shell_state.specs.Inside.{state_of, IsWhole}
@@ -48,3 +48,6 @@ returns-clause-causes c =
     let done = returns-clause-ok c in
     caused c.args.self.now _ c.args.most c.answer-answer.result
     (subst Stands c.self.view_is c.self.invariant.whole.stands) c.requires.most done.0 done.1
+
+pub returns-then-self-clause-causes : goal.returns-then-self-clause-causes
+returns-then-self-clause-causes c = search rules

@@ -1,0 +1,11 @@
+use Rattle.std.proofs.Common.{rules}
+use Rattle.mark_channel.proofs.receiver.Receiver.recv.Goals as goal
+
+pub returns-in-Some-clause-flow : goal.returns-in-Some-clause-flow
+returns-in-Some-clause-flow g c = search rules
+
+pub returns-in-Some-clause-items : goal.returns-in-Some-clause-items
+returns-in-Some-clause-items g c = search rules
+
+pub loop-preserved : goal.loop-preserved
+loop-preserved g c = search rules
