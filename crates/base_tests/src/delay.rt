@@ -3,10 +3,10 @@ ghost use Rattle.std.specs.Prelude.{◌≡◌};
 
 use crate::packets::are_same;
 use delay_core::{DelayCore, delay_all};
-use mm_base::OutOfMemory;
 use packet_record::{Packet, Timed};
 use std::alloc::Global;
 use std::test::Fail;
+use text_base::OutOfMemory;
 
 fn packet(id: u32, moment: u64) -> Timed
     ensures { result.moment ≡ moment }

@@ -1,10 +1,11 @@
 // Files in memory and real ones: read, written, loaded and saved whole.
-use mm_base::{Bytes, Disk, DiskError, FileDisk, LoadError, MemDisk, Text, load, save};
+use mm_base::{Disk, DiskError, FileDisk, LoadError, MemDisk, load, save};
 use std::alloc::Global;
 use std::os::fd::AsRawFd;
 use std::process::Abort;
 use std::test::Fail;
 use std::{fs, io};
+use text_base::{Bytes, Text};
 
 // A disk in memory with one file, whose calls of these numbers fail.
 pub(crate) fn disk_with(

@@ -2,13 +2,11 @@
 ghost use Rattle.std.specs.Prelude.{◌++◌, ◌∷◌, [], decimal};
 
 use crate::disk::{disk_with, holds};
-use mm_base::{
-    Bytes, DiskError, LineBuffer, MemDisk, OutOfMemory, PrintLine, append_lines, print_lines,
-    save_lines,
-};
+use mm_base::{DiskError, MemDisk, append_lines, save_lines};
 use std::alloc::Global;
 use std::process::Abort;
 use std::test::Fail;
+use text_base::{Bytes, LineBuffer, OutOfMemory, PrintLine, print_lines};
 
 // A number that is printed as a line.
 #[derive(Drop)]
@@ -17,7 +15,7 @@ struct Number(u64);
 impl PrintLine for Number {
     ghost line = { λ n. decimal n.0 ++ 10 ∷ [] };
 
-    #[tactic(auto, using(mm_base::proofs::TextLemmas::is_ended_line))]
+    #[tactic(auto, using(text_base::proofs::TextLemmas::is_ended_line))]
     fn put_line(&self, out: &mut LineBuffer) {
         out.put_byte(b'\n');
         out.put_decimal(self.0);

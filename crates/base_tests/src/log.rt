@@ -1,9 +1,9 @@
 // Logs read and printed.
-use mm_base::OutOfMemory;
 use shell_log::{Entry, Log, LogError, LogText, print_log, read_log};
 use std::alloc::Global;
 use std::process::Abort;
 use std::test::Fail;
+use text_base::OutOfMemory;
 
 fn is_shared<T: Send + Sync>(_: &T) {}
 

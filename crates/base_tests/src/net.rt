@@ -2,12 +2,13 @@
 ghost use Rattle.std.specs.Prelude.{◌≤◌, IfOk};
 ghost use Rattle.mm_base.specs.MemLink.{IsUnused};
 
-use mm_base::{Bytes, EndError, Link, MemLink, MemPort, Port, TcpLink, TcpPort};
+use mm_base::{EndError, Link, MemLink, MemPort, Port, TcpLink, TcpPort};
 use std::alloc::Global;
 use std::io::{self, Write};
 use std::net::{Ipv4Addr, Shutdown, SocketAddr, TcpStream};
 use std::process::Abort;
 use std::test::Fail;
+use text_base::Bytes;
 
 fn goes_between_threads<T: Send>(_: &T) {}
 

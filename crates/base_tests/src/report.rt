@@ -1,10 +1,10 @@
 // Reports of logs, and of their texts in pieces.
 use log_report::{EMPTY, ReportError, ReportText, print_report, report};
-use mm_base::{Bytes, OutOfMemory, PieceReader};
 use shell_log::{Log, LogError, read_log};
 use std::alloc::Global;
 use std::process::Abort;
 use std::test::Fail;
+use text_base::{Bytes, OutOfMemory, PieceReader};
 
 const QUEUED: &[u8] =
     b"# base timestamp: 0\n0 + 1000\n0 + 1000\n1 # 1504\n1 - 1000 1\n1 + 800\n1 + 800\n1 + 700\n1 d 1 800\n\

@@ -1,14 +1,14 @@
 // Schedules that are read, printed and made: worked values, and what no clause says.
 ghost use Rattle.std.specs.Prelude.{◌≤◌};
 
-use mm_base::limits::MOST_LINES;
-use mm_base::{Bytes, OutOfMemory, PieceReader};
 use packet_record::{
     Draws, ScheduleError, ScheduleReader, ScheduleText, make_load, print_schedule, read_schedule,
 };
 use std::alloc::Global;
 use std::process::Abort;
 use std::test::Fail;
+use text_base::limits::MOST_LINES;
+use text_base::{Bytes, OutOfMemory, PieceReader};
 
 fn moves<T: Send + Drop>(_value: T) {}
 

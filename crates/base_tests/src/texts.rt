@@ -1,8 +1,8 @@
 // Bytes and texts that grow, numbers in digits, and the lines of a text.
-use mm_base::{Bytes, Lines, OutOfMemory, Text, read_canonical, read_decimal, write_decimal};
 use std::alloc::Global;
 use std::process::Abort;
 use std::test::Fail;
+use text_base::{Bytes, Lines, OutOfMemory, Text, read_canonical, read_decimal, write_decimal};
 
 fn is_shared<T: Send + Sync>(_: &T) {}
 

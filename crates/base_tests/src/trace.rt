@@ -1,8 +1,8 @@
 // Traces read, printed, played and made.
-use mm_base::OutOfMemory;
 use std::alloc::Global;
 use std::process::Abort;
 use std::test::Fail;
+use text_base::OutOfMemory;
 use trace_reader::{Form, Trace, TraceError, make_trace, print_trace, read_trace};
 
 fn is_shared<T: Send + Sync>(_: &T) {}

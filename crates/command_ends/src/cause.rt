@@ -3,8 +3,8 @@ ghost use Rattle.std.specs.Prelude.{◌≡◌, Some};
 ghost use Rattle.command_ends.specs.Causes.{status_of};
 ghost use Rattle.command_ends.specs.declared.cause.Cause.TheVariants as causes;
 
-use mm_base::{OutOfMemory, Text};
 use std::alloc::{AllocError, AllocFailed};
+use text_base::{OutOfMemory, Text};
 
 /// What the words of a command line are refused for, or a name.
 #[derive(Drop)]

@@ -8,7 +8,8 @@ ghost use Rattle.command_ends.specs.Stops.{Sends};
 
 use crate::{Cause, Limit, Refusal, WordsRefusal};
 use itoa::Buffer;
-use mm_base::{EndError, Sink, Text, send_all};
+use mm_base::{EndError, Sink, send_all};
+use text_base::Text;
 
 // Writes all of the pieces.
 fn send_pieces<O: Sink>(out: &mut O, pieces: &[&[u8]]) -> Result<(), EndError>

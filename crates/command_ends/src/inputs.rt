@@ -7,9 +7,10 @@ ghost use Rattle.command_ends.specs.Stops.{InputIsRead, IsInput, StopsAtFile};
 
 use crate::{Cause, Limit, Refusal};
 use file_pieces::{piece_buffer, push_pieces, size_within};
-use mm_base::limits::MOST_FILE_BYTES;
-use mm_base::{Bytes, Disk, DiskError, LoadError, PieceReader, Text, load};
+use mm_base::{Disk, DiskError, LoadError, load};
 use std::alloc::Global;
+use text_base::limits::MOST_FILE_BYTES;
+use text_base::{Bytes, PieceReader, Text};
 
 // Why the file of this name isn't read.
 fn cause_of_disk(name: Text, error: DiskError) -> Cause

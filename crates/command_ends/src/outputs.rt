@@ -5,8 +5,9 @@ ghost use Rattle.mm_base.specs.Sink.{CountsSinkFaults, sending};
 ghost use Rattle.command_ends.specs.Stops.{StopsAtOutput, StopsPrinting};
 
 use crate::Cause;
-use mm_base::{DiskError, EndError, Sink, Text, send_all};
+use mm_base::{DiskError, EndError, Sink, send_all};
 use std::alloc::Global;
+use text_base::Text;
 
 /// What the disk answered for the file of this name, which was to be written.
 pub fn file_written(alloc: Global, name: &str, answer: Result<(), DiskError>) -> Result<(), Cause>

@@ -1,6 +1,6 @@
 -- What `make` is asked for, and what it gives.
 use Rattle.std.specs.Prelude.{◌≡◌, ℕ, List, Option, Some, None, ◌&&◌, nat_le, option_and_then, if◌then◌else◌}
-use Rattle.mm_base.specs.Numbers.{decimal_of}
+use Rattle.text_base.specs.Numbers.{decimal_of}
 use Rattle.made_run.specs.SummaryText.{IsSummary}
 use Rattle.option_words.specs.Commands.{MakeTexts, make_texts}
 use Rattle.option_words.specs.Givens.{◌>>=◌}

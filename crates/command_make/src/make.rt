@@ -13,9 +13,10 @@ ghost use Rattle.command_make.specs.View.{make_values};
 use crate::make_job::MakeJob;
 use command_ends::{Cause, print};
 use made_run::make_summary;
-use mm_base::{OutOfMemory, Sink, read_decimal};
+use mm_base::Sink;
 use option_words::{MakeWords, parse_make};
 use std::alloc::Global;
+use text_base::{OutOfMemory, read_decimal};
 
 // The job of the words after `make`, if they have one. `OutOfMemory` is want of memory.
 #[tactic(auto, unfolding(crate::specs::Make::make_job_of))]

@@ -4,7 +4,7 @@ use Rattle.std.proofs.Common.{Err, map}
 use Rattle.std.proofs.Common.{ap, length, subst, sym, arith}
 use Rattle.mm_base.specs.Disk.{DiskView, OnlyReads}
 use Rattle.mm_base.specs.Files.{Files}
-use Rattle.mm_base.specs.Lines.{lines_of}
+use Rattle.text_base.specs.Lines.{lines_of}
 use Rattle.packet_record.specs.declared.packet.Row.{Row}
 use Rattle.trace_reader.specs.TraceIn.{trace_in}
 use Rattle.trace_reader.specs.Traces.{TraceView}

@@ -5,7 +5,7 @@ use Rattle.std.proofs.Common.{tests, arith}
 use Rattle.std.proofs.lemmas.List.{append-nil, append_assoc}
 use Rattle.mm_base.specs.Disk.{DiskView, OnlyReads}
 use Rattle.mm_base.specs.Files.{Files}
-use Rattle.mm_base.specs.Lines.{lines_of}
+use Rattle.text_base.specs.Lines.{lines_of}
 use Rattle.packet_record.specs.Schedules.{AreRows, IsScheduleText}
 use Rattle.packet_record.specs.declared.packet.Row.{Row}
 use Rattle.sender_merge.specs.RowLists.{rows_in}

@@ -1,7 +1,7 @@
 -- For proofs: what reading the inputs of a merge leaves, for the bodies that read them.
 use Rattle.std.specs.Prelude.{◌≡◌, ◌≤◌, ℕ, ◌+◌, List, [], ◌∷◌, ◌++◌, Option, None, length}
 use Rattle.mm_base.specs.Files.{Files}
-use Rattle.mm_base.specs.Lines.{lines_of}
+use Rattle.text_base.specs.Lines.{lines_of}
 use Rattle.packet_record.specs.declared.packet.Row.{Row}
 use Rattle.trace_reader.specs.Traces.{TraceView}
 use Rattle.nest_spec.specs.Nests.{opportunities_of}

@@ -1,7 +1,7 @@
 -- What `merge` is asked for, and what it gives.
 use Rattle.std.specs.Prelude.{◌≡◌, ℕ, ◌+◌, List, [], ◌∷◌, ◌++◌, Option, Some, None, map, position, take, drop}
 use Rattle.std.specs.Prelude.{option_and_then}
-use Rattle.mm_base.specs.Numbers.{decimal_of}
+use Rattle.text_base.specs.Numbers.{decimal_of}
 use Rattle.packet_record.specs.Schedules.{IsScheduleText}
 use Rattle.packet_record.specs.declared.packet.Row.{Row}
 use Rattle.trace_reader.specs.Traces.{TraceView}

@@ -1,6 +1,6 @@
 -- What `merge` reads and refuses, in order.
 use Rattle.std.specs.Prelude.{ℕ, ◌+◌, List, [], ◌∷◌, ◌++◌, Option, Some, None, length, map, nat_lt, if◌then◌else◌}
-use Rattle.mm_base.specs.Lines.{lines_of}
+use Rattle.text_base.specs.Lines.{lines_of}
 use Rattle.trace_reader.specs.TraceIn.{trace_in}
 use Rattle.nest_spec.specs.Words.{NestPlan, nest_of}
 use Rattle.command_ends.specs.Causes.{Text}

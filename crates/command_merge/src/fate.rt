@@ -2,9 +2,9 @@
 ghost use Rattle.std.specs.Prelude.{◌≡◌, ◌+◌, ◌<◌, ◌≤◌, ◌++◌, IfOk, decimal, length, map};
 ghost use Rattle.command_merge.specs.FateLines.{line_of, merged_fate_line, sender_of};
 
-use mm_base::{LineBuffer, OutOfMemory, PrintLine};
 use nest_spec::{FateRow, PackedFate, put_fate};
 use std::alloc::Global;
+use text_base::{LineBuffer, OutOfMemory, PrintLine};
 
 // The fate of a packet that a line of a sender gave, by the packet's number in the merge.
 #[derive(Clone, Copy, PartialEq, Eq)]
@@ -30,7 +30,7 @@ impl SenderFate {
 impl PrintLine for SenderFate {
     ghost line = { λ fate. merged_fate_line fate.0 };
 
-    #[tactic(auto, using(mm_base::proofs::TextLemmas::is_ended_line))]
+    #[tactic(auto, using(text_base::proofs::TextLemmas::is_ended_line))]
     fn put_line(&self, out: &mut LineBuffer) {
         out.put_byte(b'\n');
         put_fate(out, self.0.fate);

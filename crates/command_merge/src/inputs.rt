@@ -3,7 +3,7 @@
 ghost use Rattle.std.specs.Prelude.{◌≡◌, ◌≢◌, ◌+◌, ◌≤◌, ℕ, List, IfErr, IfOk, MatchResult, None, OnOk, Some, length};
 ghost use Rattle.std.specs.Prelude.{map};
 ghost use Rattle.mm_base.specs.Disk.{OnlyReads};
-ghost use Rattle.mm_base.specs.Lines.{lines_of};
+ghost use Rattle.text_base.specs.Lines.{lines_of};
 ghost use Rattle.command_ends.specs.Readings.{Done};
 ghost use Rattle.command_ends.specs.Stops.{RefusesText, StopsReading};
 ghost use Rattle.command_merge.specs.List.{list_fault, list_refusal};
@@ -17,11 +17,12 @@ use crate::job::MergeJob;
 use crate::list::{ListError, read_list};
 use command_ends::{Cause, Limit, Refusal, read_input};
 use command_run::{check_count, check_outputs, load_schedule, load_traces, names_of};
-use mm_base::limits::MOST_LINES;
-use mm_base::{Disk, Text};
+use mm_base::Disk;
 use nest_spec::NestWords;
 use packet_record::Schedule;
 use std::alloc::Global;
+use text_base::Text;
+use text_base::limits::MOST_LINES;
 use trace_reader::Trace;
 
 // The traces of a nest, which have few enough opportunities.

@@ -6,9 +6,9 @@ ghost use Rattle.command_merge.specs.Merge.{merge_numbers, merge_of};
 ghost use Rattle.command_merge.specs.View.{merge_values};
 
 use command_run::end_of_options;
-use mm_base::{OutOfMemory, read_decimal};
 use option_words::{MergeWords, parse_merge};
 use std::alloc::Global;
+use text_base::{OutOfMemory, read_decimal};
 
 // The horizon in milliseconds, the name of the list of the senders, that of the fates, the seed, and the words of the
 // shells.

@@ -1,12 +1,12 @@
 // The list of senders: the name of a schedule on each line.
 ghost use Rattle.std.specs.Prelude.{◌≡◌, ◌≢◌, ◌+◌, ◌<◌, ◌≤◌, ◌∷◌, ℕ, List, length, None, Some, IfNone, IfOk, IfSome};
 ghost use Rattle.std.specs.Prelude.{MatchResult, OnOk, false, map, true};
-ghost use Rattle.mm_base.specs.Lines.{lines_of};
+ghost use Rattle.text_base.specs.Lines.{lines_of};
 ghost use Rattle.command_merge.specs.List.{is_name, line_fault, list_fault, number_of, place_of};
 ghost use Rattle.command_merge.specs.declared.list.ListError.TheVariants as errors;
 
-use mm_base::Lines;
 use std::alloc::{AllocError, AllocFailed, Global};
+use text_base::Lines;
 
 // The most senders.
 const MOST_SENDERS: usize = 16;

@@ -1,7 +1,7 @@
 -- What a relay is asked for, by its words.
 use Rattle.std.specs.Prelude.{ℕ, ◌+◌, List, Option, Some, None, ◌&&◌, nat_le, position, take, drop, option_and_then}
 use Rattle.std.specs.Prelude.{if◌then◌else◌}
-use Rattle.mm_base.specs.Numbers.{decimal_of}
+use Rattle.text_base.specs.Numbers.{decimal_of}
 use Rattle.option_words.specs.Givens.{◌>>=◌}
 use Rattle.option_words.specs.RelayApp.{RelayTexts, relay_texts}
 use Rattle.command_ends.specs.Causes.{Text}

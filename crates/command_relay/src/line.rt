@@ -6,8 +6,9 @@ ghost use Rattle.command_relay.specs.Lines.{end_words, relay_line};
 
 use command_ends::{Cause, print};
 use live_relay::{RelayEnd, RelayResult};
-use mm_base::{Bytes, OutOfMemory, Sink, write_decimal};
+use mm_base::Sink;
 use std::alloc::Global;
+use text_base::{Bytes, OutOfMemory, write_decimal};
 
 // The words of an end.
 fn end_words(end: RelayEnd) -> &'static [u8]

@@ -7,9 +7,9 @@ ghost use Rattle.command_relay.specs.View.{relay_values};
 
 use crate::job::RelayJob;
 use command_run::end_of_options;
-use mm_base::{OutOfMemory, read_decimal};
 use option_words::{RelayWords, parse_relay};
 use std::alloc::Global;
+use text_base::{OutOfMemory, read_decimal};
 
 // The number that a text stands for: a decimal of 1 to that many.
 #[tactic(auto, unfolding(crate::specs::Jobs::number_to))]

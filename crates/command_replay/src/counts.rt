@@ -5,9 +5,10 @@ ghost use Rattle.command_ends.specs.Stops.{StopsPrinting};
 ghost use Rattle.command_replay.specs.Replay.{counted, served_line};
 
 use command_ends::{Cause, print};
-use mm_base::{Bytes, OutOfMemory, Sink, write_decimal};
+use mm_base::Sink;
 use replay_server::Served;
 use std::alloc::Global;
+use text_base::{Bytes, OutOfMemory, write_decimal};
 
 // Adds words and a number.
 fn write_count(text: &mut Bytes, words: &[u8], count: u32) -> Result<(), OutOfMemory>

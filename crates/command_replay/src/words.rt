@@ -5,9 +5,9 @@ ghost use Rattle.command_replay.specs.Replay.{number_in, replay_job_of, replay_w
 ghost use Rattle.command_replay.specs.View.{replay_values};
 
 use crate::job::ReplayJob;
-use mm_base::{OutOfMemory, read_decimal};
 use option_words::{ReplayWords, parse_replay};
 use std::alloc::Global;
+use text_base::{OutOfMemory, read_decimal};
 
 // The number that a text stands for: a decimal of 1 to that many.
 #[tactic(auto, unfolding(crate::specs::Replay::number_in))]

@@ -17,10 +17,11 @@ ghost use Rattle.command_report.specs.View.{report_values};
 
 use command_ends::{Cause, Refusal, input_size, print, read_pieces};
 use log_report::{EMPTY, Report, ReportText, print_report};
-use mm_base::{Bytes, Disk, OutOfMemory, Sink, Text};
+use mm_base::{Disk, Sink};
 use option_words::parse_report;
 use shell_log::LogError;
 use std::alloc::Global;
+use text_base::{Bytes, OutOfMemory, Text};
 
 // The name of the file of a log.
 #[derive(Drop)]

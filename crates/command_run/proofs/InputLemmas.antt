@@ -5,7 +5,7 @@ use Rattle.std.proofs.Common.{arith}
 use Rattle.std.proofs.lemmas.List.{take_more, drop_more, take-append-drop}
 use Rattle.mm_base.specs.Disk.{DiskView, OnlyReads}
 use Rattle.mm_base.specs.Files.{Files}
-use Rattle.mm_base.specs.Lines.{lines_of}
+use Rattle.text_base.specs.Lines.{lines_of}
 use Rattle.packet_record.specs.Schedules.{IsScheduleText, first_fault, number_of as schedule_number}
 use Rattle.packet_record.specs.Schedules.{place_of as schedule_place}
 use Rattle.packet_record.specs.declared.packet.Row.{Row}

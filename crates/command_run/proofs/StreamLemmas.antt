@@ -3,7 +3,7 @@ use Rattle.std.proofs.Common.{◌≡◌, ◌≢◌, ℕ, ◌<◌, List, Option, 
 use Rattle.mm_base.specs.Counts.{Rose}
 use Rattle.mm_base.specs.Disk.{DiskView}
 use Rattle.mm_base.specs.Files.{Files, IfHeld, IsAbsent, IsThere, file}
-use Rattle.mm_base.specs.Lines.{lines_of}
+use Rattle.text_base.specs.Lines.{lines_of}
 use Rattle.mm_base.specs.declared.errors.LoadError.TheVariants as load_errors
 use Rattle.mm_base.proofs.FilesLemmas.{is_held}
 use Rattle.packet_record.specs.Schedules.{first_fault}
@@ -12,7 +12,8 @@ use Rattle.packet_record.specs.declared.reading.ScheduleError.TheVariants.{OutOf
 use Rattle.packet_record.specs.declared.packet.Row.{Row}
 use Rattle.nest_spec.specs.Nests.{NestParts, RunLists, result_of}
 use Rattle.nest_spec.specs.Once.{HaveOneFate}
-use Rattle.nest_runner.specs.Streaming.{HasStreamCause, IsRefusedFor, IsText, StreamsTo}
+use Rattle.row_source.specs.StreamParts.{IsText}
+use Rattle.nest_runner.specs.Streaming.{HasStreamCause, IsRefusedFor, StreamsTo}
 use Rattle.nest_runner.specs.declared.stream_error.StreamError.TheVariants.{TooLong}
 use Rattle.command_ends.specs.Causes.{Text}
 use Rattle.command_ends.specs.Readings.{Done, unless}

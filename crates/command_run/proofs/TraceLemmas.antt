@@ -2,7 +2,7 @@
 use Rattle.std.proofs.Common.{◌≡◌, ℕ, Bool, true, false, List, [], ◌∷◌, ◌++◌, Some, map, nat_le, refl, ap, ◌∙◌, rules}
 use Rattle.std.proofs.Common.{tests}
 use Rattle.std.proofs.lemmas.Bool.{leb-true}
-use Rattle.mm_base.specs.Lines.{lines_of}
+use Rattle.text_base.specs.Lines.{lines_of}
 use Rattle.trace_reader.specs.declared.opportunity.Opportunity.{Opportunity}
 use Rattle.trace_reader.specs.declared.opportunity.Form.{Form}
 use Rattle.trace_reader.specs.TraceText.{IsTraceText, said, said_of, stated}

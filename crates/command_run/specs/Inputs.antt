@@ -1,6 +1,6 @@
 -- The inputs of runs: what a trace and a schedule are refused for, and what is read of their files.
 use Rattle.std.specs.Prelude.{ℕ, List, [], ◌∷◌, Option, Some, None}
-use Rattle.mm_base.specs.Lines.{lines_of}
+use Rattle.text_base.specs.Lines.{lines_of}
 use Rattle.packet_record.specs.Schedules.{first_fault, number_of as schedule_number, place_of as schedule_place}
 use Rattle.packet_record.specs.declared.reading.ScheduleError.{ScheduleError}
 use Rattle.packet_record.specs.declared.reading.ScheduleError.TheVariants as schedule_errors

@@ -2,7 +2,7 @@
 ghost use Rattle.std.specs.Prelude.{◌≡◌, ◌≢◌, ℕ, List, length, None, Some, IfOk, IfErr, MatchResult, OnOk, option_map};
 ghost use Rattle.mm_base.specs.Disk.{OnlyReads};
 ghost use Rattle.packet_record.specs.PartsRead.{HasRead};
-ghost use Rattle.mm_base.specs.Lines.{lines_of};
+ghost use Rattle.text_base.specs.Lines.{lines_of};
 ghost use Rattle.packet_record.specs.Schedules.{IsScheduleText, first_fault};
 ghost use Rattle.trace_reader.specs.Reading.{trace_fault};
 ghost use Rattle.trace_reader.specs.TraceText.{IsTraceText};
@@ -13,9 +13,10 @@ ghost use Rattle.command_run.specs.Inputs.{trace_refusal};
 ghost use Rattle.command_run.specs.Loaded.{HasOrder, HasSchedule, HasTrace, HaveTraces, StopsAtOrder};
 
 use command_ends::{Cause, Limit, Refusal, input_size, read_input, read_pieces};
-use mm_base::{Bytes, Disk, Text};
+use mm_base::Disk;
 use packet_record::{Schedule, ScheduleError, ScheduleText};
 use std::alloc::Global;
+use text_base::{Bytes, Text};
 use trace_reader::{Trace, TraceError, read_trace};
 
 // Why the text of the trace of this name isn't accepted.

@@ -8,10 +8,10 @@ ghost use Rattle.nest_spec.specs.Nests.{opportunities_of};
 ghost use Rattle.command_run.specs.RunReading.{nest_refusal, refused_count, refused_horizon};
 
 use command_ends::{Cause, Limit, Refusal, WordsRefusal, first_taken};
-use mm_base::limits::{HOUR, MOST_OPPORTUNITIES};
-use mm_base::{OutOfMemory, Text};
 use nest_spec::{NestError, NestWords};
 use std::alloc::Global;
+use text_base::limits::{HOUR, MOST_OPPORTUNITIES};
+use text_base::{OutOfMemory, Text};
 use trace_reader::Trace;
 
 /// Why the words of the shells are no nest: the number, the place and the inner number of the error, or want of memory.

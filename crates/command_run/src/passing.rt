@@ -11,7 +11,7 @@ ghost use Rattle.command_run.specs.PassedViews.{passed_lists};
 
 use crate::inputs::{load_schedule, schedule_cause};
 use command_ends::{Cause, Limit, Refusal};
-use mm_base::{Bytes, Disk, Pace, Text};
+use mm_base::{Disk, Pace};
 use nest_core::run_order;
 use nest_plain::{NestRun, run_nest};
 use nest_runner::{StreamError, run_nest_stream};
@@ -20,6 +20,7 @@ use std::alloc::Global;
 use std::marker::Sync;
 use std::sync::Wait;
 use std::thread::Threads;
+use text_base::{Bytes, Text};
 
 // How packets pass a nest.
 #[derive(Drop)]

@@ -19,12 +19,13 @@ use crate::passing::{Passed, Way, pass_packets};
 use crate::run_files::write_files;
 use crate::run_job::{RunJob, read_run};
 use command_ends::Cause;
-use mm_base::{Disk, OutOfMemory, Pace};
+use mm_base::{Disk, Pace};
 use nest_spec::{Nest, NestWords, build, read_nest};
 use std::alloc::Global;
 use std::marker::Sync;
 use std::sync::Wait;
 use std::thread::Threads;
+use text_base::OutOfMemory;
 
 // The names of a run's inputs.
 fn input_names<'a>(

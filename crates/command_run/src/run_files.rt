@@ -14,11 +14,12 @@ use crate::passing::Passed;
 use crate::whole_logs::write_whole_logs;
 use command_ends::{Cause, file_written};
 use link_core::{LinkLog, LogPieces};
-use mm_base::{Disk, DiskError, LineBuffer, PrintLine, append_lines, save, save_lines};
+use mm_base::{Disk, DiskError, append_lines, save, save_lines};
 use nest_plain::{NestRun, UnwrittenLog};
 use nest_spec::{Named, RunResult};
 use shell_log::HEADER;
 use std::alloc::Global;
+use text_base::{LineBuffer, PrintLine};
 
 // Adds a line for each entry that is to come at the end of a file, piece by piece as they are made. After a refusal a
 // front of their text was added: none of it, or not all.

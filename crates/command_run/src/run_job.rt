@@ -5,9 +5,9 @@ ghost use Rattle.option_words.specs.View.{texts_of};
 ghost use Rattle.command_run.specs.Run.{ends_options, run_numbers, run_with, run_of};
 ghost use Rattle.command_run.specs.View.{run_values};
 
-use mm_base::{OutOfMemory, read_decimal};
 use option_words::{RunWords, parse_run};
 use std::alloc::Global;
+use text_base::{OutOfMemory, read_decimal};
 
 // The horizon in milliseconds, the names of the files, with that of the order if there is one, the seed, and the words
 // of the shells.

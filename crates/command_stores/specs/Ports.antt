@@ -1,7 +1,7 @@
 -- The port of an option.
 use Rattle.std.specs.Prelude.{ℕ, Option, Some, None, ◌&&◌, nat_le, if◌then◌else◌}
 use Rattle.std.specs.Option.{option_map}
-use Rattle.mm_base.specs.Numbers.{decimal_of}
+use Rattle.text_base.specs.Numbers.{decimal_of}
 use Rattle.option_words.specs.Givens.{◌>>=◌}
 use Rattle.command_ends.specs.Causes.{Text}
 

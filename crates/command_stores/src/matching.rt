@@ -17,12 +17,13 @@ use crate::port::given_port;
 use crate::request_file::load_request;
 use command_ends::{Cause, print};
 use http_frame::RequestHead;
-use mm_base::{Bytes, Disk, OutOfMemory, Sink, write_decimal};
+use mm_base::{Disk, Sink};
 use option_words::{MatchWords, parse_match};
 use record_store::Store;
 use request_match::best;
 use std::alloc::Global;
 use store_input::load_store;
+use text_base::{Bytes, OutOfMemory, write_decimal};
 
 // The names of the files of a store and of a request, and the port that it is asked at, or none.
 #[derive(Drop)]

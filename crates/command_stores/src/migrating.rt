@@ -16,11 +16,12 @@ ghost use Rattle.command_stores.specs.Written.{store_file};
 use crate::names::check_names;
 use crate::store_file::write_store;
 use command_ends::Cause;
-use mm_base::{Disk, OutOfMemory};
+use mm_base::Disk;
 use option_words::parse_migrate;
 use record_store::Store;
 use std::alloc::Global;
 use store_input::load_store;
+use text_base::OutOfMemory;
 
 // The names of the files of a store in either form, and of the same in form 2.
 #[derive(Drop)]

@@ -4,8 +4,8 @@ ghost use Rattle.command_ends.specs.Names.{refused_names};
 ghost use Rattle.command_ends.specs.Stops.{RefusesText};
 
 use command_ends::{Cause, first_taken};
-use mm_base::Text;
 use std::alloc::Global;
+use text_base::Text;
 
 /// Refuses an output that has the name of an input.
 pub(crate) fn check_names(alloc: Global, inputs: &[&str], out: &str) -> Result<(), Cause>

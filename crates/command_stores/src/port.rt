@@ -2,7 +2,7 @@
 ghost use Rattle.std.specs.Prelude.{◌≡◌, option_map};
 ghost use Rattle.command_stores.specs.Ports.{given_port, port_in};
 
-use mm_base::read_decimal;
+use text_base::read_decimal;
 
 // The port that a text stands for: a decimal of 1 to 65,535.
 #[tactic(auto, unfolding(crate::specs::Ports::port_in))]

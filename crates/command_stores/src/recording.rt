@@ -20,10 +20,11 @@ use crate::names::check_names;
 use crate::port::given_port;
 use crate::store_file::write_store;
 use command_ends::{Cause, Refusal, read_input};
-use mm_base::{Disk, OutOfMemory, Text};
+use mm_base::Disk;
 use option_words::{RecordWords, parse_record};
 use record_store::{PairError, Store, pair};
 use std::alloc::Global;
+use text_base::{OutOfMemory, Text};
 
 // The names of the files of the two streams and of the store, and the port that it was recorded from.
 #[derive(Drop)]

@@ -8,8 +8,9 @@ ghost use Rattle.command_stores.specs.declared.request_file.RequestError.TheVari
 
 use command_ends::{Cause, Refusal, read_input};
 use http_frame::{FrameError, FrameFault, RequestFrames, RequestHead, Step};
-use mm_base::{Disk, OutOfMemory, Text};
+use mm_base::Disk;
 use std::alloc::Global;
+use text_base::{OutOfMemory, Text};
 
 /// Why a text isn't accepted as a request.
 #[derive(Clone, Copy, Debug, PartialEq, Eq)]

@@ -1,8 +1,8 @@
 // Summaries of runs that are made of a number.
 use command_make::answer_make;
-use mm_base::OutOfMemory;
 use std::alloc::Global;
 use test_outside::{TestOutside, words_of};
+use text_base::OutOfMemory;
 
 // Whether the words after `make`, over an `out` whose call of this number fails, have this status and print this.
 fn ends_with(

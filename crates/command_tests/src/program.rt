@@ -1,11 +1,12 @@
 // Whole command lines over files and a port in memory.
-use mm_base::{MemPort, NoPace, OutOfMemory};
+use mm_base::{MemPort, NoPace};
 use mm_program::mm_main;
 use std::alloc::Global;
 use std::marker::Sync;
 use std::sync::Wait;
 use std::thread::Threads;
 use test_outside::{ABSENT, TestOutside, words_of};
+use text_base::OutOfMemory;
 
 // The files that are there: a trace, a schedule whose packet is too long, another, a log of one entry, and a list of
 // two senders.

@@ -4,12 +4,13 @@ ghost use Rattle.mm_base.specs.MemLink.{IsUnused};
 
 use command_ends::Cause;
 use command_replay::answer_replay;
-use mm_base::{Bytes, MemLink, MemPort, NoPace, OutOfMemory};
+use mm_base::{MemLink, MemPort, NoPace};
 use std::alloc::Global;
 use std::marker::Sync;
 use std::sync::Wait;
 use std::thread::Threads;
 use test_outside::{TestOutside, words_of};
+use text_base::{Bytes, OutOfMemory};
 
 // A store of one record, of any port, and the same recorded from port 80.
 const STORE: &str =

@@ -1,8 +1,8 @@
 // Reports of logs in memory.
 use command_report::answer_report;
-use mm_base::OutOfMemory;
 use std::alloc::{AllocError, Global};
 use test_outside::{TestOutside, words_of};
+use text_base::OutOfMemory;
 
 // The log of five packets through a queue of two.
 const LOG: &str =

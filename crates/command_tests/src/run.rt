@@ -1,12 +1,13 @@
 // `run` over files in memory.
 use command_ends::{Cause, conclude};
 use command_run::answer_run;
-use mm_base::{Disk, MemSink, NoPace, OutOfMemory, Pace};
+use mm_base::{Disk, MemSink, NoPace, Pace};
 use std::alloc::{AllocError, Global};
 use std::marker::Sync;
 use std::sync::Wait;
 use std::thread::Threads;
 use test_outside::{TestOutside, words_of};
+use text_base::OutOfMemory;
 
 mod failing;
 mod large;

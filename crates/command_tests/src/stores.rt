@@ -1,9 +1,9 @@
 // Recordings, matches and migrations of files in memory.
 use command_stores::answer_record;
-use mm_base::{OutOfMemory, Text};
 use std::alloc::{AllocError, Global};
 use std::process::Abort;
 use test_outside::{TestOutside, words_of};
+use text_base::{OutOfMemory, Text};
 
 mod matching;
 mod migrating;

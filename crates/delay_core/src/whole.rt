@@ -4,9 +4,9 @@ ghost use Rattle.packet_record.specs.Moments.{AreUpTo, Rise};
 ghost use Rattle.delay_core.specs.Delays.{later, delayed, kept_inside};
 
 use crate::rule::Rule;
-use mm_base::OutOfMemory;
 use packet_record::Timed;
 use std::alloc::Global;
+use text_base::OutOfMemory;
 
 // How many packets depart up to the horizon: the first of them, since the moments rise.
 fn departing(rule: Rule, packets: &[Timed]) -> usize

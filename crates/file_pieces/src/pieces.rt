@@ -4,9 +4,10 @@ ghost use Rattle.mm_base.specs.Files.{IfThere, IsAbsent};
 ghost use Rattle.mm_base.specs.Disk.{HasReadCause, OnlyReads};
 ghost use Rattle.file_pieces.specs.Pieces.{FrontIsRead, IsPiece, PieceIsRead};
 
-use mm_base::limits::PIECE_BYTES;
-use mm_base::{Disk, DiskError, OutOfMemory, PieceReader};
+use mm_base::{Disk, DiskError};
 use std::alloc::Global;
+use text_base::limits::PIECE_BYTES;
+use text_base::{OutOfMemory, PieceReader};
 
 // How many bytes one read of a file of this size asks for.
 fn piece_length(size: u64) -> usize

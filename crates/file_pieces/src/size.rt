@@ -5,8 +5,8 @@ ghost use Rattle.mm_base.specs.Files.{IfHeld, IfThere, IsAbsent, IsThere};
 ghost use Rattle.mm_base.specs.Disk.{OnlyReads};
 ghost use Rattle.file_pieces.specs.Pieces.{HasSize};
 
-use mm_base::limits::MOST_FILE_BYTES;
 use mm_base::{Disk, LoadError};
+use text_base::limits::MOST_FILE_BYTES;
 
 /// How many bytes a file has, at most 67,108,864. None of them is read.
 ///

@@ -8,7 +8,7 @@ use Rattle.http_frame.specs.Messages.{IsMessage, MayStop}
 use Rattle.http_frame.specs.declared.body.BodyStep.{BodyStep}
 use Rattle.http_frame.specs.declared.body.BodyStep.TheVariants as bodies
 use Rattle.http_frame.specs.declared.framing.Framing.{Framing}
-use Rattle.mm_base.specs.declared.errors.OutOfMemory.{OutOfMemory}
+use Rattle.text_base.specs.declared.out_of_memory.OutOfMemory.{OutOfMemory}
 use Rattle.http_frame.specs.declared.errors.Step.{Step}
 use Rattle.http_frame.specs.declared.errors.Step.TheVariants as steps
 use Rattle.http_frame.specs.declared.errors.FrameFault.{FrameFault}

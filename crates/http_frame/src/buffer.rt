@@ -3,9 +3,9 @@ ghost use Rattle.std.specs.Prelude.{◌≡◌, ◌≤◌, ◌++◌, ℕ, List, [
 ghost use Rattle.std.specs.Vec.{vec_len};
 
 use crate::chunks::from_place;
-use mm_base::OutOfMemory;
 use std::alloc::Global;
 use std::marker::Model;
+use text_base::OutOfMemory;
 
 /// Bytes that are added at the end and taken off the front, each moved at most once in between on average.
 #[derive(Drop)]

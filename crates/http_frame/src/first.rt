@@ -6,8 +6,8 @@ use crate::messages::{Request, Response};
 use crate::pending::Outcome;
 use crate::request_frames::advance as advance_request;
 use crate::response_frames::advance as advance_response;
-use mm_base::{Bytes, OutOfMemory};
 use std::alloc::Global;
+use text_base::{Bytes, OutOfMemory};
 
 /// The request at the front; `None` exactly where no front of the bytes is one.
 pub fn first_request(alloc: Global, bytes: &[u8]) -> Result<Option<Request>, OutOfMemory>

@@ -1,5 +1,5 @@
 // What callers are given: messages, and what their heads say.
-use mm_base::Bytes;
+use text_base::Bytes;
 
 /// What a request's head says.
 #[derive(Drop)]

@@ -20,9 +20,9 @@ use crate::head::{Found, HeadStep};
 use crate::messages::{Request, RequestHead};
 use crate::pending::{Outcome, Pending, finish};
 use crate::request_head::read_request;
-use mm_base::{Bytes, OutOfMemory};
 use std::alloc::Global;
 use std::marker::Model;
+use text_base::{Bytes, OutOfMemory};
 
 /// A reader of requests (RFC 9112). Contracts see the bytes that no message has taken, and the error,
 /// if one came; a request never ends where the input does, so `ended` says nothing here.

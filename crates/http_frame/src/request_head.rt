@@ -16,8 +16,8 @@ use crate::messages::RequestHead;
 use http_header::HeaderMap;
 use httparse::spans::{EMPTY_HEADER_SPAN, HeaderSpan, RequestSpans, Span, parse_request};
 use httparse::{Error, Status};
-use mm_base::{Bytes, OutOfMemory};
 use std::alloc::Global;
+use text_base::{Bytes, OutOfMemory};
 
 /// The request line, built anew.
 fn line_of(alloc: Global, method: &[u8], target: &[u8], minor: u8) -> Result<Bytes, OutOfMemory>

@@ -15,9 +15,9 @@ use crate::head::{Found, HeadStep};
 use crate::messages::{Response, ResponseHead};
 use crate::pending::{Outcome, Pending, finish};
 use crate::response_head::read_response;
-use mm_base::{Bytes, OutOfMemory};
 use std::alloc::Global;
 use std::marker::Model;
+use text_base::{Bytes, OutOfMemory};
 
 /// A reader of responses (RFC 9112). Contracts see the bytes that no message has taken, whether the
 /// input has ended, and the error, if one came.

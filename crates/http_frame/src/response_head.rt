@@ -15,8 +15,8 @@ use crate::messages::ResponseHead;
 use http_header::HeaderMap;
 use httparse::spans::{EMPTY_HEADER_SPAN, HeaderSpan, ResponseSpans, Span, parse_response};
 use httparse::{Error, Status};
-use mm_base::OutOfMemory;
 use std::alloc::Global;
+use text_base::OutOfMemory;
 
 /// Whether the connection closes after this response: always where its body ends by closing.
 fn closes_after(framing: Framing, asks: bool) -> bool

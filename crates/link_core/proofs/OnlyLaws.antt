@@ -2,7 +2,7 @@
 use Rattle.std.proofs.Common.{◌≡◌, ℕ, ◌+◌, ◌<◌, ◌≤◌, ◌++◌, Bool, List, [], ◌∷◌, Result, Ok, Err, IfOk, OnOk, OnErr}
 use Rattle.std.proofs.Common.{Option, take, drop, reverse, arith, sym, subst}
 use Rattle.std.proofs.lemmas.List.{append-nil, reverse-reverse}
-use Rattle.mm_base.specs.declared.errors.OutOfMemory.{OutOfMemory}
+use Rattle.text_base.specs.declared.out_of_memory.OutOfMemory.{OutOfMemory}
 use Rattle.packet_record.specs.declared.packet.Timed.{Timed}
 use Rattle.packet_record.specs.Moments.{AreUpTo, Rise}
 use Rattle.packet_record.proofs.MomentsLemmas.{rise-append}

@@ -28,5 +28,12 @@ module _ (c : Parts) (sound : IsSound c) (played : IsPlayed c) (q : QueueSpec) (
       ∙ ap (λ (xs : List Opportunity). f q xs c.arrived.come) burnt_is
       ∙ ap (λ (us : List Timed). f q os us) come_is
 
+  pub throughout : {X : Type 0} (f : QueueSpec → List Opportunity → List Timed → X)
+      → f c.line.queue.spec (span_opps c.opportunities) c.arrived.come ≡ f q os ts
+  throughout f =
+      ap (λ r. f r (span_opps c.opportunities) c.arrived.come) spec
+      ∙ ap (λ (xs : List Opportunity). f q xs c.arrived.come) opps
+      ∙ ap (λ (us : List Timed). f q os us) come_is
+
   pub whole_log : c.log.entries ≡ written c.log.kept (link_log q os ts)
   whole_log = seen_log _ _ _ _ _ _ _ _ _ _ _ sound ∙ ap (written c.log.kept) (along link_log)

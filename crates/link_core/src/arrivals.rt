@@ -1,9 +1,9 @@
 // The arrivals of a link in one list: those that were let in, and those to come.
 ghost use Rattle.std.specs.Prelude.{◌≡◌, ◌+◌, ◌<◌, ◌≤◌, ◌++◌, ◌∷◌, [], length, take, drop, MatchOption, OnOk};
 
-use mm_base::OutOfMemory;
 use packet_record::Timed;
 use std::marker::Model;
+use text_base::OutOfMemory;
 
 /// Packets in order, of which the first so many were let in. Contracts see both halves, and how many more may be added
 /// without memory.

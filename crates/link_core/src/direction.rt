@@ -14,11 +14,11 @@ use crate::link_log::LinkLog;
 use crate::opportunities::Opportunities;
 use crate::parts::Parts;
 use crate::passage::Passage;
-use mm_base::OutOfMemory;
 use packet_queue::QueueSpec;
 use packet_record::Timed;
 use std::alloc::Global;
 use std::marker::Model;
+use text_base::OutOfMemory;
 use trace_reader::Trace;
 
 /// One direction of a link: delivery opportunities, a queue in front of them, and the packet in transit. It keeps no

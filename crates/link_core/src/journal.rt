@@ -3,10 +3,10 @@ ghost use Rattle.std.specs.Prelude.{◌≡◌, ◌+◌, ◌≤◌, ◌++◌, ◌
 ghost use Rattle.shell_log.specs.Entries.{AreUpTo, IsEntry, moment_of};
 ghost use Rattle.link_core.specs.Written.{written};
 
-use mm_base::OutOfMemory;
 use shell_log::{Entry, Log};
 use std::alloc::Global;
 use std::marker::Model;
+use text_base::OutOfMemory;
 
 /// What a link writes down. Where it keeps no log, nothing is kept and no memory is taken.
 #[derive(Drop)]

@@ -8,12 +8,12 @@ use crate::opportunities::Opportunities;
 use crate::parts::Parts;
 use crate::pieces::LogPieces;
 use crate::whole::played;
-use mm_base::OutOfMemory;
 use packet_queue::QueueSpec;
 use packet_record::Timed;
 use shell_log::Log;
 use std::alloc::Global;
 use std::marker::Model;
+use text_base::OutOfMemory;
 
 /// The log of a link over all its arrivals, with every opportunity up to the horizon. It isn't written out: it is made
 /// again from the arrivals, piece by piece. Contracts see its entries.

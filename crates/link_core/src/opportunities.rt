@@ -5,8 +5,8 @@ ghost use Rattle.trace_reader.specs.Opps.{up_to, opps};
 ghost use Rattle.link_core.specs.View.{span_opps};
 
 use crate::lap::Lap;
-use mm_base::OutOfMemory;
 use std::marker::Model;
+use text_base::OutOfMemory;
 use trace_reader::{Opportunity, Trace};
 
 #[derive(Drop)]

@@ -16,10 +16,10 @@ use crate::journal::Journal;
 use crate::line::Line;
 use crate::opportunities::Opportunities;
 use crate::serving::{note, serve};
-use mm_base::OutOfMemory;
 use packet_queue::{PacketQueue, QueueSpec};
 use packet_record::Timed;
 use std::alloc::Global;
+use text_base::OutOfMemory;
 
 #[derive(Drop)]
 pub struct Parts {

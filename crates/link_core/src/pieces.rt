@@ -4,9 +4,9 @@ ghost use Rattle.link_core.specs.Sound.{IsSound};
 ghost use Rattle.link_core.specs.Play.{CanPlay, rest_of};
 
 use crate::parts::Parts;
-use mm_base::OutOfMemory;
 use shell_log::Entry;
 use std::marker::Model;
+use text_base::OutOfMemory;
 
 /// The log of a link in pieces of some 2,000 entries, so that it never stands whole. Contracts see the piece in hand,
 /// and what is still to come.

@@ -5,8 +5,8 @@ ghost use Rattle.link_core.specs.Same.{IsSameLink};
 ghost use Rattle.link_core.specs.Play.{CanPlay, IsPlayed, all_arrivals, work, rest_of, gone_with};
 
 use crate::parts::Parts;
-use mm_base::OutOfMemory;
 use packet_record::Timed;
+use text_base::OutOfMemory;
 
 // One step burns at most so many opportunities where a log is kept, since each may need room in it.
 const AT_ONCE: u32 = 2048;
@@ -93,8 +93,8 @@ impl Parts {
         }
     }
 
-    /// Goes on to the end.
-    pub fn finish(&mut self) -> Result<(), OutOfMemory>
+    /// Goes on to the end, with room for so many more departures.
+    pub fn finish(&mut self, departures: usize) -> Result<(), OutOfMemory>
         ghost gone: { Gone }
         requires sound { IsSoundAfter gone self.old }
         requires playable { CanPlay self.old }
@@ -103,6 +103,7 @@ impl Parts {
         ensures arrivals { all_arrivals self.new ≡ all_arrivals self.old }
         ensures played { OnOk result (IsPlayed self.new) }
     {
+        self.left.reserve(departures)?;
         'finishing: loop {
             if !self.step()? {
                 return Ok(());

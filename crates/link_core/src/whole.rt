@@ -11,10 +11,10 @@ use crate::link_log::LinkLog;
 use crate::opportunities::Opportunities;
 use crate::parts::Parts;
 use crate::passage::Passage;
-use mm_base::OutOfMemory;
 use packet_queue::QueueSpec;
 use packet_record::Timed;
 use std::alloc::Global;
+use text_base::OutOfMemory;
 use trace_reader::Trace;
 
 // A link after all its arrivals and opportunities.
@@ -36,8 +36,7 @@ pub(crate) fn played(
 {
     let packets = arrivals.len();
     let mut parts = Parts::new(alloc, opportunities, queue, logged, arrivals);
-    parts.left.reserve(packets)?;
-    parts.finish()?;
+    parts.finish(packets)?;
     Ok(parts)
 }
 

@@ -9,10 +9,11 @@ ghost use Rattle.live_relay.specs.MemWires.{next_answer, rest_answers};
 
 use crate::fails::is_failing;
 use crate::{Received, Side, Wire};
-use mm_base::{Bytes, EndError, OutOfMemory};
+use mm_base::EndError;
 use std::alloc::Global;
 use std::collections::VecDeque;
 use std::marker::Model;
+use text_base::{Bytes, OutOfMemory};
 
 /// A wire in memory. It answers each receive that isn't refused by the next entry of its list, and `None` after the
 /// list's end. It tells what was sent and received, counts its calls from 1, and fails exactly those that its list

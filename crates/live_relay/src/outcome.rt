@@ -4,8 +4,9 @@ ghost use Rattle.live_relay.specs.declared.outcome.RelayError.TheVariants as err
 ghost use Rattle.live_relay.specs.Errors.{relay_error};
 
 use crate::RelayRows;
-use mm_base::{EndError, OutOfMemory};
+use mm_base::EndError;
 use nest_spec::RunResult;
+use text_base::OutOfMemory;
 
 /// Why a relay that is done took no further turn.
 #[derive(Clone, Copy, PartialEq, Eq)]

@@ -1,6 +1,6 @@
 // A receive of a wire.
 use crate::Side;
-use mm_base::Bytes;
+use text_base::Bytes;
 
 /// A receive that was not refused.
 #[derive(Drop)]

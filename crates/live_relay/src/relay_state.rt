@@ -15,10 +15,11 @@ ghost use Rattle.live_relay.specs.Wires.{CountsWireFaults, datagram_in};
 use crate::stamps::Stamps;
 use crate::way::Way;
 use crate::{RelayEnd, RelayError, RelayResult, RelayRows, Side, Wire};
-use mm_base::{EndError, OutOfMemory};
+use mm_base::EndError;
 use nest_spec::{Nest, gather};
 use packet_record::Direction;
 use std::alloc::Global;
+use text_base::OutOfMemory;
 
 // What a relay has received, and its two ways.
 #[derive(Drop)]

@@ -6,9 +6,9 @@ ghost use Rattle.live_relay.specs.Ways.{fits_not};
 ghost use Rattle.live_relay.specs.Wires.{datagram_in};
 
 use crate::Side;
-use mm_base::{Bytes, OutOfMemory};
 use packet_record::{Packet, Row, Timed};
 use std::alloc::Global;
+use text_base::{Bytes, OutOfMemory};
 
 // The most bytes of a packet.
 pub(crate) const MOST: usize = 1_504;

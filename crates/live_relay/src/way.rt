@@ -13,11 +13,12 @@ ghost use Rattle.live_relay.specs.Ways.{EndsWay, GoesOn, item_in, StopsSending};
 ghost use Rattle.live_relay.specs.Wires.{CountsWireFaults, sending_all};
 
 use crate::{Side, Wire};
-use mm_base::{Bytes, EndError, OutOfMemory};
+use mm_base::EndError;
 use nest_line::Line;
 use nest_spec::Nest;
 use packet_record::{Direction, Item, Row, Timed};
 use std::alloc::Global;
+use text_base::{Bytes, OutOfMemory};
 
 // One direction of a nest, and how many of the packets that have left it were sent.
 #[derive(Drop)]

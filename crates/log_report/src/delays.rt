@@ -3,8 +3,8 @@ ghost use Rattle.std.specs.Prelude.{◌≡◌, ◌≤◌, ◌<◌, ◌+◌, ◌+
 ghost use Rattle.log_report.specs.Ranks.{at_rank, delays_of};
 
 use crate::Delays;
-use mm_base::OutOfMemory;
 use std::alloc::Global;
+use text_base::OutOfMemory;
 
 // Delays below this, in milliseconds, are counted by value.
 const SHORT: usize = 65_536;

@@ -2,7 +2,7 @@
 ghost use Rattle.std.specs.Prelude.{◌≡◌};
 ghost use Rattle.log_report.specs.declared.figures.ReportError.TheVariants as errors;
 
-use mm_base::OutOfMemory;
+use text_base::OutOfMemory;
 
 /// The delays of a log's departures, in milliseconds: of n delays in order, those at the ranks n / 2 and 95 n / 100,
 /// counted from 1 and rounded up, and the greatest.

@@ -3,8 +3,8 @@ ghost use Rattle.std.specs.Prelude.{◌≡◌, ◌++◌, ◌∷◌, Some, [], de
 ghost use Rattle.log_report.specs.ReportText.{report_text, number_line, pair_line, used_line, delay_line};
 
 use crate::{Delays, Report};
-use mm_base::{Bytes, OutOfMemory, write_decimal};
 use std::alloc::Global;
+use text_base::{Bytes, OutOfMemory, write_decimal};
 
 /// What is printed in place of the report of a log without entries.
 pub const EMPTY: &[u8] = b"empty\n";

@@ -7,9 +7,9 @@ ghost use Rattle.log_report.specs.Reports.{report_of, thousandths};
 
 use crate::Report;
 use crate::delays::DelayCounts;
-use mm_base::OutOfMemory;
 use shell_log::Entry;
 use std::alloc::Global;
+use text_base::OutOfMemory;
 
 // More entries count as want of memory: their sums might not fit 64 bits.
 const MOST_ENTRIES: u64 = 134_217_728;

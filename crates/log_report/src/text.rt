@@ -8,9 +8,9 @@ ghost use Rattle.log_report.specs.Reports.{report_of};
 
 use crate::Report;
 use crate::sums::Sums;
-use mm_base::{OutOfMemory, PieceReader};
 use shell_log::{LogError, LogText};
 use std::alloc::Global;
+use text_base::{OutOfMemory, PieceReader};
 
 /// The report of a log whose text is read piece by piece, wherever the text is cut. Each entry is added to the sums as
 /// it is read; of the entries only what the ranks of their delays ask for is kept: 256 KiB of counts, and 8 bytes for

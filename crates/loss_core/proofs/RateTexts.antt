@@ -6,7 +6,7 @@ use Rattle.std.proofs.lemmas.Nat.{pow-add}
 use Rattle.std.proofs.Math.Nat.{mul-lt-mul_of_pos_right}
 use Rattle.std.specs.List.{position, position_or_len, onto_first, list_all}
 use Rattle.std.proofs.lemmas.Str.Parse.{IsNumeralModel, numerals_by_fold, digits_value_short}
-use Rattle.mm_base.specs.Numbers.{is_digit, value_of_digits, decimal_of}
+use Rattle.text_base.specs.Numbers.{is_digit, value_of_digits, decimal_of}
 use Rattle.loss_core.specs.Rates.{parts_of, billionths_of}
 
 by_test : (b : Bool) (m n : ℕ) → cond b (Some m) None ≡ Some n → (b ≡ true) × (m ≡ n)

@@ -2,7 +2,7 @@
 use Rattle.std.specs.Prelude.{ℕ, ◌+◌, ◌-◌, ◌*◌, ◌^◌, ◌==◌, List, [], ◌∷◌, length, Option, Some, None, Result, Ok, Err}
 use Rattle.std.specs.Prelude.{option_and_then, nat_le, if◌then◌else◌}
 use Rattle.std.specs.List.{slice_split}
-use Rattle.mm_base.specs.Numbers.{decimal_of}
+use Rattle.text_base.specs.Numbers.{decimal_of}
 use Rattle.loss_core.specs.declared.rate.RateError.{RateError}
 use Rattle.loss_core.specs.declared.rate.RateError.TheVariants.{BadRate, AboveOne}
 

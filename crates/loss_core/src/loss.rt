@@ -2,10 +2,10 @@
 ghost use Rattle.std.specs.Prelude.{◌≡◌, ℕ, [], OnOk, OnErr};
 
 use crate::{Rate, Words};
-use mm_base::OutOfMemory;
 use packet_record::Timed;
 use std::alloc::Global;
 use std::marker::Model;
+use text_base::OutOfMemory;
 
 /// One direction of a loss: each packet that arrives draws one word, in order, which says whether it
 /// is dropped or passes at once.

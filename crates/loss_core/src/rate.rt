@@ -1,11 +1,11 @@
 // The rate of a loss, and how it is read.
 ghost use Rattle.std.specs.Prelude.{◌≡◌, ◌≤◌, ◌<◌, ◌^◌, ◌==◌, ◌∷◌, [], All, false, length, position, MatchResult};
 ghost use Rattle.std.specs.Prelude.{MatchOption, IfSome, IfNone};
-ghost use Rattle.mm_base.specs.Numbers.{decimal_of};
+ghost use Rattle.text_base.specs.Numbers.{decimal_of};
 ghost use Rattle.loss_core.specs.Losses.{drops};
 ghost use Rattle.loss_core.specs.Rates.{parts_of, whole_of, fraction_of, billionths_of, rate_of, error_number};
 
-use mm_base::read_decimal;
+use text_base::read_decimal;
 
 /// The share of packets that a loss drops, in billionths: 0 drops none, 1,000,000,000 drops all.
 #[derive(Clone, Copy, PartialEq, Eq)]

@@ -3,9 +3,9 @@ ghost use Rattle.std.specs.Prelude.{◌≡◌, IfOk, OnOk, OnErr};
 ghost use Rattle.loss_core.specs.Losses.{dropped, passed};
 
 use crate::{Rate, Words};
-use mm_base::OutOfMemory;
 use packet_record::Timed;
 use std::alloc::Global;
+use text_base::OutOfMemory;
 
 /// Draws a word for each packet, in order: where `word * 1000000000 < rate * 4294967296` the packet is lost, else it
 /// departs at the moment of its arrival. The list of arrivals becomes the list of departures, and the answer is the

@@ -4,9 +4,9 @@ ghost use Rattle.trace_reader.specs.Traces.{IsTrace};
 ghost use Rattle.made_run.specs.Made.{IsMadeNest};
 
 use crate::words::read_words;
-use mm_base::OutOfMemory;
 use nest_spec::{Nest, build};
 use std::alloc::Global;
+use text_base::OutOfMemory;
 use trace_reader::{Trace, make_trace};
 
 // The stated nest with the number's trace in both directions, and the number as its seed.

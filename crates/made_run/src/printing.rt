@@ -5,10 +5,10 @@ ghost use Rattle.made_run.specs.SummaryText.{last_line, number_line, summary_lin
 use crate::summary::{
     count_departed, count_dropped, count_inside, count_unsent, last_departure, sum_departed,
 };
-use mm_base::{Bytes, OutOfMemory, write_decimal};
 use nest_spec::FateRow;
 use packet_record::Row;
 use std::alloc::Global;
+use text_base::{Bytes, OutOfMemory, write_decimal};
 
 // Seven lines, each of a name of at most nine bytes, a number of at most twenty digits, and a line feed.
 const MOST_BYTES: usize = 256;

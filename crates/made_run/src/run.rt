@@ -5,11 +5,11 @@ ghost use Rattle.made_run.specs.SummaryText.{IsSummary};
 
 use crate::made::made_nest;
 use crate::printing::print_summary;
-use mm_base::{Bytes, OutOfMemory};
 use nest_plain::run_nest;
 use nest_spec::unpack_fates;
 use packet_record::{Row, make_load};
 use std::alloc::Global;
+use text_base::{Bytes, OutOfMemory};
 
 /// The summary of a run over the load of so many packets, 1 to 1,000,000, that the generator makes of a number, through
 /// `mm-delay 20 mm-link T T --uplink-queue=droptail --uplink-queue-args=packets=50 --downlink-queue=drophead

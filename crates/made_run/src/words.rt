@@ -3,9 +3,9 @@ ghost use Rattle.std.specs.Prelude.{◌≡◌, Ok, map, string_bytes, IfOk};
 ghost use Rattle.nest_spec.specs.Words.{nest_of};
 ghost use Rattle.made_run.specs.Made.{made_words};
 
-use mm_base::OutOfMemory;
 use nest_spec::{NestError, NestWords, read_nest};
 use std::alloc::{AllocError, Global};
+use text_base::OutOfMemory;
 
 // A delay, and a link with a queue of each kind that drops.
 const WORDS: [&str; 9] = [

@@ -5,11 +5,11 @@ ghost use Rattle.packet_record.specs.Streams.{after};
 ghost use Rattle.mark_channel.specs.Ends.{IsSameEnd};
 
 use crate::Sender;
-use mm_base::OutOfMemory;
 use packet_record::Item;
 use std::sync::Wait;
 use std::sync::atomic::{AtomicU64, Ordering};
 use std::thread::yield_now;
+use text_base::OutOfMemory;
 
 // How often one who waits looks for the others before it gives the run up.
 const LOOKS: u32 = 10_000_000;

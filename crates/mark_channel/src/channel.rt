@@ -11,10 +11,10 @@ ghost use Rattle.mark_channel.specs.Rules.{opening, sending, getting};
 use crate::rule::{InOrder, Limit, Roles, Together, Total, View};
 use crate::{Receiver, Sender};
 use crossbeam_channel::{Pass, RuledSender, bounded_with};
-use mm_base::OutOfMemory;
 use packet_record::Item;
 use std::alloc::Global;
 use std::marker::Brand;
+use text_base::OutOfMemory;
 
 /// Makes a channel that holds up to `capacity` items, 1 to 64, for a run up to `horizon` milliseconds.
 /// All the memory that the channel ever needs is taken here: `OutOfMemory` is the one refusal, and no

@@ -2,13 +2,14 @@
 ghost use Rattle.std.specs.Prelude.{◌≡◌, ◌≤◌, ◌<◌, [], length, take, Some, IfOk, OnOk, OnErr, IsErrOf};
 ghost use Rattle.std.specs.Option.{option_map};
 ghost use Rattle.mm_base.specs.Counts.{Rose};
-ghost use Rattle.mm_base.specs.Link.{CountsLinkFaults, after_read, after_write, read_begun};
+ghost use Rattle.mm_base.specs.Link.{CountsLinkFaults, after_read, after_write, read_begun, moved};
 ghost use Rattle.mm_base.specs.MemLink.{mem_link_view, IsLinkCall, read_count};
 
 use crate::fails::is_failing;
-use crate::{Bytes, EndError, Link, ReadStart};
+use crate::{EndError, Link, ReadStart};
 use std::alloc::Global;
 use std::marker::Model;
+use text_base::Bytes;
 
 /// A link in memory. It tells its bytes, counts its calls of `read` and `write` from 1, and fails exactly those that
 /// its list names.
@@ -95,11 +96,7 @@ impl Link for MemLink {
             self.faults = self.faults.saturating_add(1);
             return Err(EndError::Failed);
         }
-        let rest = &self.input.as_slice()[self.at..];
-        let count = rest.len().min(buf.len()).min(self.most);
-        buf[..count].copy_from_slice(&rest[..count]);
-        self.at += count;
-        Ok(count)
+        Ok(self.fill(buf))
     }
 
     fn write(&mut self, piece: &[u8]) -> Result<usize, EndError>
@@ -140,5 +137,18 @@ impl MemLink {
             return Err(EndError::OutOfMemory);
         }
         Ok(())
+    }
+
+    // Fills the front of a buffer with what a read gives, and answers how much.
+    fn fill(&mut self, buf: &mut [u8]) -> usize
+        ensures count { result ≡ read_count self.old buf.old }
+        ensures front { take result buf.new ≡ take result self.old.bytes.rest }
+        ensures moved { self.new ≡ record self.old { bytes = moved result self.old.bytes } }
+    {
+        let rest = &self.input.as_slice()[self.at..];
+        let count = rest.len().min(buf.len()).min(self.most);
+        buf[..count].copy_from_slice(&rest[..count]);
+        self.at += count;
+        count
     }
 }

@@ -5,9 +5,10 @@ ghost use Rattle.mm_base.specs.MemSink.{MemSinkState, mem_sink_view, IsMemWrite}
 ghost use Rattle.mm_base.specs.Sink.{sending, CountsSinkFaults};
 
 use crate::fails::is_failing;
-use crate::{Bytes, EndError, Sink};
+use crate::{EndError, Sink};
 use std::alloc::Global;
 use std::marker::Model;
+use text_base::Bytes;
 
 /// A sink in memory. It tells what was written, counts its calls from 1, and fails exactly those that its list
 /// names.

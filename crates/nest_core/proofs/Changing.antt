@@ -5,7 +5,7 @@ use Rattle.std.proofs.Common.{get_or, slice_set, ap, sym, subst, ◌∙◌, refl
 use Rattle.packet_record.specs.declared.item.Item.{Item}
 use Rattle.packet_record.specs.declared.item.Stream.{Stream}
 use Rattle.packet_record.specs.Streams.{MayFollow, IsUpTo}
-use Rattle.mm_base.specs.declared.OutOfMemory.{OutOfMemory}
+use Rattle.text_base.specs.declared.OutOfMemory.{OutOfMemory}
 use Rattle.shell_state.specs.States.{State}
 use Rattle.nest_core.specs.declared.stage.Stage.{Stage}
 use Rattle.nest_core.specs.declared.actor.Actor.TheVariants.{Source}

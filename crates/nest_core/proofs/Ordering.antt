@@ -5,7 +5,7 @@ use Rattle.std.proofs.Common.{subst, ◌∙◌, refl, arith, rules, tests, below
 use Rattle.std.specs.List.{range_with_len}
 use Rattle.std.specs.Bool.{OnTrue, OnFalse}
 use Rattle.std.proofs.lemmas.List.{take_more, map-append}
-use Rattle.mm_base.specs.declared.OutOfMemory.{OutOfMemory}
+use Rattle.text_base.specs.declared.OutOfMemory.{OutOfMemory}
 use Rattle.nest_core.specs.Worlds.{WorldParts}
 use Rattle.nest_core.specs.WorldSteps.{actors_of, step_of}
 use Rattle.nest_core.specs.Promises.{KeepsFirst}

@@ -3,7 +3,7 @@ use Rattle.std.proofs.Common.{◌≡◌, ◌≢◌, ◌↔◌, ℕ, ◌+◌, ◌
 use Rattle.std.proofs.Common.{IfOk, ap, sym, subst, ◌∙◌, refl, arith}
 use Rattle.std.specs.Bool.{OnTrue, OnFalse}
 use Rattle.packet_record.specs.declared.item.Stream.{Stream}
-use Rattle.mm_base.specs.declared.OutOfMemory.{OutOfMemory}
+use Rattle.text_base.specs.declared.OutOfMemory.{OutOfMemory}
 use Rattle.nest_core.specs.declared.actor.Actor.{Actor}
 use Rattle.nest_core.specs.Worlds.{WorldParts}
 use Rattle.nest_core.specs.WorldSteps.{actors_of, act, step_of}

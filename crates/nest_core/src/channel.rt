@@ -2,11 +2,11 @@
 ghost use Rattle.std.specs.Prelude.{◌≡◌, IsTrue, IfOk};
 ghost use Rattle.nest_core.specs.Channels.{new_channel, has_room, with_last, first_of, without_first};
 
-use mm_base::OutOfMemory;
 use packet_record::Item;
 use std::alloc::Global;
 use std::collections::VecDeque;
 use std::marker::Model;
+use text_base::OutOfMemory;
 
 // The items that were sent and not received, the oldest first, of which there is room for so many.
 #[derive(Drop)]

@@ -6,8 +6,8 @@ ghost use Rattle.nest_core.specs.Does.{receives_at, MayCollect};
 
 use crate::channel::Channel;
 use crate::stage::Stage;
-use mm_base::OutOfMemory;
 use packet_record::Flow;
+use text_base::OutOfMemory;
 
 // The collector receives. Answers whether it did.
 fn collect(channel: &mut Channel, collected: &mut Flow) -> Result<bool, OutOfMemory>

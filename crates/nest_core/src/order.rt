@@ -6,11 +6,11 @@ ghost use Rattle.nest_spec.specs.Once.{HaveOneFate};
 ghost use Rattle.nest_core.specs.Orders.{first_worlds, after_order, EndsRounds, AreRunsOf};
 
 use crate::World;
-use mm_base::OutOfMemory;
 use nest_spec::{Nest, RunResult, gather};
 use packet_record::{Direction, Schedule};
 use std::alloc::Global;
 use std::marker::Model;
+use text_base::OutOfMemory;
 
 // How many items a channel of a run holds.
 const CAPACITY: u32 = 2;

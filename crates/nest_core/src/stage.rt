@@ -5,11 +5,11 @@ ghost use Rattle.shell_state.specs.States.{new_state};
 ghost use Rattle.shell_state.specs.Standing.{Stands};
 
 use crate::channel::Channel;
-use mm_base::OutOfMemory;
 use packet_record::{FlowEnd, Item};
 use shell_core::DirSpec;
 use shell_state::{ShellState, Taken};
 use std::alloc::Global;
+use text_base::OutOfMemory;
 
 // The most opportunities that a drain burns in one step.
 pub(crate) const MOST: u32 = 4;

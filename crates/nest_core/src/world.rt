@@ -12,12 +12,12 @@ use crate::channel::Channel;
 use crate::line;
 use crate::source::Source;
 use crate::stage::Stage;
-use mm_base::OutOfMemory;
 use nest_spec::Nest;
 use packet_record::{Direction, Flow, FlowEnd, Schedule};
 use shell_state::ShellState;
 use std::alloc::Global;
 use std::marker::Model;
+use text_base::OutOfMemory;
 
 /// One direction of a nest in single steps: its source, its shells, each with a feeder and a drain, the bounded
 /// channels between them, and what a collector received behind the last.
@@ -53,7 +53,7 @@ impl<'a> World<'a> {
     ghost use Rattle.nest_core.specs.Promises.{arrivals_of, specs_of, departed_of, sent_stream, Keeps, KeepsFirst};
     ghost use Rattle.nest_core.specs.Promises.{IsRunOf, IsFrontUntil, IsSettled, IsQuiet, IsFinished, IsWhole};
     ghost use Rattle.nest_core.specs.Left.{left_of};
-    ghost use Rattle.nest_core.specs.Does.{does};
+    ghost use Rattle.nest_core.specs.Does.{IsAmong, does};
     ghost use Rattle.nest_core.specs.Standing.{WorldStands};
 
     /// A direction of the nest before its first step: nothing is sent yet. The source sends the items of the
@@ -106,7 +106,17 @@ impl<'a> World<'a> {
         ensures actors { actors_of self.new ≡ actors_of self.old }
     {
         self.reached();
-        match actor_of(actor) {
+        self.act(actor_of(actor))
+    }
+
+    // The actor takes its step, if it can. Answers whether it did.
+    fn act(&mut self, actor: Actor) -> Result<bool, OutOfMemory>
+        requires { IsAmong (length self.old.line.stages) actor }
+        ensures ok { OnOk result (self.new ≡ act self.old actor) }
+        ensures did { IfOk result (λ did. did ≡ does self.old actor) }
+        ensures err { OnErr result (self.new ≡ self.old) }
+    {
+        match actor {
             Actor::Source => Ok(self.send_next()),
             Actor::Receiver(shell) => self.receive(shell),
             Actor::Feeder(shell) => self.feed(shell),

@@ -9,12 +9,12 @@ ghost use Rattle.nest_line.specs.Lines.{IsFed, IsSettled};
 ghost use Rattle.nest_line.specs.Meeting.{AreNew, last_taken, specs_of};
 
 use crate::passing::advance;
-use mm_base::OutOfMemory;
 use nest_spec::Nest;
 use packet_record::{Direction, Item, Timed};
 use shell_state::ShellState;
 use std::alloc::Global;
 use std::marker::Model;
+use text_base::OutOfMemory;
 
 /// One direction of a nest, which is fed items and lets each pass all its shells as far as it can before the next.
 ///

@@ -10,9 +10,9 @@ ghost use Rattle.nest_line.specs.Lines.{IsFront};
 ghost use Rattle.nest_line.specs.Meeting.{Caught, Follow, Grows, IsSameShell, IsSound, Meet, Rests, fed_of, last_taken};
 ghost use Rattle.nest_line.specs.Meeting.{TakesFewer, goes_on, packet_items, specs_of};
 
-use mm_base::OutOfMemory;
 use packet_record::{FlowEnd, Item, Timed};
 use shell_state::{ShellState, Taken};
+use text_base::OutOfMemory;
 
 // The most opportunities that one take burns.
 const MOST: u32 = 256;

@@ -4,9 +4,9 @@ ghost use Rattle.nest_spec.specs.RunViews.{all_named};
 ghost use Rattle.nest_plain.specs.Unwritten.{unwritten};
 
 use link_core::LinkLog;
-use mm_base::OutOfMemory;
 use nest_spec::{Named, NamedLog, PackedFate, RunResult, unpack_fates};
 use std::marker::Model;
+use text_base::OutOfMemory;
 
 /// A log that isn't written out, and the name of its file.
 pub type UnwrittenLog = Named<LinkLog>;

@@ -14,10 +14,10 @@ ghost use Rattle.nest_plain.specs.Unwritten.{unwritten_log};
 use crate::NestRun;
 use crate::nest_run::UnwrittenLog;
 use crate::shell::run_shells;
-use mm_base::OutOfMemory;
 use nest_spec::{Marking, Nest, RunResult, in_nest_order};
 use packet_record::{Direction, Row, Schedule, Timed};
 use std::alloc::Global;
+use text_base::OutOfMemory;
 
 // The packets of a direction up to the horizon.
 fn entering(

@@ -15,12 +15,12 @@ ghost use Rattle.nest_spec.specs.Walk.{step, walk, named_log};
 ghost use Rattle.nest_plain.specs.Unwritten.{unwritten_log};
 
 use crate::nest_run::UnwrittenLog;
-use mm_base::OutOfMemory;
 use nest_spec::{Marking, Named, ShellDirection};
 use packet_record::Timed;
 use shell_core::{Passage, run_whole};
 use std::alloc::Global;
 use std::vec::IntoIter;
+use text_base::OutOfMemory;
 
 // One shell over all that arrives, whose fates in it are marked: what departs, and the log, where it has a name.
 fn run_shell(

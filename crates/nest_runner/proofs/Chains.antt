@@ -9,9 +9,9 @@ use Rattle.shell_state.specs.States.{State}
 use Rattle.nest_spec.specs.Nests.{NestParts, directions_of}
 use Rattle.nest_spec.specs.Passed.{HavePassed}
 use Rattle.shell_core.specs.declared.spec.DirSpec.{DirSpec}
-use Rattle.nest_runner.specs.declared.stage.Stage.{Stage}
+use Rattle.shell_workers.specs.declared.stage.Stage.{Stage}
 use Rattle.nest_runner.specs.declared.lane.Lane.{Lane}
-use Rattle.nest_runner.specs.Stages.{AllDone, AllFresh, AllSame, IsFresh}
+use Rattle.shell_workers.specs.Stages.{AllDone, AllFresh, AllSame, IsFresh}
 use Rattle.nest_runner.specs.Lanes.{AllEnded, AllOwn, HasCarried, HasEnded, HasRun, IsSameLane, IsWired, Linked}
 use Rattle.nest_runner.specs.Lanes.{specs_of}
 

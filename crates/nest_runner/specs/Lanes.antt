@@ -10,10 +10,10 @@ use Rattle.packet_record.specs.Streams.{no_items}
 use Rattle.mark_channel.specs.Ends.{Channel, IsSameEnd}
 use Rattle.shell_core.specs.declared.spec.DirSpec.{DirSpec}
 use Rattle.nest_spec.specs.Nests.{NestParts, directions_of}
-use Rattle.nest_runner.specs.declared.stage.Stage.{Stage}
+use Rattle.shell_workers.specs.declared.stage.Stage.{Stage}
 use Rattle.nest_runner.specs.declared.lane.Path.{Path}
 use Rattle.nest_runner.specs.declared.lane.Lane.{Lane}
-use Rattle.nest_runner.specs.Stages.{AllDone, AllFresh, AllSame}
+use Rattle.shell_workers.specs.Stages.{AllDone, AllFresh, AllSame}
 
 -- The first stage receives from one channel, each other one from the channel that the one before it sends to, and the
 -- last sends to the other channel.

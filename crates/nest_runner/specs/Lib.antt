@@ -1,6 +1,3 @@
-pub mod Ends
+pub mod Feeding
 pub mod Lanes
-pub mod Sent
-pub mod Stages
 pub mod Streaming
-pub mod StreamParts

@@ -3,7 +3,7 @@ use Rattle.std.specs.Prelude.{◌≡◌, ◌≢◌, ◌≤◌, ◌<◌, ℕ, Lis
 use Rattle.mm_base.specs.Counts.{Rose}
 use Rattle.mm_base.specs.Disk.{DiskView}
 use Rattle.mm_base.specs.Files.{Files, IfHeld, IsAbsent, IsThere}
-use Rattle.mm_base.specs.Lines.{lines_of}
+use Rattle.text_base.specs.Lines.{lines_of}
 use Rattle.mm_base.specs.declared.errors.DiskError.{DiskError}
 use Rattle.mm_base.specs.declared.errors.DiskError.TheVariants as disk_errors
 use Rattle.mm_base.specs.declared.errors.LoadError.{LoadError}
@@ -14,14 +14,9 @@ use Rattle.packet_record.specs.declared.reading.ScheduleError.TheVariants as sch
 use Rattle.packet_record.specs.Schedules.{IsScheduleText, first_fault}
 use Rattle.nest_spec.specs.Nests.{NestParts, RunLists, result_of}
 use Rattle.nest_spec.specs.Once.{HaveOneFate}
+use Rattle.row_source.specs.StreamParts.{IsText}
 use Rattle.nest_runner.specs.declared.stream_error.StreamError.{StreamError}
 use Rattle.nest_runner.specs.declared.stream_error.StreamError.TheVariants as stream_errors
-
--- the file of this name may be read, and has these bytes
-pub record IsText (told : Option Files) (name : List ℕ) (bytes : List ℕ) : Type 0 where
-  pub few : length bytes ≤ 67108864
-  pub there : IsThere told name
-  pub held : IfHeld told name (λ whole. bytes ≡ whole)
 
 -- The bytes of the file are the text of these rows.
 pub record IsScheduleOf (told : Option Files) (name : List ℕ) (rows : List Row) : Type 0 where

@@ -9,23 +9,25 @@ ghost use Rattle.mark_channel.specs.Ends.{IsSameEnd};
 ghost use Rattle.mark_channel.specs.Feedings.{HasSentRows};
 ghost use Rattle.nest_spec.specs.Nests.{result_of};
 ghost use Rattle.nest_spec.specs.Once.{HaveOneFate};
-ghost use Rattle.nest_runner.specs.Ends.{IfEnded, end_of_feed};
+ghost use Rattle.shell_workers.specs.Ends.{IfEnded};
+ghost use Rattle.nest_runner.specs.Feeding.{end_of_feed};
 ghost use Rattle.nest_runner.specs.Lanes.{HasCarried, HasEnded, HasRun, IsDonePath, IsFreshLane, IsFreshPath};
 ghost use Rattle.nest_runner.specs.Lanes.{IsSameLane, IsSamePath};
 
 use crate::begun::none_begun;
-use crate::ends::WorkEnd;
 use crate::lane::Lane;
 use crate::run::{gather_marked, run_paths};
 use mark_channel::{Begun, FeedEnd, Feeds, Sender};
-use mm_base::{OutOfMemory, Pace};
+use mm_base::Pace;
 use nest_plain::NestRun;
 use nest_spec::{Marking, Nest, RunResult};
 use packet_record::Direction;
+use shell_workers::WorkEnd;
 use std::alloc::Global;
 use std::marker::{Send, Sync};
 use std::sync::Wait;
 use std::thread::{Threads, join_mut};
+use text_base::OutOfMemory;
 
 /// Runs what is fed through the nest over threads, as `run_nest_threads` runs a schedule: the feeding stands in the
 /// place of its source, beside the threads of the shells. The result, if it returns, is that of the composition of the

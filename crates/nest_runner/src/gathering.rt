@@ -21,7 +21,6 @@ ghost use Rattle.nest_spec.specs.Passed.{HavePassed};
 ghost use Rattle.nest_spec.specs.Walk.{named_log, step, walk};
 ghost use Rattle.nest_plain.specs.Unwritten.{unwritten_log};
 
-use mm_base::OutOfMemory;
 use nest_plain::{NestRun, UnwrittenLog};
 use nest_spec::{Marking, Named, Nest, ShellDirection, in_nest_order};
 use packet_record::{Direction, Timed};
@@ -29,6 +28,7 @@ use shell_core::Passage;
 use shell_state::ShellState;
 use std::alloc::Global;
 use std::vec::IntoIter;
+use text_base::OutOfMemory;
 
 // Gives up the state of one shell, and marks the fates in it: what departed, and the log, where it has a name.
 fn gather_shell(

@@ -7,16 +7,16 @@ ghost use Rattle.shell_state.specs.States.{new_state};
 ghost use Rattle.nest_spec.specs.Nests.{AllFit, directions_of};
 ghost use Rattle.nest_spec.specs.Passed.{HavePassed};
 ghost use Rattle.nest_runner.specs.Lanes.{AllOwn, IsFreshLane, IsWired, Linked, specs_of};
-ghost use Rattle.nest_runner.specs.Stages.{AllDone, AllFresh, IsDone, IsFresh};
+ghost use Rattle.shell_workers.specs.Stages.{AllDone, AllFresh, IsDone, IsFresh};
 
-use crate::stage::Stage;
 use mark_channel::{Receiver, Sender, settle};
-use mm_base::OutOfMemory;
 use nest_spec::Nest;
 use packet_record::Direction;
 use shell_core::DirSpec;
 use shell_state::ShellState;
+use shell_workers::Stage;
 use std::alloc::Global;
+use text_base::OutOfMemory;
 
 // How many items a channel of a run holds.
 const CAPACITY: u32 = 64;

@@ -6,21 +6,12 @@
 #![tactic(auto)]
 
 mod begun;
-mod collecting;
-mod draining;
-mod ends;
-mod feeding;
 mod feeds;
 mod gathering;
 mod lane;
 mod run;
-mod sourcing;
-mod stage;
-mod stages;
 mod stream;
 mod stream_error;
-mod streaming;
-pub mod work;
 
 pub use feeds::{run_feeds, run_nest_feeds};
 pub use run::{run_nest_threads, run_threads};

@@ -10,27 +10,26 @@ ghost use Rattle.nest_spec.specs.declared.fate.Fate.TheVariants.{Unsent};
 ghost use Rattle.nest_spec.specs.Fates.{fated};
 ghost use Rattle.nest_spec.specs.Nests.{result_of};
 ghost use Rattle.nest_spec.specs.Once.{HaveOneFate};
-ghost use Rattle.nest_runner.specs.Ends.{IfEnded};
+ghost use Rattle.shell_workers.specs.Ends.{IfEnded};
 ghost use Rattle.nest_runner.specs.Lanes.{HasCarried, HasEnded, HasRun, IsDonePath, IsFreshLane, IsFreshPath};
 ghost use Rattle.nest_runner.specs.Lanes.{IsSameLane, IsSamePath};
-ghost use Rattle.nest_runner.specs.Stages.{AllDone, AllFresh, AllSame};
+ghost use Rattle.shell_workers.specs.Stages.{AllDone, AllFresh, AllSame};
 
 use crate::begun::none_begun;
-use crate::collecting::collector;
-use crate::ends::WorkEnd;
 use crate::gathering::gather;
 use crate::lane::{Lane, Path};
-use crate::sourcing::source;
-use crate::stages::run_stages;
 use mark_channel::{Begun, Sender};
-use mm_base::{OutOfMemory, Pace, Role};
+use mm_base::{Pace, Role};
 use nest_plain::NestRun;
 use nest_spec::{Marking, Nest, RunResult};
 use packet_record::{Direction, Row, Schedule};
+use row_source::source;
+use shell_workers::{WorkEnd, collector, run_stages};
 use std::alloc::Global;
 use std::marker::Sync;
 use std::sync::Wait;
 use std::thread::{Threads, join_mut};
+use text_base::OutOfMemory;
 
 // How many opportunities are burnt at a time.
 const MOST: u32 = 256;

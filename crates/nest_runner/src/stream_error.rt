@@ -2,8 +2,9 @@
 ghost use Rattle.std.specs.Prelude.{◌≡◌};
 ghost use Rattle.nest_runner.specs.declared.stream_error.StreamError.TheVariants as errors;
 
-use mm_base::{DiskError, LoadError, OutOfMemory};
+use mm_base::{DiskError, LoadError};
 use packet_record::ScheduleError;
+use text_base::OutOfMemory;
 
 /// Why a run of a schedule that is read while the nest runs gives no result.
 #[derive(Clone, Copy, Debug, PartialEq, Eq)]

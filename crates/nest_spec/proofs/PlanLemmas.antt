@@ -3,7 +3,7 @@ use Rattle.std.proofs.Common.{◌≡◌, ℕ, zero, suc, ◌+◌, ◌-◌, ◌�
 use Rattle.std.proofs.Common.{length, Option, Some, None, Result, Ok, Err, option_to_list, is_some, nat_le, refl, ap}
 use Rattle.std.proofs.Common.{sym, subst, ◌∙◌, arith, rules, tests, length-append}
 use Rattle.packet_record.specs.declared.packet.Direction.{Direction}
-use Rattle.mm_base.specs.Numbers.{decimal_of}
+use Rattle.text_base.specs.Numbers.{decimal_of}
 use Rattle.loss_core.specs.RateValues.{rate_value}
 use Rattle.nest_spec.specs.Words.{Text, next, and_then, ShellRead, shell_read, delay_ms, delay_words, loss_direction}
 use Rattle.nest_spec.specs.Words.{loss_rate, rate_words, loss_words, nothing_given, LinkRead, link_from, queue_given}

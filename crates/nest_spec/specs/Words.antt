@@ -4,7 +4,7 @@ use Rattle.std.specs.Prelude.{Result, Ok, Err, length, min, nat_le, nat_lt, code
 use Rattle.std.specs.Option.{is_some, unwrap_or}
 use Rattle.std.specs.List.{position_or_len, before_first, after_first}
 use Rattle.std.specs.Str.{bytes_eq}
-use Rattle.mm_base.specs.Numbers.{decimal_of}
+use Rattle.text_base.specs.Numbers.{decimal_of}
 use Rattle.packet_record.specs.declared.packet.Direction.{Direction}
 use Rattle.packet_record.specs.declared.packet.Direction.TheVariants.{Up, Down}
 use Rattle.packet_queue.specs.Arguments.{queue_of}

@@ -6,9 +6,9 @@ ghost use Rattle.nest_spec.specs.Nests.{shells_of};
 ghost use Rattle.nest_spec.specs.Plans.{IsPlan, log_in, traces_in, logs_in, trace_count, log_count};
 
 use crate::{LinkSide, NestWords, Shell, ShellWords, Side};
-use mm_base::{OutOfMemory, Text};
 use std::alloc::Global;
 use std::vec::IntoIter;
+use text_base::{OutOfMemory, Text};
 use trace_reader::Trace;
 
 /// The shells of these words with these traces, one for each of the words' traces.

@@ -84,10 +84,10 @@ impl NestError {
     }
 }
 
-impl From<mm_base::OutOfMemory> for NestError {
+impl From<text_base::OutOfMemory> for NestError {
     ghost from_gives = { λ _ e. e ≡ errors.OutOfMemory };
 
-    fn from(_: mm_base::OutOfMemory) -> Self {
+    fn from(_: text_base::OutOfMemory) -> Self {
         NestError::OutOfMemory
     }
 }

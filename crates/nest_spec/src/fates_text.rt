@@ -3,8 +3,8 @@ ghost use Rattle.std.specs.Prelude.{◌≡◌, ◌+◌, ◌≤◌, ◌++◌, len
 ghost use Rattle.nest_spec.specs.FateTexts.{fate_text, fate_line, fates_text};
 
 use crate::{Fate, FateRow, PackedFate};
-use mm_base::{Bytes, LineBuffer, OutOfMemory, PrintLine, print_lines};
 use std::alloc::Global;
+use text_base::{Bytes, LineBuffer, OutOfMemory, PrintLine, print_lines};
 
 /// The text of these fates: a line for each, in their order. `OutOfMemory` is want of memory.
 pub fn print_fates(alloc: Global, fates: &[FateRow]) -> Result<Bytes, OutOfMemory>
@@ -17,7 +17,7 @@ impl PrintLine for FateRow {
     ghost line = { fate_line };
 
     #[inline(always)]
-    #[tactic(auto, using(mm_base::proofs::TextLemmas::is_ended_line))]
+    #[tactic(auto, using(text_base::proofs::TextLemmas::is_ended_line))]
     fn put_line(&self, out: &mut LineBuffer) {
         out.put_byte(b'\n');
         put_fate(out, self.fate);

@@ -22,10 +22,10 @@ use crate::marking::Marking;
 use crate::naming::in_nest_order;
 use crate::packed_fate::unpack_fates;
 use crate::{Named, NamedLog, Nest, RunResult, ShellDirection};
-use mm_base::{OutOfMemory, Text};
 use packet_record::{Direction, Row, Timed};
 use shell_state::ShellState;
 use std::alloc::Global;
+use text_base::{OutOfMemory, Text};
 
 // Marks the fates of what arrived at these shells, and of what passed them all, and adds the log of each, where it
 // has a name.

@@ -12,10 +12,10 @@ ghost use Rattle.nest_spec.specs.Places.{ArePlaces};
 use crate::mark::{Mark, fate_by};
 use crate::places::{Places, place_of, places_of};
 use crate::{Fate, FateRow, PackedFate};
-use mm_base::OutOfMemory;
 use packet_record::{Row, Schedule, Timed};
 use std::alloc::Global;
 use std::marker::Model;
+use text_base::OutOfMemory;
 
 /// The fates of a run's rows while its packets pass the shells. Contracts see the rows and their fates, one for each.
 #[derive(Drop)]

@@ -2,8 +2,8 @@
 ghost use Rattle.std.specs.Prelude.{◌≡◌, ◌++◌, ◌↔◌, length, option_to_list, OnOk, IfOk};
 ghost use Rattle.nest_spec.specs.Walk.{in_nest_order};
 
-use mm_base::OutOfMemory;
 use std::alloc::Global;
+use text_base::OutOfMemory;
 
 /// What the shells have of each direction, in the nest's order, up before down. The lists are in passing order, with an
 /// entry for each shell.

@@ -6,11 +6,11 @@ ghost use Rattle.nest_spec.specs.Links.{NamedAreLinks, specs_in};
 
 use crate::build_shells::build_shells;
 use crate::{NestWords, Shell, ShellDirection};
-use mm_base::OutOfMemory;
 use packet_record::Direction;
 use shell_core::DirSpec;
 use std::alloc::Global;
 use std::marker::Model;
+use text_base::OutOfMemory;
 use trace_reader::Trace;
 
 /// A nest of 1 to 8 shells, the outermost first, with the seed of its losses and its horizon.

@@ -12,9 +12,9 @@ ghost use Rattle.nest_spec.specs.DraftViews.{draft_plan, place_and_words};
 use crate::shell_reading::{ShellRead, read_shell};
 use crate::shell_words::{kind_of, next};
 use crate::{NestError, ShellWords};
-use mm_base::{OutOfMemory, Text};
 use std::alloc::Global;
 use std::marker::Model;
+use text_base::{OutOfMemory, Text};
 use trace_reader::Trace;
 
 /// A nest as its words state it: 1 to 8 shells, the outermost first, and the names of its traces and logs in that

@@ -3,10 +3,10 @@ ghost use Rattle.std.specs.Prelude.{◌≡◌, ◌≤◌, ◌<◌, IfOk};
 ghost use Rattle.nest_spec.specs.PackedFates.{IsShort, fate_at};
 
 use crate::{Fate, FateRow};
-use mm_base::OutOfMemory;
 use packet_record::Direction;
 use std::alloc::Global;
 use std::marker::Model;
+use text_base::OutOfMemory;
 
 // The kinds of fates.
 const DEPARTED: u32 = 0;

@@ -5,10 +5,10 @@ ghost use Rattle.nest_spec.specs.Index.{IsIndex, IsNowhere, IsOnlyAt, AreFromOne
 ghost use Rattle.nest_spec.specs.Places.{ArePlaces};
 ghost use Rattle.std.specs.Bool.{OnTrue};
 
-use mm_base::OutOfMemory;
 use packet_record::Row;
 use std::alloc::Global;
 use std::collections::HashMap;
+use text_base::OutOfMemory;
 
 // Where the row of each number stands: in order from 1, as in a schedule, or as an index says.
 #[derive(Drop)]

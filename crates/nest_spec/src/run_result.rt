@@ -3,9 +3,9 @@ ghost use Rattle.std.specs.Prelude.{◌≡◌};
 ghost use Rattle.nest_spec.specs.RunViews.{all_named};
 
 use crate::FateRow;
-use mm_base::Text;
 use shell_log::Log;
 use std::marker::Model;
+use text_base::Text;
 
 /// A log of one direction of a link, in any form, and the name of its file.
 #[derive(Drop)]

@@ -3,11 +3,11 @@ ghost use Rattle.std.specs.Prelude.{◌≡◌, ◌≤◌, IfOk};
 ghost use Rattle.nest_spec.specs.Nests.{stream_of, spec_in, log_name, in_direction, side_in};
 
 use loss_core::Rate;
-use mm_base::{OutOfMemory, Text};
 use packet_queue::QueueSpec;
 use packet_record::Direction;
 use shell_core::DirSpec;
 use std::alloc::Global;
+use text_base::{OutOfMemory, Text};
 use trace_reader::Trace;
 
 /// One direction of a link: its trace, its queue, and the name of its log, if it has one.

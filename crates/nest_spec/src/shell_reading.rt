@@ -1,7 +1,7 @@
 // The words of one shell.
 ghost use Rattle.std.specs.Prelude.{◌≡◌, Some, None, Ok, Err, map, string_bytes, unwrap_or, codes, [], option_map};
 ghost use Rattle.std.specs.Prelude.{MatchResult};
-ghost use Rattle.mm_base.specs.Numbers.{decimal_of};
+ghost use Rattle.text_base.specs.Numbers.{decimal_of};
 ghost use Rattle.nest_spec.specs.Words.{shell_read, delay_ms, delay_words, loss_direction, loss_rate, rate_words};
 ghost use Rattle.nest_spec.specs.Words.{loss_words, queue_given, side_words, queues_read, link_end, link_words};
 ghost use Rattle.nest_spec.specs.Words.{shell_words};
@@ -13,10 +13,10 @@ use crate::link_words::{LinkRest, LinkWords, SideWords, read_link_words};
 use crate::shell_words::next;
 use crate::{LinkSide, NestError, ShellKind, ShellWords};
 use loss_core::{Rate, read_rate};
-use mm_base::limits::HOUR;
-use mm_base::read_decimal;
 use packet_queue::{QueueSpec, read_queue};
 use packet_record::Direction;
+use text_base::limits::HOUR;
+use text_base::read_decimal;
 
 // What was read of one shell, and the words that are left, the first with its place.
 #[derive(Clone, Copy)]

@@ -3,11 +3,11 @@ ghost use Rattle.std.specs.Prelude.{◌<◌};
 
 use crate::inputs::{packets_of, trace_of};
 use crate::packets::put_line;
-use mm_base::{Bytes, OutOfMemory};
 use packet_queue::{QueueKind, QueueSpec};
 use packet_record::Timed;
 use std::alloc::Global;
 use std::process::Abort;
+use text_base::{Bytes, OutOfMemory};
 use trace_reader::{Opportunity, Trace};
 
 // Numbers below a limit, one after another.

@@ -1,11 +1,11 @@
 // Traces, queues, rates and schedules of texts that must say one. No clause says which, so that a test knows only what
 // it looks at.
 use loss_core::{Rate, read_rate};
-use mm_base::OutOfMemory;
 use packet_queue::{QueueSpec, read_queue};
 use packet_record::{Row, Schedule, Timed, read_schedule};
 use std::alloc::Global;
 use std::process::Abort;
+use text_base::OutOfMemory;
 use trace_reader::{Trace, read_trace};
 
 pub fn trace_of(rt: &impl Abort, alloc: Global, text: &[u8]) -> Trace {

@@ -8,13 +8,13 @@ ghost use Rattle.link_core.specs.View.{Link, opps_of};
 
 use crate::packets::in_order;
 use link_core::{LinkCore, LinkLog, Passage, run_link};
-use mm_base::OutOfMemory;
-use mm_base::limits::{HOUR, MOST_OPPORTUNITIES};
 use packet_queue::QueueSpec;
 use packet_record::Timed;
 use shell_log::Entry;
 use std::alloc::Global;
 use std::process::Abort;
+use text_base::OutOfMemory;
+use text_base::limits::{HOUR, MOST_OPPORTUNITIES};
 use trace_reader::Trace;
 
 // Lets one packet in, not before the last.

@@ -5,11 +5,11 @@ use crate::link_runs::{Setting, put_together, run_over, run_singly};
 use crate::packets::are_listed;
 use crate::slow::{Slow, slow_link};
 use link_core::{LinkCore, LinkLog, Passage};
-use mm_base::OutOfMemory;
 use packet_record::Timed;
 use shell_log::{Entry, Log, print_log};
 use std::alloc::Global;
 use std::process::Abort;
+use text_base::OutOfMemory;
 
 struct Case {
     trace: &'static [u8],

@@ -1,13 +1,13 @@
 // Nests by their words, and their runs.
 use crate::inputs::trace_of;
-use mm_base::OutOfMemory;
-use mm_base::limits::{HOUR, MOST_OPPORTUNITIES};
 use nest_core::run_order;
 use nest_plain::run_plain;
 use nest_spec::{Nest, NestWords, RunResult, build, read_nest};
 use packet_record::Schedule;
 use std::alloc::Global;
 use std::process::Abort;
+use text_base::OutOfMemory;
+use text_base::limits::{HOUR, MOST_OPPORTUNITIES};
 use trace_reader::Trace;
 
 // The words between the spaces of a text.

@@ -2,10 +2,10 @@
 ghost use Rattle.std.specs.Prelude.{IfOk};
 ghost use Rattle.packet_record.specs.Moments.{AreUpTo, Rise};
 
-use mm_base::{Bytes, OutOfMemory, write_decimal};
 use packet_record::{Packet, Timed};
 use std::alloc::Global;
 use std::process::Abort;
+use text_base::{Bytes, OutOfMemory, write_decimal};
 
 // A packet of 1000 bytes.
 pub fn timed(moment: u64, id: u32) -> Timed {

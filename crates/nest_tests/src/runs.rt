@@ -2,13 +2,13 @@
 use crate::inputs::schedule_of;
 use crate::nests::{nest_of, plain_run, stepped_run};
 use link_core::LinkLog;
-use mm_base::{Bytes, OutOfMemory};
 use nest_plain::{NestRun, UnwrittenLog, run_nest};
 use nest_spec::{Named, NamedLog, Nest, PackedFate, RunResult, print_fates, unpack_fates};
 use packet_record::Schedule;
 use shell_log::{Entry, print_log};
 use std::alloc::Global;
 use std::process::Abort;
+use text_base::{Bytes, OutOfMemory};
 
 // A nest, each of whose traces is the same, and what its run must give: the text of the fates, and of each log after
 // its name.

@@ -5,12 +5,12 @@ ghost use Rattle.shell_core.specs.Shells.{IsInRange, opportunities};
 use crate::inputs::{queue_of, rate_of, trace_of};
 use crate::links::written;
 use crate::packets::{are_listed, in_order, timed};
-use mm_base::OutOfMemory;
-use mm_base::limits::MOST_OPPORTUNITIES;
 use shell_core::{DirSpec, Passage, run_whole};
 use shell_log::print_log;
 use std::alloc::Global;
 use std::process::Abort;
+use text_base::OutOfMemory;
+use text_base::limits::MOST_OPPORTUNITIES;
 
 // What the three packets' way through a direction, up to 100 ms, must give.
 struct Said {

@@ -1,9 +1,9 @@
 // A plain slow program of the definitions, written apart from the contracts: it sums over whole lists again and again.
-use mm_base::OutOfMemory;
 use packet_queue::{QueueKind, QueueSpec};
 use packet_record::Timed;
 use shell_log::Entry;
 use std::alloc::Global;
+use text_base::OutOfMemory;
 use trace_reader::Opportunity;
 
 #[derive(Drop)]

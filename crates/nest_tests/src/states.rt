@@ -2,9 +2,9 @@
 ghost use Rattle.std.specs.Prelude.{◌≡◌, ◌≤◌, ◌↔◌, IsTrue};
 ghost use Rattle.packet_record.specs.Streams.{IsUpTo};
 
-use mm_base::OutOfMemory;
 use packet_record::{FlowEnd, Item};
 use shell_state::{ShellState, Taken};
+use text_base::OutOfMemory;
 
 mod many;
 mod steps;

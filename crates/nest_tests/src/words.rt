@@ -1,9 +1,9 @@
 // The words for nests, and each refusal.
 use crate::nests::{nest_words_of, words_of};
-use mm_base::Text;
 use nest_spec::{NestError, read_nest};
 use std::alloc::Global;
 use std::process::Abort;
+use text_base::Text;
 
 // Whether the texts are these.
 fn are(texts: &[Text], said: &[&str]) -> bool {

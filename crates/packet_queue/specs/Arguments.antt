@@ -4,7 +4,7 @@ use Rattle.std.specs.Prelude.{take, drop, reverse, map, codes, nat_le, if◌then
 use Rattle.std.specs.Option.{is_some}
 use Rattle.std.specs.List.{list_all, slice_split, filter_map}
 use Rattle.std.specs.Str.{bytes_eq}
-use Rattle.mm_base.specs.Numbers.{decimal_of}
+use Rattle.text_base.specs.Numbers.{decimal_of}
 use Rattle.packet_queue.specs.declared.spec.QueueKind.{QueueKind}
 use Rattle.packet_queue.specs.declared.spec.QueueKind.TheVariants.{Infinite, DropTail, DropHead}
 use Rattle.packet_queue.specs.declared.spec.QueueSpec.{QueueSpec}

@@ -8,11 +8,11 @@ ghost use Rattle.packet_queue.specs.View.{Queue};
 ghost use Rattle.packet_queue.specs.Kept.{AreKept};
 
 use crate::spec::{QueueKind, QueueSpec};
-use mm_base::OutOfMemory;
 use packet_record::Timed;
 use std::alloc::Global;
 use std::collections::VecDeque;
 use std::marker::Model;
+use text_base::OutOfMemory;
 
 /// What one arrival dropped: how many packets, and their bytes.
 #[derive(Clone, Copy, PartialEq, Eq)]

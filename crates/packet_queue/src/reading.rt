@@ -6,7 +6,7 @@ ghost use Rattle.packet_queue.specs.Arguments.{limited, unlimited, queue_of};
 ghost use Rattle.packet_queue.specs.Reading.{limits, with_item, read_on, items_after};
 
 use crate::spec::{QueueError, QueueKind, QueueSpec};
-use mm_base::read_decimal;
+use text_base::read_decimal;
 
 /// Reads a queue's kind and its arguments.
 ///

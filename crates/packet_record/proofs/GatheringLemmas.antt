@@ -4,7 +4,7 @@ use Rattle.std.proofs.Common.{append_assoc, arith, length-append}
 use Rattle.packet_record.specs.Gathered.{Gathered, gathered, refusing, Awaits}
 use Rattle.packet_record.specs.Orders.{AreInOrder, AreWithin, IsSchedule}
 use Rattle.packet_record.specs.Said.{said_of}
-use Rattle.mm_base.specs.Refusals.{or_later}
+use Rattle.text_base.specs.Refusals.{or_later}
 use Rattle.packet_record.specs.Schedules.{AreRows, first_fault, said}
 use Rattle.packet_record.specs.declared.packet.Row.{Row}
 use Rattle.packet_record.specs.declared.reading.ScheduleError.{ScheduleError}

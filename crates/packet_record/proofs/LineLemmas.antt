@@ -9,11 +9,11 @@ use Rattle.std.proofs.lemmas.List.{append-nil}
 use Rattle.std.specs.List.{join_with_byte}
 use Rattle.std.proofs.lemmas.List.Splits.{join_with_byte-slice_split}
 use Rattle.std.proofs.lemmas.Slice.Eq.{bytes_eq-Decides}
-use Rattle.mm_base.specs.Lines.{is_one_line}
-use Rattle.mm_base.specs.Numbers.{decimal_of, BeginsOtherwise}
-use Rattle.mm_base.proofs.NumbersLemmas.{decimal_of-Some}
-use Rattle.mm_base.proofs.SplitLemmas.{none_is}
-use Rattle.mm_base.proofs.TextLemmas.{is_one_line-append}
+use Rattle.text_base.specs.Lines.{is_one_line}
+use Rattle.text_base.specs.Numbers.{decimal_of, BeginsOtherwise}
+use Rattle.text_base.proofs.NumbersLemmas.{decimal_of-Some}
+use Rattle.text_base.proofs.SplitLemmas.{none_is}
+use Rattle.text_base.proofs.TextLemmas.{is_one_line-append}
 use Rattle.packet_record.specs.Said.{words_of, direction_of, said_by_words, said_of}
 use Rattle.packet_record.specs.Printing.{direction_text}
 use Rattle.packet_record.specs.declared.packet.Direction.{Direction}

@@ -4,13 +4,13 @@ use Rattle.std.proofs.Common.{take, drop, true, false, cond, Some, None, nat_lt,
 use Rattle.std.proofs.Common.{append_assoc, arith, rules, tests, length-append}
 use Rattle.std.specs.List.{onto_first}
 use Rattle.std.proofs.lemmas.List.{length-take, take_all, take-append-drop}
-use Rattle.mm_base.specs.Lines.{lines_of, is_one_line}
-use Rattle.mm_base.proofs.NumbersLemmas.{decimal_of-Some}
-use Rattle.mm_base.proofs.TextLemmas.{is_one_line-append}
+use Rattle.text_base.specs.Lines.{lines_of, is_one_line}
+use Rattle.text_base.proofs.NumbersLemmas.{decimal_of-Some}
+use Rattle.text_base.proofs.TextLemmas.{is_one_line-append}
 use Rattle.packet_record.specs.Gathered.{Gathered, Awaits}
 use Rattle.packet_record.specs.Printing.{direction_text}
 use Rattle.packet_record.specs.Said.{said_of}
-use Rattle.mm_base.specs.Refusals.{or_later}
+use Rattle.text_base.specs.Refusals.{or_later}
 use Rattle.packet_record.specs.Schedules.{AreRows, first_fault, fault_of, moment_of, said}
 use Rattle.packet_record.specs.declared.packet.Direction.{Direction}
 use Rattle.packet_record.specs.declared.packet.Direction.TheVariants.{Up, Down}

@@ -1,7 +1,7 @@
 -- A text has one list of rows.
 use Rattle.std.proofs.Common.{◌≡◌, ℕ, ◌+◌, ◌≤◌, List, [], ◌∷◌, refl, ap, subst, sym, ◌∙◌}
 use Rattle.std.proofs.Math.Bridge.{le_prop}
-use Rattle.mm_base.specs.Lines.{lines_of}
+use Rattle.text_base.specs.Lines.{lines_of}
 use Rattle.packet_record.specs.Schedules.{AreRows, IsScheduleText, said}
 use Rattle.packet_record.specs.declared.packet.Direction.{Direction}
 use Rattle.packet_record.specs.declared.packet.Packet.{Packet}

@@ -3,8 +3,8 @@ use Rattle.std.proofs.Common.{◌≡◌, ℕ, ◌+◌, ◌≤◌, ◌<◌, ◌^�
 use Rattle.std.proofs.Common.{sym, subst, ◌∙◌, append_assoc, arith}
 use Rattle.std.specs.List.{onto_first}
 use Rattle.std.proofs.lemmas.Fmt.{digits_decimal}
-use Rattle.mm_base.specs.Lines.{lines_of}
-use Rattle.mm_base.proofs.NumbersLemmas.{decimal_of-decimal}
+use Rattle.text_base.specs.Lines.{lines_of}
+use Rattle.text_base.proofs.NumbersLemmas.{decimal_of-decimal}
 use Rattle.packet_record.specs.Said.{said_of}
 use Rattle.packet_record.specs.Printing.{direction_text, row_text, schedule_text}
 use Rattle.packet_record.specs.Orders.{AreInOrder, AreWithin, IsSchedule}

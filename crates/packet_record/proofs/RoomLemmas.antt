@@ -2,8 +2,8 @@
 use Rattle.std.proofs.Common.{◌≡◌, ℕ, ◌+◌, ◌*◌, ◌/◌, ◌≤◌, eqb, true, false, cond, List, [], ◌∷◌, ◌++◌, length, min}
 use Rattle.std.proofs.Common.{Some, ap, arith, length-append}
 use Rattle.std.specs.List.{onto_first}
-use Rattle.mm_base.specs.Lines.{lines_of}
-use Rattle.mm_base.proofs.NumbersLemmas.{decimal_of-Some}
+use Rattle.text_base.specs.Lines.{lines_of}
+use Rattle.text_base.proofs.NumbersLemmas.{decimal_of-Some}
 use Rattle.packet_record.specs.Printing.{direction_text}
 use Rattle.packet_record.specs.Said.{said_of}
 use Rattle.packet_record.specs.Schedules.{AreRows, IsScheduleText, said}

@@ -4,7 +4,7 @@ use Rattle.std.proofs.Common.{length, fold, Option, Some, None, nat_le, refl, su
 use Rattle.std.specs.List.{list_all}
 use Rattle.std.specs.Option.{option_and_then}
 use Rattle.std.proofs.lemmas.Str.Parse.{IsNumeralModel, numerals_by_fold, digits_value_short}
-use Rattle.mm_base.specs.Numbers.{is_digit, value_of_digits, decimal_of}
+use Rattle.text_base.specs.Numbers.{is_digit, value_of_digits, decimal_of}
 use Rattle.packet_record.specs.Said.{said_by_words, said_of, words_of, direction_of}
 use Rattle.packet_record.specs.declared.packet.Direction.{Direction}
 

@@ -2,7 +2,7 @@
 use Rattle.std.proofs.Common.{◌≡◌, ℕ, ◌≤◌, ◌<◌, ◌&&◌, Bool, true, false, cond, eqb, nat_le, List, [], ◌∷◌, ◌++◌, refl}
 use Rattle.std.proofs.Common.{ap, ◌∙◌, rules, tests}
 use Rattle.std.specs.List.{list_all, onto_first}
-use Rattle.mm_base.specs.Numbers.{is_digit}
+use Rattle.text_base.specs.Numbers.{is_digit}
 use Rattle.packet_record.specs.Said.{words_of}
 
 -- none of the bytes is this one

@@ -1,7 +1,7 @@
 -- What the two first clauses of reading a schedule say beside: no text that is refused is that of a schedule, and a
 -- text has one list of rows.
 use Rattle.std.proofs.Common.{◌≡◌, ◌≢◌, ℕ, List, Result, Ok, Err, Some, None, IfOk, IfErr, MatchResult}
-use Rattle.mm_base.specs.Lines.{lines_of}
+use Rattle.text_base.specs.Lines.{lines_of}
 use Rattle.packet_record.specs.Schedules.{IsScheduleText, first_fault}
 use Rattle.packet_record.specs.declared.packet.Row.{Row}
 use Rattle.packet_record.specs.declared.reading.ScheduleError.{ScheduleError}

@@ -1,6 +1,6 @@
 -- What lines of a schedule have given.
 use Rattle.std.specs.Prelude.{◌≡◌, ◌≢◌, ℕ, ◌+◌, List, [], ◌++◌, length, Option, Some, None}
-use Rattle.mm_base.specs.Refusals.{or_later}
+use Rattle.text_base.specs.Refusals.{or_later}
 use Rattle.packet_record.specs.Schedules.{AreRows, first_fault}
 use Rattle.packet_record.specs.declared.packet.Row.{Row}
 use Rattle.packet_record.specs.declared.reading.ScheduleError.{ScheduleError}

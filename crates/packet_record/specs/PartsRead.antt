@@ -1,6 +1,6 @@
 -- What reading the front of a schedule's text has come to.
 use Rattle.std.specs.Prelude.{ℕ, List, [], ◌++◌, IsSome}
-use Rattle.mm_base.specs.Lines.{lines_of}
+use Rattle.text_base.specs.Lines.{lines_of}
 use Rattle.packet_record.specs.Gathered.{Gathered, Awaits}
 
 -- what the lines gave, and what is kept of a line that has begun

@@ -1,6 +1,6 @@
 -- For proofs: what contracts see of a reader of a schedule.
 use Rattle.std.specs.Prelude.{◌≡◌, ◌≤◌, Some}
-use Rattle.mm_base.specs.declared.limits.TheConstants.{MOST_LINES}
+use Rattle.text_base.specs.declared.limits.TheConstants.{MOST_LINES}
 use Rattle.packet_record.specs.Reading.{Reading}
 use Rattle.packet_record.specs.declared.reading.ScheduleError.TheVariants.{OutOfMemory}
 use Rattle.packet_record.specs.declared.reading.ScheduleReader.TheInside.{Inside}

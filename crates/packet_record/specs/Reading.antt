@@ -1,6 +1,6 @@
 -- What a reader of a schedule has come to.
 use Rattle.std.specs.Prelude.{ℕ, ◌+◌, List, Option, None}
-use Rattle.mm_base.specs.Refusals.{or_later}
+use Rattle.text_base.specs.Refusals.{or_later}
 use Rattle.packet_record.specs.Schedules.{first_fault}
 use Rattle.packet_record.specs.declared.reading.ScheduleError.{ScheduleError}
 

@@ -1,6 +1,6 @@
 -- What contracts see of a schedule that is read piece by piece.
 use Rattle.std.specs.Prelude.{◌≡◌, ◌≤◌, length, true}
-use Rattle.mm_base.specs.Lines.{is_one_line}
+use Rattle.text_base.specs.Lines.{is_one_line}
 use Rattle.packet_record.specs.PartsRead.{PartRead}
 use Rattle.packet_record.specs.declared.text.TheConstants.{MOST_KEPT}
 use Rattle.packet_record.specs.declared.text.ScheduleText.TheInside.{Inside}

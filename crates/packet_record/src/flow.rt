@@ -4,9 +4,9 @@ ghost use Rattle.packet_record.specs.Streams.{no_items, after, MayFollow};
 ghost use Rattle.packet_record.specs.Takes.{spare_after, NeedsRoom, HasRoomFor};
 
 use crate::{FlowEnd, Item, Reach, Timed};
-use mm_base::OutOfMemory;
 use std::alloc::Global;
 use std::marker::Model;
+use text_base::OutOfMemory;
 
 /// What a stream of items was: its packets in order, the greatest moment that any item named (0 at first), and how it
 /// ended. Contracts see these three as a `Stream`, and beside it a number `spare`: so many more packets take no memory.

@@ -8,10 +8,10 @@ ghost use Rattle.packet_record.specs.Schedules.{AreRows, first_fault};
 
 use crate::reading::row_of;
 use crate::{Direction, Row, Schedule, ScheduleError};
-use mm_base::OutOfMemory;
-use mm_base::limits::GREATEST_MOMENT;
 use std::alloc::Global;
 use std::marker::Model;
+use text_base::OutOfMemory;
+use text_base::limits::GREATEST_MOMENT;
 
 // The rows of the lines so far, the moment of the last (0 at first), and the first refusal, also for want of memory.
 #[derive(Drop)]

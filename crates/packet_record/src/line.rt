@@ -1,14 +1,14 @@
 // What one line of a schedule says.
 ghost use Rattle.std.specs.Prelude.{◌≡◌, ◌≤◌, ◌∷◌, ◌++◌, ℕ, List, Some, true, IfSome, MatchOption};
-ghost use Rattle.mm_base.specs.Lines.{is_one_line};
-ghost use Rattle.mm_base.specs.Numbers.{BeginsOtherwise};
+ghost use Rattle.text_base.specs.Lines.{is_one_line};
+ghost use Rattle.text_base.specs.Numbers.{BeginsOtherwise};
 ghost use Rattle.packet_record.specs.Said.{said_of};
 ghost use Rattle.packet_record.specs.Printing.{direction_text};
 ghost use Rattle.packet_record.specs.declared.packet.Direction.{Direction as DirectionValue};
 
 use crate::Direction;
-use mm_base::limits::GREATEST_MOMENT;
-use mm_base::split_decimal;
+use text_base::limits::GREATEST_MOMENT;
+use text_base::split_decimal;
 
 // The direction between two spaces at the front of a text, and what follows.
 #[inline]

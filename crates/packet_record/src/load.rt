@@ -5,9 +5,9 @@ ghost use Rattle.packet_record.specs.Loads.{drawn_direction, load_of};
 ghost use Rattle.packet_record.specs.Schedules.{said};
 
 use crate::{Direction, Draws, Packet, Row, Schedule, Timed};
-use mm_base::OutOfMemory;
-use mm_base::limits::MOST_LINES;
 use std::alloc::Global;
+use text_base::OutOfMemory;
+use text_base::limits::MOST_LINES;
 
 /// The schedule of so many packets, 1 to 1,000,000, that the generator makes of a number. Each packet takes three
 /// draws: the first modulo 4 is the milliseconds since the packet before (the first since moment 0), the second modulo

@@ -4,8 +4,8 @@ ghost use Rattle.packet_record.specs.Printing.{row_text, schedule_text};
 ghost use Rattle.packet_record.specs.Schedules.{IsScheduleText};
 
 use crate::{Row, Schedule};
-use mm_base::{Bytes, LineBuffer, OutOfMemory, PrintLine, print_lines};
 use std::alloc::Global;
+use text_base::{Bytes, LineBuffer, OutOfMemory, PrintLine, print_lines};
 
 /// The text of a schedule. Reading it gives the schedule again.
 pub fn print_schedule(alloc: Global, schedule: &Schedule) -> Result<Bytes, OutOfMemory>
@@ -18,7 +18,7 @@ pub fn print_schedule(alloc: Global, schedule: &Schedule) -> Result<Bytes, OutOf
 impl PrintLine for Row {
     ghost line = { row_text };
 
-    #[tactic(auto, using(mm_base::proofs::TextLemmas::is_ended_line))]
+    #[tactic(auto, using(text_base::proofs::TextLemmas::is_ended_line))]
     fn put_line(&self, out: &mut LineBuffer) {
         out.put_byte(b'\n');
         out.put_decimal(u64::from(self.timed.packet.size));

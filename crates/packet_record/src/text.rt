@@ -2,7 +2,7 @@
 ghost use Rattle.std.specs.Prelude.{◌≡◌, ◌≢◌, ◌≤◌, ◌<◌, ◌∷◌, ◌++◌, ◌+◌, ◌-◌, ◌/◌, ℕ, List, [], length, take, None};
 ghost use Rattle.std.specs.Prelude.{Some, true, IfSome, IfNone, IfOk, IfErr, MatchResult, is_some};
 ghost use mathlib.Core.List.{IsPrefix};
-ghost use Rattle.mm_base.specs.Lines.{is_one_line, lines_of};
+ghost use Rattle.text_base.specs.Lines.{is_one_line, lines_of};
 ghost use Rattle.packet_record.specs.Orders.{IsSchedule};
 ghost use Rattle.packet_record.specs.Schedules.{IsScheduleText, first_fault};
 ghost use Rattle.packet_record.specs.declared.packet.Row.{Row as RowValue};
@@ -11,10 +11,10 @@ use crate::cut::cut_line;
 use crate::gathering::ScheduleRows;
 use crate::line::{read_line, split_line};
 use crate::{Row, Schedule, ScheduleError};
-use mm_base::limits::MOST_LINES;
-use mm_base::{Bytes, OutOfMemory, PieceReader};
 use std::alloc::Global;
 use std::marker::Model;
+use text_base::limits::MOST_LINES;
+use text_base::{Bytes, OutOfMemory, PieceReader};
 
 // A byte more than the longest line that says something: two decimals of ten digits, and a direction between two
 // spaces.

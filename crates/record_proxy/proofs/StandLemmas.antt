@@ -17,7 +17,7 @@ use Rattle.http_frame.specs.declared.messages.Response.{Response}
 use Rattle.mm_base.specs.Link.{LinkBytes, giving, after_read}
 use Rattle.mm_base.specs.declared.errors.EndError.{EndError}
 use Rattle.mm_base.specs.declared.errors.EndError.TheVariants.{Failed, OutOfMemory as NoMemory}
-use Rattle.mm_base.specs.declared.errors.OutOfMemory.{OutOfMemory}
+use Rattle.text_base.specs.declared.out_of_memory.OutOfMemory.{OutOfMemory}
 use Rattle.record_store.specs.declared.record.Record.{Record}
 use Rattle.replay_server.specs.Links.{IsAtEnd}
 use Rattle.replay_server.specs.Sessions.{IsHopeless, MayGoOn, most}

@@ -1,7 +1,7 @@
 -- How a proxied connection ends, and what its reads found.
 use Rattle.std.specs.Prelude.{◌≡◌, ◌⊎◌, ◌<◌, ℕ, Bool, true, false, List, [], ◌++◌, length, All, Result, Ok, Err}
 use Rattle.http_frame.specs.Runs.{BeginsWithNone}
-use Rattle.mm_base.specs.declared.errors.OutOfMemory.{OutOfMemory}
+use Rattle.text_base.specs.declared.out_of_memory.OutOfMemory.{OutOfMemory}
 use Rattle.mm_base.specs.declared.read_start.ReadStart.{ReadStart}
 use Rattle.replay_server.specs.Sessions.{IsHopeless, MayGoOn, most}
 use Rattle.record_proxy.specs.Exchanges.{Exchange, IsExchange, AllOpen, requests_text, answers_text, responses_text}

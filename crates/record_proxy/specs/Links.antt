@@ -2,7 +2,7 @@
 use Rattle.std.specs.Prelude.{◌≡◌, [], ◌∷◌, ◌⊎◌, ◌≤◌, ℕ, List, ◌++◌, length, map, All, Option, Result, Ok, Err}
 use Rattle.mm_base.specs.Counts.{Rose}
 use Rattle.mm_base.specs.Link.{LinkBytes, LinkView}
-use Rattle.mm_base.specs.declared.errors.OutOfMemory.{OutOfMemory}
+use Rattle.text_base.specs.declared.out_of_memory.OutOfMemory.{OutOfMemory}
 use Rattle.mm_base.specs.declared.read_start.ReadStart.{ReadStart}
 use Rattle.record_store.specs.Pairs.{Pairs}
 use Rattle.record_store.specs.declared.record.Record.{Record}

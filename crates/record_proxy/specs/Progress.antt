@@ -8,7 +8,7 @@ use Rattle.http_frame.specs.declared.messages.Response.{Response}
 use Rattle.mm_base.specs.Link.{LinkBytes}
 use Rattle.mm_base.specs.declared.errors.EndError.{EndError}
 use Rattle.mm_base.specs.declared.errors.EndError.TheVariants as refusals
-use Rattle.mm_base.specs.declared.errors.OutOfMemory.{OutOfMemory}
+use Rattle.text_base.specs.declared.out_of_memory.OutOfMemory.{OutOfMemory}
 use Rattle.mm_base.specs.declared.read_start.ReadStart.{ReadStart}
 use Rattle.record_store.specs.declared.record.Record.{Record}
 use Rattle.replay_server.specs.Links.{Passed, IfBothTold, IsAtEnd}

@@ -3,7 +3,7 @@ use Rattle.std.specs.Prelude.{◌≡◌, ◌⊎◌, ℕ, List, [], Option, Some,
 use Rattle.std.specs.Prelude.{if◌then◌else◌}
 use Rattle.mm_base.specs.Counts.{Rose}
 use Rattle.mm_base.specs.Link.{LinkView}
-use Rattle.mm_base.specs.Numbers.{decimal_of}
+use Rattle.text_base.specs.Numbers.{decimal_of}
 use Rattle.record_store.specs.declared.record.Record.{Record}
 use Rattle.replay_server.specs.declared.ends.Served.{Served}
 use Rattle.option_words.specs.Commands.{ProxyTexts, proxy_texts}

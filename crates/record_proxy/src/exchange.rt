@@ -13,8 +13,9 @@ use crate::giving::give;
 use crate::taking::{refused, take_of_client, take_of_server};
 use crate::talk::Talk;
 use http_frame::{FrameFault, Request, Step};
-use mm_base::{Link, OutOfMemory};
+use mm_base::Link;
 use record_store::{Record, Store};
+use text_base::OutOfMemory;
 
 fn either(request: bool, response: bool) -> bool
     ensures { result ≡ (request || response) }

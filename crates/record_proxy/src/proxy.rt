@@ -6,9 +6,10 @@ ghost use Rattle.record_proxy.specs.Links.{IsStored, HasFaultCause, links};
 use crate::ends::ProxyEnd;
 use crate::exchange::step;
 use crate::talk::Talk;
-use mm_base::{Link, OutOfMemory};
+use mm_base::Link;
 use record_store::Store;
 use std::alloc::Global;
+use text_base::OutOfMemory;
 
 /// How many bytes a read asks for at most.
 const PIECE: usize = 65_536;

@@ -12,10 +12,11 @@ use crate::dialer::Dialer;
 use crate::ends::{ProxyEnd, ProxyError};
 use crate::job::ProxyJob;
 use crate::proxy::proxy_conn;
-use mm_base::{EndError, Link, OutOfMemory, Port};
+use mm_base::{EndError, Link, Port};
 use record_store::Store;
 use replay_server::Served;
 use std::alloc::Global;
+use text_base::OutOfMemory;
 
 /// No connection.
 fn nothing() -> Served

@@ -12,7 +12,8 @@ ghost use Rattle.http_frame.specs.declared.messages.Request.{Request as RequestV
 
 use crate::ends::ProxyEnd;
 use crate::talk::Talk;
-use mm_base::{EndError, Link, OutOfMemory};
+use mm_base::{EndError, Link};
+use text_base::OutOfMemory;
 
 /// How many bytes are taken of a side at most.
 const MOST: usize = 67_108_864;

@@ -5,9 +5,9 @@ ghost use Rattle.record_proxy.specs.Proxying.{number_between, proxy_job_of, prox
 ghost use Rattle.record_proxy.specs.View.{proxy_values};
 
 use crate::job::ProxyJob;
-use mm_base::{OutOfMemory, read_decimal};
 use option_words::{ProxyWords, parse_proxy};
 use std::alloc::Global;
+use text_base::{OutOfMemory, read_decimal};
 
 // The number that a text stands for: a decimal within these.
 #[tactic(auto, unfolding(crate::specs::Proxying::number_between))]

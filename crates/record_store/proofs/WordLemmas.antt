@@ -5,7 +5,7 @@ use Rattle.std.specs.List.{position, position_or_len, before_first, after_first,
 use Rattle.std.proofs.lemmas.Bool.{ltb-true, lt-ltb}
 use Rattle.std.proofs.lemmas.Bool.Decides.{nat_tests}
 use Rattle.std.proofs.lemmas.List.Sums.{split_at_first, passes_at_first}
-use Rattle.mm_base.proofs.WordsLemmas.{place_is}
+use Rattle.text_base.proofs.WordsLemmas.{place_is}
 
 pub both : (a b : Bool) → (a && b) ≡ true → (a ≡ true) × (b ≡ true)
 both true b e = (refl, e)

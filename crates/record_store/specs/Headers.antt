@@ -4,8 +4,8 @@ use Rattle.std.specs.Prelude.{Result, Ok, Err, codes, decimal, nat_le, if◌then
 use Rattle.std.specs.List.{list_all}
 use Rattle.std.specs.Option.{ok_or}
 use Rattle.std.specs.Str.{bytes_eq}
-use Rattle.mm_base.specs.Numbers.{canonical_of}
-use Rattle.mm_base.specs.Words.{first_word, other_words}
+use Rattle.text_base.specs.Numbers.{canonical_of}
+use Rattle.text_base.specs.Words.{first_word, other_words}
 use Rattle.record_store.specs.Words.{spaced}
 use Rattle.record_store.specs.declared.header.Form.{Form}
 use Rattle.record_store.specs.declared.header.Form.TheVariants.{One, Two}

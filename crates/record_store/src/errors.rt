@@ -2,8 +2,8 @@
 ghost use Rattle.std.specs.Prelude.{◌≡◌};
 ghost use Rattle.record_store.specs.declared.errors.PairError.TheVariants as errors;
 
-use mm_base::OutOfMemory;
 use std::alloc::AllocFailed;
+use text_base::OutOfMemory;
 
 /// Why a client's and a server's bytes are no pairs. `n` counts requests from 1.
 #[derive(Clone, Copy, Debug, PartialEq, Eq)]

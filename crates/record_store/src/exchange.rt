@@ -4,8 +4,8 @@ ghost use Rattle.record_store.specs.Exchanges.{OneRequest, OneResponse, OneExcha
 
 use crate::record::Record;
 use http_frame::{Request, Response, first_request, first_response};
-use mm_base::OutOfMemory;
 use std::alloc::Global;
+use text_base::OutOfMemory;
 
 /// The record of these bytes; None exactly where they aren't one whole request and one whole response to it of status
 /// 200 or more.

@@ -5,7 +5,7 @@ ghost use Rattle.record_store.specs.Headers.{number_up_to, lengths_of, port_and_
 ghost use Rattle.record_store.specs.Headers.{header_by_form, header_of, is_letter, IsShort};
 
 use crate::store_error::StoreError;
-use mm_base::{read_canonical, split_word};
+use text_base::{read_canonical, split_word};
 
 /// The two forms of a store's text. Records of form 1 have port 0.
 #[derive(Clone, Copy, PartialEq, Eq)]

@@ -5,9 +5,9 @@ ghost use Rattle.record_store.specs.StoreText.{records_text, store_text};
 
 use crate::printing::write_record;
 use crate::record::{Record, Store};
-use mm_base::{Bytes, OutOfMemory};
 use std::alloc::Global;
 use std::marker::Model;
+use text_base::{Bytes, OutOfMemory};
 
 // A piece ends after the record that brings it to so many bytes.
 const FULL: usize = 65536;

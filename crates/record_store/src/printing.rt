@@ -6,8 +6,8 @@ ghost use Rattle.record_store.specs.Headers.{header_line};
 ghost use Rattle.record_store.specs.StoreText.{record_text, store_text};
 
 use crate::record::{Record, Store};
-use mm_base::{Bytes, OutOfMemory, write_decimal};
 use std::alloc::Global;
+use text_base::{Bytes, OutOfMemory, write_decimal};
 
 /// The text of a store, in form 2: `MMSTORE 2`, then for each record its header line `record http PORT REQLEN RESLEN`,
 /// the request's bytes, the response's bytes and a line feed.

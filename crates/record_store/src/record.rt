@@ -4,9 +4,9 @@ ghost use Rattle.record_store.specs.Records.{IsRecord};
 ghost use Rattle.record_store.specs.declared.record.Record.{Record as RecordValue};
 
 use http_frame::{Request, Response};
-use mm_base::OutOfMemory;
 use std::alloc::Global;
 use std::marker::Model;
+use text_base::OutOfMemory;
 
 /// A recorded exchange.
 #[derive(Drop)]

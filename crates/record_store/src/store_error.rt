@@ -2,7 +2,7 @@
 ghost use Rattle.std.specs.Prelude.{◌≡◌};
 ghost use Rattle.record_store.specs.declared.store_error.StoreError.TheVariants as errors;
 
-use mm_base::OutOfMemory;
+use text_base::OutOfMemory;
 
 /// Why a text is no store. The first refusal wins; places count bytes from 0, records from 1.
 #[derive(Clone, Copy, Debug, PartialEq, Eq)]

@@ -3,9 +3,9 @@ ghost use Rattle.std.specs.Prelude.{◌≤◌, length};
 ghost use Rattle.live_relay.specs.MemClocks.{NeverFall};
 
 use live_relay::MemClock;
-use mm_base::OutOfMemory;
 use std::alloc::Global;
 use std::process::Abort;
+use text_base::OutOfMemory;
 
 // A clock of these moments.
 pub fn clock_of(alloc: Global, moments: &[u64]) -> Result<MemClock, OutOfMemory>

@@ -1,10 +1,10 @@
 // A line with ample memory.
 use crate::nests::nest_of;
-use mm_base::OutOfMemory;
 use nest_line::Line;
 use packet_record::{Direction, Item, Packet, Timed};
 use std::alloc::Global;
 use std::process::Abort;
+use text_base::OutOfMemory;
 
 // Whether the packet has left at this moment, and no other.
 fn left_at(line: &Line, moment: u64) -> bool {

@@ -1,9 +1,9 @@
 // Nests by their words, whose traces are of one opportunity each 4 ms.
-use mm_base::OutOfMemory;
 use nest_spec::{Nest, NestWords, build, read_nest};
 use std::alloc::Global;
 use std::process::Abort;
 use test_outside::words_of;
+use text_base::OutOfMemory;
 use trace_reader::{Trace, read_trace};
 
 fn nest_words_of(rt: &impl Abort, alloc: Global, text: &str) -> NestWords {

@@ -1,9 +1,9 @@
 // `mm-relay` over files, a clock and a wire in memory.
 use command_relay::relay_main;
 use live_relay::{MemClock, MemWire, Side};
-use mm_base::{Bytes, OutOfMemory};
 use std::alloc::Global;
 use test_outside::{TestOutside, words_of};
+use text_base::{Bytes, OutOfMemory};
 
 mod done;
 mod refused;

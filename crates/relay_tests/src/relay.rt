@@ -5,10 +5,10 @@ use crate::nests::nest_of;
 use live_relay::{
     Clock, MemClock, MemWire, Received, RelayEnd, RelayError, RelayResult, Side, Wire, relay,
 };
-use mm_base::{Bytes, OutOfMemory};
 use nest_spec::{Nest, print_fates};
 use std::alloc::Global;
 use std::process::Abort;
+use text_base::{Bytes, OutOfMemory};
 
 mod edges;
 mod ends;

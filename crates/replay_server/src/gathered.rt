@@ -5,7 +5,8 @@ ghost use Rattle.mm_base.specs.Counts.{Rose};
 ghost use Rattle.mm_base.specs.Link.{CountsLinkFaults, giving};
 ghost use Rattle.replay_server.specs.Giving.{Pours, Spills};
 
-use mm_base::{Bytes, EndError, Link};
+use mm_base::{EndError, Link};
+use text_base::Bytes;
 
 /// How many bytes are gathered at most before they are given.
 const MOST_GATHERED: usize = 65_536;

@@ -10,10 +10,11 @@ use crate::source::Source;
 use crate::steps::{give_answer, refuse, take_more};
 use crate::talk::Talk;
 use http_frame::{FrameFault, Step};
-use mm_base::{Link, OutOfMemory, Pace, Role};
+use mm_base::{Link, Pace, Role};
 use record_store::Store;
 use std::alloc::Global;
 use std::sync::Wait;
+use text_base::OutOfMemory;
 
 /// How many bytes a read asks for at most.
 const PIECE: usize = 65_536;

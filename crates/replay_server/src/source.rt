@@ -1,10 +1,10 @@
 // What a serving answers from.
 ghost use Rattle.std.specs.Prelude.{◌≡◌, IfOk};
 
-use mm_base::OutOfMemory;
 use record_store::Store;
 use request_match::Index;
 use std::alloc::Global;
+use text_base::OutOfMemory;
 
 /// A store, and the index of its records for the port at which requests are asked, or for none.
 #[derive(Drop)]

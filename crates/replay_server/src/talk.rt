@@ -5,8 +5,9 @@ ghost use Rattle.mm_base.specs.Link.{LinkBytes, CountsLinkFaults};
 
 use crate::ends::ConnEnd;
 use http_frame::RequestFrames;
-use mm_base::{Bytes, EndError};
+use mm_base::EndError;
 use std::alloc::Global;
+use text_base::Bytes;
 
 /// A session that goes on: the bytes taken that no request has, the answers that are gathered, and how many bytes were
 /// taken and reads begun.

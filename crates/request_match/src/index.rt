@@ -8,10 +8,10 @@ use crate::index_scores::{better_place, next_score};
 use crate::keys::key;
 use crate::matching::place_of;
 use http_frame::RequestHead;
-use mm_base::OutOfMemory;
 use record_store::{Record, Store};
 use std::alloc::Global;
 use std::marker::Model;
+use text_base::OutOfMemory;
 
 /// The records of a store that may answer requests at a port, or at none, by what must agree, so that the best one is
 /// found without a walk over the store. Contracts see the records and the port.

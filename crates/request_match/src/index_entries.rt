@@ -5,10 +5,10 @@ ghost use Rattle.request_match.specs.Index.{Entry, IsEntry, HasAllTo, IsShared, 
 
 use crate::keys::key;
 use crate::matching::{agrees, common_front, fits_port};
-use mm_base::OutOfMemory;
 use record_store::Record;
 use std::alloc::Global;
 use std::cmp::Ordering;
+use text_base::OutOfMemory;
 
 /// The entries of the records that fit the port, in the records' order.
 fn entries_of(

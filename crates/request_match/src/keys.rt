@@ -4,7 +4,7 @@ ghost use Rattle.request_match.specs.Index.{hash_of_bytes, key_of};
 
 use crate::matching::without_query;
 use http_frame::RequestHead;
-use mm_base::Bytes;
+use text_base::Bytes;
 
 const FACTOR: u64 = 1_099_511_628_211;
 

@@ -6,8 +6,8 @@ ghost use Rattle.request_match.specs.Index.{WithRecord};
 ghost use Rattle.request_match.specs.Match.{stripped, common, score, FitsPort, Agrees, BestCause, better_of};
 
 use http_frame::RequestHead;
-use mm_base::Bytes;
 use record_store::{Record, Store};
+use text_base::Bytes;
 
 /// The bytes before the first `?`, or all.
 pub(crate) fn without_query(line: &[u8]) -> &[u8]

@@ -161,29 +161,48 @@ pub(crate) fn run<Q: Pace + Sync, R: Threads + Wait + Sync>(
         begun,
     } = gates;
     let begun = &*begun;
-    let outlets = outlets.as_mut_slice();
-    let ups = ups.as_mut_slice();
-    let downs = downs.as_mut_slice();
     // The merges stand first, since they go on only once the senders do.
     let (end, _) = join_mut(
         rt,
         &mut || -> FeedEnd
-            requires { (1 ≤ length ups.now) × (1 ≤ length downs.now) × (length ups.now ≤ 16)
-                × (length downs.now ≤ 16) × AllEmpty up.now.horizon ups.now × AllEmpty down.now.horizon downs.now
-                × (up.now.flow ≡ no_items) × (down.now.flow ≡ no_items) × IsSync R.row }
-            ensures merged { IfFed result (IsMerged ups.exit.now up.exit.now.flow
-                × IsMerged downs.exit.now down.exit.now.flow) }
-            ensures closed { AllClosed ups.exit.now × AllClosed downs.exit.now }
+            requires { (1 ≤ length ups.now.items) × (1 ≤ length downs.now.items) × (length ups.now.items ≤ 16)
+                × (length downs.now.items ≤ 16) × AllEmpty up.now.horizon ups.now.items
+                × AllEmpty down.now.horizon downs.now.items × (up.now.flow ≡ no_items) × (down.now.flow ≡ no_items)
+                × IsSync R.row }
+            ensures merged { IfFed result (IsMerged ups.exit.now.items up.exit.now.flow
+                × IsMerged downs.exit.now.items down.exit.now.flow) }
+            ensures closed { AllClosed ups.exit.now.items × AllClosed downs.exit.now.items }
             ensures over { (up.exit.now.flow.end ≢ Open) × (down.exit.now.flow.end ≢ Open) }
-            ensures same { AllSame ups.entry.now ups.exit.now × AllSame downs.entry.now downs.exit.now }
+            ensures same { AllSame ups.entry.now.items ups.exit.now.items
+                × AllSame downs.entry.now.items downs.exit.now.items }
             ensures ends { IsSameEnd up.entry.now up.exit.now × IsSameEnd down.entry.now down.exit.now }
-        { merge_both(rt, alloc, ups, downs, up, down, begun) },
+        {
+            merge_both(
+                rt,
+                alloc,
+                ups.as_mut_slice(),
+                downs.as_mut_slice(),
+                up,
+                down,
+                begun,
+            )
+        },
         &mut ||
-            requires { (length schedules.now ≤ 16) × (length schedules.now ≡ length outlets.now)
-                × AllUnsent horizon outlets.now × IsSync R.row × IsSync Q.row }
-            ensures sent { AllSentOrBroken horizon 1 schedules.entry.now outlets.exit.now }
-            ensures same { AllSameOutlets outlets.entry.now outlets.exit.now }
-        { send_all(rt, 1, schedules, horizon, outlets, pace, begun) },
+            requires { (length schedules.now ≤ 16) × (length schedules.now ≡ length outlets.now.items)
+                × AllUnsent horizon outlets.now.items × IsSync R.row × IsSync Q.row }
+            ensures sent { AllSentOrBroken horizon 1 schedules.entry.now outlets.exit.now.items }
+            ensures same { AllSameOutlets outlets.entry.now.items outlets.exit.now.items }
+        {
+            send_all(
+                rt,
+                1,
+                schedules,
+                horizon,
+                outlets.as_mut_slice(),
+                pace,
+                begun,
+            )
+        },
     );
     end
 }

@@ -8,8 +8,8 @@ ghost use Rattle.sender_merge.specs.Inlets.{AllClosed};
 use crate::inlet::Inlet;
 use crate::outlet::{Outlet, Way};
 use mark_channel::{Begun, settle};
-use mm_base::OutOfMemory;
 use std::alloc::Global;
+use text_base::OutOfMemory;
 
 // How many items a channel of a sender holds.
 const CAPACITY: u32 = 64;

@@ -3,10 +3,10 @@ ghost use Rattle.std.specs.Prelude.{◌≡◌, ◌↔◌, OnOk, OnErr, IsSome, I
 ghost use Rattle.packet_record.specs.Streams.{MayFollow};
 ghost use Rattle.packet_record.specs.Takes.{IsPacket};
 
-use mm_base::OutOfMemory;
 use packet_record::{Flow, FlowEnd, Item, Timed};
 use std::alloc::Global;
 use std::marker::Model;
+use text_base::OutOfMemory;
 
 // The flow of one sender, and how many of its packets were given.
 #[derive(Drop)]

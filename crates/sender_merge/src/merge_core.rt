@@ -8,10 +8,10 @@ ghost use Rattle.sender_merge.specs.Lefts.{packets_in};
 use crate::incoming::Incoming;
 use crate::looks::{candidate, next_step, pass};
 use crate::step::MergeStep;
-use mm_base::OutOfMemory;
 use packet_record::{Flow, Item};
 use std::alloc::Global;
 use std::marker::Model;
+use text_base::OutOfMemory;
 
 /// The merge of the flows of 1 to 16 senders, item by item: the flow of each as far as it was added, and the flow
 /// given. Senders are counted from 1.

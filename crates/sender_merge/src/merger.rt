@@ -13,10 +13,10 @@ use crate::inlet::Inlet;
 use crate::merge_core::MergeCore;
 use crate::step::MergeStep;
 use mark_channel::{FeedEnd, Sender};
-use mm_base::OutOfMemory;
 use packet_record::Item;
 use std::alloc::Global;
 use std::sync::Wait;
+use text_base::OutOfMemory;
 
 // Of the open inlet that is furthest behind so far, by its place and bound, and the one at the next place, that which
 // is further behind; the first where both are at one moment.

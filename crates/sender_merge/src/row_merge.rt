@@ -5,9 +5,9 @@ ghost use Rattle.sender_merge.specs.RowMerges.{AllNumbered, IsBefore, IsFirst, S
 ghost use Rattle.sender_merge.specs.RowLists.{AllSchedules, rows_in};
 
 use crate::outlet::merged_row;
-use mm_base::OutOfMemory;
 use packet_record::{Row, Schedule};
 use std::alloc::Global;
+use text_base::OutOfMemory;
 
 // The merge of schedules, the first of which is of the sender with this number.
 pub(crate) fn merge_from(

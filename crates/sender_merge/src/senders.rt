@@ -13,12 +13,13 @@ use crate::feeding::run;
 use crate::gates::Gates;
 use crate::row_merge::merge_from;
 use mark_channel::{Begun, FeedEnd, Feeds, Sender};
-use mm_base::{NoPace, OutOfMemory, Pace};
+use mm_base::{NoPace, Pace};
 use packet_record::{Item, Row, Schedule};
 use std::alloc::Global;
 use std::marker::{Model, Sync};
 use std::sync::Wait;
 use std::thread::Threads;
+use text_base::OutOfMemory;
 
 // How many threads merge, one for each direction.
 const MERGES: u64 = 2;

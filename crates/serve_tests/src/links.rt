@@ -2,9 +2,10 @@
 ghost use Rattle.std.specs.Prelude.{◌≤◌, IfOk};
 ghost use Rattle.mm_base.specs.MemLink.{IsUnused};
 
-use mm_base::{Bytes, MemLink, Port, TcpPort};
+use mm_base::{MemLink, Port, TcpPort};
 use std::alloc::Global;
 use std::test::Fail;
+use text_base::Bytes;
 
 pub(crate) const REQUEST: &str = "GET / HTTP/1.1\r\nHost: a\r\n\r\n";
 

@@ -6,12 +6,12 @@ use crate::links::REQUEST;
 use crate::store::{paired, stored};
 use crate::texts::copies;
 use http_frame::Request;
-use mm_base::Bytes;
 use record_store::Store;
 use request_match::{Index, best};
 use std::alloc::Global;
 use std::process::Abort;
 use std::test::Fail;
+use text_base::Bytes;
 
 /// What `best` answers. No test needs what its contract says of that, and so this has none.
 fn best_of(records: &Store, asked: &Request, port: Option<u16>) -> Option<usize> {

@@ -7,12 +7,13 @@ mod tcp;
 mod watched;
 
 use crate::links::{REQUEST, RESPONSE, link};
-use mm_base::{Link, OutOfMemory, Port};
+use mm_base::{Link, Port};
 use record_proxy::{Dialer, ProxyEnd, proxy_conn, proxy_main};
 use record_store::Store;
 use std::alloc::Global;
 use std::test::Fail;
 use test_outside::TestOutside;
+use text_base::OutOfMemory;
 
 // The end of a connection. No test needs what the contract of `proxy_conn` says of it, and so this has none.
 pub(crate) fn end_of<C: Link, S: Link>(

@@ -1,10 +1,10 @@
 // Pairing, reading and printing of stores.
 use crate::links::{REQUEST, RESPONSE};
 use crate::texts::copies;
-use mm_base::Bytes;
 use record_store::{PairError, Store, StoreError, StorePieces, pair, print_store, read_store};
 use std::alloc::Global;
 use std::test::Fail;
+use text_base::Bytes;
 
 /// What `pair` answers. No test needs what its contract says of that, and so this has none.
 pub(crate) fn paired(

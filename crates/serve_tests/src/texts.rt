@@ -1,7 +1,7 @@
 // Texts that are made of many pieces.
-use mm_base::Bytes;
 use std::alloc::Global;
 use std::test::Fail;
+use text_base::Bytes;
 
 /// So many copies of a text, after a front.
 pub(crate) fn copies(alloc: Global, front: &[u8], text: &[u8], count: u32) -> Result<Bytes, Fail> {

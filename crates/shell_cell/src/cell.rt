@@ -7,13 +7,13 @@ use crate::turns::TurnTable;
 use crate::view::{Call, DrainCall};
 use crate::{DrainSeat, FeedSeat};
 use atomic_table::Table;
-use mm_base::OutOfMemory;
 use packet_record::Item;
 use shell_state::{ShellState, Taken};
 use std::alloc::Global;
 use std::marker::{Brand, Model};
 use std::snapshot::Snapshot;
 use std::sync::Wait;
+use text_base::OutOfMemory;
 
 /// A shell's state under a lock. Contracts see which cell it is, and the state that it was opened with.
 #[derive(Drop)]

@@ -11,10 +11,10 @@ use crate::spec::DirSpec;
 use delay_core::DelayCore;
 use link_core::{LinkCore, LinkLog};
 use loss_core::{ChaWords, LossCore};
-use mm_base::OutOfMemory;
 use packet_record::Timed;
 use std::alloc::Global;
 use std::marker::Model;
+use text_base::OutOfMemory;
 
 #[derive(Drop)]
 pub(crate) enum Inner {

@@ -12,10 +12,10 @@ use crate::spec::DirSpec;
 use delay_core::delay_all;
 use link_core::{Passage, run_link};
 use loss_core::{ChaWords, lose_all};
-use mm_base::OutOfMemory;
 use packet_queue::QueueSpec;
 use packet_record::Timed;
 use std::alloc::Global;
+use text_base::OutOfMemory;
 use trace_reader::Trace;
 
 // What departs, and what is lost. No packet stays inside.

@@ -6,14 +6,14 @@ use Rattle.std.specs.Option.{option_and_then}
 use Rattle.std.specs.Str.{bytes_eq}
 use Rattle.std.proofs.lemmas.Bool.{le-leb, leb-true}
 use Rattle.std.proofs.lemmas.Slice.Eq.{bytes_eq-Decides}
-use Rattle.mm_base.specs.Numbers.{canonical_of}
-use Rattle.mm_base.proofs.NumbersLemmas.{canonical_of-decimal, canonical_of-Some, decimal-canonical_of}
-use Rattle.mm_base.proofs.NumbersLemmas.{no_space-decimal}
+use Rattle.text_base.specs.Numbers.{canonical_of}
+use Rattle.text_base.proofs.NumbersLemmas.{canonical_of-decimal, canonical_of-Some, decimal-canonical_of}
+use Rattle.text_base.proofs.NumbersLemmas.{no_space-decimal}
 use Rattle.shell_log.specs.declared.entry.Entry.{Entry}
 use Rattle.shell_log.specs.declared.entry.Entry.TheVariants.{Arrival, Opportunity, Departure, Drop}
 use Rattle.shell_log.specs.Entries.{IsEntry, IsShort}
-use Rattle.mm_base.specs.Words.{first_word, other_words}
-use Rattle.mm_base.proofs.WordsLemmas.{spaced_again, first_word-spaced, other_words-spaced}
+use Rattle.text_base.specs.Words.{first_word, other_words}
+use Rattle.text_base.proofs.WordsLemmas.{spaced_again, first_word-spaced, other_words-spaced}
 use Rattle.shell_log.specs.LogText.{line_of}
 use Rattle.shell_log.specs.Reading.{is_between, if_fits, arrival_of, opportunity_of, departure_of, drop_of}
 use Rattle.shell_log.specs.Reading.{entry_by_sign, entry_of}

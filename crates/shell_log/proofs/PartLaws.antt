@@ -10,8 +10,8 @@ use Rattle.std.proofs.lemmas.Fmt.{length-decimal-le}
 use borrow.Author.Tests.{eqb-true}
 use Rattle.std.proofs.lemmas.List.{append-nil}
 use Rattle.std.proofs.lemmas.Slice.Eq.{bytes_eq-Decides}
-use Rattle.mm_base.specs.Lines.{is_one_line}
-use Rattle.mm_base.proofs.TextLemmas.{is_one_line-append}
+use Rattle.text_base.specs.Lines.{is_one_line}
+use Rattle.text_base.proofs.TextLemmas.{is_one_line-append}
 use Rattle.shell_log.specs.declared.entry.Entry.{Entry}
 use Rattle.shell_log.specs.declared.entry.Entry.TheVariants.{Arrival, Opportunity, Departure, Drop}
 use Rattle.shell_log.specs.declared.reading.LogError.{LogError}

@@ -3,7 +3,7 @@ use Rattle.std.proofs.Common.{◌≡◌, ℕ, ◌+◌, ◌-◌, ◌<◌, ◌==�
 use Rattle.std.proofs.Common.{Some, refl, ap, sym, subst, ◌∙◌}
 use Rattle.std.specs.List.{position, after_first, slice_split, onto_first}
 use Rattle.std.proofs.lemmas.List.Splits.{slice_split_first}
-use Rattle.mm_base.proofs.WordsLemmas.{place_is, before_cut, after_cut}
+use Rattle.text_base.proofs.WordsLemmas.{place_is, before_cut, after_cut}
 use Rattle.shell_log.specs.Words.{parts_of}
 
 pub parts_cut : (test : ℕ → Bool) (xs : List ℕ) (n : ℕ) → position test xs ≡ Some n → n < length xs

@@ -1,6 +1,6 @@
 -- What contracts see of a log that is read piece by piece.
 use Rattle.std.specs.Prelude.{◌≡◌, ◌≤◌, ◌<◌, ◌^◌, true, length}
-use Rattle.mm_base.specs.Lines.{is_one_line}
+use Rattle.text_base.specs.Lines.{is_one_line}
 use Rattle.shell_log.specs.LogParts.{LogPart}
 use Rattle.shell_log.specs.declared.text.LogText.TheInside.{Inside}
 

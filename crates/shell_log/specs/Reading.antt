@@ -2,14 +2,14 @@
 use Rattle.std.specs.Prelude.{ℕ, ◌+◌, Bool, ◌&&◌, List, [], ◌∷◌, Option, Some, None, option_and_then, codes, nat_le}
 use Rattle.std.specs.Prelude.{nat_lt, if◌then◌else◌}
 use Rattle.std.specs.Str.{bytes_eq}
-use Rattle.mm_base.specs.Numbers.{canonical_of}
+use Rattle.text_base.specs.Numbers.{canonical_of}
 use Rattle.shell_log.specs.declared.entry.Entry.{Entry}
 use Rattle.shell_log.specs.declared.entry.Entry.TheVariants as entries
 use Rattle.shell_log.specs.declared.reading.LogError.{LogError}
 use Rattle.shell_log.specs.declared.reading.LogError.TheVariants as errors
 use Rattle.shell_log.specs.Entries.{moment_of}
 use Rattle.shell_log.specs.LogText.{header}
-use Rattle.mm_base.specs.Words.{first_word, other_words}
+use Rattle.text_base.specs.Words.{first_word, other_words}
 use Rattle.shell_log.specs.Words.{parts_of}
 
 infixl 10 ◌>>=◌

@@ -1,11 +1,11 @@
 // One line of a log, read.
 ghost use Rattle.std.specs.Prelude.{◌≡◌, ◌∷◌, ◌++◌, true, MatchOption};
-ghost use Rattle.mm_base.specs.Lines.{is_one_line};
+ghost use Rattle.text_base.specs.Lines.{is_one_line};
 ghost use Rattle.shell_log.specs.Reading.{arrival_of, opportunity_of, departure_of, drop_of, entry_of};
 
 use crate::Entry;
 use memchr::memchr;
-use mm_base::{read_canonical, split_word};
+use text_base::{read_canonical, split_word};
 
 // What stands before the first line feed, and what follows it. None where there is no line feed.
 pub(crate) fn cut_line(text: &[u8]) -> Option<(&[u8], &[u8])>

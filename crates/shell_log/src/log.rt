@@ -3,9 +3,9 @@ ghost use Rattle.std.specs.Prelude.{◌≡◌, ◌+◌, ◌≤◌, ◌++◌, ◌
 ghost use Rattle.shell_log.specs.Entries.{IsEntry, IsLog, AreUpTo, moment_of};
 
 use crate::Entry;
-use mm_base::OutOfMemory;
 use std::alloc::Global;
 use std::marker::Model;
+use text_base::OutOfMemory;
 
 /// The log of one direction of a link: entries whose ranges are those of `Entry` and whose moments never decrease.
 /// Contracts see its entries, and how many more may be added without memory.

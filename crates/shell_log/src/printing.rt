@@ -3,8 +3,8 @@ ghost use Rattle.std.specs.Prelude.{◌≡◌, ◌+◌, ◌≤◌, ◌++◌, ◌
 ghost use Rattle.shell_log.specs.LogText.{header, line_of, log_text};
 
 use crate::{Entry, Log};
-use mm_base::{Bytes, LineBuffer, OutOfMemory, PrintLine, print_lines};
 use std::alloc::Global;
+use text_base::{Bytes, LineBuffer, OutOfMemory, PrintLine, print_lines};
 
 /// The first line of the text of a log, with its line feed (mm-link's log).
 pub const HEADER: &[u8] = b"# base timestamp: 0\n";
@@ -19,7 +19,7 @@ pub fn print_log(alloc: Global, log: &Log) -> Result<Bytes, OutOfMemory>
 impl PrintLine for Entry {
     ghost line = { λ e. line_of e ++ 10 ∷ [] };
 
-    #[tactic(auto, using(mm_base::proofs::TextLemmas::is_ended_line))]
+    #[tactic(auto, using(text_base::proofs::TextLemmas::is_ended_line))]
     fn put_line(&self, out: &mut LineBuffer) {
         out.put_byte(b'\n');
         match *self {

@@ -7,8 +7,8 @@ ghost use Rattle.shell_log.specs.LogText.{log_text};
 ghost use Rattle.shell_log.specs.Reading.{entry_of, fault_of, log_fault};
 
 use crate::{Log, LogText};
-use mm_base::OutOfMemory;
 use std::alloc::Global;
+use text_base::OutOfMemory;
 
 /// Why a text isn't the text of a log. The first refusal wins; lines are counted from 1.
 #[derive(Clone, Copy, Debug, PartialEq, Eq)]

@@ -1,11 +1,11 @@
 // The line at the front of a text, read in one pass.
 ghost use Rattle.std.specs.Prelude.{◌≡◌, ◌∷◌, ◌++◌, decimal, IfSome};
-ghost use Rattle.mm_base.specs.Numbers.{leads_with_zero};
+ghost use Rattle.text_base.specs.Numbers.{leads_with_zero};
 ghost use Rattle.shell_log.specs.Entries.{IsEntry, IsShort};
 ghost use Rattle.shell_log.specs.LogText.{line_of};
 
 use crate::Entry;
-use mm_base::split_decimal;
+use text_base::split_decimal;
 
 // The entry of the line at the front of a text, and what follows its line feed. None says nothing of the text.
 #[inline]

@@ -15,9 +15,9 @@ ghost use Rattle.shell_state.specs.Inside.{AnswerFits};
 
 use crate::front::Front;
 use crate::taken::Taken;
-use mm_base::OutOfMemory;
 use packet_record::{FlowEnd, Item, Reach};
 use shell_core::Core;
+use text_base::OutOfMemory;
 
 // The packet of an item arrives at the core, and what was fed has come as far as the item.
 pub(crate) fn arrive(core: &mut Core, fed: &mut Reach, item: Item) -> Result<(), OutOfMemory>

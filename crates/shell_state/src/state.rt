@@ -16,11 +16,11 @@ use crate::front::Front;
 use crate::parts;
 use crate::stream::StreamView;
 use crate::taken::Taken;
-use mm_base::OutOfMemory;
 use packet_record::{Item, Reach, Timed};
 use shell_core::{Core, DirSpec, LinkLog, Passage};
 use std::alloc::Global;
 use std::marker::Model;
+use text_base::OutOfMemory;
 
 /// One direction of a shell that is fed items and from which items are taken, in any order of the two.
 ///

@@ -7,9 +7,10 @@ ghost use Rattle.command_ends.specs.Stops.{IsInput, RefusesBy, StopsReading};
 ghost use Rattle.store_input.specs.Stores.{StoreVerdict, reading_store};
 
 use command_ends::{Cause, Refusal, read_input};
-use mm_base::{Disk, Text};
+use mm_base::Disk;
 use record_store::{Store, StoreError, read_store};
 use std::alloc::Global;
+use text_base::Text;
 
 // Why the text of the store of this name isn't accepted.
 fn store_cause(name: Text, error: StoreError) -> Cause

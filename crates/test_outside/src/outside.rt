@@ -1,7 +1,8 @@
 // A disk and an `out` in memory.
 use command_ends::{Cause, conclude};
-use mm_base::{Bytes, MemDisk, MemSink, OutOfMemory, Text};
+use mm_base::{MemDisk, MemSink};
 use std::alloc::Global;
+use text_base::{Bytes, OutOfMemory, Text};
 
 /// What stands in place of a file's text where the file isn't there.
 pub const ABSENT: &str = "absent";

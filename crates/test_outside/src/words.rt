@@ -1,6 +1,6 @@
 // The words of a line.
-use mm_base::OutOfMemory;
 use std::alloc::Global;
+use text_base::OutOfMemory;
 
 /// The words between the spaces of a line. `OutOfMemory` is want of memory.
 pub fn words_of(alloc: Global, line: &str) -> Result<Vec<String>, OutOfMemory> {

@@ -7,7 +7,6 @@ ghost use Rattle.shell_cell.specs.Seats.{Fed, FindsBroken, IsSameSeat, MayFeedAt
 mod alone;
 mod beside;
 
-use mm_base::OutOfMemory;
 use packet_queue::{QueueKind, QueueSpec};
 use packet_record::Item;
 use shell_cell::{DrainSeat, FeedSeat, ShellCell, open};
@@ -16,6 +15,7 @@ use std::alloc::Global;
 use std::process::Abort;
 use std::sync::Wait;
 use std::test::Fail;
+use text_base::OutOfMemory;
 use trace_reader::read_trace;
 
 // A link with the trace 5, 5, 9 and no limit on its queue.

@@ -10,7 +10,6 @@ mod fed;
 use crate::packets::timed;
 use crate::waiting::{give_way, reached};
 use mark_channel::{Receiver, Sender, open, settle};
-use mm_base::OutOfMemory;
 use packet_record::{Item, Packet, Timed};
 use std::alloc::Global;
 use std::process::Abort;
@@ -18,6 +17,7 @@ use std::sync::Wait;
 use std::sync::atomic::{AtomicU64, Ordering};
 use std::test::Fail;
 use std::thread::{Threads, join_mut};
+use text_base::OutOfMemory;
 
 // An end may be sent to another thread.
 fn moves<T: Send>(_end: &T) {}

@@ -4,7 +4,7 @@ mod paced;
 mod parts;
 
 use fed::feeds;
-use mm_base::{Bytes, MemDisk, NoPace, OutOfMemory, Pace, Text};
+use mm_base::{MemDisk, NoPace, Pace};
 use nest_runner::{run_stream, run_threads};
 use nest_spec::{Nest, RunResult, build, print_fates, read_nest};
 use packet_record::read_schedule;
@@ -14,6 +14,7 @@ use std::process::Abort;
 use std::sync::Wait;
 use std::test::Fail;
 use std::thread::Threads;
+use text_base::{Bytes, OutOfMemory, Text};
 use trace_reader::{Trace, read_trace};
 
 fn words_of(alloc: Global, text: &str) -> Result<Vec<String>, AllocError> {

@@ -1,7 +1,7 @@
 -- How many opportunities a text of so many bytes can state.
 use Rattle.std.proofs.Common.{◌≡◌, ℕ, zero, suc, ◌+◌, ◌*◌, ◌/◌, ◌≤◌, List, [], ◌∷◌, length, map, min, drop, Some, None}
 use Rattle.std.proofs.Common.{arith}
-use Rattle.mm_base.specs.Lines.{lines_of}
+use Rattle.text_base.specs.Lines.{lines_of}
 use Rattle.packet_record.proofs.RoomLemmas.{room_of, lines_fit}
 use Rattle.trace_reader.specs.declared.opportunity.Form.{Form}
 use Rattle.trace_reader.specs.declared.opportunity.Form.TheVariants.{Moments, MomentsAndBytes}

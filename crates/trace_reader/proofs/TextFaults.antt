@@ -6,9 +6,9 @@ use Rattle.std.specs.Option.{option_and_then}
 use Rattle.std.proofs.lemmas.Bool.{lt-leb}
 use Rattle.std.proofs.lemmas.Bool.Decides.{nat_tests}
 use Rattle.std.proofs.lemmas.List.{map-append}
-use Rattle.mm_base.specs.Lines.{lines_of}
-use Rattle.mm_base.specs.Numbers.{decimal_of}
-use Rattle.mm_base.proofs.NumbersLemmas.{decimal_of-Some}
+use Rattle.text_base.specs.Lines.{lines_of}
+use Rattle.text_base.specs.Numbers.{decimal_of}
+use Rattle.text_base.proofs.NumbersLemmas.{decimal_of-Some}
 use Rattle.trace_reader.specs.declared.opportunity.Opportunity.{Opportunity}
 use Rattle.trace_reader.specs.declared.opportunity.Form.{Form}
 use Rattle.trace_reader.specs.declared.opportunity.Form.TheVariants.{Moments, MomentsAndBytes}
@@ -17,9 +17,9 @@ use Rattle.trace_reader.specs.declared.reading.TraceError.TheVariants as errors
 use Rattle.trace_reader.specs.Orders.{Each, AreRising}
 use Rattle.trace_reader.specs.Opps.{last_moment}
 use Rattle.trace_reader.specs.Traces.{TraceView, IsTrace, AreOfForm}
-use Rattle.mm_base.specs.Words.{first_word, other_words}
+use Rattle.text_base.specs.Words.{first_word, other_words}
 use Rattle.trace_reader.specs.TraceText.{form_of, lines_before, stated, said_of, said, IsTraceText, trace_text}
-use Rattle.mm_base.specs.Refusals.{or_later}
+use Rattle.text_base.specs.Refusals.{or_later}
 use Rattle.trace_reader.specs.Reading.{fault_of, end_fault, moment_after, first_fault, trace_fault}
 use Rattle.trace_reader.proofs.OrderLemmas.{each_map, each_append, rising-append, last_latest}
 use Rattle.trace_reader.proofs.TextLaws.{printed_text, same_trace}

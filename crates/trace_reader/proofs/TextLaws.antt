@@ -6,22 +6,22 @@ use Rattle.std.specs.Fmt.{decimal}
 use Rattle.std.specs.Option.{option_and_then}
 use Rattle.std.specs.Str.{bytes_eq}
 use Rattle.std.proofs.lemmas.Slice.Eq.{bytes_eq-Decides}
-use Rattle.mm_base.specs.Lines.{lines_of, is_one_line}
-use Rattle.mm_base.specs.Numbers.{decimal_of}
-use Rattle.mm_base.proofs.NumbersLemmas.{decimal_of-decimal, no_space-decimal, is_one_line-decimal}
-use Rattle.mm_base.proofs.TextLemmas.{lines_of-printed, is_one_line-append}
+use Rattle.text_base.specs.Lines.{lines_of, is_one_line}
+use Rattle.text_base.specs.Numbers.{decimal_of}
+use Rattle.text_base.proofs.NumbersLemmas.{decimal_of-decimal, no_space-decimal, is_one_line-decimal}
+use Rattle.text_base.proofs.TextLemmas.{lines_of-printed, is_one_line-append}
 use Rattle.trace_reader.specs.declared.opportunity.Opportunity.{Opportunity}
 use Rattle.trace_reader.specs.declared.opportunity.Form.{Form}
 use Rattle.trace_reader.specs.declared.opportunity.Form.TheVariants.{Moments, MomentsAndBytes}
 use Rattle.trace_reader.specs.Orders.{Each}
 use Rattle.trace_reader.specs.Opps.{last_moment}
 use Rattle.trace_reader.specs.Traces.{TraceView, IsTrace, AreOfForm}
-use Rattle.mm_base.specs.Words.{first_word, other_words}
+use Rattle.text_base.specs.Words.{first_word, other_words}
 use Rattle.trace_reader.specs.TraceText.{bytes_header, form_of, lines_before, stated, said_of, said, IsTraceText}
 use Rattle.trace_reader.specs.TraceText.{line_of, trace_text}
 use Rattle.trace_reader.proofs.Fields.{same_opportunity}
 use Rattle.trace_reader.proofs.OrderLemmas.{each_map, last_latest}
-use Rattle.mm_base.proofs.WordsLemmas.{first_word-spaced, other_words-spaced}
+use Rattle.text_base.proofs.WordsLemmas.{first_word-spaced, other_words-spaced}
 
 -- what a printed line states
 plain_said : (o : Opportunity) → o.moment ≤ 9999999999 → o.bytes ≡ 1504

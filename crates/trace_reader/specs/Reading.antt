@@ -1,8 +1,8 @@
 -- The first refusal of the text of a trace.
 use Rattle.std.specs.Prelude.{ℕ, ◌+◌, ◌&&◌, ◌==◌, List, [], ◌∷◌, Option, Some, None, nat_le, nat_lt, if◌then◌else◌}
-use Rattle.mm_base.specs.declared.limits.TheConstants.{MOST_LINES}
-use Rattle.mm_base.specs.Lines.{lines_of}
-use Rattle.mm_base.specs.Refusals.{or_later}
+use Rattle.text_base.specs.declared.limits.TheConstants.{MOST_LINES}
+use Rattle.text_base.specs.Lines.{lines_of}
+use Rattle.text_base.specs.Refusals.{or_later}
 use Rattle.trace_reader.specs.declared.opportunity.Form.{Form}
 use Rattle.trace_reader.specs.declared.reading.TraceError.{TraceError}
 use Rattle.trace_reader.specs.declared.reading.TraceError.TheVariants as errors

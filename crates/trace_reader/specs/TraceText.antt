@@ -3,9 +3,9 @@ use Rattle.std.specs.Prelude.{◌≡◌, ℕ, List, [], ◌∷◌, ◌++◌, Opt
 use Rattle.std.specs.Prelude.{if◌then◌else◌}
 use Rattle.std.specs.List.{flat_map}
 use Rattle.std.specs.Str.{bytes_eq}
-use Rattle.mm_base.specs.Lines.{lines_of}
-use Rattle.mm_base.specs.Numbers.{decimal_of}
-use Rattle.mm_base.specs.Words.{first_word, other_words}
+use Rattle.text_base.specs.Lines.{lines_of}
+use Rattle.text_base.specs.Numbers.{decimal_of}
+use Rattle.text_base.specs.Words.{first_word, other_words}
 use Rattle.trace_reader.specs.declared.opportunity.Opportunity.{Opportunity}
 use Rattle.trace_reader.specs.declared.opportunity.Form.{Form}
 use Rattle.trace_reader.specs.declared.opportunity.Form.TheVariants.{Moments, MomentsAndBytes}

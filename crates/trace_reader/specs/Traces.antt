@@ -1,6 +1,6 @@
 -- A trace as its callers see it, and what holds of each.
 use Rattle.std.specs.Prelude.{◌≡◌, ◌<◌, ◌≤◌, List, length}
-use Rattle.mm_base.specs.declared.limits.TheConstants.{GREATEST_MOMENT, MOST_LINES}
+use Rattle.text_base.specs.declared.limits.TheConstants.{GREATEST_MOMENT, MOST_LINES}
 use Rattle.trace_reader.specs.declared.opportunity.Opportunity.{Opportunity}
 use Rattle.trace_reader.specs.declared.opportunity.Form.{Form}
 use Rattle.trace_reader.specs.declared.opportunity.Form.TheVariants.{Moments, MomentsAndBytes}

@@ -3,7 +3,7 @@ ghost use Rattle.std.specs.Prelude.{◌≡◌};
 ghost use Rattle.trace_reader.specs.TraceText.{said_of};
 
 use crate::Form;
-use mm_base::{read_decimal, split_word};
+use text_base::{read_decimal, split_word};
 
 // The moment and the bytes that a line states.
 pub(crate) fn read_line(form: Form, line: &[u8]) -> Option<(u64, u64)>

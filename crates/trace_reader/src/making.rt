@@ -6,9 +6,9 @@ ghost use Rattle.trace_reader.specs.declared.opportunity.Form.TheVariants as for
 
 use crate::packed::PackedOpportunity;
 use crate::{Form, Opportunity, Trace};
-use mm_base::OutOfMemory;
 use packet_record::Draws;
 use std::alloc::Global;
+use text_base::OutOfMemory;
 
 /// The trace that the generator makes of a number: 100 opportunities of 1504 bytes, each 1 to 3 milliseconds after the
 /// one before, the first after moment 0. Each takes one draw, which modulo 3 plus 1 is the milliseconds.

@@ -2,8 +2,8 @@
 ghost use Rattle.std.specs.Prelude.{◌≡◌, ◌≤◌, ◌%◌};
 
 use crate::Opportunity;
-use mm_base::limits::GREATEST_MOMENT;
 use std::marker::Model;
+use text_base::limits::GREATEST_MOMENT;
 
 // The bytes of an opportunity are below this.
 const BYTES_END: u64 = 1_048_576;

@@ -4,8 +4,8 @@ ghost use Rattle.trace_reader.specs.TraceText.{line_of, header_text, trace_text,
 
 use crate::packed::PackedOpportunity;
 use crate::{Form, Opportunity, Trace};
-use mm_base::{Bytes, OutOfMemory, write_decimal};
 use std::alloc::Global;
+use text_base::{Bytes, OutOfMemory, write_decimal};
 
 /// The text of a trace in its own form: each opportunity on a line, after the line `# mm-trace 2` where it states
 /// bytes. Reading it gives the trace back.

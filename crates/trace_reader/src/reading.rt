@@ -6,15 +6,15 @@ ghost use Rattle.trace_reader.specs.Opps.{last_moment};
 ghost use Rattle.trace_reader.specs.Traces.{TraceView, IsTrace};
 ghost use Rattle.trace_reader.specs.TraceText.{form_of, lines_before, stated, said_of, said, IsTraceText, trace_text};
 ghost use Rattle.trace_reader.specs.Reading.{first_fault, trace_fault};
-ghost use Rattle.mm_base.specs.Lines.{lines_of};
-ghost use Rattle.mm_base.specs.LinesLeft.{lines_left};
+ghost use Rattle.text_base.specs.Lines.{lines_of};
+ghost use Rattle.text_base.specs.LinesLeft.{lines_left};
 
 use crate::line::read_line;
 use crate::packed::PackedOpportunity;
 use crate::{Form, Opportunity, Trace};
-use mm_base::limits::MOST_LINES;
-use mm_base::{Lines, OutOfMemory};
 use std::alloc::{AllocError, AllocFailed, Global};
+use text_base::limits::MOST_LINES;
+use text_base::{Lines, OutOfMemory};
 
 /// Why a text is no trace. The first refusal wins; lines are counted from 1, the first line `# mm-trace 2` among them.
 #[derive(Clone, Copy, Debug, PartialEq, Eq)]

@@ -6,9 +6,9 @@ ghost use Rattle.trace_reader.specs.Traces.{IsTrace};
 
 use crate::packed::PackedOpportunity;
 use crate::{Form, Opportunity};
-use mm_base::OutOfMemory;
 use std::marker::Model;
 use std::sync::ArcSlice;
+use text_base::OutOfMemory;
 
 /// A packet delivery trace (mm-link): 1 to `MOST_LINES` opportunities whose moments never decrease, the last above 0
 /// and at most `GREATEST_MOMENT`. The trace begins again at its last moment, unless it is played once. Its list of

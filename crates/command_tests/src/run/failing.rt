@@ -1,12 +1,12 @@
 // Disks that fail.
 use super::{Left, leaves};
-use mm_base::OutOfMemory;
 use std::alloc::Global;
 use std::marker::Sync;
 use std::process::Abort;
 use std::sync::Wait;
 use std::thread::Threads;
 use test_outside::ABSENT;
+use text_base::OutOfMemory;
 
 // A run whose disk fails at a call: which, the status and the line, and what the files `u`, `d` and `f` hold then.
 type Failing = (

@@ -2,12 +2,13 @@
 ghost use Rattle.std.specs.Prelude.{◌^◌, ◌-◌, None, false};
 
 use super::{answered, concludes};
-use mm_base::{Disk, DiskError, NoPace, OutOfMemory};
+use mm_base::{Disk, DiskError, NoPace};
 use std::alloc::Global;
 use std::marker::Sync;
 use std::sync::Wait;
 use std::thread::Threads;
 use test_outside::words_of;
+use text_base::OutOfMemory;
 
 // A disk that tells no files, and on which each has one byte more than an input may have. None is read or written.
 // Its counts stand at their last value.

@@ -1,11 +1,12 @@
 // Runs by the bytes of a file.
 use super::{Left, answered, leaves};
-use mm_base::{NoPace, OutOfMemory, save};
+use mm_base::{NoPace, save};
 use std::alloc::{AllocError, Global};
 use std::marker::Sync;
 use std::sync::Wait;
 use std::thread::Threads;
 use test_outside::{ABSENT, TestOutside, words_of};
+use text_base::OutOfMemory;
 
 static FILES: [(&str, &str); 2] = [("t", "4\n"), ("s", "0 up 100\n0 down 100\n")];
 

@@ -1,11 +1,12 @@
 // Runs over threads some of whose turns are held.
 use super::{Left, leaves_by, numbered};
-use mm_base::{OutOfMemory, Pace, Role};
+use mm_base::{Pace, Role};
 use std::alloc::{AllocError, Global};
 use std::marker::Sync;
 use std::sync::Wait;
 use std::sync::atomic::{AtomicU64, Ordering};
 use std::thread::{Threads, yield_now};
+use text_base::OutOfMemory;
 
 // How often a turn that is held gives way before the test gives up.
 const LIMIT: u32 = 10_000_000;

@@ -1,11 +1,11 @@
 // What runs refuse.
 use super::{Left, leaves};
-use mm_base::OutOfMemory;
 use std::alloc::Global;
 use std::marker::Sync;
 use std::sync::Wait;
 use std::thread::Threads;
 use test_outside::ABSENT;
+use text_base::OutOfMemory;
 
 const NINE: &str =
     "mm-delay 1 mm-delay 1 mm-delay 1 mm-delay 1 mm-delay 1 mm-delay 1 mm-delay 1 mm-delay 1 mm-delay 1";

@@ -3,13 +3,14 @@ ghost use Rattle.std.specs.Prelude.{◌^◌, ◌-◌, None, false};
 
 use super::paced::{Held, Hold, Turns, UP_COLLECTOR};
 use super::{Left, WAYS, answered, concludes, leaves, numbered};
-use mm_base::{Disk, DiskError, NoPace, OutOfMemory, Role};
+use mm_base::{Disk, DiskError, NoPace, Role};
 use std::alloc::{AllocError, Global};
 use std::marker::Sync;
 use std::process::Abort;
 use std::sync::Wait;
 use std::thread::Threads;
 use test_outside::{ABSENT, words_of};
+use text_base::OutOfMemory;
 
 // So many lines, of which these are refused.
 fn many_lines(alloc: Global, count: u32, refused: &[u32]) -> Result<String, AllocError> {

@@ -1,12 +1,12 @@
 // What runs write.
 use super::{Left, WAYS, leaves, numbered};
-use mm_base::OutOfMemory;
 use std::alloc::Global;
 use std::marker::Sync;
 use std::process::Abort;
 use std::sync::Wait;
 use std::thread::Threads;
 use test_outside::ABSENT;
+use text_base::OutOfMemory;
 
 // The last words, the texts of the trace and of the schedule, and those of the fates and of the log `u`.
 type Written = (

@@ -1,9 +1,9 @@
 // Matches.
 use super::{CLIENT, STORE};
 use command_stores::answer_match;
-use mm_base::OutOfMemory;
 use std::alloc::Global;
 use test_outside::{TestOutside, words_of};
+use text_base::OutOfMemory;
 
 // Two records of one request, from the ports 80 and 8080.
 const TWO_PORTS: &str =

@@ -1,9 +1,9 @@
 // Migrations.
 use super::{AT_81, STORE};
 use command_stores::answer_migrate;
-use mm_base::OutOfMemory;
 use std::alloc::Global;
 use test_outside::{ABSENT, TestOutside, words_of};
+use text_base::OutOfMemory;
 
 // The text of the store in form 1.
 const OLD: &str =

@@ -1,9 +1,9 @@
 // Recordings.
 use super::{AT_81, CLIENT, SERVER, STORE};
 use command_stores::answer_record;
-use mm_base::OutOfMemory;
 use std::alloc::Global;
 use test_outside::{ABSENT, TestOutside, words_of};
+use text_base::OutOfMemory;
 
 const INTERIM: &str = "HTTP/1.1 100 Continue\r\n\r\nHTTP/1.1 200 OK\r\nContent-Length: 2\r\n\r\nhi";
 

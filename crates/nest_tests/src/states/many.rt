@@ -6,13 +6,13 @@ use super::{feed, is_over, take_one};
 use crate::inputs::{queue_of, rate_of, trace_of};
 use crate::packets::{in_order, many_packets};
 use link_core::LinkLog;
-use mm_base::OutOfMemory;
-use mm_base::limits::MOST_OPPORTUNITIES;
 use packet_record::{Item, Timed};
 use shell_core::{Passage, run_whole};
 use shell_state::{DirSpec, ShellState, Taken};
 use std::alloc::Global;
 use std::process::Abort;
+use text_base::OutOfMemory;
+use text_base::limits::MOST_OPPORTUNITIES;
 
 // More takes than there is ever something to take.
 const MOST_TAKES: u32 = 100_000;

@@ -5,11 +5,11 @@ ghost use Rattle.shell_core.specs.Shells.{IsInRange, opportunities};
 use super::{feed, is_open, is_over, take_one};
 use crate::inputs::{queue_of, rate_of, trace_of};
 use crate::packets::timed;
-use mm_base::OutOfMemory;
-use mm_base::limits::MOST_OPPORTUNITIES;
 use packet_record::{FlowEnd, Item};
 use shell_state::{DirSpec, ShellState, Taken};
 use std::alloc::Global;
+use text_base::OutOfMemory;
+use text_base::limits::MOST_OPPORTUNITIES;
 
 // An item: a packet's moment and number, or a mark's moment.
 #[derive(Clone, Copy)]

@@ -1,12 +1,12 @@
 // Runs by orders, against the fates that the composition of the shells gives.
 use crate::inputs::schedule_of;
 use crate::nests::{nest_of, stepped_run};
-use mm_base::OutOfMemory;
 use nest_core::{World, Worlds, run_worlds};
 use nest_spec::{Fate, FateRow, print_fates};
 use packet_record::{Schedule, make_load};
 use std::alloc::{AllocError, Global};
 use std::process::Abort;
+use text_base::OutOfMemory;
 
 // A nest, the trace of its links, its horizon, a schedule, and its fates.
 struct Case {

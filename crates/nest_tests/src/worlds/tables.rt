@@ -2,11 +2,11 @@
 use super::step;
 use crate::inputs::schedule_of;
 use crate::nests::nest_of;
-use mm_base::OutOfMemory;
 use nest_core::World;
 use packet_record::{Direction, FlowEnd};
 use std::alloc::Global;
 use std::process::Abort;
+use text_base::OutOfMemory;
 
 // The actors of a world of one shell, in turn, and those behind its feeder.
 static ROUND: [u32; 6] = [0, 1, 2, 3, 4, 5];

@@ -4,12 +4,12 @@ ghost use Rattle.std.specs.Prelude.{◌≤◌};
 
 use super::step;
 use crate::nests::nest_of;
-use mm_base::OutOfMemory;
 use nest_core::World;
 use nest_spec::Nest;
 use packet_record::{Direction, Draws, Schedule, Timed, make_load};
 use std::alloc::Global;
 use std::process::Abort;
+use text_base::OutOfMemory;
 
 // A nest, the trace of its links, its horizon, the number of a load of 16 packets, and the ids and moments of what
 // leaves the last shell in each direction.

@@ -2,10 +2,10 @@
 use super::{Left, TRACE, leaves, status_of, wire_of};
 use crate::clocks::{by_one_turn, by_three_turns};
 use live_relay::MemWire;
-use mm_base::OutOfMemory;
 use std::alloc::Global;
 use std::process::Abort;
 use test_outside::{ABSENT, TestOutside, words_of};
+use text_base::OutOfMemory;
 
 // Words after which nothing is done, and the line that says why.
 static ROWS: [(&str, u8, &str); 20] = [

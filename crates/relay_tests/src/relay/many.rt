@@ -4,13 +4,13 @@ ghost use Rattle.std.specs.Prelude.{◌≡◌, ◌≤◌};
 use super::{Answer, Done, relay_by, wire_of};
 use crate::nests::nest_of;
 use live_relay::{Clock, MemWire, RelayEnd, RelayResult, Side};
-use mm_base::{Bytes, OutOfMemory, print_lines};
 use nest_plain::run_plain;
 use nest_spec::{NamedLog, Nest, RunResult, print_fates};
 use packet_record::{Schedule, read_schedule};
 use shell_log::print_log;
 use std::alloc::Global;
 use std::process::Abort;
+use text_base::{Bytes, OutOfMemory, print_lines};
 
 // A clock that goes on by a millisecond at each call. It tells no answers but the last.
 #[derive(Drop)]

@@ -1,9 +1,9 @@
 // The message at the front of bytes.
 use super::request_in;
 use http_frame::first_response;
-use mm_base::Bytes;
 use std::alloc::Global;
 use std::test::Fail;
+use text_base::Bytes;
 
 // A request and four bytes more.
 const ASKED: &str =

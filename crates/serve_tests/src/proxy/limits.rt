@@ -4,11 +4,12 @@ ghost use Rattle.std.specs.Prelude.{◌≤◌};
 use super::end_of;
 use crate::links::{REQUEST, RESPONSE};
 use crate::texts::{copies, long_message};
-use mm_base::{Bytes, MemLink};
+use mm_base::MemLink;
 use record_proxy::ProxyEnd;
 use record_store::Store;
 use std::alloc::Global;
 use std::test::Fail;
+use text_base::Bytes;
 
 // How a connection ends whose client and server say this, of which a read brings at most so many bytes, how many
 // records it adds, and how many bytes the client is given.

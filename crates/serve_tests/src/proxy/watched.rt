@@ -6,11 +6,12 @@ ghost use Rattle.mm_base.specs.MemLink.{mem_link_view};
 
 use super::status_of;
 use crate::links::{REQUEST, RESPONSE};
-use mm_base::{Bytes, EndError, Link, MemLink, Port};
+use mm_base::{EndError, Link, MemLink, Port};
 use record_proxy::Dialer;
 use std::alloc::Global;
 use std::test::Fail;
 use test_outside::{TestOutside, words_of};
+use text_base::Bytes;
 
 // How often an output was ended, and how many calls came after that.
 #[derive(Drop)]

@@ -5,7 +5,6 @@ ghost use Rattle.packet_record.specs.declared.item.FlowEnd.TheVariants.{Open};
 
 use crate::waiting::give_way;
 use mark_channel::{Begun, Sender, open};
-use mm_base::OutOfMemory;
 use packet_record::Item;
 use std::alloc::Global;
 use std::marker::Sync;
@@ -13,6 +12,7 @@ use std::sync::Wait;
 use std::sync::atomic::{AtomicU64, Ordering};
 use std::test::Fail;
 use std::thread::{Threads, join_mut};
+use text_base::OutOfMemory;
 
 // Counts two workers, of which the second one begins late. Whether the wait had ended before.
 fn begin_late(begun: &Begun, waited: &AtomicU64) -> bool {

@@ -7,7 +7,6 @@ ghost use Rattle.mark_channel.specs.Feedings.{HasSentRows};
 use super::receive_all;
 use crate::packets::timed;
 use mark_channel::{FeedEnd, Feeds, Sender, open, settle};
-use mm_base::OutOfMemory;
 use packet_record::{Direction, Item, Row};
 use std::alloc::Global;
 use std::process::Abort;
@@ -15,6 +14,7 @@ use std::slice;
 use std::sync::Wait;
 use std::test::Fail;
 use std::thread::Threads;
+use text_base::OutOfMemory;
 
 // Sends the row's packet where it goes in this direction and enters up to the horizon, and then the end.
 fn send_row<R: Wait>(rt: &R, to: &mut Sender, direction: Direction, horizon: u64, row: &Row)

@@ -8,7 +8,7 @@ ghost use Rattle.mark_channel.specs.Ends.{IsSameEnd};
 
 use super::{CASES, Case, has_fates, nest_in};
 use mark_channel::{FeedEnd, Feeds, Sender};
-use mm_base::{NoPace, OutOfMemory};
+use mm_base::NoPace;
 use nest_runner::run_feeds;
 use nest_spec::{Nest, RunResult};
 use packet_record::{Direction, Item, Row, Schedule, read_schedule, source_item};
@@ -18,6 +18,7 @@ use std::process::Abort;
 use std::sync::Wait;
 use std::test::Fail;
 use std::thread::Threads;
+use text_base::OutOfMemory;
 
 // Sends what a row gives in a direction, where the greatest moment that was sent in it is `sent`, and answers the
 // greatest moment that is then.

@@ -3,21 +3,23 @@ ghost use Rattle.std.specs.Prelude.{◌≡◌, ◌≤◌, [], length, IfOk};
 ghost use Rattle.packet_record.specs.Streams.{no_items};
 ghost use Rattle.shell_core.specs.Shells.{IsInRange, opportunities};
 ghost use Rattle.nest_spec.specs.Nests.{AllFit};
-ghost use Rattle.nest_runner.specs.Stages.{AllFresh, IsFresh};
+ghost use Rattle.shell_workers.specs.Stages.{AllFresh, IsFresh};
 
 use super::nest_of;
 use mark_channel::{Receiver, Sender, open};
-use mm_base::{NoPace, OutOfMemory, Role};
-use nest_runner::work::{Stage, WorkEnd, collector, source, stages};
+use mm_base::{NoPace, Role};
 use nest_spec::Nest;
 use packet_record::{Direction, Schedule, read_schedule};
+use row_source::source;
 use shell_state::{DirSpec, ShellState};
+use shell_workers::{Stage, WorkEnd, collector, stages};
 use std::alloc::Global;
 use std::marker::Sync;
 use std::process::Abort;
 use std::sync::Wait;
 use std::test::Fail;
 use std::thread::Threads;
+use text_base::OutOfMemory;
 
 // How many items a channel holds.
 const CAPACITY: u32 = 64;

@@ -1,10 +1,10 @@
 //! Merges of flows whose items are added when the merge needs them.
-use mm_base::OutOfMemory;
 use packet_record::{FlowEnd, Item, Packet, Timed};
 use sender_merge::{MergeCore, MergeStep};
 use std::alloc::Global;
 use std::process::Abort;
 use std::test::Fail;
+use text_base::OutOfMemory;
 
 // A packet of 100 bytes.
 macro_rules! packet {

@@ -1,5 +1,5 @@
 use Rattle.std.proofs.Common.{◌≡◌, ◌∙◌, ◌+◌, ◌++◌, ◌∷◌, [], List, ℕ, ap, length, length-append, map, sym, arith, rules}
-use Rattle.mm_base.specs.LinesLeft.{lines_left}
+use Rattle.text_base.specs.LinesLeft.{lines_left}
 use Rattle.command_merge.specs.List.{line_fault}
 use Rattle.command_merge.proofs.ListLemmas.{names_more}
 use Rattle.command_merge.proofs.list.read_list.Goals as goal

@@ -1,6 +1,6 @@
 use Rattle.std.proofs.Common.{◌≡◌, ◌≤◌, ◌+◌, ◌++◌, length, map}
-use Rattle.mm_base.specs.Lines.{lines_of}
-use Rattle.mm_base.specs.LinesLeft.{lines_left}
+use Rattle.text_base.specs.Lines.{lines_of}
+use Rattle.text_base.specs.LinesLeft.{lines_left}
 use Rattle.command_merge.specs.List.{line_fault, list_fault}
 use Rattle.command_merge.proofs.list.read_list.Given as goal
 

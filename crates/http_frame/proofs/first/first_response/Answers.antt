@@ -1,6 +1,6 @@
 use Rattle.std.proofs.Common.{true, Ok, ◌≡◌, ℕ, List, Bool, subst, sym}
 use Rattle.std.specs.Prelude.{Option, Result}
-use Rattle.mm_base.specs.declared.errors.OutOfMemory.{OutOfMemory}
+use Rattle.text_base.specs.declared.out_of_memory.OutOfMemory.{OutOfMemory}
 use Rattle.http_frame.specs.declared.messages.ResponseHead.{ResponseHead}
 use Rattle.http_frame.specs.declared.pending.Pending.{Pending}
 use Rattle.http_frame.specs.declared.pending.Outcome.{Outcome}

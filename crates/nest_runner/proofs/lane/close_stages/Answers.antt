@@ -4,8 +4,8 @@ use Rattle.packet_record.specs.declared.item.Stream.{Stream}
 use Rattle.shell_core.specs.declared.spec.DirSpec.{DirSpec}
 use Rattle.shell_state.specs.States.{State}
 use Rattle.nest_spec.specs.Passed.{HavePassed}
-use Rattle.nest_runner.specs.declared.stage.Stage.{Stage}
-use Rattle.nest_runner.specs.Stages.{AllDone}
+use Rattle.shell_workers.specs.declared.stage.Stage.{Stage}
+use Rattle.shell_workers.specs.Stages.{AllDone}
 use Rattle.nest_runner.specs.Lanes.{AllOwn, Linked, specs_of}
 use Rattle.nest_runner.proofs.Carrying.{does, does-snoc, passed_on, passed-snoc, passed_on-snoc}
 use Rattle.nest_runner.proofs.lane.close_stages.Goals as goal

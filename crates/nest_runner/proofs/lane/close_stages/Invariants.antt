@@ -1,7 +1,7 @@
 use Rattle.std.proofs.Common.{◌≡◌, ◌++◌}
 use Rattle.std.specs.Vec.Iter.{into_iter_items}
 use Rattle.nest_spec.specs.Passed.{HavePassed}
-use Rattle.nest_runner.specs.Stages.{AllDone}
+use Rattle.shell_workers.specs.Stages.{AllDone}
 use Rattle.nest_runner.specs.Lanes.{AllOwn, Linked, specs_of}
 use Rattle.nest_runner.proofs.Carrying.{does, passed_on}
 use Rattle.nest_runner.proofs.lane.close_stages.Given as goal

@@ -2,8 +2,8 @@ use Rattle.std.proofs.Common.{◌≡◌, ◌∙◌, ◌++◌, ◌∷◌, List, s
 use Rattle.std.specs.Vec.Iter.{into_iter_items}
 use Rattle.shell_core.specs.declared.spec.DirSpec.{DirSpec}
 use Rattle.nest_spec.specs.Nests.{AllFit}
-use Rattle.nest_runner.specs.declared.stage.Stage.{Stage}
-use Rattle.nest_runner.specs.Stages.{AllFresh}
+use Rattle.shell_workers.specs.declared.stage.Stage.{Stage}
+use Rattle.shell_workers.specs.Stages.{AllFresh}
 use Rattle.nest_runner.specs.Lanes.{AllOwn, Linked, specs_of}
 use Rattle.nest_runner.proofs.Chains.{AllFresh-snoc, AllOwn-snoc, Linked-snoc, specs-snoc}
 use Rattle.nest_runner.proofs.lane.open_path.Goals as goal

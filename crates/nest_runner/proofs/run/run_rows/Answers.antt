@@ -1,9 +1,9 @@
 use Rattle.std.proofs.Common.{◌≡◌, ℕ, rules, subst}
 use Rattle.packet_record.specs.declared.packet.Direction.TheVariants.{Up, Down}
 use Rattle.packet_record.specs.Rows.{entering}
-use Rattle.nest_runner.specs.declared.ends.WorkEnd.{WorkEnd}
-use Rattle.nest_runner.specs.declared.ends.WorkEnd.TheVariants.{Ended}
-use Rattle.nest_runner.specs.Ends.{IfEnded}
+use Rattle.shell_workers.specs.declared.ends.WorkEnd.{WorkEnd}
+use Rattle.shell_workers.specs.declared.ends.WorkEnd.TheVariants.{Ended}
+use Rattle.shell_workers.specs.Ends.{IfEnded}
 use Rattle.nest_runner.specs.Lanes.{HasCarried}
 use Rattle.nest_runner.proofs.Chains.{carried_ended, still_wired}
 use Rattle.nest_runner.proofs.run.run_rows.Goals as goal

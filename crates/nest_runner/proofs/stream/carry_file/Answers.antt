@@ -1,12 +1,12 @@
 use Rattle.std.proofs.Common.{◌≡◌, None, subst, sym}
 use Rattle.std.proofs.lemmas.Result.{err_from_is_err_and}
 use Rattle.packet_record.specs.declared.packet.Direction.TheVariants.{Up, Down}
-use Rattle.nest_runner.specs.declared.ends.WorkEnd.{WorkEnd}
+use Rattle.shell_workers.specs.declared.ends.WorkEnd.{WorkEnd}
 use Rattle.nest_runner.specs.declared.stream_error.StreamError.{StreamError}
-use Rattle.nest_runner.specs.Ends.{IfEnded}
+use Rattle.shell_workers.specs.Ends.{IfEnded}
 use Rattle.nest_runner.specs.Lanes.{IsDonePath}
 use Rattle.nest_runner.specs.Streaming.{HasStreamCause}
-use Rattle.nest_runner.specs.StreamParts.{AllSent}
+use Rattle.row_source.specs.StreamParts.{AllSent}
 use Rattle.nest_runner.proofs.Streamed.{disk_cause, ok_has, streamed_lane}
 use Rattle.nest_runner.proofs.stream.carry_file.Goals as goal
 

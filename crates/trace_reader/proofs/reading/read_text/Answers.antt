@@ -1,7 +1,7 @@
 use Rattle.std.proofs.Common.{◌≡◌, ◌+◌, ◌++◌, ◌∷◌, [], ℕ, List, Some, length, map, ap, sym, ◌∙◌, arith, rules}
 use Rattle.std.proofs.Common.{length-append}
-use Rattle.mm_base.specs.Lines.{lines_of}
-use Rattle.mm_base.specs.LinesLeft.{lines_left}
+use Rattle.text_base.specs.Lines.{lines_of}
+use Rattle.text_base.specs.LinesLeft.{lines_left}
 use Rattle.trace_reader.specs.declared.opportunity.Opportunity.{Opportunity}
 use Rattle.trace_reader.specs.TraceText.{stated, said_of, said}
 use Rattle.trace_reader.specs.Reading.{first_fault}

@@ -1,6 +1,6 @@
 use Rattle.std.proofs.Common.{◌≡◌, ◌≤◌, ◌++◌, Some, length, map}
-use Rattle.mm_base.specs.Lines.{lines_of}
-use Rattle.mm_base.specs.LinesLeft.{lines_left}
+use Rattle.text_base.specs.Lines.{lines_of}
+use Rattle.text_base.specs.LinesLeft.{lines_left}
 use Rattle.trace_reader.specs.TraceText.{stated, said_of, said}
 use Rattle.trace_reader.specs.Reading.{first_fault, trace_fault}
 use Rattle.trace_reader.proofs.TextFaults.{IsRead}

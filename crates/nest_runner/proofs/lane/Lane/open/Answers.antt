@@ -4,7 +4,7 @@ use Rattle.shell_core.specs.declared.spec.DirSpec.{DirSpec}
 use Rattle.nest_spec.specs.declared.shell.ShellDirection.{ShellDirection}
 use Rattle.nest_spec.specs.Nests.{directions_of, shells_in}
 use Rattle.nest_spec.proofs.NestLemmas.{shells_long}
-use Rattle.nest_runner.specs.declared.stage.Stage.{Stage}
+use Rattle.shell_workers.specs.declared.stage.Stage.{Stage}
 use Rattle.nest_runner.specs.Lanes.{specs_of}
 use Rattle.nest_runner.proofs.lane.Lane.open.Goals as goal
 

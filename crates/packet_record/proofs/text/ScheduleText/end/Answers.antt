@@ -1,6 +1,6 @@
 use Rattle.std.proofs.Common.{[], ◌∷◌, subst, sym, ◌∙◌}
 use Rattle.std.proofs.lemmas.List.{append-nil}
-use Rattle.mm_base.specs.Lines.{lines_of}
+use Rattle.text_base.specs.Lines.{lines_of}
 use Rattle.packet_record.specs.Gathered.{Awaits}
 use Rattle.packet_record.specs.PartsRead.{IsLeft, HasReadAll}
 use Rattle.packet_record.proofs.PartLemmas.{none_kept, some_kept, last_line, no_line}

@@ -1,6 +1,6 @@
 use Rattle.std.proofs.Common.{◌∷◌, ◌++◌, sym, subst, ◌∙◌}
-use Rattle.mm_base.specs.Lines.{lines_of}
-use Rattle.mm_base.proofs.TextLemmas.{lines_of-line}
+use Rattle.text_base.specs.Lines.{lines_of}
+use Rattle.text_base.proofs.TextLemmas.{lines_of-line}
 use Rattle.packet_record.specs.Gathered.{Awaits}
 use Rattle.packet_record.specs.PartsRead.{IsLeft}
 use Rattle.packet_record.proofs.PartLemmas.{none_kept, next_line}

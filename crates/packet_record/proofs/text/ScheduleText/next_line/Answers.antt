@@ -1,5 +1,5 @@
 use Rattle.std.proofs.Common.{◌++◌, ◌∷◌, ◌∙◌, ap, append_assoc, subst, sym}
-use Rattle.mm_base.specs.Lines.{lines_of}
+use Rattle.text_base.specs.Lines.{lines_of}
 use Rattle.packet_record.specs.Gathered.{Awaits}
 use Rattle.packet_record.specs.PartsRead.{IsLeft}
 use Rattle.packet_record.proofs.PartLemmas.{none_kept, next_line}

@@ -1,6 +1,6 @@
 use Rattle.std.proofs.Common.{◌++◌, append_assoc, subst, sym, ◌∙◌, arith}
 use Rattle.std.proofs.lemmas.Grind.{common_steps}
-use Rattle.mm_base.specs.Lines.{lines_of}
+use Rattle.text_base.specs.Lines.{lines_of}
 use Rattle.packet_record.specs.PartsRead.{IsLeft}
 use Rattle.packet_record.proofs.PartLemmas.{awaits_any}
 use Rattle.packet_record.proofs.text.ScheduleTextPieceReader.push.Goals as goal

@@ -1,5 +1,5 @@
 use Rattle.std.proofs.Common.{◌≡◌, ◌<◌, ◌==◌, true, false, None, Some, [], length, ap, sym, subst, ◌∙◌}
-use Rattle.mm_base.specs.Lines.{is_one_line}
+use Rattle.text_base.specs.Lines.{is_one_line}
 use Rattle.shell_log.specs.LogParts.{LogPart, IsRead, IsLeft}
 use Rattle.shell_log.specs.LogTexts.{text_view}
 use Rattle.shell_log.proofs.PartLaws.{read_end, read_open_end, left_read, none_kept, some_kept}

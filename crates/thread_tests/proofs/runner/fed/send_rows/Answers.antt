@@ -4,7 +4,7 @@ use Rattle.packet_record.specs.declared.packet.Row.{Row}
 use Rattle.packet_record.specs.declared.packet.Timed.{Timed}
 use Rattle.packet_record.specs.Rows.{Rises, entering}
 use Rattle.packet_record.proofs.RowsLemmas.{entering-append}
-use Rattle.nest_runner.proofs.Sending.{Rises-from}
+use Rattle.row_source.proofs.Sending.{Rises-from}
 use Rattle.thread_tests.proofs.runner.fed.send_rows.Goals as goal
 
 pub loop-row-preserved : goal.loop-row-preserved

@@ -1,0 +1,48 @@
+use Rattle.std.proofs.Common.{◌≡◌, ◌∙◌, ℕ, List, Some, map, ap, sym, subst}
+use Rattle.std.specs.Prelude.{IfOk}
+use Rattle.packet_record.specs.declared.packet.Timed.{Timed}
+use Rattle.packet_record.specs.Moments.{AreUpTo, Rise}
+use Rattle.shell_log.specs.declared.entry.Entry.{Entry}
+use Rattle.trace_reader.specs.Opps.{opps}
+use Rattle.link_core.specs.declared.passage.Passage.{Passage}
+use Rattle.link_core.specs.Links.{link_out, link_lost, link_log, link_inside}
+use Rattle.link_core.specs.View.{Span, span_opps}
+use Rattle.link_core.proofs.WholeLemmas.{come_is, along, throughout}
+use Rattle.link_core.proofs.whole.run_link.Goals as goal
+
+pub into_passage-requires : goal.into_passage-requires
+into_passage-requires c =
+    let parts = c.in_ok-parts.parts in
+    let is = c.in_ok-parts.ensures in
+    let ts = c.args.arrivals.items in
+    let span = is.opportunities ∙ c.new-opportunities.ensures in
+    let come = sym (come_is parts is.sound is.played c.args.queue _ ts is.spec (ap span_opps span) is.arrivals) in
+    record {
+      sound = is.sound;
+      none = is.played.all_in;
+      rises = subst Rise come c.requires.rises;
+      within = subst (λ (h : ℕ). AreUpTo h parts.arrived.come) (sym (ap (λ (s : Span). s.horizon) span))
+          (subst (AreUpTo c.args.horizon) come c.requires.within);
+    }
+
+pub returns : goal.returns
+returns c =
+    let parts = c.in_ok-parts.parts in
+    let is = c.in_ok-parts.ensures in
+    let q = c.args.queue in
+    let os = opps c.args.trace.opportunities c.args.once c.args.horizon in
+    let ts = c.args.arrivals.items in
+    let all : span_opps parts.opportunities ≡ os = ap span_opps (is.opportunities ∙ c.new-opportunities.ensures) in
+    let result = c.into_passage.result in
+    let gives = c.into_passage.ensures in
+    record {
+      departed = subst (λ (xs : List Timed). IfOk result (λ (p : Passage). p.departed.items ≡ xs))
+          (along parts is.sound is.played q os ts is.spec all is.arrivals link_out) gives.departed;
+      lost = subst (λ (xs : List Timed). IfOk result (λ (p : Passage). p.lost.items ≡ xs))
+          (along parts is.sound is.played q os ts is.spec all is.arrivals link_lost) gives.lost;
+      held = subst
+          (λ (xs : List Timed). IfOk result (λ (p : Passage). p.held.items ≡ map (λ (t : Timed). t.packet.id) xs))
+          (along parts is.sound is.played q os ts is.spec all is.arrivals link_inside) gives.held;
+      log = subst (λ (es : List Entry). IfOk result (λ (p : Passage). p.log ≡ Some es))
+          (throughout parts is.sound is.played q os ts is.spec all is.arrivals link_log) gives.log;
+    }

@@ -1,7 +1,0 @@
-use Rattle.std.proofs.Common.{◌≡◌}
-use Rattle.packet_record.specs.declared.item.FlowEnd.TheVariants.{Open}
-use Rattle.mark_channel.specs.Ends.{IsSameEnd}
-use Rattle.nest_runner.proofs.feeding.receive_rest.Given as goal
-
-abbrev pub invariant-loop : goal.invariant-loop
-invariant-loop g l = (l.from.flow.end ≡ Open) × IsSameEnd l.fn.from l.from

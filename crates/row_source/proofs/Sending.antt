@@ -1,0 +1,73 @@
+-- What the rows of a schedule send, row by row.
+use Rattle.std.proofs.Common.{◌≡◌, ◌≤◌, ◌∙◌, ap, sym, subst, refl, ℕ, List, [], ◌∷◌, ◌++◌, append_assoc, arith}
+use Rattle.std.proofs.Common.{drop, length, length-append, option_to_list}
+use mathlib.Core.List.{IsPrefix}
+use Rattle.std.proofs.lemmas.List.{append-nil}
+use Rattle.packet_record.specs.declared.packet.Direction.{Direction}
+use Rattle.packet_record.specs.declared.packet.Row.{Row}
+use Rattle.packet_record.specs.declared.item.Item.{Item}
+use Rattle.packet_record.specs.declared.item.Item.TheVariants.{End as Over}
+use Rattle.packet_record.specs.Rows.{Rises, entering}
+use Rattle.packet_record.specs.Sources.{items_from, sent_after, source_item, source_items}
+use Rattle.packet_record.specs.Streams.{no_items}
+use Rattle.packet_record.proofs.RowsLemmas.{entering-append}
+use Rattle.mark_channel.specs.Ends.{End}
+use Rattle.row_source.specs.Sent.{HasSent}
+
+-- rows that rise from a moment rise from an earlier one
+pub Rises-from : (a b : ℕ) (rows : List Row) → a ≤ b → Rises b rows → Rises a rows
+Rises-from a b [] le rises = tt
+Rises-from a b (r ∷ rs) le rises = ((let first = rises.0 in omega arith), rises.1)
+
+-- before the first row
+pub none_sent : (d : Direction) (h : ℕ) (to : End) → to.flow ≡ no_items → to.items ≡ [] → HasSent d h [] 0 to
+none_sent d h to empty none = record {
+  packets = ap (λ f. f.packets) empty;
+  items = λ more. ap (λ (l : List Item). l ++ items_from d h 0 more) none;
+  rises = λ more rises. rises;
+}
+
+-- what is sent of a row goes on from what was sent before
+pub record SendsOn (d : Direction) (h sent next : ℕ) (row : Row) (old new : End) : Type 0 where
+  pub after : next ≡ sent_after sent row (source_item d h sent row)
+  pub rises : next ≤ row.timed.moment
+  pub items : new.items ≡ old.items ++ option_to_list (source_item d h sent row)
+  pub packets : new.flow.packets ≡ old.flow.packets ++ entering d h (row ∷ [])
+
+pub one_sent : (d : Direction) (h sent next : ℕ) (rows : List Row) (row : Row) (old new : End)
+    → SendsOn d h sent next row old new → HasSent d h rows sent old → HasSent d h (rows ++ row ∷ []) next new
+one_sent d h sent next rows row old new on has = record {
+  packets = on.packets ∙ ap (λ l. l ++ entering d h (row ∷ [])) has.packets
+      ∙ sym (entering-append d h rows (row ∷ []));
+  items = λ more.
+      ap (λ (l : List Item). l ++ items_from d h next more) on.items
+      ∙ ap (λ (n : ℕ). (old.items ++ option_to_list (source_item d h sent row)) ++ items_from d h n more) on.after
+      ∙ append_assoc old.items (option_to_list (source_item d h sent row)) _
+      ∙ has.items (row ∷ more)
+      ∙ ap (source_items d h) (sym (append_assoc rows (row ∷ []) more));
+  rises = λ more rises.
+      Rises-from next row.timed.moment more on.rises
+      (has.rises (row ∷ more) (subst (Rises 0) (append_assoc rows (row ∷ []) more) rises)).1;
+}
+
+-- no row more
+pub same_sent : (d : Direction) (h sent : ℕ) (rows : List Row) (to : End) → HasSent d h rows sent to
+    → HasSent d h (rows ++ []) sent to
+same_sent d h sent rows to has = subst (λ l. HasSent d h l sent to) (sym (append-nil rows)) has
+
+-- and the end
+pub all_sent : (d : Direction) (h sent : ℕ) (rows : List Row) (old : End) (new : List Item) → HasSent d h rows sent old
+    → new ≡ old.items ++ Over ∷ [] → new ≡ source_items d h rows
+all_sent d h sent rows old new has is = is ∙ has.items [] ∙ ap (source_items d h) (append-nil rows)
+
+-- what is behind a front of a list
+pub rest_of : (old new : List Row) → IsPrefix old new → old ++ drop (length old) new ≡ new
+rest_of [] new prefix = refl
+rest_of (x ∷ xs) [] prefix = absurd (cc (prefix.1))
+rest_of (x ∷ xs) (y ∷ ys) prefix =
+    let first : x ≡ y = cc (prefix.1) in
+    let rest = rest_of xs ys (prefix.0, cc (prefix.1)) in
+    cc (first, rest)
+
+pub front_shorter : (old new : List Row) → IsPrefix old new → length old ≤ length new
+front_shorter old new prefix = omega (arith, sym (ap length prefix.1), length-append old prefix.0)

@@ -1,0 +1,119 @@
+-- A schedule whose rows are sent as its text is read.
+use Rattle.std.proofs.Common.{◌≡◌, ◌≤◌, ◌∙◌, ap, sym, subst, refl, ℕ, List, [], ◌∷◌, ◌++◌, arith}
+use Rattle.std.proofs.Common.{Bool, true, false, Option, Some, None, IsSome, is_some, Result, Ok, Err, OnOk, ◌-◌}
+use Rattle.std.proofs.Common.{drop, take, length, length-drop, rules}
+use Rattle.std.proofs.lemmas.List.{append-nil, take-append-drop, take_all}
+use mathlib.Core.List.{IsPrefix}
+use Rattle.mm_base.specs.Files.{Files, file}
+use Rattle.text_base.specs.Lines.{lines_of}
+use Rattle.mm_base.proofs.FilesLemmas.{is_held}
+use Rattle.file_pieces.specs.Pieces.{FrontIsRead, HasSize}
+use Rattle.file_pieces.proofs.PieceLemmas.{whole_read}
+use Rattle.packet_record.specs.declared.item.Item.TheVariants.{End as Over}
+use Rattle.packet_record.specs.declared.item.FlowEnd.TheVariants.{Ended as IsOver}
+use Rattle.packet_record.specs.declared.packet.Direction.{Direction}
+use Rattle.packet_record.specs.declared.packet.Row.{Row}
+use Rattle.packet_record.specs.declared.reading.ScheduleError.{ScheduleError}
+use Rattle.packet_record.specs.Orders.{IsSchedule}
+use Rattle.packet_record.specs.PartsRead.{HasRead, HasReadAll, IsRefused, PartRead}
+use Rattle.packet_record.specs.Rows.{Rises}
+use Rattle.packet_record.proofs.PartLemmas.{awaits_any}
+use Rattle.packet_record.proofs.RowsLemmas.{rises-in_order}
+use Rattle.mark_channel.specs.Ends.{End}
+use Rattle.row_source.specs.Sent.{HasSent}
+use Rattle.row_source.specs.StreamParts.{AllSent, IsStreamed}
+use Rattle.row_source.proofs.Sending.{all_sent, rest_of}
+
+-- the rows behind the first ones
+abbrev pub rows_after : List Row → List Row → List Row
+rows_after done rows = take (length rows - length done) (drop (length done) rows)
+
+after_is : (old new done rows : List Row) → done ≡ old → rows ≡ new → rows_after done rows ≡ drop (length old) new
+after_is old new done rows d r =
+    take_all (length rows - length done) (drop (length done) rows) (omega (arith, length-drop (length done) rows))
+    ∙ ap (λ (l : List Row). drop (length l) rows) d ∙ ap (λ (l : List Row). drop (length old) l) r
+
+-- the rows that a piece gave rise from what was sent before
+pub piece_rises : (d : Direction) (h sent : ℕ) (old new done rows : List Row) (to : End) → done ≡ old → rows ≡ new
+    → HasSent d h old sent to → IsPrefix old new → IsSchedule new → Rises sent (rows_after done rows)
+piece_rises d h sent old new done rows to is_done is_new has prefix schedule =
+    subst (Rises sent) (sym (after_is old new done rows is_done is_new))
+    (has.rises (drop (length old) new)
+    (subst (Rises 0) (sym (rest_of old new prefix)) (rises-in_order 1 0 new schedule.order)))
+
+-- and where what they give was sent, what all rows give was
+pub piece_sent : (d : Direction) (h sent : ℕ) (old new done rows : List Row) (to : End) → done ≡ old → rows ≡ new
+    → IsPrefix old new → HasSent d h (old ++ rows_after done rows) sent to → HasSent d h new sent to
+piece_sent d h sent old new done rows to is_done is_new prefix has =
+    subst (λ l. HasSent d h l sent to)
+    (ap (λ (l : List Row). old ++ l) (after_is old new done rows is_done is_new) ∙ rest_of old new prefix) has
+
+-- and then the end
+pub end_sent : (d : Direction) (h sent : ℕ) (rows : List Row) (old new : End) → HasSent d h rows sent old
+    → new.items ≡ old.items ++ Over ∷ [] → new.flow.packets ≡ old.flow.packets → new.flow.end ≡ IsOver
+    → AllSent d h rows new
+end_sent d h sent rows old new has items packets over = record {
+  items = all_sent d h sent rows old new.items has items;
+  packets = packets ∙ has.packets;
+  over = over;
+}
+
+-- all of the file was read
+pub whole_streamed : (told : Option Files) (name : List ℕ) (size : ℕ) (old mid new : PartRead)
+    → HasSize told name size → HasRead [] old → FrontIsRead HasRead told name size old mid
+    → ((text : List ℕ) → HasRead text mid → HasReadAll text new) → IsStreamed told name new
+whole_streamed told name size old mid new has unread front all =
+    let whole = whole_read HasRead told name size old mid has front in
+    record {
+      bytes = whole.bytes;
+      text = record { few = whole.few; there = whole.there; held = whole.held };
+      all = all whole.bytes (whole.goes_on [] unread);
+    }
+
+-- After a refusal the rest of a text doesn't matter.
+refused_text : (front rest text : List ℕ) (read : PartRead) → HasRead front read → IsRefused read
+    → front ++ rest ≡ text → HasReadAll text read
+refused_text front rest text read has refused is =
+    subst (λ t. HasReadAll t read) is
+    (awaits_any (lines_of (front ++ rest)) (lines_of (read.kept ++ rest)) [] read.gathered refused (has rest))
+
+-- whether a line was refused, by a test
+pub some_refused : (refused : Option ScheduleError) (b : Bool) → b ≡ true → b ≡ is_some refused → IsSome refused
+some_refused None b test is = absurd (cc (test, is))
+some_refused (Some error) b test is = search rules
+
+pub none_refused : (refused : Option ScheduleError) (b : Bool) → b ≡ false → b ≡ is_some refused → refused ≡ None
+none_refused None b test is = refl
+none_refused (Some error) b test is = absurd (cc (test, is))
+
+pub on_ok : {T E : Type 0} (result : Result T E) (P : Type 0) → P → OnOk result P
+on_ok (Ok value) P p = p
+on_ok (Err error) P p = tt
+
+-- a front of the file was read, in which a line was refused
+pub refused_streamed : (told : Option Files) (name : List ℕ) (size at : ℕ) (old new : PartRead)
+    → HasSize told name size → at ≤ size → HasRead [] old → FrontIsRead HasRead told name at old new → IsRefused new
+    → IsStreamed told name new
+refused_streamed None name size at old new has le unread front refused = record {
+  bytes = front.bytes;
+  text = record {
+    few = let few = front.few in let most = has.few in omega arith;
+    there = has.there;
+    held = λ m whole t h. absurd (cc t);
+  };
+  all = refused_text front.bytes [] front.bytes new (front.goes_on [] unread) refused (append-nil front.bytes);
+}
+refused_streamed (Some m) name size at old new has le unread front refused =
+    let there = is_held (file m name) (has.there m refl) in
+    let whole : List ℕ = there.0 in
+    let is : file m name ≡ Some whole = there.1 in
+    record {
+      bytes = whole;
+      text = record {
+        few = let long = has.held m whole refl is in let most = has.few in omega arith;
+        there = has.there;
+        held = λ n other t h. cc (is, t, h);
+      };
+      all = refused_text front.bytes (drop at whole) whole new (front.goes_on [] unread) refused
+          (ap (λ l. l ++ drop at whole) (front.held m whole refl is) ∙ take-append-drop at whole);
+    }

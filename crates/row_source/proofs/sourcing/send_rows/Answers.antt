@@ -1,0 +1,52 @@
+use Rattle.std.proofs.Common.{◌≡◌, ◌+◌, ◌∙◌, ◌++◌, ◌∷◌, [], List, drop, take, subst, sym, ap, rules, append_assoc}
+use Rattle.std.proofs.lemmas.List.{drop_more, take_more}
+use Rattle.packet_record.specs.declared.packet.Row.{Row}
+use Rattle.packet_record.specs.declared.packet.Direction.TheVariants.{Up, Down}
+use Rattle.packet_record.specs.Rows.{Rises}
+use Rattle.row_source.specs.Sent.{HasSent}
+use Rattle.row_source.proofs.Sending.{Rises-from, one_sent}
+use Rattle.row_source.proofs.sourcing.send_rows.Goals as goal
+
+pub loop-row-preserved : goal.loop-row-preserved
+loop-row-preserved g c =
+    let i = c.loop-row.invariant in
+    let rows = c.args.rows.now in
+    let n = c.loop-row.row-index in
+    let h = c.args.horizon in
+    let row = c.row-item.result in
+    let rest = drop (n + 1) rows in
+    let sent = c.send_both-sent.ensures in
+    let split : drop n rows ≡ row ∷ rest = drop_more rows n row c.loop-row-test.true
+    ∙ ap (λ (r : Row). r ∷ rest) (sym c.row-item.is) in
+    let front : take (n + 1) rows ≡ take n rows ++ row ∷ [] = take_more rows n row c.loop-row-test.true
+    ∙ ap (λ (r : Row). take n rows ++ r ∷ []) (sym c.row-item.is) in
+    let longer : (before : List Row) → (before ++ take n rows) ++ row ∷ [] ≡ before ++ take (n + 1) rows =
+    λ before. append_assoc before (take n rows) (row ∷ []) ∙ ap (λ l. before ++ l) (sym front) in
+    let up : Rises c.loop-row.sent.up (row ∷ rest) = subst (Rises c.loop-row.sent.up) split i.4 in
+    let down : Rises c.loop-row.sent.down (row ∷ rest) = subst (Rises c.loop-row.sent.down) split i.5 in (
+      sent.open.0,
+      sent.open.1,
+      sent.sent.0,
+      sent.sent.1,
+      Rises-from _ _ rest sent.rises.0 up.1,
+      Rises-from _ _ rest sent.rises.1 down.1,
+      (λ before has. subst (λ l. HasSent Up h l c.send_both-sent.result.up c.send_both-sent.new.up) (longer before)
+          (one_sent Up h c.loop-row.sent.up _ _ row c.loop-row.up _
+          (record {
+            after = sent.after.0;
+            rises = sent.rises.0;
+            items = sent.items.0;
+            packets = sent.packets.0;
+          }) (i.6 before has))),
+      (λ before has. subst (λ l. HasSent Down h l c.send_both-sent.result.down c.send_both-sent.new.down)
+          (longer before)
+          (one_sent Down h c.loop-row.sent.down _ _ row c.loop-row.down _
+          (record {
+            after = sent.after.1;
+            rises = sent.rises.1;
+            items = sent.items.1;
+            packets = sent.packets.1;
+          }) (i.7 before has))),
+      search rules,
+      search rules,
+    )

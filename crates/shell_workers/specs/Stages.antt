@@ -1,0 +1,66 @@
+-- A stage before and after its workers ran. Each is said of a stage by itself: what ties it to the next one is learnt
+-- where their channel is settled.
+use Rattle.std.specs.Prelude.{◌≡◌, ◌≢◌, ◌⊎◌, List, [], ◌∷◌, false}
+use Rattle.packet_record.specs.Streams.{no_items}
+use Rattle.packet_record.specs.declared.item.FlowEnd.TheVariants.{Open, Ended as IsOver, Broken as IsCut}
+use Rattle.mark_channel.specs.Ends.{IsSameEnd}
+use Rattle.shell_cell.specs.Seats.{IsSameSeat}
+use Rattle.shell_workers.specs.declared.stage.Stage.{Stage}
+use Rattle.shell_workers.specs.Ends.{IsPassedOn}
+
+-- Nothing went through it, its seats are its cell's, which nobody is known to have broken, and all have one horizon.
+pub record IsFresh (s : Stage) : Type 0 where
+  pub from_empty : s.from.flow ≡ no_items
+  pub feed_empty : s.feed.flow ≡ no_items
+  pub drain_empty : s.drain.flow ≡ no_items
+  pub to_empty : s.to.flow ≡ no_items
+  pub whole : s.feed.broken ≡ false
+  pub feeds : s.feed.cell ≡ s.cell
+  pub drains : s.drain.cell ≡ s.cell
+  pub from_horizon : s.from.horizon ≡ s.feed.horizon
+  pub to_horizon : s.to.horizon ≡ s.drain.horizon
+
+-- What it received is at its end, and was fed where the feeder came to the end too. What it took is at its end, and
+-- was sent.
+pub record IsDone (s : Stage) : Type 0 where
+  pub received : s.from.flow.end ≡ IsOver
+  pub fed : s.feed.flow.end ≡ IsOver → s.feed.flow ≡ s.from.flow
+  pub sent : IsPassedOn s.drain.flow s.to.flow
+
+-- what it received, or what it took, was broken off
+abbrev pub IsBroken : Stage → Type 0
+IsBroken s = (s.from.flow.end ≡ IsCut) ⊎ (s.drain.flow.end ≡ IsCut)
+
+-- nothing more comes out of the channel before it, or goes into the one after it
+abbrev pub IsClosed : Stage → Type 0
+IsClosed s = (s.from.flow.end ≢ Open) × (s.to.flow.end ≢ Open)
+
+-- it keeps its cell, its seats and its ends
+pub record IsSame (old new : Stage) : Type 0 where
+  pub cell : new.cell ≡ old.cell
+  pub feed : IsSameSeat old.feed new.feed
+  pub drain : IsSameSeat old.drain new.drain
+  pub from : IsSameEnd old.from new.from
+  pub to : IsSameEnd old.to new.to
+
+abbrev pub AllFresh : List Stage → Type 0
+AllFresh [] = Unit {0}
+AllFresh (s ∷ stages) = IsFresh s × AllFresh stages
+
+abbrev pub AllDone : List Stage → Type 0
+AllDone [] = Unit {0}
+AllDone (s ∷ stages) = IsDone s × AllDone stages
+
+abbrev pub SomeBroken : List Stage → Type 0
+SomeBroken [] = ⊥
+SomeBroken (s ∷ stages) = IsBroken s ⊎ SomeBroken stages
+
+abbrev pub AllClosed : List Stage → Type 0
+AllClosed [] = Unit {0}
+AllClosed (s ∷ stages) = IsClosed s × AllClosed stages
+
+abbrev pub AllSame : List Stage → List Stage → Type 0
+AllSame [] [] = Unit {0}
+AllSame [] (t ∷ new) = ⊥
+AllSame (s ∷ old) [] = ⊥
+AllSame (s ∷ old) (t ∷ new) = IsSame s t × AllSame old new

@@ -1,0 +1,27 @@
+// How a worker ended.
+ghost use Rattle.std.specs.Prelude.{◌≡◌};
+ghost use Rattle.shell_workers.specs.Ends.{worse as worse_of};
+
+/// How a worker ended.
+#[derive(Clone, Copy, PartialEq, Eq)]
+pub enum WorkEnd {
+    /// Its stream came to its end.
+    Ended,
+    /// Its stream was broken off.
+    Broken,
+    /// A call of its own found no memory.
+    OutOfMemory,
+}
+
+impl WorkEnd {
+    /// How two workers ended: `Ended` where both did, else `OutOfMemory` where one found no memory, else `Broken`.
+    pub fn worse(self, other: WorkEnd) -> WorkEnd
+        ensures { result ≡ worse_of self other }
+    {
+        match (self, other) {
+            (WorkEnd::Ended, other) => other,
+            (WorkEnd::OutOfMemory, _) | (_, WorkEnd::OutOfMemory) => WorkEnd::OutOfMemory,
+            (WorkEnd::Broken, _) => WorkEnd::Broken,
+        }
+    }
+}

@@ -1,0 +1,89 @@
+// All shells of one direction, with a thread for each worker.
+ghost use Rattle.std.specs.Prelude.{◌≡◌, ◌≤◌, length};
+ghost use Rattle.std.specs.Thread.{IsSync};
+ghost use Rattle.shell_workers.specs.Ends.{IfEnded, IfBroken};
+ghost use Rattle.shell_workers.specs.Stages.{AllClosed, AllDone, AllFresh, AllSame, IsBroken, IsClosed, IsDone, IsFresh};
+ghost use Rattle.shell_workers.specs.Stages.{IsSame, SomeBroken};
+
+use crate::ends::WorkEnd;
+use crate::stage::{Stage, run_stage};
+use mark_channel::Begun;
+use mm_base::Pace;
+use std::marker::Sync;
+use std::sync::Wait;
+use std::thread::{Threads, join_mut};
+
+// The number of the next shell in passing order.
+fn next_shell(up: bool, shell: u32) -> u32 {
+    if up {
+        shell.saturating_sub(1)
+    } else {
+        shell.saturating_add(1)
+    }
+}
+
+/// Runs the workers of at most 8 stages beside each other, the stages in passing order. `shell` is the number of the
+/// first one's shell; the next has one less on the way up and one more on the way down. At most `most` opportunities,
+/// at least 1, are burnt at a time. It answers `Ended` where every worker did, else `OutOfMemory` where one found no
+/// memory, and else `Broken`. Each stage keeps its cell, seats and ends. At every return each of its streams is at an
+/// end.
+pub fn stages<Q: Pace + Sync, R: Threads + Wait + Sync>(
+    rt: &R,
+    list: &mut [Stage],
+    up: bool,
+    shell: u32,
+    most: u32,
+    pace: &Q,
+) -> WorkEnd
+    requires few { length list.old ≤ 8 }
+    requires fresh { AllFresh list.old }
+    requires most { 1 ≤ most }
+    ensures ended { IfEnded result (AllDone list.new) }
+    ensures broken { IfBroken result (SomeBroken list.new) }
+    ensures closed { AllClosed list.new }
+    ensures same { AllSame list.old list.new }
+{
+    run_stages(rt, list, up, shell, most, pace, &Begun::new(0))
+}
+
+/// Runs the workers of these stages as `stages` does, each of which is counted as it begins.
+pub fn run_stages<Q: Pace + Sync, R: Threads + Wait + Sync>(
+    rt: &R,
+    list: &mut [Stage],
+    up: bool,
+    shell: u32,
+    most: u32,
+    pace: &Q,
+    begun: &Begun,
+) -> WorkEnd
+    requires few { length list.old ≤ 8 }
+    requires fresh { AllFresh list.old }
+    requires most { 1 ≤ most }
+    ensures ended { IfEnded result (AllDone list.new) }
+    ensures broken { IfBroken result (SomeBroken list.new) }
+    ensures closed { AllClosed list.new }
+    ensures same { AllSame list.old list.new }
+{
+    let Some((first, rest)) = list.split_first_mut() else {
+        return WorkEnd::Ended;
+    };
+    // The later stages stand first, since they go on only once the first one does.
+    let (others, one) = join_mut(
+        rt,
+        &mut || -> WorkEnd
+            requires { (length rest.now ≤ 8) × AllFresh rest.now × (1 ≤ most) × IsSync R.row × IsSync Q.row }
+            ensures ended { IfEnded result (AllDone rest.exit.now) }
+            ensures broken { IfBroken result (SomeBroken rest.exit.now) }
+            ensures closed { AllClosed rest.exit.now }
+            ensures same { AllSame rest.entry.now rest.exit.now }
+        { run_stages(rt, rest, up, next_shell(up, shell), most, pace, begun) },
+        &mut || -> WorkEnd
+            requires { IsFresh first.now × (1 ≤ most) × IsSync R.row × IsSync Q.row }
+            ensures ended { IfEnded result (IsDone first.exit.now) }
+            ensures broken { IfBroken result (IsBroken first.exit.now) }
+            ensures closed { IsClosed first.exit.now }
+            ensures same { IsSame first.entry.now first.exit.now }
+        { run_stage(rt, first, up, shell, most, pace, begun) },
+    );
+    one.worse(others)
+}

@@ -1,0 +1,85 @@
+// One shell's direction between two channels, and its two workers.
+ghost use Rattle.std.specs.Prelude.{◌≡◌, ◌≢◌, ◌≤◌, false};
+ghost use Rattle.std.specs.Thread.{IsSync};
+ghost use Rattle.packet_record.specs.declared.item.FlowEnd.TheVariants.{Open, Ended as IsOver, Broken as IsCut};
+ghost use Rattle.packet_record.specs.Streams.{no_items};
+ghost use Rattle.mark_channel.specs.Ends.{IsSameEnd};
+ghost use Rattle.shell_cell.specs.Seats.{IsSameSeat};
+ghost use Rattle.shell_workers.specs.Ends.{IfEnded, IfBroken, IsPassedOn};
+ghost use Rattle.shell_workers.specs.Stages.{IsBroken, IsClosed, IsDone, IsFresh, IsSame};
+
+use crate::draining::drain;
+use crate::ends::WorkEnd;
+use crate::feeding::feeder;
+use mark_channel::{Begun, Receiver, Sender};
+use mm_base::{Pace, Role};
+use shell_cell::{DrainSeat, FeedSeat, ShellCell};
+use std::marker::Sync;
+use std::sync::Wait;
+use std::thread::{Threads, join_mut};
+
+/// One shell's direction: its cell with the two seats, the receiver of the channel before it and the sender of the
+/// channel after it.
+#[derive(Drop)]
+pub struct Stage {
+    pub cell: ShellCell,
+    pub feed: FeedSeat,
+    pub drain: DrainSeat,
+    pub from: Receiver,
+    pub to: Sender,
+}
+
+/// Runs the two workers of a stage beside each other, each of which is counted as it begins.
+pub(crate) fn run_stage<Q: Pace + Sync, R: Threads + Wait + Sync>(
+    rt: &R,
+    stage: &mut Stage,
+    up: bool,
+    shell: u32,
+    most: u32,
+    pace: &Q,
+    begun: &Begun,
+) -> WorkEnd
+    requires fresh { IsFresh stage.old }
+    requires most { 1 ≤ most }
+    ensures ended { IfEnded result (IsDone stage.new) }
+    ensures broken { IfBroken result (IsBroken stage.new) }
+    ensures closed { IsClosed stage.new }
+    ensures same { IsSame stage.old stage.new }
+{
+    let Stage {
+        cell,
+        feed,
+        drain: take,
+        from,
+        to,
+    } = stage;
+    let cell = &*cell;
+    // The drain stands first, since it goes on only once the feeder does: where no thread can be made it runs last.
+    let (drained, fed) = join_mut(
+        rt,
+        &mut || -> WorkEnd
+            requires { (take.now.cell ≡ cell.now) × (take.now.flow ≡ no_items) × (to.now.flow ≡ no_items)
+                × (to.now.horizon ≡ take.now.horizon) × (1 ≤ most) }
+            ensures over { to.exit.now.flow.end ≢ Open }
+            ensures ended { IfEnded result (IsPassedOn take.exit.now.flow to.exit.now.flow) }
+            ensures broken { IfBroken result (take.exit.now.flow.end ≡ IsCut) }
+            ensures same { IsSameEnd to.entry.now to.exit.now × IsSameSeat take.entry.now take.exit.now }
+        {
+            begun.raise();
+            drain(rt, cell, take, to, Role::Drain { up, shell }, most, pace)
+        },
+        &mut || -> WorkEnd
+            requires { (feed.now.cell ≡ cell.now) × (feed.now.flow ≡ no_items) × (from.now.flow ≡ no_items)
+                × (feed.now.broken ≡ false) × (from.now.horizon ≡ feed.now.horizon) }
+            ensures over { from.exit.now.flow.end ≢ Open }
+            ensures fed { feed.exit.now.flow.end ≡ IsOver → feed.exit.now.flow ≡ from.exit.now.flow }
+            ensures ended { IfEnded result (from.exit.now.flow.end ≡ IsOver) }
+            ensures broken { IfBroken result (from.exit.now.flow.end ≡ IsCut) }
+            ensures same { IsSameEnd from.entry.now from.exit.now × IsSameSeat feed.entry.now feed.exit.now }
+        {
+            begun.raise();
+            feeder(rt, cell, feed, from, Role::Feeder { up, shell }, pace)
+        },
+    );
+    fed.worse(drained)
+}

@@ -1,0 +1,5 @@
+pub mod LinesLemmas
+pub mod WordsLemmas
+pub mod TextLemmas
+pub mod NumbersLemmas
+pub mod SplitLemmas

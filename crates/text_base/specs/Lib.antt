@@ -1,0 +1,5 @@
+pub mod Numbers
+pub mod Lines
+pub mod Words
+pub mod LinesLeft
+pub mod Refusals
