@@ -1,4 +1,1 @@
-pub mod Carrying
-pub mod Chains
-pub mod Gathered
 pub mod Streamed

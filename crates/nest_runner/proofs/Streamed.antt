@@ -13,8 +13,8 @@ use Rattle.packet_record.specs.PartsRead.{PartRead}
 use Rattle.packet_record.specs.Rows.{entering}
 use Rattle.packet_record.specs.Schedules.{first_fault}
 use Rattle.row_source.specs.StreamParts.{AllSent, IsStreamed}
-use Rattle.nest_runner.specs.declared.lane.Lane.{Lane}
-use Rattle.nest_runner.specs.Lanes.{HasCarried, IsDonePath}
+use Rattle.nest_lanes.specs.declared.lane.Lane.{Lane}
+use Rattle.nest_lanes.specs.Lanes.{HasCarried, IsDonePath}
 use Rattle.nest_runner.specs.Streaming.{HasStreamCause, of_disk, of_schedule}
 
 pub ok_has : {T E : Type 0} (result : Result T E) (value : T) (P : Type 0) → result ≡ Ok value → OnOk result P → P

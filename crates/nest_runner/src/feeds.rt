@@ -11,14 +11,12 @@ ghost use Rattle.nest_spec.specs.Nests.{result_of};
 ghost use Rattle.nest_spec.specs.Once.{HaveOneFate};
 ghost use Rattle.shell_workers.specs.Ends.{IfEnded};
 ghost use Rattle.nest_runner.specs.Feeding.{end_of_feed};
-ghost use Rattle.nest_runner.specs.Lanes.{HasCarried, HasEnded, HasRun, IsDonePath, IsFreshLane, IsFreshPath};
-ghost use Rattle.nest_runner.specs.Lanes.{IsSameLane, IsSamePath};
+ghost use Rattle.nest_lanes.specs.Lanes.{HasCarried, HasEnded, HasRun, IsDonePath, IsFreshLane, IsFreshPath};
+ghost use Rattle.nest_lanes.specs.Lanes.{IsSameLane, IsSamePath};
 
-use crate::begun::none_begun;
-use crate::lane::Lane;
-use crate::run::{gather_marked, run_paths};
 use mark_channel::{Begun, FeedEnd, Feeds, Sender};
 use mm_base::Pace;
+use nest_lanes::{Lane, gather_marked, none_begun, run_paths};
 use nest_plain::NestRun;
 use nest_spec::{Marking, Nest, RunResult};
 use packet_record::Direction;

@@ -5,10 +5,7 @@
 //! the shells. Nothing is promised of when a run returns, of fairness, or that two threads ran at once.
 #![tactic(auto)]
 
-mod begun;
 mod feeds;
-mod gathering;
-mod lane;
 mod run;
 mod stream;
 mod stream_error;

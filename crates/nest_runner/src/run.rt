@@ -3,36 +3,28 @@ ghost use Rattle.std.specs.Prelude.{◌≡◌, ◌≢◌, ◌≤◌, [], length,
 ghost use Rattle.std.specs.Thread.{IsSync};
 ghost use Rattle.packet_record.specs.declared.item.FlowEnd.TheVariants.{Open, Ended as IsOver};
 ghost use Rattle.packet_record.specs.declared.packet.Direction.TheVariants.{Up, Down};
-ghost use Rattle.packet_record.specs.Rows.{AreApart, Rises, entering};
+ghost use Rattle.packet_record.specs.Rows.{Rises, entering};
 ghost use Rattle.packet_record.specs.Streams.{no_items};
 ghost use Rattle.mark_channel.specs.Ends.{IsSameEnd};
-ghost use Rattle.nest_spec.specs.declared.fate.Fate.TheVariants.{Unsent};
-ghost use Rattle.nest_spec.specs.Fates.{fated};
 ghost use Rattle.nest_spec.specs.Nests.{result_of};
 ghost use Rattle.nest_spec.specs.Once.{HaveOneFate};
 ghost use Rattle.shell_workers.specs.Ends.{IfEnded};
-ghost use Rattle.nest_runner.specs.Lanes.{HasCarried, HasEnded, HasRun, IsDonePath, IsFreshLane, IsFreshPath};
-ghost use Rattle.nest_runner.specs.Lanes.{IsSameLane, IsSamePath};
-ghost use Rattle.shell_workers.specs.Stages.{AllDone, AllFresh, AllSame};
+ghost use Rattle.nest_lanes.specs.Lanes.{HasCarried, HasEnded, HasRun, IsDonePath, IsFreshLane, IsFreshPath};
+ghost use Rattle.nest_lanes.specs.Lanes.{IsSameLane, IsSamePath};
 
-use crate::begun::none_begun;
-use crate::gathering::gather;
-use crate::lane::{Lane, Path};
 use mark_channel::{Begun, Sender};
-use mm_base::{Pace, Role};
+use mm_base::Pace;
+use nest_lanes::{Lane, gather_lanes, none_begun, run_paths};
 use nest_plain::NestRun;
-use nest_spec::{Marking, Nest, RunResult};
+use nest_spec::{Nest, RunResult};
 use packet_record::{Direction, Row, Schedule};
 use row_source::source;
-use shell_workers::{WorkEnd, collector, run_stages};
+use shell_workers::WorkEnd;
 use std::alloc::Global;
 use std::marker::Sync;
 use std::sync::Wait;
 use std::thread::{Threads, join_mut};
 use text_base::OutOfMemory;
-
-// How many opportunities are burnt at a time.
-const MOST: u32 = 256;
 
 /// Runs the schedule through the nest over threads: a source, a feeder and a drain for each direction of each shell,
 /// and a collector for each direction, beside each other. The result, if it returns, is that of the composition of the
@@ -66,45 +58,6 @@ pub fn run_threads<Q: Pace + Sync, R: Threads + Wait + Sync>(
     ensures once { OnOk result (HaveOneFate nest.now schedule.now) }
 {
     run_nest_threads(rt, alloc, nest, schedule, pace)?.into_result()
-}
-
-// The result of lanes through which the rows of a marking went.
-pub(crate) fn gather_marked(
-    alloc: Global,
-    nest: &Nest,
-    marking: Marking<'_>,
-    up: Lane,
-    down: Lane,
-) -> Result<NestRun, OutOfMemory>
-    requires apart { AreApart marking.rows }
-    requires unsent { marking.fates ≡ fated (λ _. Unsent) marking.rows }
-    requires up { HasRun Up nest.now marking.rows up }
-    requires down { HasRun Down nest.now marking.rows down }
-    ensures value { IfOk result (λ r. r ≡ result_of nest.now marking.entry.rows) }
-    ensures once { OnOk result (HaveOneFate nest.now marking.entry.rows) }
-{
-    let up = up.close(alloc)?;
-    let down = down.close(alloc)?;
-    gather(alloc, nest, marking, up, down)
-}
-
-// The result of lanes through which the rows of a schedule went.
-pub(crate) fn gather_lanes(
-    alloc: Global,
-    nest: &Nest,
-    schedule: &Schedule,
-    up: Lane,
-    down: Lane,
-) -> Result<NestRun, OutOfMemory>
-    requires up { HasRun Up nest.now schedule.now up }
-    requires down { HasRun Down nest.now schedule.now down }
-    ensures value { IfOk result (λ r. r ≡ result_of nest.now schedule.now) }
-    ensures once { OnOk result (HaveOneFate nest.now schedule.now) }
-{
-    // What holds of every schedule: no two of its rows have one number.
-    schedule.rows();
-    let marking = Marking::of_schedule(alloc, schedule)?;
-    gather_marked(alloc, nest, marking, up, down)
 }
 
 // Runs rows through both directions of a nest: their lanes, where every stream in them came to its end. After an item
@@ -209,69 +162,4 @@ fn run_source<Q: Pace, R: Wait>(
     }
     source(rt, rows, horizon, up, down, pace);
     WorkEnd::Ended
-}
-
-// Runs the paths of both directions beside each other.
-pub(crate) fn run_paths<Q: Pace + Sync, R: Threads + Wait + Sync>(
-    rt: &R,
-    up: &mut Path,
-    down: &mut Path,
-    shells: u32,
-    pace: &Q,
-    begun: &Begun,
-) -> WorkEnd
-    requires fresh { IsFreshPath up.old × IsFreshPath down.old }
-    requires few { (length up.old.stages.items ≤ 8) × (length down.old.stages.items ≤ 8) }
-    ensures done { IfEnded result (IsDonePath up.new × IsDonePath down.new) }
-    ensures same { IsSamePath up.old up.new × IsSamePath down.old down.new }
-{
-    let (up_end, down_end) = join_mut(
-        rt,
-        &mut || -> WorkEnd
-            requires { IsFreshPath up.now × (length up.now.stages.items ≤ 8) × IsSync R.row × IsSync Q.row }
-            ensures done { IfEnded result (IsDonePath up.exit.now) }
-            ensures same { IsSamePath up.entry.now up.exit.now }
-        { run_path(rt, up, true, shells, pace, begun) },
-        &mut || -> WorkEnd
-            requires { IsFreshPath down.now × (length down.now.stages.items ≤ 8) × IsSync R.row × IsSync Q.row }
-            ensures done { IfEnded result (IsDonePath down.exit.now) }
-            ensures same { IsSamePath down.entry.now down.exit.now }
-        { run_path(rt, down, false, 1, pace, begun) },
-    );
-    up_end.worse(down_end)
-}
-
-// Runs the stages of a direction beside its collector. Each worker is counted as it begins.
-fn run_path<Q: Pace + Sync, R: Threads + Wait + Sync>(
-    rt: &R,
-    path: &mut Path,
-    up: bool,
-    first: u32,
-    pace: &Q,
-    begun: &Begun,
-) -> WorkEnd
-    requires fresh { IsFreshPath path.old }
-    requires few { length path.old.stages.items ≤ 8 }
-    ensures done { IfEnded result (IsDonePath path.new) }
-    ensures same { IsSamePath path.old path.new }
-{
-    let Path { stages: list, last } = path;
-    let list = list.as_mut_slice();
-    let (collected, passed) = join_mut(
-        rt,
-        &mut || -> WorkEnd
-            requires { (last.now.flow ≡ no_items) × IsSync R.row × IsSync Q.row }
-            ensures ended { IfEnded result (last.exit.now.flow.end ≡ IsOver) }
-            ensures same { IsSameEnd last.entry.now last.exit.now }
-        {
-            begun.raise();
-            collector(rt, last, Role::Collector { up }, pace)
-        },
-        &mut || -> WorkEnd
-            requires { AllFresh list.now × (length list.now ≤ 8) × IsSync R.row × IsSync Q.row }
-            ensures ended { IfEnded result (AllDone list.exit.now) }
-            ensures same { AllSame list.entry.now list.exit.now }
-        { run_stages(rt, list, up, first, MOST, pace, begun) },
-    );
-    collected.worse(passed)
 }

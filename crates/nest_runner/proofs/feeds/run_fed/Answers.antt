@@ -4,8 +4,8 @@ use Rattle.packet_record.specs.Rows.{entering}
 use Rattle.shell_workers.specs.declared.ends.WorkEnd.{WorkEnd}
 use Rattle.shell_workers.specs.declared.ends.WorkEnd.TheVariants.{Ended}
 use Rattle.shell_workers.specs.Ends.{IfEnded}
-use Rattle.nest_runner.specs.Lanes.{HasCarried}
-use Rattle.nest_runner.proofs.Chains.{carried_ended, still_wired}
+use Rattle.nest_lanes.specs.Lanes.{HasCarried}
+use Rattle.nest_lanes.proofs.Chains.{carried_ended, still_wired}
 use Rattle.nest_runner.proofs.feeds.run_fed.Goals as goal
 
 pub returns-clause-ended : goal.returns-clause-ended

@@ -4,7 +4,7 @@ use Rattle.packet_record.specs.declared.packet.Direction.TheVariants.{Up, Down}
 use Rattle.shell_workers.specs.declared.ends.WorkEnd.{WorkEnd}
 use Rattle.nest_runner.specs.declared.stream_error.StreamError.{StreamError}
 use Rattle.shell_workers.specs.Ends.{IfEnded}
-use Rattle.nest_runner.specs.Lanes.{IsDonePath}
+use Rattle.nest_lanes.specs.Lanes.{IsDonePath}
 use Rattle.nest_runner.specs.Streaming.{HasStreamCause}
 use Rattle.row_source.specs.StreamParts.{AllSent}
 use Rattle.nest_runner.proofs.Streamed.{disk_cause, ok_has, streamed_lane}

@@ -1,8 +1,8 @@
 use Rattle.std.proofs.Common.{ℕ, subst}
 use Rattle.packet_record.specs.declared.packet.Direction.TheVariants.{Up, Down}
 use Rattle.packet_record.specs.Rows.{entering}
-use Rattle.nest_runner.specs.Lanes.{HasCarried}
-use Rattle.nest_runner.proofs.Chains.{carried_ended, still_wired}
+use Rattle.nest_lanes.specs.Lanes.{HasCarried}
+use Rattle.nest_lanes.proofs.Chains.{carried_ended, still_wired}
 use Rattle.nest_runner.proofs.stream.run_file.Goals as goal
 
 pub returns-clause-up : goal.returns-clause-up

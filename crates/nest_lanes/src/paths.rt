@@ -1,0 +1,86 @@
+// Both directions of a run, each a path through its shells with a thread for each worker.
+ghost use Rattle.std.specs.Prelude.{◌≡◌, ◌≤◌, length};
+ghost use Rattle.std.specs.Thread.{IsSync};
+ghost use Rattle.packet_record.specs.declared.item.FlowEnd.TheVariants.{Ended as IsOver};
+ghost use Rattle.packet_record.specs.Streams.{no_items};
+ghost use Rattle.mark_channel.specs.Ends.{IsSameEnd};
+ghost use Rattle.shell_workers.specs.Ends.{IfEnded};
+ghost use Rattle.shell_workers.specs.Stages.{AllDone, AllFresh, AllSame};
+ghost use Rattle.nest_lanes.specs.Lanes.{IsDonePath, IsFreshPath, IsSamePath};
+
+use crate::lane::Path;
+use mark_channel::Begun;
+use mm_base::{Pace, Role};
+use shell_workers::{WorkEnd, collector, run_stages};
+use std::marker::Sync;
+use std::sync::Wait;
+use std::thread::{Threads, join_mut};
+
+// How many opportunities are burnt at a time.
+const MOST: u32 = 256;
+
+/// Runs the workers of the paths of both directions beside each other: each shell's feeder and drain, and a collector
+/// behind the last shell. So many shells stand in the nest. It answers the worse of the two ends.
+pub fn run_paths<Q: Pace + Sync, R: Threads + Wait + Sync>(
+    rt: &R,
+    up: &mut Path,
+    down: &mut Path,
+    shells: u32,
+    pace: &Q,
+    begun: &Begun,
+) -> WorkEnd
+    requires fresh { IsFreshPath up.old × IsFreshPath down.old }
+    requires few { (length up.old.stages.items ≤ 8) × (length down.old.stages.items ≤ 8) }
+    ensures done { IfEnded result (IsDonePath up.new × IsDonePath down.new) }
+    ensures same { IsSamePath up.old up.new × IsSamePath down.old down.new }
+{
+    let (up_end, down_end) = join_mut(
+        rt,
+        &mut || -> WorkEnd
+            requires { IsFreshPath up.now × (length up.now.stages.items ≤ 8) × IsSync R.row × IsSync Q.row }
+            ensures done { IfEnded result (IsDonePath up.exit.now) }
+            ensures same { IsSamePath up.entry.now up.exit.now }
+        { run_path(rt, up, true, shells, pace, begun) },
+        &mut || -> WorkEnd
+            requires { IsFreshPath down.now × (length down.now.stages.items ≤ 8) × IsSync R.row × IsSync Q.row }
+            ensures done { IfEnded result (IsDonePath down.exit.now) }
+            ensures same { IsSamePath down.entry.now down.exit.now }
+        { run_path(rt, down, false, 1, pace, begun) },
+    );
+    up_end.worse(down_end)
+}
+
+// Runs the stages of a direction beside its collector. Each worker is counted as it begins.
+fn run_path<Q: Pace + Sync, R: Threads + Wait + Sync>(
+    rt: &R,
+    path: &mut Path,
+    up: bool,
+    first: u32,
+    pace: &Q,
+    begun: &Begun,
+) -> WorkEnd
+    requires fresh { IsFreshPath path.old }
+    requires few { length path.old.stages.items ≤ 8 }
+    ensures done { IfEnded result (IsDonePath path.new) }
+    ensures same { IsSamePath path.old path.new }
+{
+    let Path { stages: list, last } = path;
+    let list = list.as_mut_slice();
+    let (collected, passed) = join_mut(
+        rt,
+        &mut || -> WorkEnd
+            requires { (last.now.flow ≡ no_items) × IsSync R.row × IsSync Q.row }
+            ensures ended { IfEnded result (last.exit.now.flow.end ≡ IsOver) }
+            ensures same { IsSameEnd last.entry.now last.exit.now }
+        {
+            begun.raise();
+            collector(rt, last, Role::Collector { up }, pace)
+        },
+        &mut || -> WorkEnd
+            requires { AllFresh list.now × (length list.now ≤ 8) × IsSync R.row × IsSync Q.row }
+            ensures ended { IfEnded result (AllDone list.exit.now) }
+            ensures same { AllSame list.entry.now list.exit.now }
+        { run_stages(rt, list, up, first, MOST, pace, begun) },
+    );
+    collected.worse(passed)
+}
