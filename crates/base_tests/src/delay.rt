@@ -5,7 +5,6 @@ use crate::packets::are_same;
 use delay_core::{DelayCore, delay_all};
 use packet_record::{Packet, Timed};
 use std::alloc::Global;
-use std::test::Fail;
 use text_base::OutOfMemory;
 
 fn packet(id: u32, moment: u64) -> Timed
@@ -38,29 +37,33 @@ fn delay_of_three(alloc: Global) -> Result<DelayCore, OutOfMemory> {
     Ok(core)
 }
 
-#[test]
-fn packets_depart_up_to_the_horizon(rt: HostRuntime) -> Result<(), Fail> {
-    let core = delay_of_three(rt.alloc())?;
-    assert!(rt; core.arrivals().len() == 3);
-    assert!(rt; are_same(core.departed(), &DEPARTED));
-    assert!(rt; core.inside()?.as_slice() == [3].as_slice());
-    Ok(())
+// Whether of three packets the first two departed, and the last stays inside.
+fn holds_the_last(core: &DelayCore) -> Result<bool, OutOfMemory> {
+    let inside = core.inside()?;
+    Ok(
+        core.arrivals().len() == 3
+            && are_same(core.departed(), &DEPARTED)
+            && inside.as_slice() == [3].as_slice(),
+    )
 }
 
-// The same packets delayed at once: those that depart, and the numbers of those that stay inside.
-fn delayed_at_once(alloc: Global) -> Result<(Vec<Timed>, Vec<u32>), OutOfMemory> {
+#[test]
+fn packets_depart_up_to_the_horizon(rt: HostRuntime) {
+    let core = delay_of_three(rt.alloc()).expect(&rt, "memory");
+    assert!(rt; holds_the_last(&core).expect(&rt, "memory"));
+}
+
+// Whether of the same packets, delayed at once, the first two depart, and the last stays inside.
+fn are_delayed_at_once(alloc: Global) -> Result<bool, OutOfMemory> {
     let mut packets = Vec::new(alloc);
     packets.push(packet(1, 5))?;
     packets.push(packet(2, 80))?;
     packets.push(packet(3, 81))?;
     let held = delay_all(alloc, 20, 100, &mut packets)?;
-    Ok((packets, held))
+    Ok(are_same(packets.as_slice(), &DEPARTED) && held.as_slice() == [3].as_slice())
 }
 
 #[test]
-fn a_whole_list_departs_up_to_the_horizon(rt: HostRuntime) -> Result<(), Fail> {
-    let (packets, held) = delayed_at_once(rt.alloc())?;
-    assert!(rt; are_same(packets.as_slice(), &DEPARTED));
-    assert!(rt; held.as_slice() == [3].as_slice());
-    Ok(())
+fn a_whole_list_departs_up_to_the_horizon(rt: HostRuntime) {
+    assert!(rt; are_delayed_at_once(rt.alloc()).expect(&rt, "memory"));
 }

@@ -3,9 +3,8 @@ use mm_base::{Disk, DiskError, FileDisk, LoadError, MemDisk, load, save};
 use std::alloc::Global;
 use std::os::fd::AsRawFd;
 use std::process::Abort;
-use std::test::Fail;
 use std::{fs, io};
-use text_base::{Bytes, Text};
+use text_base::{Bytes, OutOfMemory, Text};
 
 // A disk in memory with one file, whose calls of these numbers fail.
 pub(crate) fn disk_with(
@@ -13,7 +12,7 @@ pub(crate) fn disk_with(
     name: &str,
     bytes: &[u8],
     fails: &[u64],
-) -> Result<MemDisk, Fail> {
+) -> Result<MemDisk, OutOfMemory> {
     let mut files = Vec::new(alloc);
     files.push((
         Text::from_text(alloc, name)?,
@@ -78,24 +77,27 @@ fn has_sizes(rt: &impl Abort, disk: &mut MemDisk) {
     }
 }
 
-// A file is made, and another one left empty.
-fn changes(rt: &impl Abort, disk: &mut MemDisk) {
-    assert!(rt; adds(disk, "t", b"x", Ok(1)));
-    assert!(rt; holds(disk, "t", b"x"));
-    assert!(rt; creates(disk, "s", Ok(())));
-    assert!(rt; holds(disk, "s", b""));
-    assert!(rt; disk.file("u").is_none());
+// Whether a file is read after a call that fails.
+fn is_read(disk: &mut MemDisk) -> bool {
+    adds(disk, "t", b"x", Err(DiskError::Failed))
+        && reads(disk, "s", 1, &mut [0u8; 2], b"bc")
+        && reads(disk, "s", 3, &mut [0u8; 2], b"")
+}
+
+// Whether a file is made, and another one left empty.
+fn changes(disk: &mut MemDisk) -> bool {
+    adds(disk, "t", b"x", Ok(1))
+        && holds(disk, "t", b"x")
+        && creates(disk, "s", Ok(()))
+        && holds(disk, "s", b"")
+        && disk.file("u").is_none()
 }
 
 #[test]
-fn a_disk_in_memory_fails_by_its_list(rt: HostRuntime) -> Result<(), Fail> {
-    let mut disk = disk_with(rt.alloc(), "s", b"abc", &[2, 4])?;
+fn a_disk_in_memory_fails_by_its_list(rt: HostRuntime) {
+    let mut disk = disk_with(rt.alloc(), "s", b"abc", &[2, 4]).expect(&rt, "memory");
     has_sizes(&rt, &mut disk);
-    assert!(rt; adds(&mut disk, "t", b"x", Err(DiskError::Failed)));
-    assert!(rt; reads(&mut disk, "s", 1, &mut [0u8; 2], b"bc"));
-    assert!(rt; reads(&mut disk, "s", 3, &mut [0u8; 2], b""));
-    changes(&rt, &mut disk);
-    Ok(())
+    assert!(rt; is_read(&mut disk) && changes(&mut disk));
 }
 
 // A name, how many bytes are loaded at most, and what comes of it.
@@ -115,54 +117,70 @@ fn are_loaded(rt: &impl Abort, alloc: Global, disk: &mut MemDisk) {
     }
 }
 
+// Whether a file is saved, and left empty where a call fails then.
+fn saves_twice(disk: &mut MemDisk) -> bool {
+    saves(disk, "f", b"12", Ok(()))
+        && holds(disk, "f", b"12")
+        && saves(disk, "f", b"34", Err(DiskError::Failed))
+        && holds(disk, "f", b"")
+}
+
 #[test]
-fn files_are_loaded_and_saved_whole(rt: HostRuntime) -> Result<(), Fail> {
-    let mut disk = disk_with(rt.alloc(), "s", b"abc", &[5, 9])?;
+fn files_are_loaded_and_saved_whole(rt: HostRuntime) {
+    let mut disk = disk_with(rt.alloc(), "s", b"abc", &[5, 9]).expect(&rt, "memory");
     are_loaded(&rt, rt.alloc(), &mut disk);
-    assert!(rt; saves(&mut disk, "f", b"12", Ok(())));
-    assert!(rt; holds(&disk, "f", b"12"));
-    assert!(rt; saves(&mut disk, "f", b"34", Err(DiskError::Failed)));
-    assert!(rt; holds(&disk, "f", b""));
-    Ok(())
+    assert!(rt; saves_twice(&mut disk));
 }
 
-// A file is saved, added to and loaded.
-fn is_kept<D: Disk>(rt: &impl Abort, alloc: Global, disk: &mut D, name: &str) {
-    assert!(rt; saves(disk, name, b"held\n", Ok(())));
-    assert!(rt; adds(disk, name, b"more\n", Ok(5)));
-    assert!(rt; loads(alloc, disk, name, 10, Ok(b"held\nmore\n")));
+// Whether a file is saved, added to and loaded.
+fn is_kept<D: Disk>(alloc: Global, disk: &mut D, name: &str) -> bool {
+    saves(disk, name, b"held\n", Ok(()))
+        && adds(disk, name, b"more\n", Ok(5))
+        && loads(alloc, disk, name, 10, Ok(b"held\nmore\n"))
+}
+
+// Whether a file isn't there, and one without a name can't be made.
+fn is_gone<D: Disk>(alloc: Global, disk: &mut D, name: &str) -> bool {
+    loads(alloc, disk, name, 10, Err(LoadError::Absent))
+        && creates(disk, "", Err(DiskError::Failed))
 }
 
 #[test]
-fn real_files_are_saved_and_loaded(rt: HostRuntime) -> Result<(), Fail> {
+fn real_files_are_saved_and_loaded(rt: HostRuntime) {
     let name = "base_tests_file";
-    let mut disk = FileDisk::new(rt.clone()?);
-    is_kept(&rt, rt.alloc(), &mut disk, name);
-    fs::remove_file(&rt, name)?;
-    assert!(rt; loads(rt.alloc(), &mut disk, name, 10, Err(LoadError::Absent)));
-    assert!(rt; creates(&mut disk, "", Err(DiskError::Failed)));
-    Ok(())
+    let mut disk = FileDisk::new(rt.clone().expect(&rt, "memory"));
+    assert!(rt; is_kept(rt.alloc(), &mut disk, name));
+    fs::remove_file(&rt, name).expect(&rt, "a file");
+    assert!(rt; is_gone(rt.alloc(), &mut disk, name));
 }
 
 // Where a file of ten digits is read, and what four bytes at most bring.
 static PLACES: [(u64, &[u8]); 4] = [(0, b"0123"), (4, b"4567"), (8, b"89"), (10, b"")];
 
-fn is_read_from_any_place<D: Disk>(rt: &impl Abort, disk: &mut D, name: &str) {
+// Whether a file is read so from each place.
+fn is_read_from_any_place<D: Disk>(disk: &mut D, name: &str) -> bool {
     for &(at, bytes) in &PLACES {
-        assert!(rt; reads(disk, name, at, &mut [0u8; 4], bytes), "from {at}");
+        if !reads(disk, name, at, &mut [0u8; 4], bytes) {
+            return false;
+        }
     }
+    true
+}
+
+// Whether a file is saved and read, and saved anew and loaded.
+fn is_made_anew<D: Disk>(alloc: Global, disk: &mut D, name: &str) -> bool {
+    saves(disk, name, b"0123456789", Ok(()))
+        && is_read_from_any_place(disk, name)
+        && saves(disk, name, b"ab", Ok(()))
+        && loads(alloc, disk, name, 10, Ok(b"ab"))
 }
 
 #[test]
-fn real_files_are_read_from_any_place_and_made_anew(rt: HostRuntime) -> Result<(), Fail> {
+fn real_files_are_read_from_any_place_and_made_anew(rt: HostRuntime) {
     let name = "base_tests_places";
-    let mut disk = FileDisk::new(rt.clone()?);
-    assert!(rt; saves(&mut disk, name, b"0123456789", Ok(())));
-    is_read_from_any_place(&rt, &mut disk, name);
-    assert!(rt; saves(&mut disk, name, b"ab", Ok(())));
-    assert!(rt; loads(rt.alloc(), &mut disk, name, 10, Ok(b"ab")));
-    fs::remove_file(&rt, name)?;
-    Ok(())
+    let mut disk = FileDisk::new(rt.clone().expect(&rt, "memory"));
+    assert!(rt; is_made_anew(rt.alloc(), &mut disk, name));
+    fs::remove_file(&rt, name).expect(&rt, "a file");
 }
 
 // Whether what stands at a path is refused, as it isn't a regular file.
@@ -173,7 +191,7 @@ fn is_refused<D: Disk>(disk: &mut D, name: &str) -> bool {
 }
 
 // Whether a pipe is refused.
-fn refuses_a_pipe<D: Disk>(rt: &HostRuntime, disk: &mut D) -> Result<bool, Fail> {
+fn refuses_a_pipe<D: Disk>(rt: &HostRuntime, disk: &mut D) -> io::Result<bool> {
     let (reader, writer) = io::pipe(rt)?;
     drop(writer);
     let pipe = format!(in rt.alloc(); "/proc/self/fd/{}", reader.as_raw_fd())?;
@@ -181,10 +199,8 @@ fn refuses_a_pipe<D: Disk>(rt: &HostRuntime, disk: &mut D) -> Result<bool, Fail>
 }
 
 #[test]
-fn only_regular_files_are_read(rt: HostRuntime) -> Result<(), Fail> {
-    let mut disk = FileDisk::new(rt.clone()?);
-    assert!(rt; refuses_a_pipe(&rt, &mut disk)?);
-    assert!(rt; is_refused(&mut disk, "/"));
-    assert!(rt; is_refused(&mut disk, "/dev/zero"));
-    Ok(())
+fn only_regular_files_are_read(rt: HostRuntime) {
+    let mut disk = FileDisk::new(rt.clone().expect(&rt, "memory"));
+    assert!(rt; refuses_a_pipe(&rt, &mut disk).expect(&rt, "a pipe"));
+    assert!(rt; is_refused(&mut disk, "/") && is_refused(&mut disk, "/dev/zero"));
 }

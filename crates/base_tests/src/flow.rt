@@ -1,8 +1,6 @@
 // Items of a stream that are recorded, and the items that a source sends.
 use packet_record::{Direction, Flow, FlowEnd, Item, Packet, Row, Timed, source_item};
-use std::alloc::Global;
-use std::process::Abort;
-use std::test::Fail;
+use text_base::OutOfMemory;
 
 fn moves<T: Send + Drop>(_value: T) {}
 
@@ -15,39 +13,39 @@ fn packet_at(moment: u64) -> Timed {
     }
 }
 
-// Adds an item that may follow.
-fn push(rt: &impl Abort, flow: &mut Flow, item: Item) -> Result<(), Fail> {
-    assert!(rt; flow.may_follow(&item));
+// Adds an item where it may follow. Whether it may.
+fn takes(flow: &mut Flow, item: Item) -> Result<bool, OutOfMemory> {
+    if !flow.may_follow(&item) {
+        return Ok(false);
+    }
     flow.push(item)?;
-    Ok(())
+    Ok(true)
 }
 
-// A flow of one packet, with room for another.
-fn flow_of_one(rt: &impl Abort, alloc: Global) -> Result<Flow, Fail> {
-    let mut flow = Flow::new(alloc);
-    push(rt, &mut flow, Item::Packet(packet_at(5)))?;
+// Whether a flow of one packet and of a mark is over.
+fn is_over(flow: &Flow) -> bool {
+    !flow.may_follow(&Item::End)
+        && flow.packets().len() == 1
+        && flow.bound() == 5
+        && flow.end() == FlowEnd::Ended
+}
+
+// Whether a flow takes a packet, then with room for another one a mark, not an earlier one, and then its end.
+fn takes_a_stream(flow: &mut Flow) -> Result<bool, OutOfMemory> {
+    let takes_one = takes(flow, Item::Packet(packet_at(5)))?;
     flow.reserve(1)?;
-    Ok(flow)
-}
-
-// A flow of one packet and of a mark is over.
-fn is_over(rt: &impl Abort, flow: &Flow) {
-    assert!(rt; !flow.may_follow(&Item::End));
-    assert!(rt; flow.packets().len() == 1);
-    assert!(rt; flow.bound() == 5);
-    assert!(rt; flow.end() == FlowEnd::Ended);
+    let takes_earlier = flow.may_follow(&Item::Mark(4));
+    let takes_rest = takes(flow, Item::Mark(5))? && takes(flow, Item::End)?;
+    Ok(takes_one && !takes_earlier && takes_rest)
 }
 
 #[test]
-fn records_a_stream(rt: HostRuntime) -> Result<(), Fail> {
-    let mut flow = flow_of_one(&rt, rt.alloc())?;
-    assert!(rt; !flow.may_follow(&Item::Mark(4)));
-    push(&rt, &mut flow, Item::Mark(5))?;
-    push(&rt, &mut flow, Item::End)?;
-    is_over(&rt, &flow);
+fn records_a_stream(rt: HostRuntime) {
+    let mut flow = Flow::new(rt.alloc());
+    assert!(rt; takes_a_stream(&mut flow).expect(&rt, "memory"));
+    assert!(rt; is_over(&flow));
     shares(&flow);
     moves(flow);
-    Ok(())
 }
 
 // What a row at 9 that goes up gives.
@@ -59,10 +57,15 @@ fn given(direction: Direction, horizon: u64, sent: u64) -> Option<Item> {
     source_item(direction, horizon, sent, &row)
 }
 
+// Whether the row is sent up as a packet, down as a mark where none was sent, and else not.
+fn is_sent() -> bool {
+    given(Direction::Up, 9, 9) == Some(Item::Packet(packet_at(9)))
+        && given(Direction::Down, 9, 8) == Some(Item::Mark(9))
+        && given(Direction::Down, 9, 9).is_none()
+        && given(Direction::Up, 8, 0).is_none()
+}
+
 #[test]
 fn sends_marks_for_the_other_direction(rt: HostRuntime) {
-    assert!(rt; given(Direction::Up, 9, 9) == Some(Item::Packet(packet_at(9))));
-    assert!(rt; given(Direction::Down, 9, 8) == Some(Item::Mark(9)));
-    assert!(rt; given(Direction::Down, 9, 9).is_none());
-    assert!(rt; given(Direction::Up, 8, 0).is_none());
+    assert!(rt; is_sent());
 }

@@ -9,6 +9,8 @@ mod disk;
 #[cfg(test)]
 mod flow;
 #[cfg(test)]
+mod halting;
+#[cfg(test)]
 mod interrupted;
 #[cfg(test)]
 mod lines;

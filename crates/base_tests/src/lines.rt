@@ -4,8 +4,6 @@ ghost use Rattle.std.specs.Prelude.{◌++◌, ◌∷◌, [], decimal};
 use crate::disk::{disk_with, holds};
 use mm_base::{DiskError, MemDisk, append_lines, save_lines};
 use std::alloc::Global;
-use std::process::Abort;
-use std::test::Fail;
 use text_base::{Bytes, LineBuffer, OutOfMemory, PrintLine, print_lines};
 
 // A number that is printed as a line.
@@ -43,15 +41,24 @@ fn line_from_its_end(alloc: Global) -> Result<LineBuffer, OutOfMemory> {
 
 const LINE: &[u8] = b"0 to 18446744073709551615\n";
 
-#[test]
-fn lines_are_written_from_their_end(rt: HostRuntime) -> Result<(), Fail> {
-    let fresh = LineBuffer::new(rt.alloc())?;
-    assert!(rt; fresh.as_slice().is_empty());
-    let mut line = line_from_its_end(rt.alloc())?;
-    assert!(rt; line.as_slice() == LINE);
+// Whether a line that isn't written yet is empty.
+fn is_empty_at_first(alloc: Global) -> Result<bool, OutOfMemory> {
+    let line = LineBuffer::new(alloc)?;
+    Ok(line.as_slice().is_empty())
+}
+
+// Whether a line is this, and empty once it is cleared.
+fn is_cleared(line: &mut LineBuffer, said: &[u8]) -> bool {
+    let is_said = line.as_slice() == said;
     line.clear();
-    assert!(rt; line.as_slice().is_empty());
-    Ok(())
+    is_said && line.as_slice().is_empty()
+}
+
+#[test]
+fn lines_are_written_from_their_end(rt: HostRuntime) {
+    assert!(rt; is_empty_at_first(rt.alloc()).expect(&rt, "memory"));
+    let mut line = line_from_its_end(rt.alloc()).expect(&rt, "memory");
+    assert!(rt; is_cleared(&mut line, LINE));
 }
 
 // The text of a first line and of these numbers.
@@ -59,14 +66,37 @@ fn text_of(alloc: Global, first: &[u8], items: &[Number]) -> Result<Bytes, OutOf
     print_lines(alloc, first, items)
 }
 
+// Whether these are printed so.
+fn prints(alloc: Global, first: &[u8], items: &[Number], said: &[u8]) -> Result<bool, OutOfMemory> {
+    let text = text_of(alloc, first, items)?;
+    Ok(text.as_slice() == said)
+}
+
 const PRINTED: &[u8] = b"#\n18446744073709551615\n18446744073709551614\n";
 
+// Whether two numbers are printed after a first line, and none after no line.
+fn two_are_printed(alloc: Global) -> Result<bool, OutOfMemory> {
+    let items = numbers(alloc, 2)?;
+    Ok(prints(alloc, b"#\n", items.as_slice(), PRINTED)? && prints(alloc, b"", &[], b"")?)
+}
+
 #[test]
-fn items_are_printed_line_by_line(rt: HostRuntime) -> Result<(), Fail> {
-    let items = numbers(rt.alloc(), 2)?;
-    assert!(rt; text_of(rt.alloc(), b"#\n", items.as_slice())?.as_slice() == PRINTED);
-    assert!(rt; text_of(rt.alloc(), b"", &[])?.is_empty());
-    Ok(())
+fn items_are_printed_line_by_line(rt: HostRuntime) {
+    assert!(rt; two_are_printed(rt.alloc()).expect(&rt, "memory"));
+}
+
+// Numbers, and their text after a first line.
+#[derive(Drop)]
+struct Printed {
+    items: Vec<Number>,
+    text: Bytes,
+}
+
+// So many numbers that their text is written in pieces: 3200 lines of 21 bytes.
+fn print_numbers(alloc: Global) -> Result<Printed, OutOfMemory> {
+    let items = numbers(alloc, 3200)?;
+    let text = text_of(alloc, b"#\n", items.as_slice())?;
+    Ok(Printed { items, text })
 }
 
 // Whether it is answered so where these numbers are to be saved in the file `f`, which then holds these bytes.
@@ -81,22 +111,26 @@ fn saves(
     saved == said && holds(disk, "f", held)
 }
 
-// These numbers are saved, and then a front of their text, where a call fails.
-fn are_saved(rt: &impl Abort, alloc: Global, items: &[Number], text: &[u8]) -> Result<(), Fail> {
+// Whether these numbers are saved, and then a front of their text, where a call fails.
+fn are_saved(alloc: Global, items: &[Number], text: &[u8]) -> Result<bool, OutOfMemory> {
     let mut disk = disk_with(alloc, "f", b"before", &[8])?;
-    assert!(rt; saves(alloc, &mut disk, items, Ok(()), text));
     let (front, _) = text.split_at(text.len().min(43010));
-    assert!(rt; saves(alloc, &mut disk, items, Err(DiskError::Failed), front));
-    Ok(())
+    Ok(
+        saves(alloc, &mut disk, items, Ok(()), text)
+            && saves(alloc, &mut disk, items, Err(DiskError::Failed), front),
+    )
 }
 
 // A text of 67,202 bytes: the first line, 2048 lines and the others are written one after another.
 #[test]
-fn lines_are_saved_in_pieces(rt: HostRuntime) -> Result<(), Fail> {
-    let items = numbers(rt.alloc(), 3200)?;
-    let text = text_of(rt.alloc(), b"#\n", items.as_slice())?;
-    assert!(rt; text.len() == 67202);
-    are_saved(&rt, rt.alloc(), items.as_slice(), text.as_slice())
+fn lines_are_saved_in_pieces(rt: HostRuntime) {
+    let printed = print_numbers(rt.alloc()).expect(&rt, "memory");
+    let is_saved = are_saved(
+        rt.alloc(),
+        printed.items.as_slice(),
+        printed.text.as_slice(),
+    );
+    assert!(rt; is_saved.expect(&rt, "memory") && printed.text.len() == 67202);
 }
 
 // Whether it is answered so where these numbers are to be added to a file.
@@ -124,33 +158,30 @@ fn adds_none(disk: &mut MemDisk, lines: &mut LineBuffer) -> bool {
     is_right && disk.file("g").is_none()
 }
 
-// No numbers are added, then all to the file `f`, and then a front of them, where a call fails.
-fn are_added(
-    rt: &impl Abort,
-    disk: &mut MemDisk,
-    lines: &mut LineBuffer,
-    items: &[Number],
-    text: &[u8],
-) {
-    assert!(rt; adds_none(disk, lines));
-    assert!(rt; adds(disk, "f", lines, items, Ok(())));
-    assert!(rt; holds(disk, "f", text));
-    assert!(rt; adds(disk, "g", lines, items, Err(DiskError::Failed)));
-    assert!(rt; has_size(disk, "g", 43008));
+// Whether no numbers are added, then all to the file `f`, and then a front of them, where a call fails.
+fn are_added(disk: &mut MemDisk, lines: &mut LineBuffer, items: &[Number], text: &[u8]) -> bool {
+    adds_none(disk, lines)
+        && adds(disk, "f", lines, items, Ok(()))
+        && holds(disk, "f", text)
+        && adds(disk, "g", lines, items, Err(DiskError::Failed))
+        && has_size(disk, "g", 43008)
 }
 
-// These numbers are added to files, by one buffer.
-fn are_appended(rt: &impl Abort, alloc: Global, items: &[Number], text: &[u8]) -> Result<(), Fail> {
+// Whether these numbers are added to files, by one buffer.
+fn are_appended(alloc: Global, items: &[Number], text: &[u8]) -> Result<bool, OutOfMemory> {
     let mut disk = disk_with(alloc, "f", b"#\n", &[4])?;
     let mut lines = LineBuffer::new(alloc)?;
-    are_added(rt, &mut disk, &mut lines, items, text);
-    Ok(())
+    Ok(are_added(&mut disk, &mut lines, items, text))
 }
 
 // What is appended has 3200 lines of 21 bytes, in two pieces.
 #[test]
-fn lines_are_appended_in_pieces(rt: HostRuntime) -> Result<(), Fail> {
-    let items = numbers(rt.alloc(), 3200)?;
-    let text = text_of(rt.alloc(), b"#\n", items.as_slice())?;
-    are_appended(&rt, rt.alloc(), items.as_slice(), text.as_slice())
+fn lines_are_appended_in_pieces(rt: HostRuntime) {
+    let printed = print_numbers(rt.alloc()).expect(&rt, "memory");
+    let is_added = are_appended(
+        rt.alloc(),
+        printed.items.as_slice(),
+        printed.text.as_slice(),
+    );
+    assert!(rt; is_added.expect(&rt, "memory"));
 }

@@ -1,9 +1,9 @@
 // Rates, the words of ChaCha20, and what is dropped by words.
 use crate::packets::are_same;
-use loss_core::{ChaWords, ListWords, LossCore, RateError, Words, lose_all, read_rate};
+use loss_core::{ChaWords, ListWords, LossCore, Rate, RateError, Words, lose_all, read_rate};
 use packet_record::{Packet, Timed};
 use std::alloc::Global;
-use std::test::Fail;
+use text_base::OutOfMemory;
 
 fn billionths(text: &str) -> Result<u32, RateError> {
     Ok(read_rate(text)?.billionths())
@@ -32,8 +32,7 @@ fn reads_rates(rt: HostRuntime) {
     for &(text, said) in &RATES {
         assert!(rt; billionths(text) == said, "at {text}");
     }
-    assert!(rt; RateError::BadRate.number() == 1);
-    assert!(rt; RateError::AboveOne.number() == 2);
+    assert!(rt; RateError::BadRate.number() == 1 && RateError::AboveOne.number() == 2);
 }
 
 // The words at places 0, 1, 15 and 16.
@@ -85,34 +84,46 @@ const DEPARTED: [Timed; 1] = [packet!(5)];
 const LOST: [Timed; 2] = [packet!(4), packet!(6)];
 
 // A word below one half of all, one that isn't, and then 0 at every place.
-fn two_words(alloc: Global) -> Result<ListWords, Fail> {
+fn two_words(alloc: Global) -> Result<ListWords, OutOfMemory> {
     Ok(ListWords::new(vec![in alloc; 2147483647, 2147483648]?))
 }
 
-// A loss of one half, after these packets.
-fn loss_after(alloc: Global, packets: &[Timed]) -> Result<LossCore<ListWords>, Fail> {
-    let mut core = LossCore::new(alloc, read_rate("0.5")?, two_words(alloc)?);
+// A loss at this rate, after these packets.
+fn loss_after(
+    alloc: Global,
+    rate: Rate,
+    packets: &[Timed],
+) -> Result<LossCore<ListWords>, OutOfMemory> {
+    let mut core = LossCore::new(alloc, rate, two_words(alloc)?);
     for t in packets {
         core.arrive(*t)?;
     }
     Ok(core)
 }
 
-#[test]
-fn drops_by_words(rt: HostRuntime) -> Result<(), Fail> {
-    let core = loss_after(rt.alloc(), &ARRIVED)?;
-    assert!(rt; are_same(core.arrivals(), &ARRIVED));
-    assert!(rt; are_same(core.departed(), &DEPARTED));
-    assert!(rt; are_same(core.lost(), &LOST));
-    Ok(())
+// Whether the first and the last of the packets were lost.
+fn lost_two(core: &LossCore<ListWords>) -> bool {
+    are_same(core.arrivals(), &ARRIVED)
+        && are_same(core.departed(), &DEPARTED)
+        && are_same(core.lost(), &LOST)
 }
 
 #[test]
-fn drops_a_whole_list_by_words(rt: HostRuntime) -> Result<(), Fail> {
-    let alloc = rt.alloc();
+fn drops_by_words(rt: HostRuntime) {
+    let half = read_rate("0.5").expect(&rt, "a rate");
+    let core = loss_after(rt.alloc(), half, &ARRIVED).expect(&rt, "memory");
+    assert!(rt; lost_two(&core));
+}
+
+// Whether the first and the last of the packets are lost at once, at this rate.
+fn loses_two(alloc: Global, rate: Rate) -> Result<bool, OutOfMemory> {
     let mut packets = ARRIVED.to_vec(alloc)?;
-    let lost = lose_all(alloc, read_rate("0.5")?, two_words(alloc)?, &mut packets)?;
-    assert!(rt; are_same(packets.as_slice(), &DEPARTED));
-    assert!(rt; are_same(lost.as_slice(), &LOST));
-    Ok(())
+    let lost = lose_all(alloc, rate, two_words(alloc)?, &mut packets)?;
+    Ok(are_same(packets.as_slice(), &DEPARTED) && are_same(lost.as_slice(), &LOST))
+}
+
+#[test]
+fn drops_a_whole_list_by_words(rt: HostRuntime) {
+    let half = read_rate("0.5").expect(&rt, "a rate");
+    assert!(rt; loses_two(rt.alloc(), half).expect(&rt, "memory"));
 }

@@ -6,13 +6,16 @@ use mm_base::{EndError, Link, MemLink, MemPort, Port, TcpLink, TcpPort};
 use std::alloc::Global;
 use std::io::{self, Write};
 use std::net::{Ipv4Addr, Shutdown, SocketAddr, TcpStream};
-use std::process::Abort;
-use std::test::Fail;
-use text_base::Bytes;
+use text_base::{Bytes, OutOfMemory};
 
 fn goes_between_threads<T: Send>(_: &T) {}
 
-fn link_with(alloc: Global, input: &[u8], most: usize, fails: &[u64]) -> Result<MemLink, Fail>
+fn link_with(
+    alloc: Global,
+    input: &[u8],
+    most: usize,
+    fails: &[u64],
+) -> Result<MemLink, OutOfMemory>
     requires { 1 ≤ most }
     ensures { IfOk result IsUnused }
 {
@@ -36,36 +39,34 @@ fn writes<L: Link>(link: &mut L, piece: &[u8], said: Result<usize, EndError>) ->
     link.write(piece) == said
 }
 
-// Four calls, of which the second and the last fail.
-fn fails_twice(rt: &impl Abort, link: &mut MemLink) {
-    assert!(rt; reads(link, &mut [0u8; 8], b"abc"));
-    assert!(rt; read_fails(link));
-    assert!(rt; writes(link, b"xy", Ok(2)));
-    assert!(rt; writes(link, b"z", Err(EndError::Failed)));
+// Whether of four calls the second and the last fail.
+fn fails_twice(link: &mut MemLink) -> bool {
+    reads(link, &mut [0u8; 8], b"abc")
+        && read_fails(link)
+        && writes(link, b"xy", Ok(2))
+        && writes(link, b"z", Err(EndError::Failed))
 }
 
-// The last byte of an input, and then its end.
-fn reads_the_last(rt: &impl Abort, link: &mut MemLink) {
-    assert!(rt; reads(link, &mut [], b""));
+// Whether the last byte of an input is read, and then its end.
+fn reads_the_last(link: &mut MemLink) -> bool {
     let mut small = [0u8; 2];
-    assert!(rt; reads(link, &mut small, b"d"));
-    assert!(rt; small == *b"d\0");
-    assert!(rt; reads(link, &mut small, b""));
+    reads(link, &mut [], b"")
+        && reads(link, &mut small, b"d")
+        && small == *b"d\0"
+        && reads(link, &mut small, b"")
 }
 
 #[test]
-fn a_link_in_memory_fails_by_its_list(rt: HostRuntime) -> Result<(), Fail> {
-    let mut link = link_with(rt.alloc(), b"abcd", 3, &[2, 4])?;
-    fails_twice(&rt, &mut link);
-    reads_the_last(&rt, &mut link);
+fn a_link_in_memory_fails_by_its_list(rt: HostRuntime) {
+    let mut link = link_with(rt.alloc(), b"abcd", 3, &[2, 4]).expect(&rt, "memory");
+    assert!(rt; fails_twice(&mut link) && reads_the_last(&mut link));
     link.close_output();
     assert!(rt; link.given() == b"xy".as_slice());
     goes_between_threads(&link);
-    Ok(())
 }
 
 // A port that gives two links, and whose calls of these numbers fail.
-fn port_with(alloc: Global, fails: &[u64]) -> Result<MemPort, Fail> {
+fn port_with(alloc: Global, fails: &[u64]) -> Result<MemPort, OutOfMemory> {
     let first = link_with(alloc, b"a", 1, &[])?;
     let second = link_with(alloc, b"b", 1, &[])?;
     let links = vec![in alloc; first, second]?;
@@ -78,10 +79,10 @@ fn listens<P: Port>(port: &mut P, number: u16, said: Result<(), EndError>) -> bo
 }
 
 // The next link that a port gives.
-fn accepted<P: Port>(port: &mut P) -> Result<P::Conn, Fail> {
+fn accepted<P: Port>(port: &mut P) -> Option<P::Conn> {
     match port.accept() {
-        Ok(Some(link)) => Ok(link),
-        Ok(None) | Err(_) => Err(Fail::new("no link")),
+        Ok(link) => link,
+        Err(_) => None,
     }
 }
 
@@ -90,21 +91,24 @@ fn finishes<P: Port>(port: &mut P, link: P::Conn, said: Result<(), EndError>) ->
     port.finish(link) == said
 }
 
-// The first listening and the first accepting fail.
-fn begins(rt: &impl Abort, port: &mut MemPort) {
-    assert!(rt; listens(port, 80, Err(EndError::Failed)));
-    assert!(rt; listens(port, 80, Ok(())));
-    assert!(rt; port.accept().is_err());
+// Whether the first listening and the first accepting fail.
+fn begins(port: &mut MemPort) -> bool {
+    listens(port, 80, Err(EndError::Failed)) && listens(port, 80, Ok(())) && port.accept().is_err()
 }
 
-// Two links are accepted and finished, the second of them with a fault.
-fn finishes_two(rt: &impl Abort, port: &mut MemPort) -> Result<(), Fail> {
-    let mut first = accepted(port)?;
-    let second = accepted(port)?;
-    assert!(rt; writes(&mut first, b"1", Ok(1)));
-    assert!(rt; finishes(port, first, Ok(())));
-    assert!(rt; finishes(port, second, Err(EndError::Failed)));
-    Ok(())
+// Whether two links are accepted and finished, the second of them with a fault.
+fn finishes_two(port: &mut MemPort) -> bool {
+    let (Some(mut first), Some(second)) = (accepted(port), accepted(port)) else {
+        return false;
+    };
+    let is_written = writes(&mut first, b"1", Ok(1));
+    let is_finished = finishes(port, first, Ok(()));
+    finishes(port, second, Err(EndError::Failed)) && is_written && is_finished
+}
+
+// Whether no link is left.
+fn gives_none(port: &mut MemPort) -> bool {
+    matches!(port.accept(), Ok(None))
 }
 
 // Whether one link was finished, to which this was given.
@@ -116,14 +120,11 @@ fn has_finished_one(port: &MemPort, given: &[u8]) -> bool {
 }
 
 #[test]
-fn a_port_in_memory_gives_its_links_in_order(rt: HostRuntime) -> Result<(), Fail> {
-    let mut port = port_with(rt.alloc(), &[1, 3, 7])?;
-    begins(&rt, &mut port);
-    finishes_two(&rt, &mut port)?;
-    assert!(rt; matches!(port.accept(), Ok(None)));
-    assert!(rt; has_finished_one(&port, b"1"));
+fn a_port_in_memory_gives_its_links_in_order(rt: HostRuntime) {
+    let mut port = port_with(rt.alloc(), &[1, 3, 7]).expect(&rt, "memory");
+    assert!(rt; begins(&mut port) && finishes_two(&mut port));
+    assert!(rt; gives_none(&mut port) && has_finished_one(&port, b"1"));
     goes_between_threads(&port);
-    Ok(())
 }
 
 const REQUEST: &str =
@@ -132,20 +133,19 @@ const REQUEST: &str =
 const ANSWER: &str = "HTTP/1.1 200 OK\r\n\r\n";
 
 // Listens at a port that is free, and answers its number.
-fn listen(port: &mut TcpPort<HostRuntime>) -> Result<u16, Fail> {
-    if port.number().is_some() {
-        return Err(Fail::new("it listens already"));
+fn listen(port: &mut TcpPort<HostRuntime>) -> Option<u16> {
+    if port.number().is_some() || !listens(port, 0, Ok(())) {
+        return None;
     }
-    if !listens(port, 0, Ok(())) {
-        return Err(Fail::new("no port is free"));
-    }
-    Ok(port.number().ok_or("no number")?)
+    port.number()
 }
 
 // Whether no other port can listen at this number.
-fn is_taken(rt: &HostRuntime, number: u16) -> Result<bool, Fail> {
-    let mut port = TcpPort::new(rt.clone()?);
-    Ok(listens(&mut port, number, Err(EndError::Failed)))
+fn is_taken(rt: &HostRuntime, number: u16) -> bool {
+    match rt.clone() {
+        Ok(rt) => listens(&mut TcpPort::new(rt), number, Err(EndError::Failed)),
+        Err(_) => false,
+    }
 }
 
 // A client's connection to a port of this machine, on which it has sent this.
@@ -155,52 +155,49 @@ fn asking_client(rt: &HostRuntime, number: u16, request: &str) -> io::Result<Tcp
     Ok(client)
 }
 
-// A client that has sent this, and the link on which it comes in.
+// A client that has sent this, and the link on which it comes in, at a port at which no other one can listen.
 fn connected(
     rt: &HostRuntime,
     port: &mut TcpPort<HostRuntime>,
     request: &str,
-) -> Result<(TcpStream, TcpLink), Fail> {
+) -> Option<(TcpStream, TcpLink)> {
     let number = listen(port)?;
-    if !is_taken(rt, number)? {
-        return Err(Fail::new("another port listens at its number"));
+    if !is_taken(rt, number) {
+        return None;
     }
-    let client = asking_client(rt, number, request)?;
+    let client = asking_client(rt, number, request).ok()?;
     let link = accepted(port)?;
-    Ok((client, link))
+    Some((client, link))
 }
 
-// Reads the request and answers it.
-fn serve<L: Link>(rt: &impl Abort, link: &mut L) {
-    assert!(rt; reads(link, &mut [0u8; 256], REQUEST.as_bytes()));
-    assert!(rt; writes(link, ANSWER.as_bytes(), Ok(19)));
+// Whether the request is read and answered.
+fn serves<L: Link>(link: &mut L) -> bool {
+    let is_answered = reads(link, &mut [0u8; 256], REQUEST.as_bytes())
+        && writes(link, ANSWER.as_bytes(), Ok(19));
     link.close_output();
+    is_answered
 }
 
-// A client is served, and then says no more.
-fn is_served(
-    rt: &impl Abort,
-    alloc: Global,
-    client: &TcpStream,
-    link: &mut TcpLink,
-) -> Result<(), Fail> {
-    serve(rt, link);
+// Whether a client reads the answer. It says no more then.
+fn is_answered(alloc: Global, client: &TcpStream) -> io::Result<bool> {
     let answer = io::read_to_string(alloc, client)?;
-    assert!(rt; answer.as_str() == ANSWER);
     client.shutdown(Shutdown::Write)?;
-    assert!(rt; reads(link, &mut [0u8], b""));
-    Ok(())
+    Ok(answer.as_str() == ANSWER)
+}
+
+// Whether a client is served, and then says no more.
+fn is_served(alloc: Global, client: &TcpStream, link: &mut TcpLink) -> io::Result<bool> {
+    Ok(serves(link) && is_answered(alloc, client)? && reads(link, &mut [0u8], b""))
 }
 
 #[test]
-fn a_client_is_served_over_tcp(rt: HostRuntime) -> Result<(), Fail> {
-    let mut port = TcpPort::new(rt.clone()?);
+fn a_client_is_served_over_tcp(rt: HostRuntime) {
+    let mut port = TcpPort::new(rt.clone().expect(&rt, "memory"));
     assert!(rt; matches!(port.accept(), Err(EndError::Failed)));
-    let (client, mut link) = connected(&rt, &mut port, REQUEST)?;
-    is_served(&rt, rt.alloc(), &client, &mut link)?;
+    let (client, mut link) = connected(&rt, &mut port, REQUEST).expect(&rt, "a link");
+    assert!(rt; is_served(rt.alloc(), &client, &mut link).expect(&rt, "an answer"));
     goes_between_threads(&link);
     assert!(rt; finishes(&mut port, link, Ok(())));
-    Ok(())
 }
 
 // Whether one of a hundred writes failed.
@@ -214,12 +211,11 @@ fn fails<L: Link>(link: &mut L) -> bool {
 
 // A client that resets its connection makes it fail, and ends nothing else.
 #[test]
-fn a_client_that_goes_away_is_a_fault(rt: HostRuntime) -> Result<(), Fail> {
-    let mut port = TcpPort::new(rt.clone()?);
-    let (client, mut link) = connected(&rt, &mut port, "")?;
+fn a_client_that_goes_away_is_a_fault(rt: HostRuntime) {
+    let mut port = TcpPort::new(rt.clone().expect(&rt, "memory"));
+    let (client, mut link) = connected(&rt, &mut port, "").expect(&rt, "a link");
     assert!(rt; writes(&mut link, b"unread", Ok(6)));
     drop(client);
     assert!(rt; fails(&mut link));
     assert!(rt; finishes(&mut port, link, Ok(())));
-    Ok(())
 }

@@ -4,8 +4,7 @@ ghost use Rattle.std.specs.Prelude.{◌≡◌, ◌≤◌, ◌-◌};
 use packet_queue::{PacketQueue, QueueKind, QueueSpec, read_queue};
 use packet_record::{Packet, Timed};
 use std::alloc::Global;
-use std::process::Abort;
-use std::test::Fail;
+use text_base::OutOfMemory;
 
 // The refusal's number, or 0.
 fn refusal(kind: &str, args: &str) -> u32 {
@@ -61,30 +60,36 @@ fn dropped(queue: &mut PacketQueue, id: u32, size: u16) -> (u64, u64)
     (gone.packets, gone.bytes)
 }
 
-// Each of three packets comes in that is larger than the one before.
-fn drops_to_the_last(rt: &impl Abort, queue: &mut PacketQueue)
+// Whether each of three packets drops those before it, and the last itself too.
+fn drops_to_the_last(queue: &mut PacketQueue) -> bool
     requires room { 3 ≤ queue.old.spare }
 {
-    assert!(rt; dropped(queue, 1, 100) == (0, 0));
-    assert!(rt; dropped(queue, 2, 200) == (1, 100));
-    assert!(rt; queue.bytes() == 200);
-    assert!(rt; dropped(queue, 3, 300) == (2, 500));
+    dropped(queue, 1, 100) == (0, 0)
+        && dropped(queue, 2, 200) == (1, 100)
+        && queue.bytes() == 200
+        && dropped(queue, 3, 300) == (2, 500)
+}
+
+// Whether a queue is empty, from which three packets were dropped.
+fn has_lost_three(queue: &mut PacketQueue) -> bool {
+    queue.len() == 0 && queue.lost().len() == 3 && queue.dequeue().is_none()
+}
+
+// Whether three packets are dropped from a queue that has room for them.
+fn drops_three(queue: &mut PacketQueue) -> Result<bool, OutOfMemory> {
+    queue.reserve(3)?;
+    Ok(drops_to_the_last(queue) && has_lost_three(queue))
 }
 
 #[test]
-fn drophead_may_drop_the_new_packet(rt: HostRuntime) -> Result<(), Fail> {
+fn drophead_may_drop_the_new_packet(rt: HostRuntime) {
     let mut queue = PacketQueue::new(rt.alloc(), dropping_head(250));
-    queue.reserve(3)?;
-    drops_to_the_last(&rt, &mut queue);
-    assert!(rt; queue.len() == 0);
-    assert!(rt; queue.lost().len() == 3);
-    assert!(rt; queue.dequeue().is_none());
-    Ok(())
+    assert!(rt; drops_three(&mut queue).expect(&rt, "memory"));
 }
 
 // A queue to which ten thousand packets came.
-fn full_queue(alloc: Global, kind: &str, args: &str) -> Result<PacketQueue, Fail> {
-    let mut queue = PacketQueue::new(alloc, read_queue(kind, args)?);
+fn full_queue(alloc: Global, spec: QueueSpec) -> Result<PacketQueue, OutOfMemory> {
+    let mut queue = PacketQueue::new(alloc, spec);
     for id in 1..10_001 {
         queue.reserve(1)?;
         dropped(&mut queue, id, 1000);
@@ -109,8 +114,8 @@ fn let_go(queue: &mut PacketQueue) -> (usize, u32) {
 }
 
 // How many packets a queue keeps and drops of ten thousand, and the number of the first that it lets go.
-fn counts(alloc: Global, kind: &str, args: &str) -> Result<(usize, usize, u32), Fail> {
-    let mut queue = full_queue(alloc, kind, args)?;
+fn counts(alloc: Global, spec: QueueSpec) -> Result<(usize, usize, u32), OutOfMemory> {
+    let mut queue = full_queue(alloc, spec)?;
     let (kept, first) = let_go(&mut queue);
     Ok((kept, queue.lost().len(), first))
 }
@@ -125,9 +130,10 @@ static COUNTS: [(&str, &str, (usize, usize, u32)); 5] = [
 ];
 
 #[test]
-fn ten_thousand_packets_go_through(rt: HostRuntime) -> Result<(), Fail> {
+fn ten_thousand_packets_go_through(rt: HostRuntime) {
     for &(kind, args, said) in &COUNTS {
-        assert!(rt; counts(rt.alloc(), kind, args)? == said, "at {kind} {args}");
+        let spec = read_queue(kind, args).expect(&rt, "a queue");
+        let counted = counts(rt.alloc(), spec).expect(&rt, "memory");
+        assert!(rt; counted == said, "at {kind} {args}");
     }
-    Ok(())
 }

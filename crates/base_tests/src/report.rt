@@ -3,7 +3,6 @@ use log_report::{EMPTY, ReportError, ReportText, print_report, report};
 use shell_log::{Log, LogError, read_log};
 use std::alloc::Global;
 use std::process::Abort;
-use std::test::Fail;
 use text_base::{Bytes, OutOfMemory, PieceReader};
 
 const QUEUED: &[u8] =
@@ -70,31 +69,35 @@ fn printed_whole(alloc: Global, log: &Log) -> Result<Bytes, OutOfMemory> {
 
 static SIZES: [usize; 3] = [1, 7, 65536];
 
-fn is_printed_in_pieces(
-    rt: &impl Abort,
-    alloc: Global,
-    text: &[u8],
-    said: &[u8],
-) -> Result<(), Fail> {
-    for &size in &SIZES {
-        assert!(rt; printed(alloc, text, size)?.as_slice() == said);
-    }
-    Ok(())
+// Whether this is printed of a text that is read in pieces of so many bytes.
+fn prints(alloc: Global, text: &[u8], size: usize, said: &[u8]) -> Result<bool, LogError> {
+    let report = printed(alloc, text, size)?;
+    Ok(report.as_slice() == said)
 }
 
-fn is_printed_whole(rt: &impl Abort, alloc: Global, text: &[u8], said: &[u8]) -> Result<(), Fail> {
+// Whether this is printed of a text that is read in pieces of any size.
+fn prints_in_pieces(alloc: Global, text: &[u8], said: &[u8]) -> Result<bool, LogError> {
+    for &size in &SIZES {
+        if !prints(alloc, text, size, said)? {
+            return Ok(false);
+        }
+    }
+    Ok(true)
+}
+
+// Whether this is printed of the log of a text.
+fn prints_whole(alloc: Global, text: &[u8], said: &[u8]) -> Result<bool, LogError> {
     let log = read_log(alloc, text)?;
-    assert!(rt; printed_whole(alloc, &log)?.as_slice() == said);
-    Ok(())
+    let report = printed_whole(alloc, &log)?;
+    Ok(report.as_slice() == said)
 }
 
 #[test]
-fn a_log_has_its_report(rt: HostRuntime) -> Result<(), Fail> {
+fn a_log_has_its_report(rt: HostRuntime) {
     for &(text, said) in &TEXTS {
-        is_printed_in_pieces(&rt, rt.alloc(), text, said)?;
-        is_printed_whole(&rt, rt.alloc(), text, said)?;
+        assert!(rt; prints_in_pieces(rt.alloc(), text, said).expect(&rt, "a report"));
+        assert!(rt; prints_whole(rt.alloc(), text, said).expect(&rt, "a report"));
     }
-    Ok(())
 }
 
 // How a text is refused that is read in pieces of so many bytes.
@@ -150,7 +153,7 @@ fn summed(alloc: Global) -> Result<Bytes, LogError> {
 }
 
 #[test]
-fn ten_thousand_entries_are_summed(rt: HostRuntime) -> Result<(), Fail> {
-    assert!(rt; summed(rt.alloc())?.as_slice() == SUMMED);
-    Ok(())
+fn ten_thousand_entries_are_summed(rt: HostRuntime) {
+    let summed = summed(rt.alloc()).expect(&rt, "a report");
+    assert!(rt; summed.as_slice() == SUMMED);
 }

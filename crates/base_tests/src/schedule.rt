@@ -5,8 +5,6 @@ use packet_record::{
     Draws, ScheduleError, ScheduleReader, ScheduleText, make_load, print_schedule, read_schedule,
 };
 use std::alloc::Global;
-use std::process::Abort;
-use std::test::Fail;
 use text_base::limits::MOST_LINES;
 use text_base::{Bytes, OutOfMemory, PieceReader};
 
@@ -15,7 +13,7 @@ fn moves<T: Send + Drop>(_value: T) {}
 fn shares<T: Sync>(_value: &T) {}
 
 // Whether the schedule of a text is printed so.
-fn is_printed(alloc: Global, text: &[u8], said: &[u8]) -> Result<bool, Fail> {
+fn is_printed(alloc: Global, text: &[u8], said: &[u8]) -> Result<bool, ScheduleError> {
     let schedule = read_schedule(alloc, text)?;
     let printed = print_schedule(alloc, &schedule)?;
     Ok(printed.as_slice() == said)
@@ -40,12 +38,11 @@ static PRINTED: [(&[u8], &[u8]); 2] = [
 ];
 
 #[test]
-fn prints_what_it_read(rt: HostRuntime) -> Result<(), Fail> {
+fn prints_what_it_read(rt: HostRuntime) {
     for &(text, said) in &PRINTED {
-        assert!(rt; is_printed(rt.alloc(), text, said)?);
+        assert!(rt; is_printed(rt.alloc(), text, said).expect(&rt, "a schedule"));
     }
-    assert!(rt; rows_of_nothing(rt.alloc())? == 0);
-    Ok(())
+    assert!(rt; rows_of_nothing(rt.alloc()).expect(&rt, "a schedule") == 0);
 }
 
 // The number of a text's refusal, and the line that it names.
@@ -111,33 +108,35 @@ fn is_read_in_three(
     ends_as(alloc, reading, said)
 }
 
-// A text of a front and a rest is read so, wherever the rest is cut in two.
+// Whether a text of a front and a rest is read so, wherever the rest is cut in two.
 fn is_read_behind(
-    rt: &impl Abort,
     alloc: Global,
     front: &[u8],
     rest: &[u8],
     said: Result<&[u8], (u32, u64)>,
-) -> Result<(), Fail> {
+) -> Result<bool, OutOfMemory> {
     for cut in 0..rest.len() + 1 {
         let (second, third) = rest.split_at(cut);
-        assert!(rt; is_read_in_three(alloc, front, second, third, said)?);
+        if !is_read_in_three(alloc, front, second, third, said)? {
+            return Ok(false);
+        }
     }
-    Ok(())
+    Ok(true)
 }
 
-// A text is read so, wherever it is cut in three.
+// Whether a text is read so, wherever it is cut in three.
 fn is_read(
-    rt: &impl Abort,
     alloc: Global,
     text: &[u8],
     said: Result<&[u8], (u32, u64)>,
-) -> Result<(), Fail> {
+) -> Result<bool, OutOfMemory> {
     for cut in 0..text.len() + 1 {
         let (front, rest) = text.split_at(cut);
-        is_read_behind(rt, alloc, front, rest, said)?;
+        if !is_read_behind(alloc, front, rest, said)? {
+            return Ok(false);
+        }
     }
-    Ok(())
+    Ok(true)
 }
 
 // A text, and what is printed of its rows, or the number of its refusal and the line that it names.
@@ -162,11 +161,10 @@ static READ: [(&[u8], Result<&[u8], (u32, u64)>); 8] = [
 ];
 
 #[test]
-fn reads_a_text_wherever_it_is_cut(rt: HostRuntime) -> Result<(), Fail> {
+fn reads_a_text_wherever_it_is_cut(rt: HostRuntime) {
     for &(text, said) in &READ {
-        is_read(&rt, rt.alloc(), text, said)?;
+        assert!(rt; is_read(rt.alloc(), text, said).expect(&rt, "memory"));
     }
-    Ok(())
 }
 
 // The text of the load of so many packets that is made of a number.
@@ -195,22 +193,26 @@ fn is_read_in_pieces(alloc: Global, text: &[u8], size: usize) -> Result<bool, Ou
 
 static SIZES: [usize; 5] = [1, 2, 13, 27, 65_536];
 
-fn is_read_in_any_pieces(rt: &impl Abort, alloc: Global, text: &[u8]) -> Result<(), Fail> {
+// Whether a text is so in pieces of any size.
+fn is_read_in_any_pieces(alloc: Global, text: &[u8]) -> Result<bool, OutOfMemory> {
     for &size in &SIZES {
-        assert!(rt;
-            is_read_in_pieces(alloc, text, size)?,
-            "in pieces of {size}"
-        );
+        if !is_read_in_pieces(alloc, text, size)? {
+            return Ok(false);
+        }
     }
-    Ok(())
+    Ok(true)
+}
+
+// Whether a text has ten thousand rows, and is printed as it was.
+fn has_ten_thousand(alloc: Global, text: &[u8]) -> Result<bool, ScheduleError> {
+    Ok(count_rows(alloc, text)? == 10_000 && is_printed(alloc, text, text)?)
 }
 
 #[test]
-fn ten_thousand_rows_are_read_in_pieces_of_any_size(rt: HostRuntime) -> Result<(), Fail> {
-    let text = load_text(rt.alloc(), 7, 10_000)?;
-    assert!(rt; count_rows(rt.alloc(), text.as_slice())? == 10_000);
-    assert!(rt; is_printed(rt.alloc(), text.as_slice(), text.as_slice())?);
-    is_read_in_any_pieces(&rt, rt.alloc(), text.as_slice())
+fn ten_thousand_rows_are_read_in_pieces_of_any_size(rt: HostRuntime) {
+    let text = load_text(rt.alloc(), 7, 10_000).expect(&rt, "memory");
+    assert!(rt; has_ten_thousand(rt.alloc(), text.as_slice()).expect(&rt, "a schedule"));
+    assert!(rt; is_read_in_any_pieces(rt.alloc(), text.as_slice()).expect(&rt, "memory"));
 }
 
 // A line, and how it is refused after those before it.
@@ -241,18 +243,21 @@ static DRAWN: [u32; 11] = [
     149, 11249, 57305, 38044, 35283, 24819, 26463, 18689, 25472, 9901, 21742,
 ];
 
-fn draws_as_said(rt: &impl Abort) {
+// Whether those are drawn.
+fn draws_as_said() -> bool {
     let mut draws = Draws::new(65537);
     for &value in &DRAWN {
-        assert!(rt; draws.draw() == value);
+        if draws.draw() != value {
+            return false;
+        }
     }
+    true
 }
 
 const LOAD: &[u8] = b"1 up 366\n1 down 1483\n4 up 675\n";
 
 #[test]
-fn makes_loads(rt: HostRuntime) -> Result<(), Fail> {
-    assert!(rt; load_text(rt.alloc(), 1, 3)?.as_slice() == LOAD);
-    draws_as_said(&rt);
-    Ok(())
+fn makes_loads(rt: HostRuntime) {
+    let load = load_text(rt.alloc(), 1, 3).expect(&rt, "memory");
+    assert!(rt; load.as_slice() == LOAD && draws_as_said());
 }

@@ -1,7 +1,5 @@
 // Bytes and texts that grow, numbers in digits, and the lines of a text.
 use std::alloc::Global;
-use std::process::Abort;
-use std::test::Fail;
 use text_base::{Bytes, Lines, OutOfMemory, Text, read_canonical, read_decimal, write_decimal};
 
 fn is_shared<T: Send + Sync>(_: &T) {}
@@ -15,24 +13,36 @@ fn grown(alloc: Global) -> Result<Bytes, OutOfMemory> {
     Ok(bytes)
 }
 
-fn bytes_grow(rt: &impl Abort, alloc: Global) -> Result<(), Fail> {
-    let mut bytes = grown(alloc)?;
-    assert!(rt; bytes.as_slice() == b"abc".as_slice());
-    assert!(rt; bytes.clone()? == bytes);
-    is_shared(&bytes);
+// Whether bytes are these, as is a copy of them, and none once they are cleared.
+fn is_cleared(bytes: &mut Bytes, said: &[u8]) -> Result<bool, OutOfMemory> {
+    let is_same = bytes.as_slice() == said && bytes.clone()? == *bytes;
     bytes.clear();
-    assert!(rt; bytes.is_empty());
-    Ok(())
+    Ok(is_same && bytes.is_empty())
+}
+
+// Whether a text has so many bytes, as has a copy of it.
+fn is_copied(text: &Text, length: usize) -> Result<bool, OutOfMemory> {
+    Ok(text.clone()? == *text && text.len() == length)
+}
+
+// Whether bytes grow.
+fn bytes_grow(alloc: Global) -> Result<bool, OutOfMemory> {
+    let mut bytes = grown(alloc)?;
+    is_shared(&bytes);
+    is_cleared(&mut bytes, b"abc")
+}
+
+// Whether a text is made.
+fn text_is_made(alloc: Global) -> Result<bool, OutOfMemory> {
+    let text = Text::from_text(alloc, "name")?;
+    is_shared(&text);
+    is_copied(&text, 4)
 }
 
 #[test]
-fn bytes_and_texts_grow_and_go_between_threads(rt: HostRuntime) -> Result<(), Fail> {
-    bytes_grow(&rt, rt.alloc())?;
-    let text = Text::from_text(rt.alloc(), "name")?;
-    assert!(rt; text.clone()? == text);
-    assert!(rt; text.len() == 4);
-    is_shared(&text);
-    Ok(())
+fn bytes_and_texts_grow_and_go_between_threads(rt: HostRuntime) {
+    assert!(rt; bytes_grow(rt.alloc()).expect(&rt, "memory"));
+    assert!(rt; text_is_made(rt.alloc()).expect(&rt, "memory"));
 }
 
 // A text, and the number that it is read as, canonical or not.
@@ -62,29 +72,31 @@ fn written(alloc: Global) -> Result<Bytes, OutOfMemory> {
 }
 
 #[test]
-fn numbers_are_read_and_written(rt: HostRuntime) -> Result<(), Fail> {
+fn numbers_are_read_and_written(rt: HostRuntime) {
     for &(text, decimal, canonical) in &READ {
         assert!(rt;
             is_read_as(text.as_bytes(), decimal, canonical),
             "of {text}"
         );
     }
-    assert!(rt; written(rt.alloc())?.as_slice() == b"018446744073709551615".as_slice());
-    Ok(())
+    let written = written(rt.alloc()).expect(&rt, "memory");
+    assert!(rt; written.as_slice() == b"018446744073709551615".as_slice());
 }
 
-// The lines of a text are these.
-fn has_lines(rt: &impl Abort, text: &[u8], said: &[&[u8]]) {
+// Whether the lines of a text are these.
+fn has_lines(text: &[u8], said: &[&[u8]]) -> bool {
     let mut lines = Lines::new(text);
     for line in said {
-        assert!(rt; lines.next() == Some(*line));
+        if lines.next() != Some(*line) {
+            return false;
+        }
     }
-    assert!(rt; lines.next().is_none());
+    lines.next().is_none()
 }
 
 #[test]
 fn a_text_is_cut_at_each_line_feed(rt: HostRuntime) {
-    has_lines(&rt, b"a\r\n\nb", &[b"a\r", b"", b"b"]);
-    has_lines(&rt, b"", &[]);
+    assert!(rt; has_lines(b"a\r\n\nb", &[b"a\r", b"", b"b"]));
+    assert!(rt; has_lines(b"", &[]));
     assert!(rt; Lines::new(b"a\n").count() == 1);
 }

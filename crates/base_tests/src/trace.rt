@@ -1,7 +1,6 @@
 // Traces read, printed, played and made.
 use std::alloc::Global;
-use std::process::Abort;
-use std::test::Fail;
+use std::fmt::Write;
 use text_base::OutOfMemory;
 use trace_reader::{Form, Trace, TraceError, make_trace, print_trace, read_trace};
 
@@ -50,49 +49,54 @@ fn prints(alloc: Global, trace: &Trace, said: &[u8]) -> Result<bool, OutOfMemory
     Ok(text.as_slice() == said)
 }
 
-// A copy of a text's trace is printed so.
-fn is_copied(rt: &impl Abort, alloc: Global, text: &[u8], said: &[u8]) -> Result<(), Fail> {
+// Whether a copy of a text's trace is printed so.
+fn is_copied(alloc: Global, text: &[u8], said: &[u8]) -> Result<bool, TraceError> {
     let trace = trace_of(alloc, text)?;
     is_shared(&trace);
     let copy = trace.copy()?;
-    assert!(rt; prints(alloc, &copy, said)?);
-    Ok(())
+    Ok(prints(alloc, &copy, said)?)
+}
+
+// Whether a text that states bytes is read and printed.
+fn is_stated(alloc: Global, text: &[u8]) -> Result<bool, TraceError> {
+    let trace = trace_of(alloc, text)?;
+    Ok(trace.form() == Form::MomentsAndBytes && prints(alloc, &trace, text)?)
 }
 
 // A text that states bytes.
 const STATED: &[u8] = b"# mm-trace 2\n1 500\n2 3000\n";
 
 #[test]
-fn traces_are_printed(rt: HostRuntime) -> Result<(), Fail> {
-    is_copied(&rt, rt.alloc(), b"007", b"7\n")?;
-    let stated = trace_of(rt.alloc(), STATED)?;
-    assert!(rt; stated.form() == Form::MomentsAndBytes);
-    assert!(rt; prints(rt.alloc(), &stated, STATED)?);
-    Ok(())
+fn traces_are_printed(rt: HostRuntime) {
+    assert!(rt; is_copied(rt.alloc(), b"007", b"7\n").expect(&rt, "a trace"));
+    assert!(rt; is_stated(rt.alloc(), STATED).expect(&rt, "a trace"));
 }
 
 // Ten thousand lines after a first one, each of a moment and this end.
-fn long_text(alloc: Global, first: &str, end: &str) -> Result<String, Fail> {
+fn long_text(alloc: Global, first: &str, end: &str) -> Result<String, OutOfMemory> {
     let mut text = String::from_str(alloc, first)?;
     for moment in 0..10_000u32 {
-        text.push_str(format!(in alloc; "{moment}{end}")?.as_str())?;
+        write!(text, "{moment}{end}")?;
     }
     Ok(text)
 }
 
-// Such a text is read and printed.
-fn is_printed_again(rt: &impl Abort, alloc: Global, first: &str, end: &str) -> Result<(), Fail> {
+// Whether a text of ten thousand lines is read and printed.
+fn is_printed_again(alloc: Global, text: &[u8]) -> Result<bool, TraceError> {
+    let trace = trace_of(alloc, text)?;
+    Ok(trace.len() == 10_000 && prints(alloc, &trace, text)?)
+}
+
+// Whether such a text with this first line and these ends is read and printed.
+fn is_long(alloc: Global, first: &str, end: &str) -> Result<bool, TraceError> {
     let text = long_text(alloc, first, end)?;
-    let trace = trace_of(alloc, text.as_bytes())?;
-    assert!(rt; trace.len() == 10_000);
-    assert!(rt; prints(alloc, &trace, text.as_bytes())?);
-    Ok(())
+    is_printed_again(alloc, text.as_bytes())
 }
 
 #[test]
-fn ten_thousand_lines_are_read_and_printed(rt: HostRuntime) -> Result<(), Fail> {
-    is_printed_again(&rt, rt.alloc(), "", "\n")?;
-    is_printed_again(&rt, rt.alloc(), "# mm-trace 2\n", " 1000000\n")
+fn ten_thousand_lines_are_read_and_printed(rt: HostRuntime) {
+    assert!(rt; is_long(rt.alloc(), "", "\n").expect(&rt, "a trace"));
+    assert!(rt; is_long(rt.alloc(), "# mm-trace 2\n", " 1000000\n").expect(&rt, "a trace"));
 }
 
 // Whether opportunity number `j` is at this moment, over as many laps as it takes.
@@ -115,10 +119,14 @@ static MOMENTS: [(u16, u64); 8] = [
     (7, 20),
 ];
 
-fn are_at_their_moments(rt: &impl Abort, trace: &Trace) {
+// Whether each opportunity is at its moment.
+fn are_at_their_moments(trace: &Trace) -> bool {
     for &(j, moment) in &MOMENTS {
-        assert!(rt; is_at(trace, j, moment));
+        if !is_at(trace, j, moment) {
+            return false;
+        }
     }
+    true
 }
 
 // Whether a trace has so many opportunities up to 15.
@@ -126,14 +134,18 @@ fn has_up_to_15(trace: &Trace, once: bool, count: u64) -> bool {
     trace.count_to(15, once) == count
 }
 
+// Whether a trace of two opportunities up to 5 begins again, and without laps doesn't.
+fn begins_again(trace: &Trace) -> bool {
+    has_up_to_15(trace, false, 7)
+        && has_up_to_15(trace, true, 2)
+        && trace.opportunity(2, true).is_none()
+        && are_at_their_moments(trace)
+}
+
 #[test]
-fn a_trace_begins_again_at_its_last_moment(rt: HostRuntime) -> Result<(), Fail> {
-    let trace = trace_of(rt.alloc(), b"0\n5\n")?;
-    assert!(rt; has_up_to_15(&trace, false, 7));
-    assert!(rt; has_up_to_15(&trace, true, 2));
-    assert!(rt; trace.opportunity(2, true).is_none());
-    are_at_their_moments(&rt, &trace);
-    Ok(())
+fn a_trace_begins_again_at_its_last_moment(rt: HostRuntime) {
+    let trace = trace_of(rt.alloc(), b"0\n5\n").expect(&rt, "a trace");
+    assert!(rt; begins_again(&trace));
 }
 
 // The first lines of a made trace.
@@ -145,11 +157,14 @@ fn begins(alloc: Global, trace: &Trace, first: &[u8]) -> Result<bool, OutOfMemor
     Ok(text.as_slice().starts_with(first))
 }
 
+// Whether a trace has a hundred lines, the last of which is at its last moment.
+fn has_a_hundred(trace: &Trace) -> bool {
+    trace.len() == 100 && trace.at(trace.len() - 1).moment == trace.last_moment()
+}
+
 #[test]
-fn a_trace_is_made(rt: HostRuntime) -> Result<(), Fail> {
-    let trace = make_trace(rt.alloc(), 1)?;
-    assert!(rt; trace.len() == 100);
-    assert!(rt; begins(rt.alloc(), &trace, FIRST)?);
-    assert!(rt; trace.at(trace.len() - 1).moment == trace.last_moment());
-    Ok(())
+fn a_trace_is_made(rt: HostRuntime) {
+    let trace = make_trace(rt.alloc(), 1).expect(&rt, "memory");
+    assert!(rt; has_a_hundred(&trace));
+    assert!(rt; begins(rt.alloc(), &trace, FIRST).expect(&rt, "memory"));
 }

@@ -3,6 +3,10 @@
 #![tactic(auto)]
 
 #[cfg(test)]
+mod case;
+#[cfg(test)]
+mod command;
+#[cfg(test)]
 mod made;
 #[cfg(test)]
 mod make;

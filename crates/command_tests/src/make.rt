@@ -1,27 +1,33 @@
 // Summaries of runs that are made of a number.
-use command_make::answer_make;
+use crate::case::{Case, pass};
+use crate::command::Command;
 use std::alloc::Global;
-use test_outside::{TestOutside, words_of};
-use text_base::OutOfMemory;
-
-// Whether the words after `make`, over an `out` whose call of this number fails, have this status and print this.
-fn ends_with(
-    alloc: Global,
-    words: &str,
-    fails: u64,
-    status: u8,
-    printed: &str,
-) -> Result<bool, OutOfMemory> {
-    let words = words_of(alloc, words)?;
-    let mut outside = TestOutside::new(alloc, &[], &[], &[fails])?;
-    let answer = answer_make(alloc, &words, &mut outside.out);
-    Ok(outside.ends_with(answer, status, printed, &[]))
-}
+use std::marker::Sync;
+use std::process::Abort;
+use std::sync::Wait;
+use std::thread::Threads;
 
 const SUMMARY: &str = "packets 3\ndeparted 3\ndropped 0\ninside 0\nunsent 0\nbytes 2524\nlast 26\n";
 
-// The words, which call of `out` fails, the status, and what is printed. `out` takes the summary in one call.
-static ROWS: [(&str, u64, u8, &str); 10] = [
+// The words, which call of `out` fails, the status, and what is printed.
+type Row = (&'static str, u64, u8, &'static str);
+
+// `make` leaves what a row states.
+fn makes<R: Abort + Threads + Wait + Sync>(rt: &R, alloc: Global, row: &Row) {
+    let (words, call, status, printed) = *row;
+    let case = Case {
+        words: &[words],
+        files: &[],
+        fails: (0, call, 0),
+        status,
+        printed,
+        left: &[],
+    };
+    pass(rt, alloc, Command::Make, &case);
+}
+
+// `out` takes the summary in one call.
+static CASES: [Row; 10] = [
     ("--number 1 --packets 3", 9, 0, SUMMARY),
     ("--packets=03 --number=01", 9, 0, SUMMARY),
     ("--number 1 --packets 3", 1, 7, ""),
@@ -36,8 +42,7 @@ static ROWS: [(&str, u64, u8, &str); 10] = [
 
 #[test]
 fn summaries_are_printed(rt: HostRuntime) {
-    for &(words, call, status, printed) in &ROWS {
-        let is_left = ends_with(rt.alloc(), words, call, status, printed);
-        assert!(rt; is_left.expect(&rt, "memory"), "at {words}");
+    for row in &CASES {
+        makes(&rt, rt.alloc(), row);
     }
 }

@@ -1,16 +1,18 @@
 // Whole command lines over files and a port in memory.
+use crate::case::{Case, pass};
+use crate::command::Command;
 use mm_base::{MemPort, NoPace};
 use mm_program::mm_main;
 use std::alloc::Global;
 use std::marker::Sync;
+use std::process::Abort;
 use std::sync::Wait;
 use std::thread::Threads;
-use test_outside::{ABSENT, TestOutside, words_of};
-use text_base::OutOfMemory;
+use test_outside::{ABSENT, TestOutside};
 
 // The files that are there: a trace, a schedule whose packet is too long, another, a log of one entry, and a list of
 // two senders.
-static FILES: [(&str, &str); 5] = [
+const FILES: &[(&str, &str)] = &[
     ("t", "1\n"),
     ("x", "0 up 1505\n"),
     ("s", "5 up 100\n"),
@@ -19,7 +21,7 @@ static FILES: [(&str, &str); 5] = [
 ];
 
 // The status of a command line, without what the contract of `mm_main` says of it.
-fn status_of<R: Threads + Wait + Sync>(
+pub(crate) fn status_of<R: Threads + Wait + Sync>(
     rt: &R,
     alloc: Global,
     words: &[String],
@@ -37,21 +39,21 @@ fn status_of<R: Threads + Wait + Sync>(
     )
 }
 
-// Whether these words, over an `out` whose call of this number fails, have this status, and leave this on `out` and
-// this in `f`.
-fn leaves<R: Threads + Wait + Sync>(
-    rt: &R,
-    alloc: Global,
-    words: &str,
-    fails: u64,
-    status: u8,
-    printed: &str,
-    fates: &str,
-) -> Result<bool, OutOfMemory> {
-    let words = words_of(alloc, words)?;
-    let mut outside = TestOutside::new(alloc, &FILES, &[], &[fails])?;
-    let answered = status_of(rt, alloc, &words, &mut outside);
-    Ok(answered == status && outside.is_left(printed, &[("f", fates)]))
+// The words, which call of `out` fails, the status, what is printed, and what `f` holds.
+type Row = (&'static str, u64, u8, &'static str, &'static str);
+
+// A command line leaves what a row states.
+fn runs<R: Abort + Threads + Wait + Sync>(rt: &R, alloc: Global, row: &Row) {
+    let (words, call, status, printed, fates) = *row;
+    let case = Case {
+        words: &[words],
+        files: FILES,
+        fails: (0, call, 0),
+        status,
+        printed,
+        left: &[("f", fates)],
+    };
+    pass(rt, alloc, Command::Mm, &case);
 }
 
 const REPORT: &str =
@@ -59,8 +61,7 @@ const REPORT: &str =
 
 const SUMMARY: &str = "packets 3\ndeparted 3\ndropped 0\ninside 0\nunsent 0\nbytes 2524\nlast 26\n";
 
-// The words, which call of `out` fails, the status, what is printed, and what `f` holds.
-static JOBS: [(&str, u64, u8, &str, &str); 13] = [
+static JOBS: [Row; 13] = [
     (
         "run --until 100 --schedule s --out f -- mm-delay 20",
         0,
@@ -108,9 +109,8 @@ static JOBS: [(&str, u64, u8, &str, &str); 13] = [
 
 #[test]
 fn each_command_does_its_job(rt: HostRuntime) {
-    for &(words, fails, status, printed, fates) in &JOBS {
-        let is_left = leaves(&rt, rt.alloc(), words, fails, status, printed, fates);
-        assert!(rt; is_left.expect(&rt, "memory"), "at {words}");
+    for row in &JOBS {
+        runs(&rt, rt.alloc(), row);
     }
 }
 
@@ -118,25 +118,23 @@ const TOO_LONG: &str = "run --until 9 --schedule x --out f -- mm-delay 20";
 
 const NO_RATE: &str = "run --until 9 --schedule s --out f -- mm-loss uplink 2";
 
-// The words, which call of `out` fails, the status, and the front of the line that is printed. The first line is
-// written in seven pieces.
-static FRONTS: [(&str, u64, u8, &str); 10] = [
-    (TOO_LONG, 1, 4, ""),
-    (TOO_LONG, 2, 4, "mm: bad input "),
-    (TOO_LONG, 3, 4, "mm: bad input x"),
-    (TOO_LONG, 4, 4, "mm: bad input x "),
-    (TOO_LONG, 5, 4, "mm: bad input x 2"),
-    (TOO_LONG, 6, 4, "mm: bad input x 2 "),
-    (TOO_LONG, 7, 4, "mm: bad input x 2 1"),
-    (TOO_LONG, 8, 4, "mm: bad input x 2 1\n"),
-    (NO_RATE, 5, 2, "mm: nest 9 1"),
-    (NO_RATE, 7, 2, "mm: nest 9 1 2"),
+// The front of the line that is printed where each call of `out` fails. The first line is written in seven pieces.
+static FRONTS: [Row; 10] = [
+    (TOO_LONG, 1, 4, "", ABSENT),
+    (TOO_LONG, 2, 4, "mm: bad input ", ABSENT),
+    (TOO_LONG, 3, 4, "mm: bad input x", ABSENT),
+    (TOO_LONG, 4, 4, "mm: bad input x ", ABSENT),
+    (TOO_LONG, 5, 4, "mm: bad input x 2", ABSENT),
+    (TOO_LONG, 6, 4, "mm: bad input x 2 ", ABSENT),
+    (TOO_LONG, 7, 4, "mm: bad input x 2 1", ABSENT),
+    (TOO_LONG, 8, 4, "mm: bad input x 2 1\n", ABSENT),
+    (NO_RATE, 5, 2, "mm: nest 9 1", ABSENT),
+    (NO_RATE, 7, 2, "mm: nest 9 1 2", ABSENT),
 ];
 
 #[test]
 fn each_call_of_the_sink_fails_in_turn(rt: HostRuntime) {
-    for &(words, call, status, front) in &FRONTS {
-        let is_left = leaves(&rt, rt.alloc(), words, call, status, front, ABSENT);
-        assert!(rt; is_left.expect(&rt, "memory"), "at call {call} of {words}");
+    for row in &FRONTS {
+        runs(&rt, rt.alloc(), row);
     }
 }

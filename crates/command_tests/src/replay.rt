@@ -2,11 +2,14 @@
 ghost use Rattle.std.specs.Prelude.{IfOk};
 ghost use Rattle.mm_base.specs.MemLink.{IsUnused};
 
+use crate::case::{Case, pass};
+use crate::command::Command;
 use command_ends::Cause;
 use command_replay::answer_replay;
 use mm_base::{MemLink, MemPort, NoPace};
 use std::alloc::Global;
 use std::marker::Sync;
+use std::process::Abort;
 use std::sync::Wait;
 use std::thread::Threads;
 use test_outside::{TestOutside, words_of};
@@ -61,47 +64,67 @@ fn answered<R: Threads + Wait + Sync>(
     )
 }
 
-// Whether the words after `replay`, over a disk with this store and a port with two links, have this status and print
-// this. The calls of these numbers of the disk, of `out` and of the port fail, and the third of the first link.
-fn ends_with<R: Threads + Wait + Sync>(
+// The answer of `replay` at a port with two links, whose call of this number fails, and the third of the first link.
+pub(crate) fn answer_at_two<R: Threads + Wait + Sync>(
     rt: &R,
     alloc: Global,
-    words: &str,
-    store: &str,
-    fails: (u64, u64, u64),
-    status: u8,
-    printed: &str,
-) -> Result<bool, OutOfMemory> {
-    let words = words_of(alloc, words)?;
-    let mut outside = TestOutside::new(alloc, &[("s", store)], &[fails.0], &[fails.1])?;
-    let mut port = port_of_two(alloc, fails.2)?;
-    let answer = answered(rt, alloc, &words, &mut outside, &mut port);
-    Ok(outside.ends_with(answer, status, printed, &[("s", store)]))
+    words: &[String],
+    outside: &mut TestOutside,
+    fails: u64,
+) -> Result<(), Cause> {
+    let mut port = port_of_two(alloc, fails)?;
+    answered(rt, alloc, words, outside, &mut port)
+}
+
+// The words, the store, which calls of the disk, of `out` and of the port fail, the status, and what is printed. The
+// store stays as it is.
+type Row = (
+    &'static str,
+    &'static str,
+    (u64, u64, u64),
+    u8,
+    &'static str,
+);
+
+// `replay` leaves what a row states.
+fn replays<R: Abort + Threads + Wait + Sync>(rt: &R, alloc: Global, row: &Row) {
+    let (words, store, fails, status, printed) = *row;
+    let case = Case {
+        words: &[words],
+        files: &[("s", store)],
+        fails,
+        status,
+        printed,
+        left: &[("s", store)],
+    };
+    pass(rt, alloc, Command::Replay, &case);
 }
 
 const SERVED: &str = "closed 1 bad 0 broken 1 full 0\n";
 
 const SERVE_TWO: &str = "--store s --port 80 --connections 2";
 
-// The words, which calls of the disk, of `out` and of the port fail, the status, and what is printed.
-static SERVINGS: [(&str, (u64, u64, u64), u8, &str); 6] = [
-    (SERVE_TWO, (0, 0, 0), 0, SERVED),
+static SERVINGS: [Row; 6] = [
+    (SERVE_TWO, STORE, (0, 0, 0), 0, SERVED),
     (
         "--connections=3 --port=0080 --store=s",
+        STORE,
         (0, 0, 0),
         0,
         SERVED,
     ),
     (
         "--store s --port 80 --connections 1",
+        STORE,
         (0, 0, 0),
         0,
         "closed 0 bad 0 broken 1 full 0\n",
     ),
-    (SERVE_TWO, (0, 1, 0), 7, ""),
-    (SERVE_TWO, (1, 0, 0), 6, "mm: read fault s\n"),
+    (SERVE_TWO, STORE, (0, 1, 0), 7, ""),
+    (SERVE_TWO, STORE, (1, 0, 0), 6, "mm: read fault s\n"),
     (
         "--store t --port 80 --connections 2",
+        STORE,
         (0, 0, 0),
         3,
         "mm: absent t\n",
@@ -110,61 +133,77 @@ static SERVINGS: [(&str, (u64, u64, u64), u8, &str); 6] = [
 
 #[test]
 fn a_serving_prints_how_connections_ended(rt: HostRuntime) {
-    for &(words, fails, status, printed) in &SERVINGS {
-        let is_left = ends_with(&rt, rt.alloc(), words, STORE, fails, status, printed);
-        assert!(rt; is_left.expect(&rt, "memory"), "at {words}");
+    for row in &SERVINGS {
+        replays(&rt, rt.alloc(), row);
     }
 }
 
 const NET_FAULT: &str = "mm: net fault\n";
 
 // The calls of the port are listening, two of accepting, and two of finishing.
+static FAULTS: [Row; 5] = [
+    (SERVE_TWO, STORE, (0, 0, 1), 8, NET_FAULT),
+    (SERVE_TWO, STORE, (0, 0, 2), 8, NET_FAULT),
+    (SERVE_TWO, STORE, (0, 0, 3), 8, NET_FAULT),
+    (SERVE_TWO, STORE, (0, 0, 4), 8, NET_FAULT),
+    (SERVE_TWO, STORE, (0, 0, 5), 8, NET_FAULT),
+];
+
 #[test]
 fn a_port_that_fails_is_a_fault_of_the_net(rt: HostRuntime) {
-    for call in 1..6u64 {
-        let fails = (0, 0, call);
-        let is_left = ends_with(&rt, rt.alloc(), SERVE_TWO, STORE, fails, 8, NET_FAULT);
-        assert!(rt; is_left.expect(&rt, "memory"), "at {call}");
+    for row in &FAULTS {
+        replays(&rt, rt.alloc(), row);
     }
 }
 
-// The words, the text of the store, the status, and what is printed.
-static REFUSED: [(&str, &str, u8, &str); 8] = [
+static REFUSED: [Row; 8] = [
     (
         "--store s --port 0 --connections 2",
         STORE,
+        (0, 0, 0),
         2,
         "mm: usage\n",
     ),
     (
         "--store s --port 65536 --connections 2",
         STORE,
+        (0, 0, 0),
         2,
         "mm: usage\n",
     ),
     (
         "--store s --port 80 --connections 0",
         STORE,
+        (0, 0, 0),
         2,
         "mm: usage\n",
     ),
     (
         "--store s --port 80 --connections 65",
         STORE,
+        (0, 0, 0),
         2,
         "mm: usage\n",
     ),
-    ("--store s --port 80", STORE, 2, "mm: usage\n"),
+    ("--store s --port 80", STORE, (0, 0, 0), 2, "mm: usage\n"),
     (
         "--store s --port 80 --connections 2 --site-port 0",
         STORE,
+        (0, 0, 0),
         2,
         "mm: usage\n",
     ),
-    (SERVE_TWO, "MMSTORE 3\n", 4, "mm: bad input s 1 0\n"),
+    (
+        SERVE_TWO,
+        "MMSTORE 3\n",
+        (0, 0, 0),
+        4,
+        "mm: bad input s 1 0\n",
+    ),
     (
         SERVE_TWO,
         "MMSTORE 1\nrecord 0 0\n\n",
+        (0, 0, 0),
         4,
         "mm: bad input s 4 1\n",
     ),
@@ -172,9 +211,8 @@ static REFUSED: [(&str, &str, u8, &str); 8] = [
 
 #[test]
 fn words_and_stores_are_refused(rt: HostRuntime) {
-    for &(words, store, status, printed) in &REFUSED {
-        let is_left = ends_with(&rt, rt.alloc(), words, store, (0, 0, 0), status, printed);
-        assert!(rt; is_left.expect(&rt, "memory"), "at {words}");
+    for row in &REFUSED {
+        replays(&rt, rt.alloc(), row);
     }
 }
 

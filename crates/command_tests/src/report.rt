@@ -1,8 +1,11 @@
 // Reports of logs in memory.
-use command_report::answer_report;
+use crate::case::{Case, pass};
+use crate::command::Command;
 use std::alloc::{AllocError, Global};
-use test_outside::{TestOutside, words_of};
-use text_base::OutOfMemory;
+use std::marker::Sync;
+use std::process::Abort;
+use std::sync::Wait;
+use std::thread::Threads;
 
 // The log of five packets through a queue of two.
 const LOG: &str =
@@ -12,44 +15,53 @@ const LOG: &str =
 const REPORT: &str =
     "entries 13\nspan 0 3\narrived 5 4300\noffered 3 4512\ndeparted 4 3500\ndropped 1 800\nused 775\ndelay 1 2 2\n";
 
-// Whether the words after `report`, over a disk with this log, have this status and print this. The calls of these
-// numbers fail. The log stays as it is.
-fn ends_with(
-    alloc: Global,
-    words: &str,
-    log: &str,
-    fails: (u64, u64),
-    status: u8,
-    printed: &str,
-) -> Result<bool, OutOfMemory> {
-    let words = words_of(alloc, words)?;
-    let mut outside = TestOutside::new(alloc, &[("l", log)], &[fails.0], &[fails.1])?;
-    let answer = answer_report(alloc, &words, &mut outside.disk, &mut outside.out);
-    Ok(outside.ends_with(answer, status, printed, &[("l", log)]))
+// The words, the log, which calls of the disk and of `out` fail, the status, and what is printed. The log stays as it
+// is.
+type Row = (&'static str, &'static str, (u64, u64), u8, &'static str);
+
+// `report` leaves what a row states.
+fn reports<R: Abort + Threads + Wait + Sync>(rt: &R, alloc: Global, row: &Row) {
+    let (words, log, (disk, out), status, printed) = *row;
+    let case = Case {
+        words: &[words],
+        files: &[("l", log)],
+        fails: (disk, out, 0),
+        status,
+        printed,
+        left: &[("l", log)],
+    };
+    pass(rt, alloc, Command::Report, &case);
 }
 
-// The log, the status, and what is printed.
-static LOGS: [(&str, u8, &str); 7] = [
-    (LOG, 0, REPORT),
-    ("# base timestamp: 0\n", 0, "empty\n"),
+static LOGS: [Row; 7] = [
+    ("--log l", LOG, (0, 0), 0, REPORT),
+    ("--log l", "# base timestamp: 0\n", (0, 0), 0, "empty\n"),
     (
+        "--log l",
         "# base timestamp: 0\n0 + 1504\n0 + 1504\n1 # 500\n2 # 3000\n2 - 1504 2\n2 - 1504 2\n3 # 500\n4 # 3000\n",
+        (0, 0),
         0,
         "entries 8\nspan 0 4\narrived 2 3008\noffered 4 7000\ndeparted 2 3008\ndropped 0 0\nused 429\ndelay 2 2 2\n",
     ),
     (
+        "--log l",
         "# base timestamp: 0\n7 + 40\n",
+        (0, 0),
         0,
         "entries 1\nspan 7 7\narrived 1 40\noffered 0 0\ndeparted 0 0\ndropped 0 0\nused none\ndelay none\n",
     ),
-    ("", 4, "mm: bad input l 1 0\n"),
+    ("--log l", "", (0, 0), 4, "mm: bad input l 1 0\n"),
     (
+        "--log l",
         "# base timestamp: 0\n1 # 1504\n1 x 9\n",
+        (0, 0),
         4,
         "mm: bad input l 2 3\n",
     ),
     (
+        "--log l",
         "# base timestamp: 0\n1 # 1504\n0 # 1504\n",
+        (0, 0),
         4,
         "mm: bad input l 3 3\n",
     ),
@@ -57,48 +69,44 @@ static LOGS: [(&str, u8, &str); 7] = [
 
 #[test]
 fn reports_are_printed(rt: HostRuntime) {
-    for &(log, status, printed) in &LOGS {
-        let is_left = ends_with(rt.alloc(), "--log l", log, (0, 0), status, printed);
-        assert!(rt; is_left.expect(&rt, "memory"), "at {printed}");
+    for row in &LOGS {
+        reports(&rt, rt.alloc(), row);
     }
 }
 
-// The words, the status, and what is printed.
-static REFUSED: [(&str, u8, &str); 7] = [
-    ("", 2, "mm: usage\n"),
-    ("--log", 2, "mm: usage\n"),
-    ("--log l --log l", 2, "mm: usage\n"),
-    ("--log l x", 2, "mm: usage\n"),
-    ("--log l --", 2, "mm: usage\n"),
-    ("--log=l --out f", 2, "mm: usage\n"),
-    ("--log=x", 3, "mm: absent x\n"),
+static REFUSED: [Row; 7] = [
+    ("", LOG, (0, 0), 2, "mm: usage\n"),
+    ("--log", LOG, (0, 0), 2, "mm: usage\n"),
+    ("--log l --log l", LOG, (0, 0), 2, "mm: usage\n"),
+    ("--log l x", LOG, (0, 0), 2, "mm: usage\n"),
+    ("--log l --", LOG, (0, 0), 2, "mm: usage\n"),
+    ("--log=l --out f", LOG, (0, 0), 2, "mm: usage\n"),
+    ("--log=x", LOG, (0, 0), 3, "mm: absent x\n"),
 ];
 
 #[test]
 fn words_are_refused(rt: HostRuntime) {
-    for &(words, status, line) in &REFUSED {
-        let is_left = ends_with(rt.alloc(), words, LOG, (0, 0), status, line);
-        assert!(rt; is_left.expect(&rt, "memory"), "at {words}");
+    for row in &REFUSED {
+        reports(&rt, rt.alloc(), row);
     }
 }
 
-// Which calls fail, the status, and what is printed. The disk is asked for a size and a piece, and `out` takes the
-// report in one call.
-static FAULTS: [((u64, u64), u8, &str); 4] = [
-    ((1, 9), 6, "mm: read fault l\n"),
-    ((2, 9), 6, "mm: read fault l\n"),
-    ((9, 1), 7, ""),
-    ((9, 9), 0, REPORT),
+// The disk is asked for a size and a piece, and `out` takes the report in one call.
+static FAULTS: [Row; 4] = [
+    ("--log l", LOG, (1, 9), 6, "mm: read fault l\n"),
+    ("--log l", LOG, (2, 9), 6, "mm: read fault l\n"),
+    ("--log l", LOG, (9, 1), 7, ""),
+    ("--log l", LOG, (9, 9), 0, REPORT),
 ];
 
 #[test]
 fn each_call_fails_in_turn(rt: HostRuntime) {
-    for &(fails, status, printed) in &FAULTS {
-        let is_left = ends_with(rt.alloc(), "--log l", LOG, fails, status, printed);
-        assert!(rt; is_left.expect(&rt, "memory"), "at {printed}");
+    for row in &FAULTS {
+        reports(&rt, rt.alloc(), row);
     }
 }
 
+// A log of many pieces, which is refused at its last line.
 fn long_log(alloc: Global) -> Result<String, AllocError> {
     let mut log = String::from_str(alloc, "# base timestamp: 0\n")?;
     for _ in 0..20000 {
@@ -108,11 +116,27 @@ fn long_log(alloc: Global) -> Result<String, AllocError> {
     Ok(log)
 }
 
-// A log of many pieces is refused at its last line, which is counted over all of them.
+// This log is refused by this line.
+fn refuses<'a, R: Abort + Threads + Wait + Sync>(
+    rt: &R,
+    alloc: Global,
+    log: &'a str,
+    line: &'a str,
+) {
+    let case = Case {
+        words: &["--log l"],
+        files: &[("l", log)],
+        fails: (0, 0, 0),
+        status: 4,
+        printed: line,
+        left: &[("l", log)],
+    };
+    pass(rt, alloc, Command::Report, &case);
+}
+
+// The line of a log of many pieces is counted over all of them.
 #[test]
 fn the_line_is_that_of_the_file(rt: HostRuntime) {
     let log = long_log(rt.alloc()).expect(&rt, "memory");
-    let line = "mm: bad input l 3 20002\n";
-    let is_left = ends_with(rt.alloc(), "--log l", log.as_str(), (0, 0), 4, line);
-    assert!(rt; is_left.expect(&rt, "memory"));
+    refuses(&rt, rt.alloc(), log.as_str(), "mm: bad input l 3 20002\n");
 }

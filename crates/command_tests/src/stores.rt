@@ -54,10 +54,27 @@ fn file_of(alloc: Global, outside: &TestOutside, name: &str) -> Result<Option<Te
     }
 }
 
+// Two streams of a connection.
+#[derive(Drop)]
+struct Streams {
+    client: String,
+    server: String,
+}
+
+// The streams of a hundred exchanges.
+fn hundred_exchanged(alloc: Global) -> Result<Streams, AllocError> {
+    let client = hundred(alloc, THREE_GETS, GET)?;
+    let server = hundred(alloc, THREE_ANSWERS, CLOSING)?;
+    Ok(Streams { client, server })
+}
+
 // The store that is recorded of these streams, where it is.
-fn recorded(alloc: Global, client: &str, server: &str) -> Result<Option<Text>, OutOfMemory> {
+fn recorded(alloc: Global, streams: &Streams) -> Result<Option<Text>, OutOfMemory> {
     let words = words_of(alloc, recording::WORDS)?;
-    let files = [("c", client), ("s", server)];
+    let files = [
+        ("c", streams.client.as_str()),
+        ("s", streams.server.as_str()),
+    ];
     let mut outside = TestOutside::new(alloc, &files, &[], &[])?;
     if answer_record(alloc, &words, &mut outside.disk).is_err() {
         return Ok(None);
@@ -65,22 +82,20 @@ fn recorded(alloc: Global, client: &str, server: &str) -> Result<Option<Text>, O
     file_of(alloc, &outside, "o")
 }
 
-// How many bytes a store has beside those of a hundred exchanges.
-fn headers_of(store: &str, client: &str, server: &str) -> usize {
+// How many bytes a store has beside those of its exchanges.
+fn headers_of(store: &str, streams: &Streams) -> usize {
     store
         .len()
-        .saturating_sub(client.len())
-        .saturating_sub(server.len())
+        .saturating_sub(streams.client.len())
+        .saturating_sub(streams.server.len())
 }
 
 // The store of a hundred exchanges.
 fn hundred_recorded(rt: &impl Abort, alloc: Global) -> Text {
-    let client = hundred(alloc, THREE_GETS, GET).expect(rt, "memory");
-    let server = hundred(alloc, THREE_ANSWERS, CLOSING).expect(rt, "memory");
-    let store = recorded(alloc, client.as_str(), server.as_str()).expect(rt, "memory");
+    let streams = hundred_exchanged(alloc).expect(rt, "memory");
+    let store = recorded(alloc, &streams).expect(rt, "memory");
     let store = store.expect(rt, "a store");
-    let headers = headers_of(store.as_str(), client.as_str(), server.as_str());
-    assert!(rt; headers > 100 * 20);
+    assert!(rt; headers_of(store.as_str(), &streams) > 100 * 20);
     store
 }
 
@@ -88,11 +103,8 @@ fn hundred_recorded(rt: &impl Abort, alloc: Global) -> Text {
 fn a_hundred_exchanges(rt: HostRuntime) {
     let alloc = rt.alloc();
     let store = hundred_recorded(&rt, alloc);
-    let last = matching::prints(alloc, store.as_str(), GET, "100\n");
-    assert!(rt; last.expect(&rt, "memory"));
     let head = "HEAD /a HTTP/1.1\r\nHost: a\r\n\r\n";
-    let second = matching::prints(alloc, store.as_str(), head, "2\n");
-    assert!(rt; second.expect(&rt, "memory"));
-    let same = migrating::gives(alloc, store.as_str(), store.as_str());
-    assert!(rt; same.expect(&rt, "memory"));
+    matching::prints(&rt, alloc, store.as_str(), GET, "100\n");
+    matching::prints(&rt, alloc, store.as_str(), head, "2\n");
+    migrating::gives(&rt, alloc, store.as_str(), store.as_str());
 }

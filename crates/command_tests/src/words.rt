@@ -4,55 +4,13 @@ use option_words::{
     parse_replay, parse_report, parse_run,
 };
 use std::alloc::{AllocError, Global};
-use std::test::Fail;
+use std::process::Abort;
 use test_outside::words_of;
-
-// Words, and whether they are the options of a run.
-static RUNS: [(&str, bool); 17] = [
-    ("--until 100 --schedule s --out f --plain", true),
-    ("--plain --out=f --schedule=s --until=100 --seed=7", true),
-    ("--out f --schedule s --until 100 --order o", true),
-    ("--out f --schedule s --until 100 --plain --order o", true),
-    ("--until 100 --schedule s --out", false),
-    ("--until 100 --schedule s", false),
-    ("--until 100 --schedule s --out f --plain --plain", false),
-    ("--until 100 --schedule s --out f --out=g", false),
-    ("--until 100 --schedule s --out -f", false),
-    ("--until 100 --schedule s --out=-f", false),
-    ("--until 100 --schedule s --out=", false),
-    ("--until 100 --schedule s --out f --plain=x", false),
-    ("--until 100 --schedule s --out f stray", false),
-    ("--unti 100 --schedule s --out f", false),
-    ("--until 100 --schedule s --out f --help", false),
-    ("--until 100 --schedule s --out f --", false),
-    ("-u 100 --schedule s --out f", false),
-];
-
-// Whether these are the values that each row's options give.
-fn are_given(run: &RunWords<'_>) -> bool {
-    run.until == "100" && run.schedule == "s" && run.out == "f"
-}
-
-// Whether words are the options of a run where they should be, with those values, and aren't where they shouldn't.
-fn are_read_so(alloc: Global, text: &str, is_read: bool) -> Result<bool, Fail> {
-    let words = words_of(alloc, text)?;
-    let run = parse_run(alloc, &words)?;
-    match run {
-        Some(run) => Ok(is_read && are_given(&run)),
-        None => Ok(!is_read),
-    }
-}
-
-#[test]
-fn options_are_read(rt: HostRuntime) -> Result<(), Fail> {
-    for row in &RUNS {
-        assert!(rt; are_read_so(rt.alloc(), row.0, row.1)?, "at {}", row.0);
-    }
-    Ok(())
-}
+use text_base::OutOfMemory;
 
 #[derive(Clone, Copy)]
 enum Command {
+    Run,
     Report,
     Make,
     Record,
@@ -63,27 +21,123 @@ enum Command {
     Merge,
 }
 
-// Whether the option words were read.
-fn is_some<T: Drop>(words: Result<Option<T>, AllocError>) -> Result<bool, AllocError> {
-    Ok(words?.is_some())
+// Whether these are the values that the options of each run give.
+fn are_given(run: &RunWords<'_>) -> bool {
+    run.until == "100" && run.schedule == "s" && run.out == "f"
 }
 
-// Whether these are the option words of the command.
-fn are_read(alloc: Global, command: Command, words: &[String]) -> Result<bool, AllocError> {
+// Whether words are the options of a run, with those values, where they should be, and aren't where they shouldn't.
+fn run_is_read_so(alloc: Global, words: &[String], is_read: bool) -> Result<bool, AllocError> {
+    match parse_run(alloc, words)? {
+        Some(run) => Ok(is_read && are_given(&run)),
+        None => Ok(!is_read),
+    }
+}
+
+// Whether option words were read where they should be, and weren't where they shouldn't.
+fn is_read_so<T: Drop>(
+    words: Result<Option<T>, AllocError>,
+    is_read: bool,
+) -> Result<bool, AllocError> {
+    Ok(words?.is_some() == is_read)
+}
+
+// The same of the options of a command.
+fn are_read_so(
+    alloc: Global,
+    command: Command,
+    words: &[String],
+    is_read: bool,
+) -> Result<bool, AllocError> {
     match command {
-        Command::Report => is_some(parse_report(alloc, words)),
-        Command::Make => is_some(parse_make(alloc, words)),
-        Command::Record => is_some(parse_record(alloc, words)),
-        Command::Match => is_some(parse_match(alloc, words)),
-        Command::Migrate => is_some(parse_migrate(alloc, words)),
-        Command::Replay => is_some(parse_replay(alloc, words)),
-        Command::Relay => is_some(parse_relay(alloc, words)),
-        Command::Merge => is_some(parse_merge(alloc, words)),
+        Command::Run => run_is_read_so(alloc, words, is_read),
+        Command::Report => is_read_so(parse_report(alloc, words), is_read),
+        Command::Make => is_read_so(parse_make(alloc, words), is_read),
+        Command::Record => is_read_so(parse_record(alloc, words), is_read),
+        Command::Match => is_read_so(parse_match(alloc, words), is_read),
+        Command::Migrate => is_read_so(parse_migrate(alloc, words), is_read),
+        Command::Replay => is_read_so(parse_replay(alloc, words), is_read),
+        Command::Relay => is_read_so(parse_relay(alloc, words), is_read),
+        Command::Merge => is_read_so(parse_merge(alloc, words), is_read),
     }
 }
 
 // A command, words, and whether they are its options.
 type Row = (Command, &'static str, bool);
+
+// Whether a row holds.
+fn holds(alloc: Global, row: &Row) -> Result<bool, OutOfMemory> {
+    let words = words_of(alloc, row.1)?;
+    Ok(are_read_so(alloc, row.0, &words, row.2)?)
+}
+
+// Each of these rows holds.
+fn hold(rt: &impl Abort, alloc: Global, rows: &[Row]) {
+    for row in rows {
+        assert!(rt; holds(alloc, row).expect(rt, "memory"), "at {}", row.1);
+    }
+}
+
+static RUNS: [Row; 17] = [
+    (
+        Command::Run,
+        "--until 100 --schedule s --out f --plain",
+        true,
+    ),
+    (
+        Command::Run,
+        "--plain --out=f --schedule=s --until=100 --seed=7",
+        true,
+    ),
+    (
+        Command::Run,
+        "--out f --schedule s --until 100 --order o",
+        true,
+    ),
+    (
+        Command::Run,
+        "--out f --schedule s --until 100 --plain --order o",
+        true,
+    ),
+    (Command::Run, "--until 100 --schedule s --out", false),
+    (Command::Run, "--until 100 --schedule s", false),
+    (
+        Command::Run,
+        "--until 100 --schedule s --out f --plain --plain",
+        false,
+    ),
+    (
+        Command::Run,
+        "--until 100 --schedule s --out f --out=g",
+        false,
+    ),
+    (Command::Run, "--until 100 --schedule s --out -f", false),
+    (Command::Run, "--until 100 --schedule s --out=-f", false),
+    (Command::Run, "--until 100 --schedule s --out=", false),
+    (
+        Command::Run,
+        "--until 100 --schedule s --out f --plain=x",
+        false,
+    ),
+    (
+        Command::Run,
+        "--until 100 --schedule s --out f stray",
+        false,
+    ),
+    (Command::Run, "--unti 100 --schedule s --out f", false),
+    (
+        Command::Run,
+        "--until 100 --schedule s --out f --help",
+        false,
+    ),
+    (Command::Run, "--until 100 --schedule s --out f --", false),
+    (Command::Run, "-u 100 --schedule s --out f", false),
+];
+
+#[test]
+fn options_are_read(rt: HostRuntime) {
+    hold(&rt, rt.alloc(), &RUNS);
+}
 
 static COMMANDS: [Row; 12] = [
     (Command::Report, "--log=u", true),
@@ -116,16 +170,7 @@ static COMMANDS: [Row; 12] = [
     (Command::Merge, "--until 9 --senders s --seed 1", false),
 ];
 
-// Whether a row holds.
-fn holds(alloc: Global, row: &Row) -> Result<bool, Fail> {
-    let words = words_of(alloc, row.1)?;
-    Ok(are_read(alloc, row.0, &words)? == row.2)
-}
-
 #[test]
-fn each_command_has_its_options(rt: HostRuntime) -> Result<(), Fail> {
-    for row in &COMMANDS {
-        assert!(rt; holds(rt.alloc(), row)?, "at {}", row.1);
-    }
-    Ok(())
+fn each_command_has_its_options(rt: HostRuntime) {
+    hold(&rt, rt.alloc(), &COMMANDS);
 }

@@ -36,84 +36,97 @@ impl Numbers {
     }
 }
 
-// The bytes of an opportunity.
-fn some_bytes(numbers: &mut Numbers) -> u64 {
-    u64::from(numbers.below(3))
-        .saturating_mul(700)
-        .saturating_add(1)
+// Lines, each of a moment, a text and a size: how many there are, the limit of the gap before each, and the sizes.
+struct Lines {
+    count: u32,
+    gap: u16,
+    between: &'static [u8],
+    sizes: &'static [u64],
 }
 
-fn trace_text(alloc: Global, numbers: &mut Numbers) -> Result<Bytes, OutOfMemory> {
-    let mut text = Bytes::from_slice(alloc, b"# mm-trace 2\n")?;
+// One of these sizes.
+fn some_size(numbers: &mut Numbers, sizes: &[u64]) -> u64 {
+    let limit = u16::try_from(sizes.len()).unwrap_or(u16::MAX);
+    let drawn = numbers.below(limit);
+    sizes.get(usize::from(drawn)).copied().unwrap_or(1)
+}
+
+// Adds the lines, and answers the last moment.
+fn put_lines(text: &mut Bytes, numbers: &mut Numbers, lines: &Lines) -> Result<u64, OutOfMemory> {
     let mut moment: u64 = 0;
-    for _ in 0..3 {
-        moment = moment.saturating_add(u64::from(numbers.below(4)));
-        put_line(&mut text, moment, b" ", some_bytes(numbers))?;
+    for _ in 0..lines.count {
+        moment = moment.saturating_add(u64::from(numbers.below(lines.gap)));
+        put_line(text, moment, lines.between, some_size(numbers, lines.sizes))?;
     }
-    put_line(&mut text, moment.saturating_add(1), b" ", 1504)?;
-    Ok(text)
+    Ok(moment)
 }
 
+static OPPORTUNITIES: Lines = Lines {
+    count: 3,
+    gap: 4,
+    between: b" ",
+    sizes: &[1, 701, 1401],
+};
+
+// A trace of four opportunities.
 pub fn some_trace(rt: &impl Abort, alloc: Global, numbers: &mut Numbers) -> Trace {
-    let text = trace_text(alloc, numbers).expect(rt, "memory");
+    let mut text = Bytes::from_slice(alloc, b"# mm-trace 2\n").expect(rt, "memory");
+    let last = put_lines(&mut text, numbers, &OPPORTUNITIES).expect(rt, "memory");
+    put_line(&mut text, last.saturating_add(1), b" ", 1504).expect(rt, "memory");
     trace_of(rt, alloc, text.as_slice())
 }
 
-// The size of a packet.
-fn some_size(numbers: &mut Numbers) -> u64 {
-    let sizes = [1, 100, 700, 1504];
-    sizes[usize::from(numbers.below(4))]
-}
+static ROWS: Lines = Lines {
+    count: 9,
+    gap: 3,
+    between: b" up ",
+    sizes: &[1, 100, 700, 1504],
+};
 
-fn schedule_text(alloc: Global, numbers: &mut Numbers) -> Result<Bytes, OutOfMemory> {
-    let mut text = Bytes::new(alloc);
-    let mut moment: u64 = 0;
-    for _ in 0..9 {
-        moment = moment.saturating_add(u64::from(numbers.below(3)));
-        put_line(&mut text, moment, b" up ", some_size(numbers))?;
-    }
-    Ok(text)
-}
-
+// Nine packets, all of them up.
 pub fn some_packets(rt: &impl Abort, alloc: Global, numbers: &mut Numbers) -> Vec<Timed> {
-    let text = schedule_text(alloc, numbers).expect(rt, "memory");
+    let mut text = Bytes::new(alloc);
+    put_lines(&mut text, numbers, &ROWS).expect(rt, "memory");
     packets_of(rt, alloc, text.as_slice())
 }
 
+// None, or once or twice so many.
+fn some_limit(numbers: &mut Numbers, unit: u64) -> Option<u64> {
+    match numbers.below(3) {
+        0 => None,
+        n => Some(u64::from(n).saturating_mul(unit)),
+    }
+}
+
+// A queue of any kind, with limits or without.
 pub fn some_queue(numbers: &mut Numbers) -> QueueSpec {
     let kind = match numbers.below(3) {
         0 => QueueKind::Infinite,
         1 => QueueKind::DropTail,
         _ => QueueKind::DropHead,
     };
-    let packets = match numbers.below(3) {
-        0 => None,
-        n => Some(u64::from(n)),
-    };
-    let bytes = match numbers.below(3) {
-        0 => None,
-        n => Some(u64::from(n).saturating_mul(800)),
-    };
     QueueSpec {
         kind,
-        packets,
-        bytes,
+        packets: some_limit(numbers, 1),
+        bytes: some_limit(numbers, 800),
     }
 }
 
+// The opportunities of a trace up to a horizon.
 pub fn opportunities_to(
+    rt: &impl Abort,
     alloc: Global,
     trace: &Trace,
     once: bool,
     horizon: u64,
-) -> Result<Vec<Opportunity>, OutOfMemory> {
+) -> Vec<Opportunity> {
     let mut opps = Vec::new(alloc);
     for j in 0..200 {
         if let Some(o) = trace.opportunity(j, once) {
             if o.moment <= horizon {
-                opps.push(o)?;
+                opps.push(o).expect(rt, "memory");
             }
         }
     }
-    Ok(opps)
+    opps
 }

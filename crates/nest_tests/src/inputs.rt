@@ -2,10 +2,11 @@
 // it looks at.
 use loss_core::{Rate, read_rate};
 use packet_queue::{QueueSpec, read_queue};
-use packet_record::{Row, Schedule, Timed, read_schedule};
+use packet_record::{Row, Schedule, Timed, make_load, read_schedule};
 use std::alloc::Global;
 use std::process::Abort;
-use text_base::OutOfMemory;
+use text_base::limits::MOST_LINES;
+use text_base::{Bytes, OutOfMemory};
 use trace_reader::{Trace, read_trace};
 
 pub fn trace_of(rt: &impl Abort, alloc: Global, text: &[u8]) -> Trace {
@@ -24,17 +25,27 @@ pub fn schedule_of(rt: &impl Abort, alloc: Global, text: &[u8]) -> Schedule {
     read_schedule(alloc, text).expect(rt, "a schedule")
 }
 
+// The load of this number, of so many rows.
+pub fn load_of(rt: &impl Abort, alloc: Global, number: u64, rows: u32) -> Schedule {
+    assert!(rt; 1 <= rows && rows <= MOST_LINES);
+    make_load(alloc, number, rows).expect(rt, "memory")
+}
+
 // The packets of these rows.
-fn packets_in(alloc: Global, rows: &[Row]) -> Result<Vec<Timed>, OutOfMemory> {
+fn packets_in(rt: &impl Abort, alloc: Global, rows: &[Row]) -> Vec<Timed> {
     let mut packets = Vec::new(alloc);
     for row in rows {
-        packets.push(row.timed)?;
+        packets.push(row.timed).expect(rt, "memory");
     }
-    Ok(packets)
+    packets
 }
 
 // The packets of a schedule.
 pub fn packets_of(rt: &impl Abort, alloc: Global, text: &[u8]) -> Vec<Timed> {
-    let schedule = schedule_of(rt, alloc, text);
-    packets_in(alloc, schedule.rows()).expect(rt, "memory")
+    packets_in(rt, alloc, schedule_of(rt, alloc, text).rows())
+}
+
+// Whether a text was made, and is this.
+pub fn is_text(rt: &impl Abort, text: Result<Bytes, OutOfMemory>, said: &[u8]) -> bool {
+    text.expect(rt, "memory").as_slice() == said
 }

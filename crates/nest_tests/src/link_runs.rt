@@ -7,7 +7,7 @@ ghost use Rattle.link_core.specs.Promises.{count_to};
 ghost use Rattle.link_core.specs.View.{Link, opps_of};
 
 use crate::packets::in_order;
-use link_core::{LinkCore, LinkLog, Passage, run_link};
+use link_core::{LinkCore, LinkLog, LogPieces, Passage, run_link};
 use packet_queue::QueueSpec;
 use packet_record::Timed;
 use shell_log::Entry;
@@ -48,27 +48,17 @@ fn feed(link: &mut LinkCore, horizon: u64, packets: &[Timed]) -> Result<bool, Ou
     Ok(true)
 }
 
-// A link before any arrival, over all that arrives.
-fn feed_all(rt: &impl Abort, mut link: LinkCore, horizon: u64, packets: &[Timed]) -> LinkCore
-    requires horizon { link.horizon ≡ horizon }
-    requires arrivals { link.arrivals ≡ [] }
-    requires burnt { link.burnt ≡ 0 }
-{
-    assert!(rt; feed(&mut link, horizon, packets).expect(rt, "memory"));
-    link.burn(horizon, u32::MAX).expect(rt, "memory");
-    link
-}
-
-// A link's direction and how long it runs.
+// A link's direction, how long it runs, and the packets that come.
 #[derive(Drop)]
-pub struct Setting {
+pub struct Trial {
     pub trace: Trace,
     pub once: bool,
     pub queue: QueueSpec,
     pub horizon: u64,
+    pub packets: Vec<Timed>,
 }
 
-impl Setting {
+impl Trial {
     fn fits(&self) -> bool
         ensures horizon { OnTrue result (self.now.horizon ≤ 3600000) }
         ensures few { OnTrue result
@@ -78,37 +68,39 @@ impl Setting {
     }
 }
 
-// The link after these packets, one by one.
-pub fn run_singly(
-    rt: &impl Abort,
-    alloc: Global,
-    setting: &Setting,
-    packets: &[Timed],
-) -> Result<LinkCore, OutOfMemory> {
-    assert!(rt; setting.fits());
-    let trace = setting.trace.copy()?;
-    let link = LinkCore::new(alloc, trace, setting.once, setting.queue, setting.horizon)?;
-    Ok(feed_all(rt, link, setting.horizon, packets))
+// A link before any arrival.
+fn new_link(rt: &impl Abort, alloc: Global, trial: &Trial) -> LinkCore
+    ensures horizon { result.horizon ≡ trial.now.horizon }
+    ensures arrivals { result.arrivals ≡ [] }
+    ensures burnt { result.burnt ≡ 0 }
+{
+    assert!(rt; trial.fits());
+    let trace = trial.trace.copy().expect(rt, "memory");
+    LinkCore::new(alloc, trace, trial.once, trial.queue, trial.horizon).expect(rt, "memory")
 }
 
-// The link over all these packets.
-pub fn run_over(
-    rt: &impl Abort,
-    alloc: Global,
-    setting: &Setting,
-    packets: &[Timed],
-) -> Result<Passage, OutOfMemory> {
-    assert!(rt; setting.fits());
-    let trace = setting.trace.copy()?;
-    let arrivals = in_order(rt, alloc, setting.horizon, packets)?;
+// The link after the packets, one by one.
+pub fn run_singly(rt: &impl Abort, alloc: Global, trial: &Trial) -> LinkCore {
+    let mut link = new_link(rt, alloc, trial);
+    assert!(rt; feed(&mut link, trial.horizon, &trial.packets).expect(rt, "memory"));
+    link.burn(trial.horizon, u32::MAX).expect(rt, "memory");
+    link
+}
+
+// The link over all the packets.
+pub fn run_over(rt: &impl Abort, alloc: Global, trial: &Trial) -> Passage {
+    assert!(rt; trial.fits());
+    let trace = trial.trace.copy().expect(rt, "memory");
+    let arrivals = in_order(rt, alloc, trial.horizon, &trial.packets);
     run_link(
         alloc,
         trace,
-        setting.once,
-        setting.queue,
-        setting.horizon,
+        trial.once,
+        trial.queue,
+        trial.horizon,
         arrivals,
     )
+    .expect(rt, "memory")
 }
 
 #[derive(Drop)]
@@ -125,16 +117,26 @@ fn add_piece(all: &mut Pieces, piece: &[Entry]) -> Result<(), OutOfMemory> {
     Ok(())
 }
 
+// Adds the pieces of a log that are still to come.
+fn gather(pieces: &mut LogPieces, all: &mut Pieces) -> Result<(), OutOfMemory> {
+    'pieces: while pieces.next()? {
+        add_piece(all, pieces.piece())?;
+    }
+    Ok(())
+}
+
 // The pieces of a log put together.
-pub fn put_together(alloc: Global, log: LinkLog) -> Result<Pieces, OutOfMemory> {
+pub fn put_together(rt: &impl Abort, alloc: Global, log: LinkLog) -> Pieces {
     let mut all = Pieces {
         entries: Vec::new(alloc),
         number: 0,
         longest: 0,
     };
-    let mut pieces = log.pieces();
-    'pieces: while pieces.next()? {
-        add_piece(&mut all, pieces.piece())?;
-    }
-    Ok(all)
+    gather(&mut log.pieces(), &mut all).expect(rt, "memory");
+    all
+}
+
+// The pieces of a passage's log put together.
+pub fn pieces_of(rt: &impl Abort, alloc: Global, passage: Passage) -> Pieces {
+    put_together(rt, alloc, passage.log.expect(rt, "a log"))
 }

@@ -1,253 +1,274 @@
 // Worked cases of a link, and generated ones beside a plain slow program: one by one and over whole lists.
+use crate::directions::log_of;
 use crate::generated::{Numbers, opportunities_to, some_packets, some_queue, some_trace};
-use crate::inputs::{packets_of, queue_of, trace_of};
-use crate::link_runs::{Setting, put_together, run_over, run_singly};
-use crate::packets::are_listed;
+use crate::inputs::{is_text, packets_of, queue_of, trace_of};
+use crate::link_runs::{Pieces, Trial, pieces_of, run_over, run_singly};
+use crate::packets::{Ways, went};
 use crate::slow::{Slow, slow_link};
-use link_core::{LinkCore, LinkLog, Passage};
+use link_core::{LinkCore, Passage};
 use packet_record::Timed;
-use shell_log::{Entry, Log, print_log};
+use shell_log::{Entry, print_log};
 use std::alloc::Global;
 use std::process::Abort;
-use text_base::OutOfMemory;
 
-struct Case {
+// A link by the texts of its trace and its queue, its horizon, and the rows of what comes.
+#[derive(Clone, Copy)]
+struct Link {
     trace: &'static [u8],
     once: bool,
     queue: (&'static str, &'static str),
     horizon: u64,
     schedule: &'static [u8],
-    departed: &'static [u8],
-    lost: &'static [u8],
-    inside: &'static [u32],
+}
+
+// What must become of the packets of a link, and the text of its log.
+struct Case {
+    link: Link,
+    ways: Ways,
     log: &'static [u8],
 }
 
-fn setting_of(rt: &impl Abort, alloc: Global, case: &Case) -> Setting {
-    Setting {
-        trace: trace_of(rt, alloc, case.trace),
-        once: case.once,
-        queue: queue_of(rt, case.queue.0, case.queue.1),
-        horizon: case.horizon,
+// The link and the packets of these texts.
+fn trial_of(rt: &impl Abort, alloc: Global, link: Link) -> Trial {
+    Trial {
+        trace: trace_of(rt, alloc, link.trace),
+        once: link.once,
+        queue: queue_of(rt, link.queue.0, link.queue.1),
+        horizon: link.horizon,
+        packets: packets_of(rt, alloc, link.schedule),
     }
 }
 
-// A log that isn't written out yet, written out.
-pub fn written(rt: &impl Abort, log: Option<LinkLog>) -> Log {
-    log.expect(rt, "a log").into_log().expect(rt, "memory")
-}
-
-// The text of a log that isn't written out yet is this.
-fn is_log(rt: &impl Abort, alloc: Global, log: Option<LinkLog>, said: &[u8]) {
-    let text = print_log(alloc, &written(rt, log)).expect(rt, "memory");
-    assert!(rt; text.as_slice() == said);
-}
-
 // What the whole list gives.
-fn over_all(rt: &impl Abort, alloc: Global, case: &Case) -> Passage {
-    let packets = packets_of(rt, alloc, case.schedule);
-    let setting = setting_of(rt, alloc, case);
-    run_over(rt, alloc, &setting, packets.as_slice()).expect(rt, "memory")
+fn over_all(rt: &impl Abort, alloc: Global, link: Link) -> Passage {
+    run_over(rt, alloc, &trial_of(rt, alloc, link))
 }
 
-fn is_as_said(rt: &impl Abort, alloc: Global, case: &Case) {
-    let whole = over_all(rt, alloc, case);
-    are_listed(rt, alloc, &whole.departed, case.departed);
-    are_listed(rt, alloc, &whole.lost, case.lost);
-    assert!(rt; whole.held.as_slice() == case.inside);
-    is_log(rt, alloc, whole.log, case.log);
+// Whether the log of a passage is this.
+fn has_log(rt: &impl Abort, alloc: Global, passage: Passage, said: &[u8]) -> bool {
+    is_text(rt, print_log(alloc, &log_of(rt, passage)), said)
 }
 
-// What the packets give one by one.
-fn singly(rt: &impl Abort, alloc: Global, case: &Case) -> LinkCore {
-    let packets = packets_of(rt, alloc, case.schedule);
-    let setting = setting_of(rt, alloc, case);
-    run_singly(rt, alloc, &setting, packets.as_slice()).expect(rt, "memory")
+// Whether the packets of a passage went these ways.
+fn have_gone(passage: &Passage, ways: &Ways) -> bool {
+    went(&passage.departed, &passage.lost, &passage.held, ways)
 }
 
-fn is_as_said_singly(rt: &impl Abort, alloc: Global, case: &Case) {
-    let link = singly(rt, alloc, case);
-    are_listed(rt, alloc, link.departed(), case.departed);
-    are_listed(rt, alloc, link.lost(), case.lost);
+// Whether the whole list gives what is said.
+fn is_as_said(rt: &impl Abort, alloc: Global, case: &Case) -> bool {
+    have_gone(&over_all(rt, alloc, case.link), &case.ways)
+        && has_log(rt, alloc, over_all(rt, alloc, case.link), case.log)
+}
+
+// Whether the packets of a link went these ways, and no opportunity is left.
+fn has_ended(rt: &impl Abort, link: &LinkCore, ways: &Ways) -> bool {
     let inside = link.inside().expect(rt, "memory");
-    assert!(rt; inside.as_slice() == case.inside);
-    assert!(rt; link.next_opportunity().is_none());
+    went(link.departed(), link.lost(), &inside, ways) && link.next_opportunity().is_none()
+}
+
+// Whether the packets give one by one what is said.
+fn is_as_said_singly(rt: &impl Abort, alloc: Global, case: &Case) -> bool {
+    let trial = trial_of(rt, alloc, case.link);
+    has_ended(rt, &run_singly(rt, alloc, &trial), &case.ways)
 }
 
 static CASES: [Case; 8] = [
     Case {
-        trace: b"0\n5\n",
-        once: false,
-        queue: ("infinite", ""),
-        horizon: 15,
-        schedule: b"",
-        departed: b"",
-        lost: b"",
-        inside: &[],
+        link: Link {
+            trace: b"0\n5\n",
+            once: false,
+            queue: ("infinite", ""),
+            horizon: 15,
+            schedule: b"",
+        },
+        ways: Ways {
+            departed: &[],
+            lost: &[],
+            inside: &[],
+        },
         log: b"# base timestamp: 0\n0 # 1504\n5 # 1504\n5 # 1504\n10 # 1504\n10 # 1504\n15 # 1504\n15 # 1504\n",
     },
     Case {
-        trace: b"1\n",
-        once: false,
-        queue: ("infinite", ""),
-        horizon: 2,
-        schedule: b"1 up 1504\n",
-        departed: b"1 2\n",
-        lost: b"",
-        inside: &[],
+        link: Link {
+            trace: b"1\n",
+            once: false,
+            queue: ("infinite", ""),
+            horizon: 2,
+            schedule: b"1 up 1504\n",
+        },
+        ways: Ways {
+            departed: &[(1, 2)],
+            lost: &[],
+            inside: &[],
+        },
         log: b"# base timestamp: 0\n1 # 1504\n1 + 1504\n2 # 1504\n2 - 1504 1\n",
     },
     Case {
-        trace: b"1\n",
-        once: false,
-        queue: ("infinite", ""),
-        horizon: 2,
-        schedule: b"0 up 500\n0 up 500\n0 up 500\n0 up 500\n",
-        departed: b"1 1\n2 1\n3 1\n4 2\n",
-        lost: b"",
-        inside: &[],
+        link: Link {
+            trace: b"1\n",
+            once: false,
+            queue: ("infinite", ""),
+            horizon: 2,
+            schedule: b"0 up 500\n0 up 500\n0 up 500\n0 up 500\n",
+        },
+        ways: Ways {
+            departed: &[(1, 1), (2, 1), (3, 1), (4, 2)],
+            lost: &[],
+            inside: &[],
+        },
         log: b"# base timestamp: 0\n0 + 500\n0 + 500\n0 + 500\n0 + 500\n1 # 1504\n1 - 500 1\n1 - 500 1\n\
             1 - 500 1\n2 # 1504\n2 - 500 2\n",
     },
     Case {
-        trace: b"3\n3\n",
-        once: true,
-        queue: ("infinite", ""),
-        horizon: 50,
-        schedule: b"0 up 1504\n0 up 1504\n0 up 1504\n",
-        departed: b"1 3\n2 3\n",
-        lost: b"",
-        inside: &[3],
+        link: Link {
+            trace: b"3\n3\n",
+            once: true,
+            queue: ("infinite", ""),
+            horizon: 50,
+            schedule: b"0 up 1504\n0 up 1504\n0 up 1504\n",
+        },
+        ways: Ways {
+            departed: &[(1, 3), (2, 3)],
+            lost: &[],
+            inside: &[3],
+        },
         log: b"# base timestamp: 0\n0 + 1504\n0 + 1504\n0 + 1504\n3 # 1504\n3 - 1504 3\n3 # 1504\n3 - 1504 3\n",
     },
     Case {
-        trace: b"10\n",
-        once: false,
-        queue: ("droptail", "bytes=250"),
-        horizon: 10,
-        schedule: b"0 up 100\n0 up 200\n0 up 150\n",
-        departed: b"1 10\n3 10\n",
-        lost: b"2 0\n",
-        inside: &[],
+        link: Link {
+            trace: b"10\n",
+            once: false,
+            queue: ("droptail", "bytes=250"),
+            horizon: 10,
+            schedule: b"0 up 100\n0 up 200\n0 up 150\n",
+        },
+        ways: Ways {
+            departed: &[(1, 10), (3, 10)],
+            lost: &[(2, 0)],
+            inside: &[],
+        },
         log: b"# base timestamp: 0\n0 + 100\n0 + 200\n0 d 1 200\n0 + 150\n10 # 1504\n10 - 100 10\n10 - 150 10\n",
     },
     Case {
-        trace: b"1\n",
-        once: false,
-        queue: ("drophead", "packets=2"),
-        horizon: 3,
-        schedule: b"0 up 1000\n0 up 1000\n1 up 800\n1 up 800\n1 up 700\n",
-        departed: b"1 1\n2 2\n4 2\n5 3\n",
-        lost: b"3 1\n",
-        inside: &[],
+        link: Link {
+            trace: b"1\n",
+            once: false,
+            queue: ("drophead", "packets=2"),
+            horizon: 3,
+            schedule: b"0 up 1000\n0 up 1000\n1 up 800\n1 up 800\n1 up 700\n",
+        },
+        ways: Ways {
+            departed: &[(1, 1), (2, 2), (4, 2), (5, 3)],
+            lost: &[(3, 1)],
+            inside: &[],
+        },
         log: b"# base timestamp: 0\n0 + 1000\n0 + 1000\n1 # 1504\n1 - 1000 1\n1 + 800\n1 + 800\n1 + 700\n\
             1 d 1 800\n2 # 1504\n2 - 1000 2\n2 - 800 1\n3 # 1504\n3 - 700 2\n",
     },
     Case {
-        trace: b"10\n",
-        once: false,
-        queue: ("drophead", "bytes=250"),
-        horizon: 10,
-        schedule: b"0 up 100\n0 up 200\n0 up 300\n",
-        departed: b"",
-        lost: b"1 0\n2 0\n3 0\n",
-        inside: &[],
+        link: Link {
+            trace: b"10\n",
+            once: false,
+            queue: ("drophead", "bytes=250"),
+            horizon: 10,
+            schedule: b"0 up 100\n0 up 200\n0 up 300\n",
+        },
+        ways: Ways {
+            departed: &[],
+            lost: &[(1, 0), (2, 0), (3, 0)],
+            inside: &[],
+        },
         log: b"# base timestamp: 0\n0 + 100\n0 + 200\n0 d 1 100\n0 + 300\n0 d 2 500\n10 # 1504\n",
     },
     Case {
-        trace: b"# mm-trace 2\n1 500\n2 3000\n",
-        once: false,
-        queue: ("infinite", ""),
-        horizon: 4,
-        schedule: b"0 up 1504\n0 up 1504\n",
-        departed: b"1 2\n2 2\n",
-        lost: b"",
-        inside: &[],
+        link: Link {
+            trace: b"# mm-trace 2\n1 500\n2 3000\n",
+            once: false,
+            queue: ("infinite", ""),
+            horizon: 4,
+            schedule: b"0 up 1504\n0 up 1504\n",
+        },
+        ways: Ways {
+            departed: &[(1, 2), (2, 2)],
+            lost: &[],
+            inside: &[],
+        },
         log: b"# base timestamp: 0\n0 + 1504\n0 + 1504\n1 # 500\n2 # 3000\n2 - 1504 2\n2 - 1504 2\n3 # 500\n\
             4 # 3000\n",
     },
 ];
 
+// Both runs of a link give what is said.
+fn are_as_said(rt: &impl Abort, alloc: Global, case: &Case) {
+    assert!(rt; is_as_said(rt, alloc, case) && is_as_said_singly(rt, alloc, case));
+}
+
 #[test]
 fn worked_cases(rt: HostRuntime) {
     for case in &CASES {
-        is_as_said(&rt, rt.alloc(), case);
-        is_as_said_singly(&rt, rt.alloc(), case);
+        are_as_said(&rt, rt.alloc(), case);
     }
 }
 
-// A generated link, its packets, and what the slow program says of them.
-#[derive(Drop)]
-struct Generated {
-    setting: Setting,
-    packets: Vec<Timed>,
-    slow: Slow,
-}
-
-fn draw_setting(rt: &impl Abort, alloc: Global, numbers: &mut Numbers) -> Setting {
-    Setting {
+// A generated link and its packets.
+fn draw_trial(rt: &impl Abort, alloc: Global, numbers: &mut Numbers) -> Trial {
+    Trial {
         trace: some_trace(rt, alloc, numbers),
         once: numbers.below(4) == 0,
         queue: some_queue(numbers),
         horizon: 20,
+        packets: some_packets(rt, alloc, numbers),
     }
 }
 
-fn slow_of(alloc: Global, setting: &Setting, packets: &[Timed]) -> Result<Slow, OutOfMemory> {
-    let opps = opportunities_to(alloc, &setting.trace, setting.once, 20)?;
-    slow_link(alloc, &setting.queue, opps.as_slice(), packets, 20)
+// What the slow program says.
+fn slow_of(rt: &impl Abort, alloc: Global, trial: &Trial) -> Slow {
+    let opps = opportunities_to(rt, alloc, &trial.trace, trial.once, 20);
+    slow_link(rt, alloc, &trial.queue, &opps, &trial.packets, 20)
 }
 
-fn draw_case(rt: &impl Abort, alloc: Global, numbers: &mut Numbers) -> Generated {
-    let setting = draw_setting(rt, alloc, numbers);
-    let packets = some_packets(rt, alloc, numbers);
-    let slow = slow_of(alloc, &setting, packets.as_slice()).expect(rt, "memory");
-    Generated {
-        setting,
-        packets,
-        slow,
-    }
+// Whether these departed and were lost, as the slow program says.
+fn agree(departed: &[Timed], lost: &[Timed], slow: &Slow) -> bool {
+    departed == slow.departed.as_slice() && lost == slow.lost.as_slice()
 }
 
-fn agrees_singly(rt: &impl Abort, alloc: Global, case: &Generated) {
-    let link = run_singly(rt, alloc, &case.setting, &case.packets).expect(rt, "memory");
-    assert!(rt; link.departed() == case.slow.departed.as_slice());
-    assert!(rt; link.lost() == case.slow.lost.as_slice());
+// Whether a link is as the slow program says.
+fn agrees_singly(link: &LinkCore, slow: &Slow) -> bool {
+    agree(link.departed(), link.lost(), slow)
 }
 
-fn agrees_with_log(rt: &impl Abort, alloc: Global, log: Option<LinkLog>, said: &[Entry]) {
-    let pieces = put_together(alloc, log.expect(rt, "a log")).expect(rt, "memory");
-    assert!(rt; pieces.entries.as_slice() == said);
+// Whether a passage of so many packets is as the slow program says, and each departed, was lost or stays inside.
+fn agrees_over_all(passage: &Passage, packets: usize, slow: &Slow) -> bool {
+    let gone = passage.departed.len().saturating_add(passage.lost.len());
+    agree(&passage.departed, &passage.lost, slow)
+        && passage.held.len().saturating_add(gone) == packets
 }
 
-fn agrees_over_all(rt: &impl Abort, alloc: Global, case: &Generated) {
-    let whole = run_over(rt, alloc, &case.setting, &case.packets).expect(rt, "memory");
-    assert!(rt; whole.departed.as_slice() == case.slow.departed.as_slice());
-    assert!(rt; whole.lost.as_slice() == case.slow.lost.as_slice());
-    let gone = whole.departed.len().saturating_add(whole.lost.len());
-    assert!(rt; whole.held.len().saturating_add(gone) == case.packets.len());
-    agrees_with_log(rt, alloc, whole.log, &case.slow.log);
+// Whether the log of a trial is as the slow program says.
+fn agrees_with_log(rt: &impl Abort, alloc: Global, trial: &Trial, slow: &Slow) -> bool {
+    let pieces = pieces_of(rt, alloc, run_over(rt, alloc, trial));
+    pieces.entries.as_slice() == slow.log.as_slice()
+}
+
+// Both runs of a trial give what the slow program says.
+fn agrees(rt: &impl Abort, alloc: Global, trial: &Trial, slow: &Slow) {
+    assert!(rt; agrees_singly(&run_singly(rt, alloc, trial), slow));
+    assert!(rt; agrees_over_all(&run_over(rt, alloc, trial), trial.packets.len(), slow));
+    assert!(rt; agrees_with_log(rt, alloc, trial, slow));
+}
+
+// Both runs of a generated link give what the slow program says.
+fn try_one(rt: &impl Abort, alloc: Global, numbers: &mut Numbers) {
+    let trial = draw_trial(rt, alloc, numbers);
+    agrees(rt, alloc, &trial, &slow_of(rt, alloc, &trial));
 }
 
 #[test]
 fn generated_cases_are_as_the_slow_program_says(rt: HostRuntime) {
     let mut numbers = Numbers::new(7);
     for _ in 0..120 {
-        let case = draw_case(&rt, rt.alloc(), &mut numbers);
-        agrees_singly(&rt, rt.alloc(), &case);
-        agrees_over_all(&rt, rt.alloc(), &case);
+        try_one(&rt, rt.alloc(), &mut numbers);
     }
-}
-
-// A link over which these packets go, with an opportunity of 1504 bytes each millisecond up to the horizon.
-fn each_millisecond(rt: &impl Abort, alloc: Global, horizon: u64, packets: &[Timed]) -> Passage {
-    let setting = Setting {
-        trace: trace_of(rt, alloc, b"1\n"),
-        once: false,
-        queue: queue_of(rt, "infinite", ""),
-        horizon,
-    };
-    run_over(rt, alloc, &setting, packets).expect(rt, "memory")
 }
 
 // How many opportunities a log has.
@@ -261,41 +282,69 @@ fn count_opportunities(entries: &[Entry]) -> usize {
     count
 }
 
+// A link over which these packets go, with an opportunity of 1504 bytes each millisecond up to the horizon.
+fn each_millisecond(horizon: u64, schedule: &'static [u8]) -> Link {
+    Link {
+        trace: b"1\n",
+        once: false,
+        queue: ("infinite", ""),
+        horizon,
+        schedule,
+    }
+}
+
 // Four packets, two of them at first, with many thousand opportunities between them; the last one stays inside.
 const GAP: &[u8] = b"0 up 1504\n0 up 1504\n15000 up 700\n30000 up 1504\n";
 
+static OVER_GAP: Ways = Ways {
+    departed: &[(1, 1), (2, 2), (3, 15001)],
+    lost: &[],
+    inside: &[4],
+};
+
+// What passes a link with a gap between its packets.
 fn over_gap(rt: &impl Abort, alloc: Global) -> Passage {
-    let packets = packets_of(rt, alloc, GAP);
-    each_millisecond(rt, alloc, 30_000, packets.as_slice())
+    over_all(rt, alloc, each_millisecond(30_000, GAP))
 }
 
-// A log in pieces has many short ones, which have the entries of the same log written out, and an opportunity each
+// Whether a log in pieces has many short ones, which have the entries of the log written out, and an opportunity each
 // millisecond.
-fn is_in_pieces(rt: &impl Abort, alloc: Global, log: Option<LinkLog>, same: Option<LinkLog>) {
-    let pieces = put_together(alloc, log.expect(rt, "a log")).expect(rt, "memory");
-    let log = written(rt, same);
-    assert!(rt; pieces.entries.as_slice() == log.entries());
-    assert!(rt; pieces.number > 10 && pieces.longest < 5_000);
-    assert!(rt; count_opportunities(log.entries()) == 30_000);
+fn is_in_pieces(pieces: &Pieces, entries: &[Entry]) -> bool {
+    pieces.entries.as_slice() == entries
+        && pieces.number > 10
+        && pieces.longest < 5_000
+        && count_opportunities(entries) == 30_000
+}
+
+// A log is the same in pieces and written out.
+fn is_same_in_pieces(rt: &impl Abort, alloc: Global) {
+    let pieces = pieces_of(rt, alloc, over_gap(rt, alloc));
+    let log = log_of(rt, over_gap(rt, alloc));
+    assert!(rt; is_in_pieces(&pieces, log.entries()));
+}
+
+// Packets with a gap between them go their ways.
+fn pass_gap(rt: &impl Abort, alloc: Global) {
+    assert!(rt; have_gone(&over_gap(rt, alloc), &OVER_GAP));
 }
 
 #[test]
 fn a_log_in_pieces_is_the_whole_log(rt: HostRuntime) {
-    let alloc = rt.alloc();
-    let whole = over_gap(&rt, alloc);
-    are_listed(&rt, alloc, &whole.departed, b"1 1\n2 2\n3 15001\n");
-    assert!(rt; whole.held.as_slice() == [4].as_slice());
-    let again = over_gap(&rt, alloc);
-    is_in_pieces(&rt, alloc, whole.log, again.log);
+    pass_gap(&rt, rt.alloc());
+    is_same_in_pieces(&rt, rt.alloc());
 }
 
-// A link over which nothing goes logs so many opportunities, and a log of none has no piece.
+// Whether a log in pieces has so many entries, all of them opportunities, and a log of none has no piece.
+fn are_opportunities(pieces: &Pieces, count: usize) -> bool {
+    pieces.entries.len() == count
+        && count_opportunities(&pieces.entries) == count
+        && (pieces.number == 0) == (count == 0)
+}
+
+// A link over which nothing goes logs so many opportunities.
 fn logs_opportunities(rt: &impl Abort, alloc: Global, horizon: u64, count: usize) {
-    let whole = each_millisecond(rt, alloc, horizon, &[]);
-    let pieces = put_together(alloc, whole.log.expect(rt, "a log")).expect(rt, "memory");
-    assert!(rt; pieces.entries.len() == count);
-    assert!(rt; count_opportunities(&pieces.entries) == count);
-    assert!(rt; (pieces.number == 0) == (count == 0));
+    let link = each_millisecond(horizon, b"");
+    assert!(rt; are_opportunities(&pieces_of(rt, alloc, over_all(rt, alloc, link)), count));
 }
 
 #[test]

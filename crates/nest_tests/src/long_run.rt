@@ -1,22 +1,20 @@
 // One run of eight shells of all kinds in both directions, and a count of it that knows no shell's rule.
-use crate::nests::{nest_of, plain_run, stepped_run};
+use crate::nests::{Coming, Prepared, Trip, plain_run, prepare, stepped_run};
 use nest_spec::{Fate, FateRow, NamedLog, RunResult};
-use packet_record::{Direction, Row, Schedule, make_load};
+use packet_record::{Direction, Row};
 use shell_log::{Entry, Log};
 use std::alloc::Global;
 use std::process::Abort;
-
-const ROWS: u32 = 10_000;
 
 // The load's last row is at about 15,000 ms.
 const HORIZON: u64 = 14_000;
 
 // 1504 bytes every second millisecond on the average, in a lap of 60 ms with a gap.
-static TRACE: &[u8] =
+const TRACE: &[u8] =
     b"# mm-trace 2\n0 700\n4 3000\n9 1504\n10 6000\n22 4000\n23 9000\n35 1504\n50 20000\n60 800\n";
 
 // Delays, losses both ways, and links with all three queues, each of which logs both sides.
-static WORDS: &str = "mm-delay 7 \
+const WORDS: &str = "mm-delay 7 \
     mm-loss uplink 0.02 \
     mm-link t t --uplink-log 3u --downlink-log 3d --uplink-queue=droptail --uplink-queue-args=packets=12 \
     --downlink-queue=drophead --downlink-queue-args=bytes=9000 -- \
@@ -26,6 +24,13 @@ static WORDS: &str = "mm-delay 7 \
     mm-loss downlink 0.03 \
     mm-link t t --uplink-log 7u --downlink-log 7d \
     mm-delay 11";
+
+static TRIP: Trip = Trip {
+    nest: WORDS,
+    trace: TRACE,
+    horizon: HORIZON,
+    coming: Coming::Load(9, 10_000),
+};
 
 const DELAYS: u64 = 58;
 
@@ -110,18 +115,23 @@ fn moment_of(fate: Fate) -> u64 {
     }
 }
 
+// Whether a fate is that of a row.
+fn is_of(fate: &FateRow, row: &Row) -> bool {
+    row.timed.packet.id == fate.id && row.direction == fate.direction
+}
+
 // Each row of a direction has its own fate, and the departures of the direction are in order.
 fn are_their_own(rows: &[Row], fates: &[FateRow], direction: Direction) -> bool {
     let mut last = 0;
-    for (row, fate) in rows.iter().zip(fates.iter()) {
-        if row.timed.packet.id != fate.id || row.direction != fate.direction {
+    for i in 0..rows.len().min(fates.len()) {
+        if !is_of(&fates[i], &rows[i]) {
             return false;
         }
-        if row.direction == direction {
-            if !is_its_own(row, fate, last) {
+        if rows[i].direction == direction {
+            if !is_its_own(&rows[i], &fates[i], last) {
                 return false;
             }
-            last = moment_of(fate.fate).max(last);
+            last = moment_of(fates[i].fate).max(last);
         }
     }
     rows.len() == fates.len()
@@ -225,8 +235,8 @@ fn is_as_logged(side: Side, log: &Log, fates: &[FateRow]) -> bool {
 }
 
 fn are_as_logged(logs: &[NamedLog], fates: &[FateRow]) -> bool {
-    for (side, named) in SIDES.iter().zip(logs.iter()) {
-        if !is_as_logged(*side, &named.log, fates) {
+    for i in 0..logs.len().min(SIDES.len()) {
+        if !is_as_logged(SIDES[i], &logs[i].log, fates) {
             return false;
         }
     }
@@ -238,8 +248,8 @@ fn is_same(this: &NamedLog, that: &NamedLog) -> bool {
 }
 
 fn are_same(these: &[NamedLog], those: &[NamedLog]) -> bool {
-    for (this, that) in these.iter().zip(those.iter()) {
-        if !is_same(this, that) {
+    for i in 0..these.len().min(those.len()) {
+        if !is_same(&these[i], &those[i]) {
             return false;
         }
     }
@@ -251,21 +261,26 @@ fn is_whole(rows: &[Row], run: &RunResult, direction: Direction) -> bool {
     are_their_own(rows, run.fates(), direction) && add_up(rows, run.fates(), direction)
 }
 
-fn load(rt: &impl Abort, alloc: Global) -> Schedule {
-    make_load(alloc, 9, ROWS).expect(rt, "memory")
+// Whether each row has one fate, and the logs say what the fates say.
+fn is_as_said(rows: &[Row], run: &RunResult) -> bool {
+    is_whole(rows, run, Direction::Up)
+        && is_whole(rows, run, Direction::Down)
+        && are_as_logged(run.logs(), run.fates())
 }
 
-// The logs say what the fates say.
+// Whether two runs give the same.
+fn agree(this: &RunResult, that: &RunResult) -> bool {
+    this.fates() == that.fates() && are_same(this.logs(), that.logs())
+}
+
+// A run has one fate for each row, and a run by steps gives the same.
+fn has_one_fate_each(rt: &impl Abort, alloc: Global, prepared: &Prepared) {
+    let run = plain_run(rt, alloc, prepared);
+    assert!(rt; is_as_said(prepared.schedule.rows(), &run));
+    assert!(rt; agree(&stepped_run(rt, alloc, prepared, &[]), &run));
+}
+
 #[test]
 fn each_packet_of_a_long_run_has_one_fate(rt: HostRuntime) {
-    let alloc = rt.alloc();
-    let nest = nest_of(&rt, alloc, WORDS, TRACE, HORIZON);
-    let schedule = load(&rt, alloc);
-    let run = plain_run(&rt, alloc, &nest, &schedule);
-    assert!(rt; is_whole(schedule.rows(), &run, Direction::Up));
-    assert!(rt; is_whole(schedule.rows(), &run, Direction::Down));
-    assert!(rt; are_as_logged(run.logs(), run.fates()));
-    let stepped = stepped_run(&rt, alloc, &nest, &schedule, &[]);
-    assert!(rt; stepped.fates() == run.fates());
-    assert!(rt; are_same(stepped.logs(), run.logs()));
+    has_one_fate_each(&rt, rt.alloc(), &prepare(&rt, rt.alloc(), &TRIP));
 }

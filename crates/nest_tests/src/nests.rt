@@ -1,66 +1,117 @@
 // Nests by their words, and their runs.
-use crate::inputs::trace_of;
+ghost use Rattle.std.specs.Prelude.{◌≡◌, ◌≤◌, length};
+ghost use Rattle.std.specs.Bool.{OnTrue};
+ghost use Rattle.nest_spec.specs.Nests.{opportunities_of};
+
+use crate::inputs::{load_of, schedule_of, trace_of};
 use nest_core::run_order;
 use nest_plain::run_plain;
 use nest_spec::{Nest, NestWords, RunResult, build, read_nest};
 use packet_record::Schedule;
 use std::alloc::Global;
 use std::process::Abort;
-use text_base::OutOfMemory;
 use text_base::limits::{HOUR, MOST_OPPORTUNITIES};
 use trace_reader::Trace;
 
-// The words between the spaces of a text.
-pub fn words_of(alloc: Global, text: &str) -> Result<Vec<String>, OutOfMemory> {
-    let mut words = Vec::new(alloc);
-    for word in text.split(' ') {
-        words.push(String::from_str(alloc, word)?)?;
-    }
-    Ok(words)
+// What comes to a nest: the rows of a text, or a load by its number and how many rows it has.
+#[derive(Clone, Copy)]
+pub enum Coming {
+    Rows(&'static [u8]),
+    Load(u64, u32),
 }
 
+// The words of a nest, each of whose traces is the same, its horizon, and what comes to it.
+pub struct Trip {
+    pub nest: &'static str,
+    pub trace: &'static [u8],
+    pub horizon: u64,
+    pub coming: Coming,
+}
+
+// A nest and the schedule that goes through it.
+#[derive(Drop)]
+pub struct Prepared {
+    pub nest: Nest,
+    pub schedule: Schedule,
+}
+
+// The words between the spaces of a text.
+pub fn words_of(rt: &impl Abort, alloc: Global, text: &str) -> Vec<String> {
+    let mut words = Vec::new(alloc);
+    for word in text.split(' ') {
+        let word = String::from_str(alloc, word).expect(rt, "memory");
+        words.push(word).expect(rt, "memory");
+    }
+    words
+}
+
+// The nest that a text says.
 pub fn nest_words_of(rt: &impl Abort, alloc: Global, text: &str) -> NestWords {
-    let words = words_of(alloc, text).expect(rt, "memory");
-    read_nest(alloc, words.as_slice()).expect(rt, "a nest")
+    read_nest(alloc, words_of(rt, alloc, text).as_slice()).expect(rt, "a nest")
 }
 
 // So many traces of this text.
-fn traces_of(
-    rt: &impl Abort,
-    alloc: Global,
-    count: usize,
-    text: &[u8],
-) -> Result<Vec<Trace>, OutOfMemory> {
+fn traces_of(rt: &impl Abort, alloc: Global, count: usize, text: &[u8]) -> Vec<Trace> {
     let mut traces = Vec::new(alloc);
     for _ in 0..count {
-        traces.push(trace_of(rt, alloc, text))?;
+        let trace = trace_of(rt, alloc, text);
+        traces.push(trace).expect(rt, "memory");
     }
-    Ok(traces)
+    traces
 }
 
-// The nest of these words, each of whose traces is this one.
-pub fn nest_of(rt: &impl Abort, alloc: Global, nest: &str, trace: &[u8], horizon: u64) -> Nest {
-    let words = nest_words_of(rt, alloc, nest);
-    let traces = traces_of(rt, alloc, words.traces().len(), trace).expect(rt, "memory");
-    assert!(rt; horizon <= HOUR);
-    assert!(rt; traces.len() == words.traces().len());
-    let opportunities = words.opportunities(traces.as_slice(), horizon);
-    assert!(rt; opportunities <= MOST_OPPORTUNITIES);
+// Whether these are as many traces as the words have, and have few enough opportunities up to the horizon.
+fn fit(words: &NestWords, traces: &[Trace], horizon: u64) -> bool
+    ensures traces { OnTrue result (length traces.now ≡ length words.now.traces) }
+    ensures horizon { OnTrue result (horizon ≤ 3600000) }
+    ensures few { OnTrue result (opportunities_of horizon words.now.shells traces.now ≤ 16000000) }
+{
+    horizon <= HOUR
+        && traces.len() == words.traces().len()
+        && words.opportunities(traces, horizon) <= MOST_OPPORTUNITIES
+}
+
+// The nest of these words with these traces.
+fn built(
+    rt: &impl Abort,
+    alloc: Global,
+    words: NestWords,
+    traces: Vec<Trace>,
+    horizon: u64,
+) -> Nest {
+    assert!(rt; fit(&words, &traces, horizon));
     build(alloc, words, traces, 0, horizon).expect(rt, "memory")
 }
 
+// The nest of a trip.
+fn nest_of(rt: &impl Abort, alloc: Global, trip: &Trip) -> Nest {
+    let words = nest_words_of(rt, alloc, trip.nest);
+    let traces = traces_of(rt, alloc, words.traces().len(), trip.trace);
+    built(rt, alloc, words, traces, trip.horizon)
+}
+
+// The schedule of what comes.
+fn schedule_for(rt: &impl Abort, alloc: Global, coming: Coming) -> Schedule {
+    match coming {
+        Coming::Rows(text) => schedule_of(rt, alloc, text),
+        Coming::Load(number, rows) => load_of(rt, alloc, number, rows),
+    }
+}
+
+// The nest and the schedule of a trip.
+pub fn prepare(rt: &impl Abort, alloc: Global, trip: &Trip) -> Prepared {
+    Prepared {
+        nest: nest_of(rt, alloc, trip),
+        schedule: schedule_for(rt, alloc, trip.coming),
+    }
+}
+
 // A run over whole lists, shell by shell.
-pub fn plain_run(rt: &impl Abort, alloc: Global, nest: &Nest, schedule: &Schedule) -> RunResult {
-    run_plain(alloc, nest, schedule).expect(rt, "memory")
+pub fn plain_run(rt: &impl Abort, alloc: Global, prepared: &Prepared) -> RunResult {
+    run_plain(alloc, &prepared.nest, &prepared.schedule).expect(rt, "memory")
 }
 
 // A run by single steps in this order, which is gathered from the states of the shells.
-pub fn stepped_run(
-    rt: &impl Abort,
-    alloc: Global,
-    nest: &Nest,
-    schedule: &Schedule,
-    order: &[u8],
-) -> RunResult {
-    run_order(alloc, nest, schedule, order).expect(rt, "memory")
+pub fn stepped_run(rt: &impl Abort, alloc: Global, prepared: &Prepared, order: &[u8]) -> RunResult {
+    run_order(alloc, &prepared.nest, &prepared.schedule, order).expect(rt, "memory")
 }

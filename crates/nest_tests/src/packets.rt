@@ -1,5 +1,4 @@
 // Lists of packets for tests.
-ghost use Rattle.std.specs.Prelude.{IfOk};
 ghost use Rattle.packet_record.specs.Moments.{AreUpTo, Rise};
 
 use packet_record::{Packet, Timed};
@@ -16,24 +15,21 @@ pub fn timed(moment: u64, id: u32) -> Timed {
 }
 
 // Ten thousand packets, ten at each millisecond.
-pub fn many_packets(alloc: Global) -> Result<Vec<Timed>, OutOfMemory> {
+pub fn many_packets(rt: &impl Abort, alloc: Global) -> Vec<Timed> {
     let mut packets = Vec::new(alloc);
     for id in 0..10_000u32 {
-        packets.push(timed(u64::from(id / 10), id))?;
+        packets
+            .push(timed(u64::from(id / 10), id))
+            .expect(rt, "memory");
     }
-    Ok(packets)
+    packets
 }
 
 // These packets, of which none may be before one that stands earlier, or past the horizon.
 #[tactic(auto, using(link_core::proofs::FeedLemmas::up_to_push, link_core::proofs::FeedLemmas::up_to_later, link_core::proofs::FeedLemmas::rise_push))]
-pub fn in_order(
-    rt: &impl Abort,
-    alloc: Global,
-    horizon: u64,
-    packets: &[Timed],
-) -> Result<Vec<Timed>, OutOfMemory>
-    ensures rises { IfOk result (λ v. Rise v.items) }
-    ensures within { IfOk result (λ v. AreUpTo horizon v.items) }
+pub fn in_order(rt: &impl Abort, alloc: Global, horizon: u64, packets: &[Timed]) -> Vec<Timed>
+    ensures rises { Rise result.items }
+    ensures within { AreUpTo horizon result.items }
 {
     let mut list = Vec::new(alloc);
     let mut last = 0;
@@ -41,11 +37,11 @@ pub fn in_order(
         if t.moment < last || t.moment > horizon {
             continue;
         }
-        list.push(*t)?;
+        list.push(*t).expect(rt, "memory");
         last = t.moment;
     }
     assert!(rt; list.len() == packets.len());
-    Ok(list)
+    list
 }
 
 // Adds a line of two numbers.
@@ -61,17 +57,30 @@ pub fn put_line(
     text.append(b"\n")
 }
 
-// Each packet's number and moment.
-fn listed(alloc: Global, packets: &[Timed]) -> Result<Bytes, OutOfMemory> {
-    let mut text = Bytes::new(alloc);
-    for t in packets {
-        put_line(&mut text, u64::from(t.packet.id), b" ", t.moment)?;
+// Whether these packets are the first of those, by their numbers and moments.
+pub fn are_first(packets: &[Timed], said: &[(u32, u64)]) -> bool {
+    for i in 0..packets.len().min(said.len()) {
+        let (id, moment) = said[i];
+        if packets[i].packet.id != id || packets[i].moment != moment {
+            return false;
+        }
     }
-    Ok(text)
+    packets.len() <= said.len()
 }
 
-// The list of these packets is this text.
-pub fn are_listed(rt: &impl Abort, alloc: Global, packets: &[Timed], said: &[u8]) {
-    let text = listed(alloc, packets).expect(rt, "memory");
-    assert!(rt; text.as_slice() == said);
+// Whether these packets are those, by their numbers and moments.
+pub fn are(packets: &[Timed], said: &[(u32, u64)]) -> bool {
+    packets.len() == said.len() && are_first(packets, said)
+}
+
+// Which packets departed and were lost, by their numbers and moments, and the numbers of those that stay inside.
+pub struct Ways {
+    pub departed: &'static [(u32, u64)],
+    pub lost: &'static [(u32, u64)],
+    pub inside: &'static [u32],
+}
+
+// Whether packets went these ways.
+pub fn went(departed: &[Timed], lost: &[Timed], inside: &[u32], ways: &Ways) -> bool {
+    are(departed, ways.departed) && are(lost, ways.lost) && inside == ways.inside
 }

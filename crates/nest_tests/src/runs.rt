@@ -1,158 +1,214 @@
 // Runs of small nests, each at once over whole lists and by states: their fates and logs.
-use crate::inputs::schedule_of;
-use crate::nests::{nest_of, plain_run, stepped_run};
-use link_core::LinkLog;
+use crate::inputs::is_text;
+use crate::link_runs::{Pieces, put_together};
+use crate::nests::{Coming, Prepared, Trip, plain_run, prepare, stepped_run};
 use nest_plain::{NestRun, UnwrittenLog, run_nest};
-use nest_spec::{Named, NamedLog, Nest, PackedFate, RunResult, print_fates, unpack_fates};
-use packet_record::Schedule;
-use shell_log::{Entry, print_log};
+use nest_spec::{Named, NamedLog, PackedFate, RunResult, print_fates, unpack_fates};
+use shell_log::print_log;
 use std::alloc::Global;
 use std::process::Abort;
-use text_base::{Bytes, OutOfMemory};
 
-// A nest, each of whose traces is the same, and what its run must give: the text of the fates, and of each log after
-// its name.
-struct Case {
-    words: &'static str,
-    trace: &'static [u8],
-    schedule: &'static [u8],
-    horizon: u64,
-    fates: &'static [u8],
-    logs: &'static [u8],
+// The name and the text of a log.
+pub struct LogText {
+    name: &'static str,
+    text: &'static [u8],
 }
 
-// Adds the text of a log after its name.
-fn put_log(alloc: Global, text: &mut Bytes, named: &NamedLog) -> Result<(), OutOfMemory> {
-    let log = print_log(alloc, &named.log)?;
-    text.append(named.name.as_str().as_bytes())?;
-    text.append(b"\n")?;
-    text.append(log.as_slice())
+// A run of a nest and what it must give: the text of the fates, and the name and the text of each log.
+pub struct Case {
+    pub trip: Trip,
+    pub fates: &'static [u8],
+    pub logs: &'static [LogText],
 }
 
-fn logs_text(alloc: Global, logs: &[NamedLog]) -> Result<Bytes, OutOfMemory> {
-    let mut text = Bytes::new(alloc);
-    for named in logs {
-        put_log(alloc, &mut text, named)?;
+// Whether a log has this name and this text.
+fn is_log(rt: &impl Abort, alloc: Global, named: &NamedLog, said: &LogText) -> bool {
+    named.name.as_str() == said.name && is_text(rt, print_log(alloc, &named.log), said.text)
+}
+
+// Whether the logs have these names and these texts.
+fn are_logs(rt: &impl Abort, alloc: Global, logs: &[NamedLog], said: &[LogText]) -> bool {
+    for i in 0..logs.len().min(said.len()) {
+        if !is_log(rt, alloc, &logs[i], &said[i]) {
+            return false;
+        }
     }
-    Ok(text)
+    logs.len() == said.len()
 }
 
 // Whether a run gives what is said.
-fn is_as_said(rt: &impl Abort, alloc: Global, case: &Case, run: &RunResult) -> bool {
-    let fates = print_fates(alloc, run.fates()).expect(rt, "memory");
-    let logs = logs_text(alloc, run.logs()).expect(rt, "memory");
-    fates.as_slice() == case.fates && logs.as_slice() == case.logs
+pub fn is_as_said(rt: &impl Abort, alloc: Global, case: &Case, run: &RunResult) -> bool {
+    is_text(rt, print_fates(alloc, run.fates()), case.fates)
+        && are_logs(rt, alloc, run.logs(), case.logs)
 }
 
 // Whether both runs give what is said.
-fn are_as_said(rt: &impl Abort, alloc: Global, case: &Case) -> bool {
-    let nest = nest_of(rt, alloc, case.words, case.trace, case.horizon);
-    let schedule = schedule_of(rt, alloc, case.schedule);
-    let plain = plain_run(rt, alloc, &nest, &schedule);
-    let stepped = stepped_run(rt, alloc, &nest, &schedule, &[]);
-    is_as_said(rt, alloc, case, &plain) && is_as_said(rt, alloc, case, &stepped)
+fn are_as_said(rt: &impl Abort, alloc: Global, case: &Case, prepared: &Prepared) -> bool {
+    is_as_said(rt, alloc, case, &plain_run(rt, alloc, prepared))
+        && is_as_said(rt, alloc, case, &stepped_run(rt, alloc, prepared, &[]))
+}
+
+// A small nest gives what is said.
+fn gives(rt: &impl Abort, alloc: Global, case: &Case) {
+    let prepared = prepare(rt, alloc, &case.trip);
+    assert!(rt;
+        are_as_said(rt, alloc, case, &prepared),
+        "of {}",
+        case.trip.nest
+    );
 }
 
 static CASES: [Case; 6] = [
     Case {
-        words: "mm-delay 20",
-        trace: b"",
-        schedule: b"4 up 100\n90 down 100\n101 up 100\n",
-        horizon: 100,
+        trip: Trip {
+            nest: "mm-delay 20",
+            trace: b"",
+            horizon: 100,
+            coming: Coming::Rows(b"4 up 100\n90 down 100\n101 up 100\n"),
+        },
         fates: b"1 up departed 24\n2 down inside 1\n3 up unsent\n",
-        logs: b"",
+        logs: &[],
     },
     Case {
-        words: "mm-delay 10 mm-link t t --uplink-log=u",
-        trace: b"4\n",
-        schedule: b"0 up 100\n0 down 100\n5 up 100\n",
-        horizon: 15,
+        trip: Trip {
+            nest: "mm-delay 10 mm-link t t --uplink-log=u",
+            trace: b"4\n",
+            horizon: 15,
+            coming: Coming::Rows(b"0 up 100\n0 down 100\n5 up 100\n"),
+        },
         fates: b"1 up departed 14\n2 down departed 12\n3 up inside 1\n",
-        logs: b"u\n# base timestamp: 0\n0 + 100\n4 # 1504\n4 - 100 4\n5 + 100\n8 # 1504\n8 - 100 3\n12 # 1504\n",
+        logs: &[LogText {
+            name: "u",
+            text: b"# base timestamp: 0\n0 + 100\n4 # 1504\n4 - 100 4\n5 + 100\n8 # 1504\n8 - 100 3\n\
+                12 # 1504\n",
+        }],
     },
     Case {
-        words: "mm-delay 10 mm-link t t",
-        trace: b"4\n",
-        schedule: b"0 up 100\n0 down 100\n",
-        horizon: 100,
+        trip: Trip {
+            nest: "mm-delay 10 mm-link t t",
+            trace: b"4\n",
+            horizon: 100,
+            coming: Coming::Rows(b"0 up 100\n0 down 100\n"),
+        },
         fates: b"1 up departed 14\n2 down departed 12\n",
-        logs: b"",
+        logs: &[],
     },
     Case {
-        words: "mm-link t t --uplink-log=u --uplink-queue=drophead --uplink-queue-args=packets=2",
-        trace: b"1\n",
-        schedule: b"0 up 1000\n0 up 1000\n1 up 800\n1 up 800\n1 up 700\n",
-        horizon: 3,
+        trip: Trip {
+            nest: "mm-link t t --uplink-log=u --uplink-queue=drophead --uplink-queue-args=packets=2",
+            trace: b"1\n",
+            horizon: 3,
+            coming: Coming::Rows(b"0 up 1000\n0 up 1000\n1 up 800\n1 up 800\n1 up 700\n"),
+        },
         fates: b"1 up departed 1\n2 up departed 2\n3 up dropped 1 1\n4 up departed 2\n5 up departed 3\n",
-        logs: b"u\n# base timestamp: 0\n0 + 1000\n0 + 1000\n1 # 1504\n1 - 1000 1\n1 + 800\n1 + 800\n1 + 700\n\
-            1 d 1 800\n2 # 1504\n2 - 1000 2\n2 - 800 1\n3 # 1504\n3 - 700 2\n",
+        logs: &[LogText {
+            name: "u",
+            text: b"# base timestamp: 0\n0 + 1000\n0 + 1000\n1 # 1504\n1 - 1000 1\n1 + 800\n1 + 800\n\
+                1 + 700\n1 d 1 800\n2 # 1504\n2 - 1000 2\n2 - 800 1\n3 # 1504\n3 - 700 2\n",
+        }],
     },
     Case {
-        words: "mm-loss uplink 1",
-        trace: b"",
-        schedule: b"4 up 60\n4 down 60\n10 up 60\n",
-        horizon: 9,
+        trip: Trip {
+            nest: "mm-loss uplink 1",
+            trace: b"",
+            horizon: 9,
+            coming: Coming::Rows(b"4 up 60\n4 down 60\n10 up 60\n"),
+        },
         fates: b"1 up dropped 1 4\n2 down departed 4\n3 up unsent\n",
-        logs: b"",
+        logs: &[],
     },
     Case {
-        words: "mm-link t t --downlink-log d --uplink-log u mm-link t t --downlink-log e",
-        trace: b"1\n",
-        schedule: b"0 up 1504\n",
-        horizon: 2,
+        trip: Trip {
+            nest: "mm-link t t --downlink-log d --uplink-log u mm-link t t --downlink-log e",
+            trace: b"1\n",
+            horizon: 2,
+            coming: Coming::Rows(b"0 up 1504\n"),
+        },
         fates: b"1 up departed 2\n",
-        logs: b"u\n# base timestamp: 0\n1 # 1504\n1 + 1504\n2 # 1504\n2 - 1504 1\n\
-            d\n# base timestamp: 0\n1 # 1504\n2 # 1504\n\
-            e\n# base timestamp: 0\n1 # 1504\n2 # 1504\n",
+        logs: &[
+            LogText {
+                name: "u",
+                text: b"# base timestamp: 0\n1 # 1504\n1 + 1504\n2 # 1504\n2 - 1504 1\n",
+            },
+            LogText {
+                name: "d",
+                text: b"# base timestamp: 0\n1 # 1504\n2 # 1504\n",
+            },
+            LogText {
+                name: "e",
+                text: b"# base timestamp: 0\n1 # 1504\n2 # 1504\n",
+            },
+        ],
     },
 ];
 
 #[test]
 fn small_nests_give_what_is_said(rt: HostRuntime) {
     for case in &CASES {
-        assert!(rt; are_as_said(&rt, rt.alloc(), case), "of {}", case.words);
+        gives(&rt, rt.alloc(), case);
     }
 }
 
-// A log that is still to be made has these entries, in one piece.
-fn is_one_piece(rt: &impl Abort, log: LinkLog, entries: &[Entry]) {
-    let mut pieces = log.pieces();
-    assert!(rt; pieces.next().expect(rt, "memory"));
-    assert!(rt; pieces.piece() == entries);
-    assert!(rt; !pieces.next().expect(rt, "memory"));
+// Whether a log that is put together is in one piece, with the entries of this one.
+fn is_one_piece(pieces: &Pieces, written: &NamedLog) -> bool {
+    pieces.number == 1 && pieces.entries.as_slice() == written.log.entries()
 }
 
-// The logs that are still to be made have the names and entries of these.
-fn are_made(rt: &impl Abort, logs: Vec<UnwrittenLog>, written: &[NamedLog]) {
-    let mut rest = written.iter();
-    for Named { name, log } in logs {
-        let Some(same) = rest.next() else {
-            panic!(rt; "no log");
-        };
-        assert!(rt; name.as_str() == same.name.as_str());
-        is_one_piece(rt, log, same.log.entries());
+// Whether a log that is still to be made has the name and the entries of this one, in one piece.
+fn is_made(rt: &impl Abort, alloc: Global, made: UnwrittenLog, written: &NamedLog) -> bool {
+    let Named { name, log } = made;
+    let pieces = put_together(rt, alloc, log);
+    name.as_str() == written.name.as_str() && is_one_piece(&pieces, written)
+}
+
+// Whether the logs that are still to be made have the names and entries of these.
+fn are_made(
+    rt: &impl Abort,
+    alloc: Global,
+    logs: &mut Vec<UnwrittenLog>,
+    written: &[NamedLog],
+) -> bool {
+    for same in written.iter().rev() {
+        let last = logs.pop().expect(rt, "a log");
+        if !is_made(rt, alloc, last, same) {
+            return false;
+        }
     }
+    logs.is_empty()
 }
 
-fn has_fates(rt: &impl Abort, alloc: Global, fates: &[PackedFate], run: &RunResult) {
-    let rows = unpack_fates(alloc, fates).expect(rt, "memory");
-    assert!(rt; rows.as_slice() == run.fates());
+// Whether packed fates are those of a run.
+fn has_fates(rt: &impl Abort, alloc: Global, fates: &[PackedFate], run: &RunResult) -> bool {
+    unpack_fates(alloc, fates).expect(rt, "memory").as_slice() == run.fates()
 }
 
 // A run whose logs aren't written out.
-fn unwritten_run(rt: &impl Abort, alloc: Global, nest: &Nest, schedule: &Schedule) -> NestRun {
-    run_nest(alloc, nest, schedule).expect(rt, "memory")
+fn unwritten_run(rt: &impl Abort, alloc: Global, prepared: &Prepared) -> NestRun {
+    run_nest(alloc, &prepared.nest, &prepared.schedule).expect(rt, "memory")
+}
+
+// Whether a run whose logs aren't written out gives two logs, and what this one gives.
+fn is_unwritten(rt: &impl Abort, alloc: Global, run: NestRun, whole: &RunResult) -> bool {
+    let (fates, mut logs) = run.into_parts();
+    logs.len() == 2
+        && has_fates(rt, alloc, &fates, whole)
+        && are_made(rt, alloc, &mut logs, whole.logs())
+}
+
+static LOGGED: Trip = Trip {
+    nest: "mm-link t t --uplink-log u --downlink-log d",
+    trace: b"2\n",
+    horizon: 4,
+    coming: Coming::Rows(b"0 up 1000\n1 down 700\n"),
+};
+
+// A run whose logs aren't written out gives what one gives that writes them out.
+fn makes_logs(rt: &impl Abort, alloc: Global, prepared: &Prepared) {
+    let whole = plain_run(rt, alloc, prepared);
+    assert!(rt; is_unwritten(rt, alloc, unwritten_run(rt, alloc, prepared), &whole));
 }
 
 #[test]
 fn makes_the_logs_that_are_written_out(rt: HostRuntime) {
-    let alloc = rt.alloc();
-    let words = "mm-link t t --uplink-log u --downlink-log d";
-    let nest = nest_of(&rt, alloc, words, b"2\n", 4);
-    let schedule = schedule_of(&rt, alloc, b"0 up 1000\n1 down 700\n");
-    let whole = plain_run(&rt, alloc, &nest, &schedule);
-    let (fates, logs) = unwritten_run(&rt, alloc, &nest, &schedule).into_parts();
-    has_fates(&rt, alloc, fates.as_slice(), &whole);
-    assert!(rt; logs.len() == 2);
-    are_made(&rt, logs, whole.logs());
+    makes_logs(&rt, rt.alloc(), &prepare(&rt, rt.alloc(), &LOGGED));
 }

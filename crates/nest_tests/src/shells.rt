@@ -1,111 +1,103 @@
 // A whole list of packets through a shell of each kind.
-ghost use Rattle.std.specs.Prelude.{◌≤◌, length};
-ghost use Rattle.shell_core.specs.Shells.{IsInRange, opportunities};
-
-use crate::inputs::{queue_of, rate_of, trace_of};
-use crate::links::written;
-use crate::packets::{are_listed, in_order, timed};
-use shell_core::{DirSpec, Passage, run_whole};
-use shell_log::print_log;
+use crate::directions::{Kind, direction_of, log_of};
+use crate::packets::{Ways, in_order, timed, went};
+use shell_core::{Passage, run_whole};
+use shell_log::{Log, print_log};
 use std::alloc::Global;
 use std::process::Abort;
-use text_base::OutOfMemory;
-use text_base::limits::MOST_OPPORTUNITIES;
 
-// What the three packets' way through a direction, up to 100 ms, must give.
-struct Said {
-    departed: &'static [u8],
-    lost: &'static [u8],
-    held: &'static [u32],
+// What three packets through a direction, up to 100 ms, must give.
+struct Case {
+    kind: Kind,
+    ways: Ways,
 }
 
 // Three packets through a direction, up to 100 ms.
-fn pass(rt: &impl Abort, alloc: Global, spec: DirSpec) -> Result<Passage, OutOfMemory>
-    requires range { IsInRange spec }
-    requires few { length (opportunities spec 100) ≤ 16000000 }
-{
+fn pass(rt: &impl Abort, alloc: Global, kind: Kind) -> Passage {
     let three = [timed(5, 1), timed(80, 2), timed(81, 3)];
-    let packets = in_order(rt, alloc, 100, &three)?;
-    run_whole(alloc, spec, 100, packets)
+    let packets = in_order(rt, alloc, 100, &three);
+    let direction = direction_of(rt, alloc, kind, 100);
+    run_whole(alloc, direction, 100, packets).expect(rt, "memory")
 }
 
-fn is_as_said(rt: &impl Abort, alloc: Global, passage: &Passage, said: &Said) {
-    are_listed(rt, alloc, &passage.departed, said.departed);
-    are_listed(rt, alloc, &passage.lost, said.lost);
-    assert!(rt; passage.held.as_slice() == said.held);
+// Whether the packets went their ways, and links alone have a log.
+fn is_as_said(passage: &Passage, case: &Case) -> bool {
+    passage.log.is_some() == matches!(case.kind, Kind::Link(..))
+        && went(&passage.departed, &passage.lost, &passage.held, &case.ways)
 }
 
-static ALL: Said = Said {
-    departed: b"1 5\n2 80\n3 81\n",
-    lost: b"",
-    held: &[],
+// The packets go through a direction as is said.
+fn passes(rt: &impl Abort, alloc: Global, case: &Case) {
+    assert!(rt; is_as_said(&pass(rt, alloc, case.kind), case));
+}
+
+static ALL: Case = Case {
+    kind: Kind::Pass,
+    ways: Ways {
+        departed: &[(1, 5), (2, 80), (3, 81)],
+        lost: &[],
+        inside: &[],
+    },
 };
 
 #[test]
-#[tactic(auto, unfolding(shell_core::specs::Shells::opportunities))]
 fn lets_all_pass(rt: HostRuntime) {
-    let passage = pass(&rt, rt.alloc(), DirSpec::Pass).expect(&rt, "memory");
-    is_as_said(&rt, rt.alloc(), &passage, &ALL);
-    assert!(rt; passage.log.is_none());
+    passes(&rt, rt.alloc(), &ALL);
 }
 
-static LATE: Said = Said {
-    departed: b"1 25\n2 100\n",
-    lost: b"",
-    held: &[3],
+static LATE: Case = Case {
+    kind: Kind::Delay(20),
+    ways: Ways {
+        departed: &[(1, 25), (2, 100)],
+        lost: &[],
+        inside: &[3],
+    },
 };
 
 #[test]
-#[tactic(auto, unfolding(shell_core::specs::Shells::opportunities))]
 fn delays_up_to_the_horizon(rt: HostRuntime) {
-    let passage = pass(&rt, rt.alloc(), DirSpec::Delay { ms: 20 }).expect(&rt, "memory");
-    is_as_said(&rt, rt.alloc(), &passage, &LATE);
+    passes(&rt, rt.alloc(), &LATE);
 }
 
-static NONE: Said = Said {
-    departed: b"",
-    lost: b"1 5\n2 80\n3 81\n",
-    held: &[],
+static NONE: Case = Case {
+    kind: Kind::Loss("1", 7, 0),
+    ways: Ways {
+        departed: &[],
+        lost: &[(1, 5), (2, 80), (3, 81)],
+        inside: &[],
+    },
 };
 
 #[test]
-#[tactic(auto, unfolding(shell_core::specs::Shells::opportunities))]
 fn loses_all(rt: HostRuntime) {
-    let spec = DirSpec::Loss {
-        rate: rate_of(&rt, "1"),
-        seed: 7,
-        stream: 0,
-    };
-    let passage = pass(&rt, rt.alloc(), spec).expect(&rt, "memory");
-    is_as_said(&rt, rt.alloc(), &passage, &NONE);
+    passes(&rt, rt.alloc(), &NONE);
 }
 
-// The packets through a link with an opportunity for each packet of 1504 bytes every 4 ms.
-#[tactic(auto, unfolding(shell_core::specs::Shells::opportunities))]
-fn pass_link(rt: &impl Abort, alloc: Global) -> Passage {
-    let trace = trace_of(rt, alloc, b"4\n");
-    assert!(rt; trace.count_to(100, false) <= MOST_OPPORTUNITIES);
-    let spec = DirSpec::Link {
-        trace,
-        once: false,
-        queue: queue_of(rt, "droptail", "packets=1"),
-    };
-    pass(rt, alloc, spec).expect(rt, "memory")
-}
-
-static FULL: Said = Said {
-    departed: b"1 8\n2 84\n",
-    lost: b"3 81\n",
-    held: &[],
+// A link with an opportunity for each packet of 1504 bytes every 4 ms.
+static FULL: Case = Case {
+    kind: Kind::Link(b"4\n", "droptail", "packets=1"),
+    ways: Ways {
+        departed: &[(1, 8), (2, 84)],
+        lost: &[(3, 81)],
+        inside: &[],
+    },
 };
 
 const START: &[u8] = b"# base timestamp: 0\n4 # 1504\n5 + 1000\n8 # 1504\n8 - 1000 3\n";
 
+// Whether the text of a log starts so.
+fn starts(rt: &impl Abort, alloc: Global, log: &Log, start: &[u8]) -> bool {
+    let text = print_log(alloc, log).expect(rt, "memory");
+    text.as_slice().starts_with(start)
+}
+
+// The log of the packets through a direction starts so.
+fn logs(rt: &impl Abort, alloc: Global, kind: Kind, start: &[u8]) {
+    assert!(rt; starts(rt, alloc, &log_of(rt, pass(rt, alloc, kind)), start));
+}
+
 #[test]
 fn drops_what_finds_no_room_at_a_link(rt: HostRuntime) {
-    let passage = pass_link(&rt, rt.alloc());
-    is_as_said(&rt, rt.alloc(), &passage, &FULL);
-    let log = written(&rt, passage.log);
-    let text = print_log(rt.alloc(), &log).expect(&rt, "memory");
-    assert!(rt; text.as_slice().starts_with(START));
+    passes(&rt, rt.alloc(), &FULL);
+    logs(&rt, rt.alloc(), FULL.kind, START);
 }

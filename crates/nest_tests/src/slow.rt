@@ -1,8 +1,11 @@
 // A plain slow program of the definitions, written apart from the contracts: it sums over whole lists again and again.
+ghost use Rattle.std.specs.Prelude.{◌<◌, length};
+
 use packet_queue::{QueueKind, QueueSpec};
 use packet_record::Timed;
 use shell_log::Entry;
 use std::alloc::Global;
+use std::process::Abort;
 use text_base::OutOfMemory;
 use trace_reader::Opportunity;
 
@@ -104,23 +107,30 @@ fn count_gone(kept: &[Timed], bytes: u64) -> usize {
     count
 }
 
+// These packets, and one more.
+fn with(rt: &impl Abort, alloc: Global, packets: &[Timed], t: Timed) -> Vec<Timed> {
+    let mut list = Vec::from_slice(alloc, packets).expect(rt, "memory");
+    list.push(t).expect(rt, "memory");
+    list
+}
+
 // What is kept of those that were kept and a new packet, and what that loses.
 fn arrive(
+    rt: &impl Abort,
     alloc: Global,
     queue: &QueueSpec,
     opps: &[Opportunity],
     kept: &[Timed],
     t: Timed,
-) -> Result<Kept, OutOfMemory> {
+) -> Kept {
     let gone = count_gone(kept, sent(kept, opps, t.moment)).min(kept.len());
-    let mut waiting = Vec::from_slice(alloc, &kept[gone..])?;
-    waiting.push(t)?;
     let mut after = Kept {
-        kept: Vec::from_slice(alloc, &kept[..gone])?,
+        kept: Vec::from_slice(alloc, &kept[..gone]).expect(rt, "memory"),
         lost: Vec::new(alloc),
     };
-    queued(queue, &mut after, waiting.as_slice(), t.moment)?;
-    Ok(after)
+    let waiting = with(rt, alloc, &kept[gone..], t);
+    queued(queue, &mut after, &waiting, t.moment).expect(rt, "memory");
+    after
 }
 
 // The number of the first opportunity with which so many bytes are sent, or how many there are.
@@ -173,58 +183,56 @@ fn log_arrival(log: &mut Vec<Entry>, t: Timed, lost: &[Timed]) -> Result<(), Out
     Ok(())
 }
 
-// The packets that this arrival lost.
-fn lost_at(
-    alloc: Global,
-    queue: &QueueSpec,
-    opps: &[Opportunity],
-    arrivals: &[Timed],
-    number: usize,
-) -> Result<Vec<Timed>, OutOfMemory> {
-    let mut kept = Vec::new(alloc);
-    for i in 0..arrivals.len() {
-        let after = arrive(alloc, queue, opps, &kept, arrivals[i])?;
-        if i == number {
-            return Ok(after.lost);
-        }
-        kept = after.kept;
-    }
-    Ok(Vec::new(alloc))
-}
-
 // What is kept and lost of all these.
 fn keep(
+    rt: &impl Abort,
     alloc: Global,
     queue: &QueueSpec,
     opps: &[Opportunity],
     arrivals: &[Timed],
-) -> Result<Kept, OutOfMemory> {
+) -> Kept {
     let mut all = Kept {
         kept: Vec::new(alloc),
         lost: Vec::new(alloc),
     };
     for t in arrivals {
-        let after = arrive(alloc, queue, opps, &all.kept, *t)?;
-        all.lost.extend_from_slice(after.lost.as_slice())?;
+        let after = arrive(rt, alloc, queue, opps, &all.kept, *t);
+        all.lost.extend_from_slice(&after.lost).expect(rt, "memory");
         all.kept = after.kept;
     }
-    Ok(all)
+    all
+}
+
+// The packets that the arrival of this number lost.
+fn lost_at(
+    rt: &impl Abort,
+    alloc: Global,
+    queue: &QueueSpec,
+    opps: &[Opportunity],
+    arrivals: &[Timed],
+    number: usize,
+) -> Vec<Timed>
+    requires { number < length arrivals.now }
+{
+    let before = keep(rt, alloc, queue, opps, &arrivals[..number]);
+    arrive(rt, alloc, queue, opps, &before.kept, arrivals[number]).lost
 }
 
 // What departs of the packets that are kept.
-fn depart(alloc: Global, kept: &[Timed], opps: &[Opportunity]) -> Result<Vec<Timed>, OutOfMemory> {
+fn depart(rt: &impl Abort, alloc: Global, kept: &[Timed], opps: &[Opportunity]) -> Vec<Timed> {
     let mut departed = Vec::new(alloc);
     let mut sum: u64 = 0;
     for t in kept {
         sum = sum.saturating_add(u64::from(t.packet.size));
         if let Some(o) = opps.get(first_with(kept, opps, sum)) {
-            departed.push(Timed {
+            let gone = Timed {
                 moment: o.moment,
                 packet: t.packet,
-            })?;
+            };
+            departed.push(gone).expect(rt, "memory");
         }
     }
-    Ok(departed)
+    departed
 }
 
 // The opportunities of a moment.
@@ -244,52 +252,61 @@ fn log_opportunities(
 
 // The arrivals of a moment.
 fn log_arrivals(
+    rt: &impl Abort,
     alloc: Global,
     log: &mut Vec<Entry>,
     queue: &QueueSpec,
     opps: &[Opportunity],
     arrivals: &[Timed],
     moment: u64,
-) -> Result<(), OutOfMemory> {
+) {
     for i in 0..arrivals.len() {
         if arrivals[i].moment == moment {
-            let lost = lost_at(alloc, queue, opps, arrivals, i)?;
-            log_arrival(log, arrivals[i], &lost)?;
+            let lost = lost_at(rt, alloc, queue, opps, arrivals, i);
+            log_arrival(log, arrivals[i], &lost).expect(rt, "memory");
         }
     }
-    Ok(())
 }
 
 // What happens up to the horizon, moment by moment.
 fn log_all(
+    rt: &impl Abort,
     alloc: Global,
     queue: &QueueSpec,
     opps: &[Opportunity],
     arrivals: &[Timed],
     kept: &[Timed],
     horizon: u16,
-) -> Result<Vec<Entry>, OutOfMemory> {
+) -> Vec<Entry> {
     let mut log = Vec::new(alloc);
     for moment in 0..=horizon {
-        log_opportunities(&mut log, kept, opps, u64::from(moment))?;
-        log_arrivals(alloc, &mut log, queue, opps, arrivals, u64::from(moment))?;
+        log_opportunities(&mut log, kept, opps, u64::from(moment)).expect(rt, "memory");
+        log_arrivals(
+            rt,
+            alloc,
+            &mut log,
+            queue,
+            opps,
+            arrivals,
+            u64::from(moment),
+        );
     }
-    Ok(log)
+    log
 }
 
+// What becomes of all arrivals up to the horizon, and the log.
 pub fn slow_link(
+    rt: &impl Abort,
     alloc: Global,
     queue: &QueueSpec,
     opps: &[Opportunity],
     arrivals: &[Timed],
     horizon: u16,
-) -> Result<Slow, OutOfMemory> {
-    let Kept { kept, lost } = keep(alloc, queue, opps, arrivals)?;
-    let departed = depart(alloc, &kept, opps)?;
-    let log = log_all(alloc, queue, opps, arrivals, &kept, horizon)?;
-    Ok(Slow {
-        departed,
-        lost,
-        log,
-    })
+) -> Slow {
+    let after = keep(rt, alloc, queue, opps, arrivals);
+    Slow {
+        departed: depart(rt, alloc, &after.kept, opps),
+        log: log_all(rt, alloc, queue, opps, arrivals, &after.kept, horizon),
+        lost: after.lost,
+    }
 }

@@ -2,8 +2,11 @@
 ghost use Rattle.std.specs.Prelude.{◌≡◌, ◌≤◌, ◌↔◌, IsTrue};
 ghost use Rattle.packet_record.specs.Streams.{IsUpTo};
 
+use crate::directions::{Kind, direction_of};
 use packet_record::{FlowEnd, Item};
 use shell_state::{ShellState, Taken};
+use std::alloc::Global;
+use std::process::Abort;
 use text_base::OutOfMemory;
 
 mod many;
@@ -62,6 +65,15 @@ fn take_one(state: &mut ShellState, most: u32) -> Result<Option<Taken>, OutOfMem
     }
     let answer = state.take(most)?;
     Ok(Some(answer))
+}
+
+// A state of this kind, of which nothing was fed or taken.
+fn state_of(rt: &impl Abort, alloc: Global, kind: Kind, horizon: u64) -> ShellState
+    requires { horizon ≤ 3600000 }
+    ensures { result.horizon ≡ horizon }
+{
+    let direction = direction_of(rt, alloc, kind, horizon);
+    ShellState::new(alloc, direction, horizon).expect(rt, "memory")
 }
 
 fn moves<T: Send>(_: &T) {}

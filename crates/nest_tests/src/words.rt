@@ -1,35 +1,44 @@
 // The words for nests, and each refusal.
 use crate::nests::{nest_words_of, words_of};
-use nest_spec::{NestError, read_nest};
+use nest_spec::{NestError, NestWords, read_nest};
 use std::alloc::Global;
 use std::process::Abort;
 use text_base::Text;
 
-// Whether the texts are these.
-fn are(texts: &[Text], said: &[&str]) -> bool {
-    for (text, name) in texts.iter().zip(said.iter()) {
-        let is_same = text.as_str() == *name;
-        if !is_same {
-            return false;
-        }
+// Whether the texts are these two.
+fn are(texts: &[Text], first: &str, second: &str) -> bool {
+    match texts {
+        [one, two] => one.as_str() == first && two.as_str() == second,
+        _ => false,
     }
-    texts.len() == said.len()
 }
 
 const THREE_SHELLS: &str =
     "mm-delay 0020 mm-link --uplink-log=u a --once b --downlink-log d -- mm-loss downlink .5";
 
+// Whether words have three shells, and these traces and logs.
+fn are_three_shells(words: &NestWords) -> bool {
+    words.shells().len() == 3 && are(words.traces(), "a", "b") && are(words.logs(), "u", "d")
+}
+
+// The words of three shells are read as these.
+fn read_three_shells(rt: &impl Abort, alloc: Global) {
+    assert!(rt; are_three_shells(&nest_words_of(rt, alloc, THREE_SHELLS)));
+}
+
 #[test]
 fn reads_a_nest(rt: HostRuntime) {
-    let nest = nest_words_of(&rt, rt.alloc(), THREE_SHELLS);
-    assert!(rt; nest.shells().len() == 3);
-    assert!(rt; are(nest.traces(), &["a", "b"]));
-    assert!(rt; are(nest.logs(), &["u", "d"]));
+    read_three_shells(&rt, rt.alloc());
+}
+
+// Why words are refused.
+fn refusal(alloc: Global, words: &[String]) -> Option<NestError> {
+    read_nest(alloc, words).err()
 }
 
 #[test]
 fn refuses_no_words(rt: HostRuntime) {
-    assert!(rt; matches!(read_nest(rt.alloc(), &[]), Err(NestError::NoShell)));
+    assert!(rt; refusal(rt.alloc(), &[]) == Some(NestError::NoShell));
 }
 
 const NINE: &str =
@@ -73,18 +82,22 @@ static REFUSED: [(&str, u32, u32, Option<u32>); 29] = [
     ("mm-link a b --uplink-log=x --uplink-log", 6, 5, None),
 ];
 
+// Whether words are refused with this number, place and inner number.
 fn is_refused(rt: &impl Abort, alloc: Global, text: &str, said: (u32, u32, Option<u32>)) -> bool {
-    let words = words_of(alloc, text).expect(rt, "memory");
-    match read_nest(alloc, words.as_slice()) {
-        Ok(_) => false,
-        Err(fault) => (fault.number(), fault.place(), fault.inner()) == said,
+    match refusal(alloc, words_of(rt, alloc, text).as_slice()) {
+        None => false,
+        Some(fault) => (fault.number(), fault.place(), fault.inner()) == said,
     }
+}
+
+// These words are refused so.
+fn refuse(rt: &impl Abort, alloc: Global, text: &str, said: (u32, u32, Option<u32>)) {
+    assert!(rt; is_refused(rt, alloc, text, said), "at {text}");
 }
 
 #[test]
 fn refuses_the_first(rt: HostRuntime) {
     for &(text, number, place, inner) in &REFUSED {
-        let is_said = is_refused(&rt, rt.alloc(), text, (number, place, inner));
-        assert!(rt; is_said, "at {text}");
+        refuse(&rt, rt.alloc(), text, (number, place, inner));
     }
 }

@@ -1,6 +1,10 @@
 // A line with ample memory.
+ghost use Rattle.std.specs.Prelude.{◌≡◌, IfOk};
+ghost use Rattle.packet_record.specs.declared.item.FlowEnd.TheVariants.{Open};
+
 use crate::nests::nest_of;
 use nest_line::Line;
+use nest_spec::Nest;
 use packet_record::{Direction, Item, Packet, Timed};
 use std::alloc::Global;
 use std::process::Abort;
@@ -14,15 +18,23 @@ fn left_at(line: &Line, moment: u64) -> bool {
     }
 }
 
+// A line of a nest, to which a packet came at 1, and then a mark at 4.
+fn fed_line(rt: &impl Abort, alloc: Global, nest: &Nest) -> Result<Line, OutOfMemory>
+    requires { nest.now.horizon ≡ 20 }
+    ensures { IfOk result (λ line. line.fed.end ≡ Open) }
+{
+    let line = Line::new(alloc, nest, Direction::Down)?;
+    assert!(rt; line.departed().is_empty());
+    let packet = Packet { id: 1, size: 100 };
+    let line = line.feed(Item::Packet(Timed { moment: 1, packet }))?;
+    line.feed(Item::Mark(4))
+}
+
 // A packet down a delay of 2 ms and a link. Down, the first shell comes first: the packet comes to the link at 3.
 fn pass(rt: &impl Abort, alloc: Global) -> Result<(), OutOfMemory> {
     let nest = nest_of(rt, alloc, "mm-delay 2 mm-link t t", 20);
     assert!(rt; nest.horizon() == 20);
-    let line = Line::new(alloc, &nest, Direction::Down)?;
-    assert!(rt; line.departed().is_empty());
-    let packet = Packet { id: 1, size: 100 };
-    let line = line.feed(Item::Packet(Timed { moment: 1, packet }))?;
-    let line = line.feed(Item::Mark(4))?;
+    let line = fed_line(rt, alloc, &nest)?;
     assert!(rt; left_at(&line, 4));
     let line = line.feed(Item::End)?;
     assert!(rt; left_at(&line, 4));

@@ -1,4 +1,5 @@
 // `mm-relay` over files, a clock and a wire in memory.
+use crate::clocks::{Times, clock_of};
 use command_relay::relay_main;
 use live_relay::{MemClock, MemWire, Side};
 use std::alloc::Global;
@@ -44,24 +45,45 @@ fn status_of(
     )
 }
 
+// The same of a line of words, by a clock of these times.
+fn status_by(
+    alloc: Global,
+    words: &str,
+    times: &Times,
+    outside: &mut TestOutside,
+    wire: &mut MemWire,
+) -> Result<u8, OutOfMemory> {
+    let words = words_of(alloc, words)?;
+    let mut clock = clock_of(alloc, times)?;
+    Ok(status_of(alloc, &words, outside, &mut clock, wire))
+}
+
 // What is left: a status, what is on `out`, and files.
-#[derive(Drop)]
+#[derive(Clone, Copy)]
 struct Left<'a> {
     status: u8,
     printed: &'a str,
     files: &'a [(&'a str, &'a str)],
 }
 
-// Whether the words leave this, over a disk with the trace `t`.
+// The words of a program, by which clock it goes, the files before it, and which calls of the disk and of `out` fail.
+#[derive(Clone, Copy)]
+struct Job<'a> {
+    words: &'a str,
+    times: &'a Times,
+    files: &'a [(&'a str, &'a str)],
+    disk_fails: &'a [u64],
+    out_fails: &'a [u64],
+}
+
+// Whether a job over this wire leaves this.
 fn leaves(
     alloc: Global,
-    words: &str,
-    mut clock: MemClock,
+    job: &Job<'_>,
     wire: &mut MemWire,
     left: &Left<'_>,
 ) -> Result<bool, OutOfMemory> {
-    let words = words_of(alloc, words)?;
-    let mut outside = TestOutside::new(alloc, &[TRACE], &[], &[])?;
-    let status = status_of(alloc, &words, &mut outside, &mut clock, wire);
+    let mut outside = TestOutside::new(alloc, job.files, job.disk_fails, job.out_fails)?;
+    let status = status_by(alloc, job.words, job.times, &mut outside, wire)?;
     Ok(status == left.status && outside.is_left(left.printed, left.files))
 }

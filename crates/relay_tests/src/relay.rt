@@ -1,11 +1,11 @@
 // Relays over a clock and a wire in memory, and the real ones.
 ghost use Rattle.std.specs.Prelude.{◌≤◌};
 
+use crate::clocks::{Times, clock_of};
 use crate::nests::nest_of;
-use live_relay::{
-    Clock, MemClock, MemWire, Received, RelayEnd, RelayError, RelayResult, Side, Wire, relay,
-};
-use nest_spec::{Nest, print_fates};
+use live_relay::{Clock, MemWire, Received, RelayEnd, RelayError, RelayResult, Side, Wire, relay};
+use nest_spec::{NamedLog, Nest, RunResult, print_fates};
+use shell_log::print_log;
 use std::alloc::Global;
 use std::process::Abort;
 use text_base::{Bytes, OutOfMemory};
@@ -68,32 +68,69 @@ struct Done {
     wire: MemWire,
 }
 
-// A relay that is done, over a wire with these answers.
-fn done_by(
-    rt: &impl Abort,
-    alloc: Global,
-    nest: &Nest,
+// A relay over a wire with these answers, and all that comes of it.
+struct Case {
+    nest: &'static str,
+    horizon: u64,
     turns: u32,
-    mut clock: MemClock,
-    answers: &[Answer],
-) -> Done
-    requires some { 1 ≤ turns }
-    requires few { turns ≤ 1000000 }
-{
-    let mut wire = wire_of(alloc, answers, &[]).expect(rt, "memory");
-    let relayed = relay_by(alloc, nest, turns, &mut clock, &mut wire).expect(rt, "a relay");
+    times: Times,
+    answers: &'static [Answer],
+    // The fates, and then the logs.
+    text: &'static [u8],
+    logs: usize,
+    rows: usize,
+    refused: u32,
+    end: RelayEnd,
+    last: u64,
+    // How many datagrams had been sent to the server when each receive began.
+    before: &'static [usize],
+    // The sizes of what was sent to each side.
+    to_server: &'static [usize],
+    to_client: &'static [usize],
+}
+
+// What a case's relay over this wire has passed.
+fn relayed_by(rt: &impl Abort, alloc: Global, case: &Case, wire: &mut MemWire) -> RelayResult {
+    assert!(rt; 1 <= case.turns && case.turns <= 1_000_000);
+    let nest = nest_of(rt, alloc, case.nest, case.horizon);
+    let mut clock = clock_of(alloc, &case.times).expect(rt, "memory");
+    relay_by(alloc, &nest, case.turns, &mut clock, wire).expect(rt, "a relay")
+}
+
+// A case's relay that is done.
+fn done_by(rt: &impl Abort, alloc: Global, case: &Case) -> Done {
+    let mut wire = wire_of(alloc, case.answers, &[]).expect(rt, "memory");
+    let relayed = relayed_by(rt, alloc, case, &mut wire);
     Done { relayed, wire }
 }
 
-// These are the fates of a relay.
-fn has_fates(rt: &impl Abort, alloc: Global, relayed: &RelayResult, fates: &str) {
-    let text = print_fates(alloc, relayed.run.fates()).expect(rt, "memory");
-    assert!(rt; text.as_slice() == fates.as_bytes());
+fn put_logs(alloc: Global, text: &mut Bytes, logs: &[NamedLog]) -> Result<(), OutOfMemory> {
+    for log in logs {
+        text.append(print_log(alloc, &log.log)?.as_slice())?;
+    }
+    Ok(())
 }
 
-// Whether a relay refused so many datagrams, and ended so, at this moment.
-fn is_end(relayed: &RelayResult, refused: u32, end: RelayEnd, last: u64) -> bool {
-    relayed.refused == refused && relayed.end == end && relayed.last == last
+// The text of a run: its fates and its logs.
+fn text_of(alloc: Global, run: &RunResult) -> Result<Bytes, OutOfMemory> {
+    let mut text = print_fates(alloc, run.fates())?;
+    put_logs(alloc, &mut text, run.logs())?;
+    Ok(text)
+}
+
+// Whether this is the text of a run.
+fn has_text(alloc: Global, run: &RunResult, text: &[u8]) -> Result<bool, OutOfMemory> {
+    let said = text_of(alloc, run)?;
+    Ok(said.as_slice() == text)
+}
+
+// Whether a relay has so many logs and rows, refused so many datagrams, and ended so, as a case says.
+fn is_end(relayed: &RelayResult, case: &Case) -> bool {
+    relayed.run.logs().len() == case.logs
+        && relayed.rows.as_slice().len() == case.rows
+        && relayed.refused == case.refused
+        && relayed.end == case.end
+        && relayed.last == case.last
 }
 
 fn are_counts(received: &[Received], counts: &[usize]) -> bool {
@@ -105,11 +142,6 @@ fn are_counts(received: &[Received], counts: &[usize]) -> bool {
     received.len() == counts.len()
 }
 
-// Whether so many datagrams had been sent to the server when each receive began.
-fn had_sent(wire: &MemWire, counts: &[usize]) -> bool {
-    are_counts(wire.received(), counts)
-}
-
 fn are_sizes(pieces: &[Bytes], sizes: &[usize]) -> bool {
     for (piece, size) in pieces.iter().zip(sizes.iter()) {
         if piece.len() != *size {
@@ -119,7 +151,21 @@ fn are_sizes(pieces: &[Bytes], sizes: &[usize]) -> bool {
     pieces.len() == sizes.len()
 }
 
-// Whether the datagrams that were sent to a side have these sizes.
-fn sizes_are(wire: &MemWire, side: Side, sizes: &[usize]) -> bool {
-    are_sizes(wire.sent(side), sizes)
+// Whether the datagrams that were sent to each side have these sizes.
+fn sizes_are(wire: &MemWire, to_server: &[usize], to_client: &[usize]) -> bool {
+    are_sizes(wire.sent(Side::Server), to_server) && are_sizes(wire.sent(Side::Client), to_client)
+}
+
+// Whether a wire has received and sent what a case says.
+fn is_used(wire: &MemWire, case: &Case) -> bool {
+    are_counts(wire.received(), case.before) && sizes_are(wire, case.to_server, case.to_client)
+}
+
+// A case's relay, which comes to what the case says.
+fn passes(rt: &impl Abort, alloc: Global, case: &Case) -> Done {
+    let done = done_by(rt, alloc, case);
+    assert!(rt; has_text(alloc, &done.relayed.run, case.text).expect(rt, "memory"));
+    assert!(rt; is_end(&done.relayed, case));
+    assert!(rt; is_used(&done.wire, case));
+    done
 }

@@ -7,10 +7,13 @@ mod responses;
 use http_frame::{FrameFault, Request, RequestFrames, Step, first_request};
 use std::alloc::Global;
 
+/// The answer where memory is wanting.
+const NO_MEMORY: u64 = 99;
+
 /// The number of an error.
 fn fault_number(fault: FrameFault) -> u64 {
     match fault {
-        FrameFault::OutOfMemory => 99,
+        FrameFault::OutOfMemory => NO_MEMORY,
         FrameFault::Frame(error) => u64::from(error.number()),
     }
 }
@@ -27,6 +30,24 @@ fn request_answer(frames: &mut RequestFrames) -> u64 {
         Ok(Step::More) => 0,
         Err(fault) => fault_number(fault),
     }
+}
+
+/// The answer after a piece more.
+fn answer_to(frames: &mut RequestFrames, piece: &[u8]) -> u64 {
+    match frames.feed(piece) {
+        Ok(()) => request_answer(frames),
+        Err(_) => NO_MEMORY,
+    }
+}
+
+/// Feeds so many copies of a piece, and answers whether there was memory for them.
+fn feed_copies(frames: &mut RequestFrames, piece: &[u8], count: u32) -> bool {
+    for _ in 0..count {
+        if frames.feed(piece).is_err() {
+            return false;
+        }
+    }
+    true
 }
 
 /// The request at the front. `None`: no request, or no memory.

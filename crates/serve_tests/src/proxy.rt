@@ -7,41 +7,99 @@ mod tcp;
 mod watched;
 
 use crate::links::{REQUEST, RESPONSE, link};
-use mm_base::{Link, Port};
+use mm_base::{Link, MemLink, Port};
 use record_proxy::{Dialer, ProxyEnd, proxy_conn, proxy_main};
 use record_store::Store;
 use std::alloc::Global;
-use std::test::Fail;
-use test_outside::TestOutside;
+use test_outside::{TestOutside, words_of};
 use text_base::OutOfMemory;
 
-// The end of a connection. No test needs what the contract of `proxy_conn` says of it, and so this has none.
+// How a connection ends, and how many records it adds. No test needs what the contract of `proxy_conn` says of it, and
+// so this has none.
 pub(crate) fn end_of<C: Link, S: Link>(
     alloc: Global,
     client: &mut C,
     server: &mut S,
     number: u16,
-    store: &mut Store,
-) -> Result<ProxyEnd, OutOfMemory> {
-    proxy_conn(alloc, client, server, number, store)
+) -> Result<(ProxyEnd, usize), OutOfMemory> {
+    let mut store = Store::new(alloc);
+    let end = proxy_conn(alloc, client, server, number, &mut store)?;
+    Ok((end, store.records().len()))
 }
 
 // The status of a program, without what the contract of `proxy_main` says of it.
 pub(crate) fn status_of<P: Port, X: Dialer>(
     alloc: Global,
-    words: &[String],
+    words: &str,
     outside: &mut TestOutside,
     port: &mut P,
     dialer: &mut X,
-) -> u8 {
-    proxy_main(
+) -> Result<u8, OutOfMemory> {
+    let words = words_of(alloc, words)?;
+    Ok(proxy_main(
         alloc,
-        words,
+        &words,
         &mut outside.disk,
         &mut outside.out,
         port,
         dialer,
-    )
+    ))
+}
+
+// What a client and a server say, of which a read brings at most so many bytes, and the calls of their links that
+// fail.
+#[derive(Clone, Copy)]
+struct Talk<'a> {
+    asked: &'a [u8],
+    said: &'a [u8],
+    most: usize,
+    client_fail: u64,
+    server_fail: u64,
+}
+
+// How a connection ends, how many records it adds, and how many bytes of what is asked and said are passed on. `None`:
+// what is passed on is no front of that.
+#[derive(Clone, Copy, PartialEq, Eq)]
+struct Seen {
+    end: ProxyEnd,
+    records: usize,
+    asked: Option<usize>,
+    said: Option<usize>,
+}
+
+// How many bytes there are, where they are a front of a text.
+fn length_of_front(given: &[u8], text: &[u8]) -> Option<usize> {
+    if text.starts_with(given) {
+        Some(given.len())
+    } else {
+        None
+    }
+}
+
+// What is seen of a connection between these links to a port of this number.
+fn seen_between(
+    alloc: Global,
+    talk: &Talk<'_>,
+    client: &mut MemLink,
+    server: &mut MemLink,
+    number: u16,
+) -> Result<Seen, OutOfMemory> {
+    let (end, records) = end_of(alloc, client, server, number)?;
+    Ok(Seen {
+        end,
+        records,
+        asked: length_of_front(server.given(), talk.asked),
+        said: length_of_front(client.given(), talk.said),
+    })
+}
+
+// The same between links that say so.
+fn seen_of(alloc: Global, talk: &Talk<'_>, number: u16) -> Result<Seen, OutOfMemory>
+    requires { 1 ≤ talk.now.most }
+{
+    let mut client = link(alloc, talk.asked, talk.most, talk.client_fail)?;
+    let mut server = link(alloc, talk.said, talk.most, talk.server_fail)?;
+    seen_between(alloc, talk, &mut client, &mut server, number)
 }
 
 // What a client and a server say, how many bytes of each are passed on, how many records are added, and how it ends.
@@ -167,34 +225,36 @@ static ROWS: [Row; 17] = [
     ),
 ];
 
-// Whether that is the front of a text of so many bytes.
-fn is_front(given: &[u8], text: &str, count: usize) -> bool {
-    given.len() == count && text.as_bytes().starts_with(given)
-}
-
 // Whether the ends, the bytes passed on and the records are these, where a read brings at most so many bytes.
-fn passes_so(alloc: Global, row: &Row, most: usize) -> Result<bool, Fail>
+fn passes_so(alloc: Global, row: &Row, most: usize) -> bool
     requires { 1 ≤ most }
 {
-    let mut client = link(alloc, row.0, most, &[])?;
-    let mut server = link(alloc, row.1, most, &[])?;
-    let mut store = Store::new(alloc);
-    let end = end_of(alloc, &mut client, &mut server, 8080, &mut store)?;
-    Ok(
-        end == row.5
-            && is_front(server.given(), row.0, row.2)
-            && is_front(client.given(), row.1, row.3)
-            && store.records().len() == row.4,
-    )
+    let talk = Talk {
+        asked: row.0.as_bytes(),
+        said: row.1.as_bytes(),
+        most,
+        client_fail: 0,
+        server_fail: 0,
+    };
+    let seen = Seen {
+        end: row.5,
+        records: row.4,
+        asked: Some(row.2),
+        said: Some(row.3),
+    };
+    seen_of(alloc, &talk, 8080) == Ok(seen)
+}
+
+// The same where a read brings all, and where it brings a byte.
+fn passes_whole_and_cut(alloc: Global, row: &Row) -> bool {
+    passes_so(alloc, row, 65_536) && passes_so(alloc, row, 1)
 }
 
 #[test]
-fn connections_pass_whole_messages(rt: HostRuntime) -> Result<(), Fail> {
+fn connections_pass_whole_messages(rt: HostRuntime) {
     for row in &ROWS {
-        assert!(rt; passes_so(rt.alloc(), row, 65_536)?, "whole {}", row.0);
-        assert!(rt; passes_so(rt.alloc(), row, 1)?, "cut {}", row.0);
+        assert!(rt; passes_whole_and_cut(rt.alloc(), row), "at {}", row.0);
     }
-    Ok(())
 }
 
 // How many of two answers, of 27 and of 40 bytes, are whole in their first so many bytes.
@@ -213,45 +273,49 @@ const ASKED: &str = "GET / HTTP/1.1\r\nHost: a\r\n\r\nGET / HTTP/1.1\r\nHost: b\
 
 const SAID: &str = "HTTP/1.1 204 No Content\r\n\r\nHTTP/1.1 200 OK\r\nContent-Length: 2\r\n\r\nhi";
 
-// Whether fronts of these were given to the server and to the client, and there is a record of each answer that was
-// given whole.
-fn are_recorded(asked: &[u8], said: &[u8], store: &Store) -> bool {
-    ASKED.as_bytes().starts_with(asked)
-        && SAID.as_bytes().starts_with(said)
-        && store.records().len() == whole_answers(said.len())
-}
-
-// Two exchanges, where the calls of these numbers of the client's and of the server's link fail: how it ends, and
-// whether it is recorded.
-fn ends_with_fails(
-    alloc: Global,
-    client_fails: &[u64],
-    server_fails: &[u64],
-) -> Result<(ProxyEnd, bool), Fail> {
-    let mut client = link(alloc, ASKED, 1, client_fails)?;
-    let mut server = link(alloc, SAID, 1, server_fails)?;
-    let mut store = Store::new(alloc);
-    let end = end_of(alloc, &mut client, &mut server, 80, &mut store)?;
-    Ok((end, are_recorded(server.given(), client.given(), &store)))
+// Two exchanges, where these calls of the client's and of the server's link fail: how it ends, where fronts of these
+// were given to the server and to the client, and there is a record of each answer that was given whole.
+fn end_with_fails(alloc: Global, client_fail: u64, server_fail: u64) -> Option<ProxyEnd> {
+    let talk = Talk {
+        asked: ASKED.as_bytes(),
+        said: SAID.as_bytes(),
+        most: 1,
+        client_fail,
+        server_fail,
+    };
+    match seen_of(alloc, &talk, 80) {
+        Ok(
+            Seen {
+                end,
+                records,
+                asked: Some(_),
+                said: Some(said),
+            },
+        ) if records == whole_answers(said) => Some(end),
+        _ => None,
+    }
 }
 
 // Whether a call of the client's link is a fault where there are so many. The link is read 55 times and written twice.
-fn client_fails_at(alloc: Global, call: u64) -> Result<bool, Fail> {
-    let (end, is_well) = ends_with_fails(alloc, &[call], &[])?;
-    Ok(is_well && (end == ProxyEnd::ClientFault) == (call <= 57))
+fn client_fails_at(alloc: Global, call: u64) -> bool {
+    match end_with_fails(alloc, call, 0) {
+        Some(end) => (end == ProxyEnd::ClientFault) == (call <= 57),
+        None => false,
+    }
 }
 
 // The same of the server's link, which is written twice and read 67 times.
-fn server_fails_at(alloc: Global, call: u64) -> Result<bool, Fail> {
-    let (end, is_well) = ends_with_fails(alloc, &[], &[call])?;
-    Ok(is_well && (end == ProxyEnd::ServerFault) == (call <= 69))
+fn server_fails_at(alloc: Global, call: u64) -> bool {
+    match end_with_fails(alloc, 0, call) {
+        Some(end) => (end == ProxyEnd::ServerFault) == (call <= 69),
+        None => false,
+    }
 }
 
 #[test]
-fn links_that_fail_were_given_fronts(rt: HostRuntime) -> Result<(), Fail> {
+fn links_that_fail_were_given_fronts(rt: HostRuntime) {
     for call in 1..80u64 {
-        assert!(rt; client_fails_at(rt.alloc(), call)?, "client at {call}");
-        assert!(rt; server_fails_at(rt.alloc(), call)?, "server at {call}");
+        assert!(rt; client_fails_at(rt.alloc(), call), "client at {call}");
+        assert!(rt; server_fails_at(rt.alloc(), call), "server at {call}");
     }
-    Ok(())
 }

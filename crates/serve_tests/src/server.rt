@@ -4,45 +4,66 @@ ghost use Rattle.std.specs.Prelude.{◌≤◌};
 mod ports;
 mod watched;
 
-use crate::links::{REQUEST, RESPONSE, link, listen};
+use crate::links::{REQUEST, RESPONSE, link, listening};
 use crate::store::paired;
-use crate::texts::{copies, long_field, long_message};
+use crate::texts::{copies, long_field, long_messages};
 use mm_base::{Link, MemLink, NoPace, Pace, Port, TcpPort};
-use record_store::Store;
 use replay_server::{ConnEnd, serve_conn};
 use std::alloc::Global;
 use std::io::{self, Write};
 use std::net::{Ipv4Addr, Net, Shutdown, SocketAddr, TcpListener, TcpStream};
 use std::sync::Wait;
-use std::test::Fail;
+use text_base::OutOfMemory;
 
-/// The store of one request.
-fn store_of_one(alloc: Global) -> Result<Store, Fail> {
-    Ok(paired(alloc, REQUEST.as_bytes(), RESPONSE.as_bytes(), 0)?)
-}
+/// The request and the response that a store has.
+type Pair = (&'static str, &'static str);
 
-/// How a session ends. No test needs what the contract of `serve_conn` says of it, and so this has none.
+static ONE: Pair = (REQUEST, RESPONSE);
+
+/// How a session of the store of a pair ends. No test needs what the contract of `serve_conn` says of it, and so this
+/// has none.
 fn end_of<R: Wait, L: Link, Q: Pace>(
     rt: &R,
     alloc: Global,
-    store: &Store,
+    pair: &Pair,
     link: &mut L,
     number: u32,
     pace: &Q,
 ) -> ConnEnd {
-    serve_conn(rt, alloc, store, link, None, number, pace)
+    match paired(alloc, pair.0.as_bytes(), pair.1.as_bytes(), 0) {
+        Ok(store) => serve_conn(rt, alloc, &store, link, None, number, pace),
+        Err(_) => ConnEnd::OutOfMemory,
+    }
 }
 
 /// Whether a session over the link gives that and ends so.
-fn passes<R: Wait>(
+fn gives<R: Wait>(
     rt: &R,
     alloc: Global,
-    store: &Store,
-    mut link: MemLink,
+    pair: &Pair,
+    link: &mut MemLink,
     given: &[u8],
     end: ConnEnd,
 ) -> bool {
-    end_of(rt, alloc, store, &mut link, 1, &NoPace) == end && link.given() == given
+    end_of(rt, alloc, pair, link, 1, &NoPace) == end && link.given() == given
+}
+
+/// The same over a link with this input, of which a read brings at most so many bytes.
+fn passes<R: Wait>(
+    rt: &R,
+    alloc: Global,
+    pair: &Pair,
+    input: &[u8],
+    most: usize,
+    given: &[u8],
+    end: ConnEnd,
+) -> bool
+    requires { 1 ≤ most }
+{
+    match link(alloc, input, most, 0) {
+        Ok(mut link) => gives(rt, alloc, pair, &mut link, given, end),
+        Err(_) => false,
+    }
 }
 
 // Input, what is given, and how the session ends, whatever the cut.
@@ -88,29 +109,19 @@ static ROWS: [Row; 9] = [
     ),
 ];
 
-/// Whether a row holds where a read brings at most so many bytes.
-fn holds<R: Wait>(
-    rt: &R,
-    alloc: Global,
-    store: &Store,
-    row: &Row,
-    most: usize,
-) -> Result<bool, Fail>
-    requires { 1 ≤ most }
-{
-    let link = link(alloc, row.0, most, &[])?;
-    Ok(passes(rt, alloc, store, link, row.1.as_bytes(), row.2))
+/// Whether a row holds, whether its input comes whole or byte by byte.
+fn holds<R: Wait>(rt: &R, alloc: Global, row: &Row) -> bool {
+    let input = row.0.as_bytes();
+    let given = row.1.as_bytes();
+    passes(rt, alloc, &ONE, input, 65_536, given, row.2)
+        && passes(rt, alloc, &ONE, input, 1, given, row.2)
 }
 
 #[test]
-fn sessions_answer_whole_requests(rt: HostRuntime) -> Result<(), Fail> {
-    let alloc = rt.alloc();
-    let store = store_of_one(alloc)?;
+fn sessions_answer_whole_requests(rt: HostRuntime) {
     for row in &ROWS {
-        assert!(rt; holds(&rt, alloc, &store, row, 65_536)?, "whole {}", row.0);
-        assert!(rt; holds(&rt, alloc, &store, row, 1)?, "cut {}", row.0);
+        assert!(rt; holds(&rt, rt.alloc(), row), "at {}", row.0);
     }
-    Ok(())
 }
 
 // A request as curl sends it, and a response in chunks.
@@ -120,29 +131,27 @@ const CURL: &str =
 const CHUNKS: &str =
     "HTTP/1.1 200 OK\r\nContent-Encoding: gzip\r\nTransfer-Encoding: chunked\r\n\r\n3\r\nabc\r\n0\r\n\r\n";
 
-/// The store of that request.
-fn store_of_chunks(alloc: Global) -> Result<Store, Fail> {
-    Ok(paired(alloc, CURL.as_bytes(), CHUNKS.as_bytes(), 0)?)
+static CURLED: Pair = (CURL, CHUNKS);
+
+/// Whether two requests of curl are answered by the chunks.
+fn gives_chunks_twice<R: Wait>(rt: &R, alloc: Global) -> Result<bool, OutOfMemory> {
+    let asked = copies(alloc, b"", CURL.as_bytes(), 2)?;
+    let given = copies(alloc, b"", CHUNKS.as_bytes(), 2)?;
+    let end = ConnEnd::Closed;
+    Ok(passes(
+        rt,
+        alloc,
+        &CURLED,
+        asked.as_slice(),
+        8,
+        given.as_slice(),
+        end,
+    ))
 }
 
 #[test]
-fn recorded_chunks_come_as_they_are(rt: HostRuntime) -> Result<(), Fail> {
-    let alloc = rt.alloc();
-    let store = store_of_chunks(alloc)?;
-    let answers = copies(alloc, b"", CHUNKS.as_bytes(), 2)?;
-    let twice = copies(alloc, b"", CURL.as_bytes(), 2)?;
-    let link = MemLink::new(alloc, twice, 8, Vec::new(alloc));
-    assert!(rt;
-        passes(
-            &rt,
-            alloc,
-            &store,
-            link,
-            answers.as_slice(),
-            ConnEnd::Closed
-        )
-    );
-    Ok(())
+fn recorded_chunks_come_as_they_are(rt: HostRuntime) {
+    assert!(rt; gives_chunks_twice(&rt, rt.alloc()) == Ok(true));
 }
 
 /// A client's connection to a port of this machine, which has sent a request and sends no more.
@@ -157,22 +166,40 @@ fn asking_client<R: Net<Stream = TcpStream, Listener = TcpListener>>(
 }
 
 /// Whether a client's answer is the recorded one.
-fn is_answered(alloc: Global, client: &TcpStream) -> Result<bool, Fail> {
-    let answer = io::read_to_string(alloc, client)?;
-    Ok(answer.as_bytes() == CHUNKS.as_bytes())
+fn is_answered(alloc: Global, client: &TcpStream) -> bool {
+    match io::read_to_string(alloc, client) {
+        Ok(answer) => answer.as_bytes() == CHUNKS.as_bytes(),
+        Err(_) => false,
+    }
+}
+
+/// Whether a client gets the recorded answer over the next connection of a port.
+fn is_served<R: Wait, P: Port>(rt: &R, alloc: Global, port: &mut P, client: &TcpStream) -> bool {
+    let Ok(Some(mut link)) = port.accept() else {
+        return false;
+    };
+    let is_closed = end_of(rt, alloc, &CURLED, &mut link, 1, &NoPace) == ConnEnd::Closed;
+    let is_answered = is_answered(alloc, client);
+    port.finish(link).is_ok() && is_closed && is_answered
+}
+
+/// Whether a client of a port of TCP is served. `None`: the port or the client couldn't be had.
+fn serves_over_tcp<R: Wait + Net<Stream = TcpStream, Listener = TcpListener>>(
+    rt: &R,
+    alloc: Global,
+    port: &mut TcpPort<HostRuntime>,
+) -> Option<bool> {
+    let number = port.number()?;
+    match asking_client(rt, number) {
+        Ok(client) => Some(is_served(rt, alloc, port, &client)),
+        Err(_) => None,
+    }
 }
 
 #[test]
-fn a_client_over_tcp_gets_the_recorded_bytes(rt: HostRuntime) -> Result<(), Fail> {
-    let alloc = rt.alloc();
-    let store = store_of_chunks(alloc)?;
-    let mut port = TcpPort::new(rt.clone()?);
-    let client = asking_client(&rt, listen(&mut port)?)?;
-    let mut link = port.accept().ok().flatten().ok_or("no link")?;
-    assert!(rt; end_of(&rt, alloc, &store, &mut link, 1, &NoPace) == ConnEnd::Closed);
-    assert!(rt; is_answered(alloc, &client)?);
-    assert!(rt; port.finish(link).is_ok());
-    Ok(())
+fn a_client_over_tcp_gets_the_recorded_bytes(rt: HostRuntime) {
+    let mut port = listening(&rt).expect(&rt, "a port");
+    assert!(rt; serves_over_tcp(&rt, rt.alloc(), &mut port) == Some(true));
 }
 
 const BAD_REQUEST: &str =
@@ -181,27 +208,36 @@ const BAD_REQUEST: &str =
 const REQUEST_LINE: &[u8] = b"GET / HTTP/1.1\r\n";
 
 /// Whether a request line, so many copies of a field's line, and no head's end are refused.
-fn refuses_fields<R: Wait>(rt: &R, alloc: Global, field: &[u8], count: u32) -> Result<bool, Fail> {
-    let store = store_of_one(alloc)?;
-    let head = copies(alloc, REQUEST_LINE, field, count)?;
-    let link = MemLink::new(alloc, head, 4_096, Vec::new(alloc));
-    Ok(passes(
-        rt,
-        alloc,
-        &store,
-        link,
-        BAD_REQUEST.as_bytes(),
-        ConnEnd::BadRequest,
-    ))
+fn refuses_fields<R: Wait>(rt: &R, alloc: Global, field: &[u8], count: u32) -> bool {
+    match copies(alloc, REQUEST_LINE, field, count) {
+        Ok(head) => {
+            let end = ConnEnd::BadRequest;
+            passes(
+                rt,
+                alloc,
+                &ONE,
+                head.as_slice(),
+                4_096,
+                BAD_REQUEST.as_bytes(),
+                end,
+            )
+        }
+        Err(_) => false,
+    }
+}
+
+/// Whether 66 lines of a thousand bytes are refused.
+fn refuses_long_fields<R: Wait>(rt: &R, alloc: Global) -> bool {
+    match long_field(alloc, b"x") {
+        Ok(field) => refuses_fields(rt, alloc, field.as_slice(), 66),
+        Err(_) => false,
+    }
 }
 
 #[test]
-fn heads_past_their_limits_are_refused(rt: HostRuntime) -> Result<(), Fail> {
-    let alloc = rt.alloc();
-    let long = long_field(alloc, b"x")?;
-    assert!(rt; refuses_fields(&rt, alloc, long.as_slice(), 66)?);
-    assert!(rt; refuses_fields(&rt, alloc, b"A: 1\r\n", 101)?);
-    Ok(())
+fn heads_past_their_limits_are_refused(rt: HostRuntime) {
+    assert!(rt; refuses_long_fields(&rt, rt.alloc()));
+    assert!(rt; refuses_fields(&rt, rt.alloc(), b"A: 1\r\n", 101));
 }
 
 // Two requests and their answers, of 40 and 45 bytes.
@@ -213,26 +249,31 @@ const TWO_ANSWERS: &str =
 // A session of these has 58 calls of its link.
 const CALLS: u64 = 58;
 
-/// Whether a session fails at that call of its link, where it has so many, and ends well where it has fewer. What the
-/// link was given is a front of the answers, and all of them where it didn't fail.
-fn fails_at<R: Wait>(rt: &R, alloc: Global, store: &Store, call: u64) -> Result<bool, Fail> {
-    let mut link = link(alloc, TWO, 1, &[call])?;
-    let end = end_of(rt, alloc, store, &mut link, 1, &NoPace);
+/// Whether a session should end so, and give that, where this call of its link is to fail. It fails where it has so
+/// many calls, and gives a front of the answers; else it ends well, and gives all of them.
+fn is_end_at(call: u64, end: ConnEnd, given: &[u8]) -> bool {
     if call <= CALLS {
-        let is_front = TWO_ANSWERS.as_bytes().starts_with(link.given());
-        return Ok(end == ConnEnd::LinkFault && is_front);
+        return end == ConnEnd::LinkFault && TWO_ANSWERS.as_bytes().starts_with(given);
     }
-    Ok(end == ConnEnd::Closed && link.given() == TWO_ANSWERS.as_bytes())
+    end == ConnEnd::Closed && given == TWO_ANSWERS.as_bytes()
+}
+
+/// Whether a session ends as it should where that call of its link fails.
+fn fails_at<R: Wait>(rt: &R, alloc: Global, call: u64) -> bool {
+    match link(alloc, TWO.as_bytes(), 1, call) {
+        Ok(mut link) => {
+            let end = end_of(rt, alloc, &ONE, &mut link, 1, &NoPace);
+            is_end_at(call, end, link.given())
+        }
+        Err(_) => false,
+    }
 }
 
 #[test]
-fn a_link_that_fails_was_given_a_front(rt: HostRuntime) -> Result<(), Fail> {
-    let alloc = rt.alloc();
-    let store = store_of_one(alloc)?;
+fn a_link_that_fails_was_given_a_front(rt: HostRuntime) {
     for call in 1..100u64 {
-        assert!(rt; fails_at(&rt, alloc, &store, call)?, "at {call}");
+        assert!(rt; fails_at(&rt, rt.alloc(), call), "at {call}");
     }
-    Ok(())
 }
 
 // How many bytes each read brings: one request. After 1,024 of them a connection brings 1,024 bytes more.
@@ -241,25 +282,26 @@ const EACH: usize = 65_535;
 const FULL_HEAD: &[u8] = b"POST / HTTP/1.1\r\nHost: a\r\nContent-Length: 65484\r\n\r\n";
 
 /// A link that says 1,025 requests, each of as many bytes as a read brings.
-fn more_than_the_limit(alloc: Global) -> Result<MemLink, Fail> {
-    let request = long_message(alloc, FULL_HEAD, 65_484)?;
-    let input = copies(alloc, b"", request.as_slice(), 1_025)?;
-    Ok(MemLink::new(alloc, input, EACH, Vec::new(alloc)))
+fn more_than_the_limit(alloc: Global) -> Result<MemLink, OutOfMemory> {
+    let input = long_messages(alloc, FULL_HEAD, 65_484, 1_025)?;
+    link(alloc, input.as_slice(), EACH, 0)
 }
 
-/// How many bytes the link's next read brings.
-fn left_in<L: Link>(alloc: Global, link: &mut L) -> Result<usize, Fail> {
-    let mut left = vec![in alloc; 0u8; EACH]?;
-    Ok(link.read(left.as_mut_slice())?)
+/// How many bytes the link's next read brings. `None`: it failed, or no memory.
+fn left_in<L: Link>(alloc: Global, link: &mut L) -> Option<usize> {
+    let mut left = vec![in alloc; 0u8; EACH].ok()?;
+    link.read(left.as_mut_slice()).ok()
+}
+
+/// Whether a session over the link is full at its limit, and leaves what came after that.
+fn stops_at_the_limit<R: Wait>(rt: &R, alloc: Global, link: &mut MemLink) -> bool {
+    end_of(rt, alloc, &ONE, link, 1, &NoPace) == ConnEnd::Full
+        && link.given().len() == 1_024 * 45
+        && left_in(alloc, link) == Some(64_511)
 }
 
 #[test]
-fn a_connection_brings_no_more_than_its_limit(rt: HostRuntime) -> Result<(), Fail> {
-    let alloc = rt.alloc();
-    let store = store_of_one(alloc)?;
-    let mut link = more_than_the_limit(alloc)?;
-    assert!(rt; end_of(&rt, alloc, &store, &mut link, 1, &NoPace) == ConnEnd::Full);
-    assert!(rt; link.given().len() == 1_024 * 45);
-    assert!(rt; left_in(alloc, &mut link)? == 64_511);
-    Ok(())
+fn a_connection_brings_no_more_than_its_limit(rt: HostRuntime) {
+    let mut link = more_than_the_limit(rt.alloc()).expect(&rt, "memory");
+    assert!(rt; stops_at_the_limit(&rt, rt.alloc(), &mut link));
 }

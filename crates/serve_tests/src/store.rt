@@ -3,8 +3,7 @@ use crate::links::{REQUEST, RESPONSE};
 use crate::texts::copies;
 use record_store::{PairError, Store, StoreError, StorePieces, pair, print_store, read_store};
 use std::alloc::Global;
-use std::test::Fail;
-use text_base::Bytes;
+use text_base::{Bytes, OutOfMemory};
 
 /// What `pair` answers. No test needs what its contract says of that, and so this has none.
 pub(crate) fn paired(
@@ -73,29 +72,65 @@ const EMPTY: &str = "MMSTORE 2\n";
 // A store may be sent and shared.
 fn crosses<T: Send + Sync>(_value: &T) {}
 
-/// Whether that is printed of a store.
-fn is_printed(alloc: Global, store: &Store, wanted: &str) -> Result<bool, Fail> {
-    let text = print_store(alloc, store)?;
-    Ok(text.as_slice() == wanted.as_bytes())
+/// Whether the pieces of a store are put together to that.
+fn has_pieces(alloc: Global, store: &Store, wanted: &[u8]) -> Result<bool, OutOfMemory> {
+    let mut rest = wanted;
+    let mut pieces = StorePieces::new(alloc, store);
+    'pieces: while pieces.next()? {
+        let Some(after) = rest.strip_prefix(pieces.piece()) else {
+            return Ok(false);
+        };
+        rest = after;
+    }
+    Ok(rest.is_empty())
+}
+
+/// Whether that is printed of a store, at once and in pieces.
+fn is_printed(alloc: Global, store: &Store, wanted: &[u8]) -> bool {
+    match print_store(alloc, store) {
+        Ok(text) => text.as_slice() == wanted && has_pieces(alloc, store, wanted) == Ok(true),
+        Err(_) => false,
+    }
 }
 
 /// Whether that is printed of the store that is read from a text.
-fn is_reprinted(alloc: Global, text: &str, wanted: &str) -> Result<bool, Fail> {
-    let store = stored(alloc, text.as_bytes())?;
+fn is_reprinted(alloc: Global, text: &[u8], wanted: &[u8]) -> bool {
+    match stored(alloc, text) {
+        Ok(store) => is_printed(alloc, &store, wanted),
+        Err(_) => false,
+    }
+}
+
+/// Whether that is printed of the store of one pair, which may be sent and shared.
+fn is_printed_of_one(alloc: Global, wanted: &[u8]) -> bool {
+    match paired(alloc, REQUEST.as_bytes(), RESPONSE.as_bytes(), 0) {
+        Ok(store) => {
+            crosses(&store);
+            is_printed(alloc, &store, wanted)
+        }
+        Err(_) => false,
+    }
+}
+
+/// Whether that is printed of a store without records.
+fn is_printed_of_none(alloc: Global, wanted: &[u8]) -> bool {
+    let store = Store::new(alloc);
     is_printed(alloc, &store, wanted)
 }
 
+/// Whether each store is printed, and printed again of its text in either form.
+fn are_printed(alloc: Global) -> bool {
+    let printed = PRINTED.as_bytes();
+    printed.len() == 98
+        && is_printed_of_one(alloc, printed)
+        && is_reprinted(alloc, printed, printed)
+        && is_reprinted(alloc, OLD.as_bytes(), printed)
+        && is_printed_of_none(alloc, EMPTY.as_bytes())
+}
+
 #[test]
-fn prints_and_reads(rt: HostRuntime) -> Result<(), Fail> {
-    let alloc = rt.alloc();
-    let store = paired(alloc, REQUEST.as_bytes(), RESPONSE.as_bytes(), 0)?;
-    crosses(&store);
-    assert!(rt; is_printed(alloc, &store, PRINTED)?);
-    assert!(rt; PRINTED.len() == 98);
-    assert!(rt; is_reprinted(alloc, PRINTED, PRINTED)?);
-    assert!(rt; is_reprinted(alloc, OLD, PRINTED)?);
-    assert!(rt; is_printed(alloc, &Store::new(alloc), EMPTY)?);
-    Ok(())
+fn prints_and_reads(rt: HostRuntime) {
+    assert!(rt; are_printed(rt.alloc()));
 }
 
 /// 100 and how many records there are, or the number of the refusal and what it names.
@@ -131,46 +166,39 @@ fn refusals_of_texts(rt: HostRuntime) {
     }
 }
 
-/// A store's text, put together from its pieces.
-fn in_pieces(alloc: Global, store: &Store) -> Result<Bytes, Fail> {
-    let mut text = Bytes::new(alloc);
-    let mut pieces = StorePieces::new(alloc, store);
-    'pieces: while pieces.next()? {
-        text.append(pieces.piece())?;
-    }
-    Ok(text)
-}
-
 const LONG_HEAD: &[u8] = b"HTTP/1.1 200 OK\r\nContent-Length: 1000\r\n\r\n";
 
-/// A hundred requests and their answers, each of which has a body of a thousand digits.
-fn a_hundred(alloc: Global) -> Result<Store, Fail> {
-    let client = copies(alloc, b"", REQUEST.as_bytes(), 100)?;
+/// A hundred answers, each of which has a body of a thousand digits.
+fn long_answers(alloc: Global) -> Result<Bytes, OutOfMemory> {
     let answer = copies(alloc, LONG_HEAD, b"0123456789", 100)?;
-    let server = copies(alloc, b"", answer.as_slice(), 100)?;
-    Ok(paired(alloc, client.as_slice(), server.as_slice(), 80)?)
+    copies(alloc, b"", answer.as_slice(), 100)
 }
 
-/// Whether a store's pieces are put together to that.
-fn has_pieces(alloc: Global, store: &Store, wanted: &[u8]) -> Result<bool, Fail> {
-    let text = in_pieces(alloc, store)?;
-    Ok(text.as_slice() == wanted)
+/// A hundred requests and their answers.
+fn a_hundred(alloc: Global) -> Result<Store, PairError> {
+    let client = copies(alloc, b"", REQUEST.as_bytes(), 100)?;
+    let server = long_answers(alloc)?;
+    paired(alloc, client.as_slice(), server.as_slice(), 80)
 }
 
-/// Whether the pieces of the store that is read from a text are put together to that text.
-fn has_its_pieces(alloc: Global, text: &[u8]) -> Result<bool, Fail> {
-    let store = stored(alloc, text)?;
-    has_pieces(alloc, &store, text)
+/// Whether a store's text has so many bytes, and is printed again of the store that is read from it.
+fn is_kept(alloc: Global, store: &Store, length: usize) -> bool {
+    match print_store(alloc, store) {
+        Ok(text) => text.len() == length && is_reprinted(alloc, text.as_slice(), text.as_slice()),
+        Err(_) => false,
+    }
+}
+
+/// Whether the store of a hundred has them, and its text is kept.
+fn keeps_a_hundred(alloc: Global, length: usize) -> bool {
+    match a_hundred(alloc) {
+        Ok(store) => store.records().len() == 100 && is_kept(alloc, &store, length),
+        Err(_) => false,
+    }
 }
 
 #[test]
-fn a_hundred_records(rt: HostRuntime) -> Result<(), Fail> {
-    let alloc = rt.alloc();
-    let store = a_hundred(alloc)?;
-    assert!(rt; store.records().len() == 100);
-    let text = print_store(alloc, &store)?;
-    assert!(rt; text.len() == 10 + 100 * (23 + 27 + 1041 + 1));
-    assert!(rt; has_its_pieces(alloc, text.as_slice())?);
-    assert!(rt; has_pieces(alloc, &Store::new(alloc), EMPTY.as_bytes())?);
-    Ok(())
+fn a_hundred_records(rt: HostRuntime) {
+    assert!(rt; keeps_a_hundred(rt.alloc(), 10 + 100 * (23 + 27 + 1041 + 1)));
+    assert!(rt; is_printed_of_none(rt.alloc(), EMPTY.as_bytes()));
 }

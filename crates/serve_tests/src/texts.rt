@@ -1,10 +1,14 @@
 // Texts that are made of many pieces.
 use std::alloc::Global;
-use std::test::Fail;
-use text_base::Bytes;
+use text_base::{Bytes, OutOfMemory};
 
 /// So many copies of a text, after a front.
-pub(crate) fn copies(alloc: Global, front: &[u8], text: &[u8], count: u32) -> Result<Bytes, Fail> {
+pub(crate) fn copies(
+    alloc: Global,
+    front: &[u8],
+    text: &[u8],
+    count: u32,
+) -> Result<Bytes, OutOfMemory> {
     let mut all = Bytes::from_slice(alloc, front)?;
     for _ in 0..count {
         all.append(text)?;
@@ -13,15 +17,24 @@ pub(crate) fn copies(alloc: Global, front: &[u8], text: &[u8], count: u32) -> Re
 }
 
 /// A head, and a body of so many letters.
-pub(crate) fn long_message(alloc: Global, head: &[u8], body: usize) -> Result<Bytes, Fail> {
+pub(crate) fn long_message(alloc: Global, head: &[u8], body: usize) -> Result<Bytes, OutOfMemory> {
     let letters = vec![in alloc; b'x'; body]?;
-    let mut message = Bytes::from_slice(alloc, head)?;
-    message.append(letters.as_slice())?;
-    Ok(message)
+    copies(alloc, head, letters.as_slice(), 1)
+}
+
+/// So many messages of that head and a body of so many letters.
+pub(crate) fn long_messages(
+    alloc: Global,
+    head: &[u8],
+    body: usize,
+    count: u32,
+) -> Result<Bytes, OutOfMemory> {
+    let message = long_message(alloc, head, body)?;
+    copies(alloc, b"", message.as_slice(), count)
 }
 
 /// A field's line of a thousand bytes, whose value has this byte alone.
-pub(crate) fn long_field(alloc: Global, fill: &[u8]) -> Result<Bytes, Fail> {
+pub(crate) fn long_field(alloc: Global, fill: &[u8]) -> Result<Bytes, OutOfMemory> {
     let mut line = copies(alloc, b"A:", fill, 996)?;
     line.append(b"\r\n")?;
     Ok(line)

@@ -40,14 +40,33 @@ fn link(rt: &impl Abort, alloc: Global) -> Result<ShellState, Fail>
     Ok(ShellState::new(alloc, spec, 20)?)
 }
 
+// A cell, with its seats.
+#[derive(Drop)]
+struct Seated {
+    cell: ShellCell,
+    feed: FeedSeat,
+    drain: DrainSeat,
+}
+
+// A cell of a new state.
+fn seat(alloc: Global, state: ShellState) -> Result<Seated, OutOfMemory>
+    requires { (state.fed ≡ no_items) × (state.taken ≡ no_items) }
+    ensures cells { IfOk result (λ s. (s.feed.cell ≡ s.cell) × (s.drain.cell ≡ s.cell)) }
+    ensures flows { IfOk result (λ s. (s.feed.flow ≡ no_items) × (s.drain.flow ≡ no_items)) }
+    ensures horizon { IfOk result (λ s. s.feed.horizon ≡ state.horizon) }
+{
+    let (cell, feed, drain) = open(alloc, state)?;
+    Ok(Seated { cell, feed, drain })
+}
+
 // A cell of that link, with its seats.
-fn link_cell(rt: &impl Abort, alloc: Global) -> Result<(ShellCell, FeedSeat, DrainSeat), Fail>
-    ensures cells { IfOk result (λ r. (r.1.cell ≡ r.0) × (r.2.cell ≡ r.0)) }
-    ensures flows { IfOk result (λ r. (r.1.flow ≡ no_items) × (r.2.flow ≡ no_items)) }
-    ensures horizon { IfOk result (λ r. r.1.horizon ≡ 20) }
+fn link_cell(rt: &impl Abort, alloc: Global) -> Result<Seated, Fail>
+    ensures cells { IfOk result (λ s. (s.feed.cell ≡ s.cell) × (s.drain.cell ≡ s.cell)) }
+    ensures flows { IfOk result (λ s. (s.feed.flow ≡ no_items) × (s.drain.flow ≡ no_items)) }
+    ensures horizon { IfOk result (λ s. s.feed.horizon ≡ 20) }
 {
     let state = link(rt, alloc)?;
-    Ok(open(alloc, state)?)
+    Ok(seat(alloc, state)?)
 }
 
 // A delay of one millisecond.
@@ -59,13 +78,13 @@ fn delay(alloc: Global) -> Result<ShellState, Fail>
 }
 
 // A cell of that delay, with its seats.
-fn delay_cell(alloc: Global) -> Result<(ShellCell, FeedSeat, DrainSeat), Fail>
-    ensures cells { IfOk result (λ r. (r.1.cell ≡ r.0) × (r.2.cell ≡ r.0)) }
-    ensures flows { IfOk result (λ r. (r.1.flow ≡ no_items) × (r.2.flow ≡ no_items)) }
-    ensures horizon { IfOk result (λ r. r.1.horizon ≡ 2000) }
+fn delay_cell(alloc: Global) -> Result<Seated, Fail>
+    ensures cells { IfOk result (λ s. (s.feed.cell ≡ s.cell) × (s.drain.cell ≡ s.cell)) }
+    ensures flows { IfOk result (λ s. (s.feed.flow ≡ no_items) × (s.drain.flow ≡ no_items)) }
+    ensures horizon { IfOk result (λ s. s.feed.horizon ≡ 2000) }
 {
     let state = delay(alloc)?;
-    Ok(open(alloc, state)?)
+    Ok(seat(alloc, state)?)
 }
 
 // Feeds the cell. It says of the seat only what a next feed needs.
@@ -103,8 +122,9 @@ fn take_from<R: Wait>(
 }
 
 // The state that a cell leaves. It says nothing of it, so that a test has only what it looks at.
-fn close(cell: ShellCell, feed: FeedSeat, drain: DrainSeat) -> ShellState
-    requires { (feed.cell ≡ cell) × (drain.cell ≡ cell) }
+fn close(seated: Seated) -> ShellState
+    requires { (seated.feed.cell ≡ seated.cell) × (seated.drain.cell ≡ seated.cell) }
 {
+    let Seated { cell, feed, drain } = seated;
     cell.close(feed, drain)
 }

@@ -14,3 +14,5 @@ mod runner;
 mod senders;
 #[cfg(test)]
 mod waiting;
+#[cfg(test)]
+mod ways;

@@ -6,7 +6,7 @@ mod parts;
 use fed::feeds;
 use mm_base::{MemDisk, NoPace, Pace};
 use nest_runner::{run_stream, run_threads};
-use nest_spec::{Nest, RunResult, build, print_fates, read_nest};
+use nest_spec::{Nest, NestWords, RunResult, build, print_fates, read_nest};
 use packet_record::read_schedule;
 use std::alloc::{AllocError, Global};
 use std::marker::Sync;
@@ -17,10 +17,19 @@ use std::thread::Threads;
 use text_base::{Bytes, OutOfMemory, Text};
 use trace_reader::{Trace, read_trace};
 
+// The words between the spaces of a text.
 fn words_of(alloc: Global, text: &str) -> Result<Vec<String>, AllocError> {
-    text.split(' ')
-        .map(|word| String::from_str(alloc, word))
-        .try_collect(alloc)
+    let mut words = Vec::new(alloc);
+    for word in text.split(' ') {
+        words.push(String::from_str(alloc, word)?)?;
+    }
+    Ok(words)
+}
+
+// A nest's words.
+fn nest_words_of(alloc: Global, nest: &str) -> Result<NestWords, Fail> {
+    let words = words_of(alloc, nest)?;
+    Ok(read_nest(alloc, words.as_slice())?)
 }
 
 // So many times this trace.
@@ -41,8 +50,7 @@ fn nest_of(
     trace: &[u8],
     horizon: u64,
 ) -> Result<Nest, Fail> {
-    let words = words_of(alloc, nest)?;
-    let words = read_nest(alloc, words.as_slice())?;
+    let words = nest_words_of(alloc, nest)?;
     let traces = traces_of(alloc, trace, words.traces().len())?;
     assert!(rt; horizon <= 3_600_000);
     assert!(rt; traces.len() == words.traces().len());
@@ -53,15 +61,13 @@ fn nest_of(
 }
 
 // Which call runs a schedule.
-#[derive(Clone, Copy, PartialEq, Eq)]
+#[derive(Clone, Copy)]
 enum Call {
     // The schedule is in memory.
     Threads,
     // It is read from a file.
     Stream,
 }
-
-const CALLS: [Call; 2] = [Call::Threads, Call::Stream];
 
 // The result of a schedule in memory.
 fn run_from_memory<Q: Pace + Sync, R: Threads + Wait + Sync>(
@@ -219,6 +225,31 @@ fn fates_of(alloc: Global, count: u32) -> Result<String, AllocError> {
     Ok(text)
 }
 
+// Many rows, and their fates behind a delay of 20.
+#[derive(Drop)]
+struct Many {
+    schedule: String,
+    fates: String,
+}
+
+fn many_of(alloc: Global, count: u32) -> Result<Many, AllocError> {
+    Ok(Many {
+        schedule: rows_of(alloc, count)?,
+        fates: fates_of(alloc, count)?,
+    })
+}
+
+// The case of many rows up to a horizon.
+fn case_of(many: &Many, horizon: u64) -> Case<'_> {
+    Case {
+        nest: "mm-delay 20",
+        trace: b"1\n",
+        horizon,
+        schedule: many.schedule.as_bytes(),
+        fates: many.fates.as_bytes(),
+    }
+}
+
 // Runs a case in each of the three ways.
 fn agrees_throughout<R: Threads + Wait + Abort + Sync>(
     rt: &R,
@@ -233,15 +264,6 @@ fn agrees_throughout<R: Threads + Wait + Abort + Sync>(
 // More rows than fit in a piece of a file.
 #[test]
 fn many_rows_pass(rt: HostRuntime) -> Result<(), Fail> {
-    let alloc = rt.alloc();
-    let schedule = rows_of(alloc, 10_000)?;
-    let fates = fates_of(alloc, 10_000)?;
-    let case = Case {
-        nest: "mm-delay 20",
-        trace: b"1\n",
-        horizon: 20_000,
-        schedule: schedule.as_bytes(),
-        fates: fates.as_bytes(),
-    };
-    agrees_throughout(&rt, alloc, &case)
+    let many = many_of(rt.alloc(), 10_000)?;
+    agrees_throughout(&rt, rt.alloc(), &case_of(&many, 20_000))
 }

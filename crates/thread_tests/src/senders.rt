@@ -10,7 +10,8 @@ mod feeds;
 mod merges;
 mod paced;
 
-use mark_channel::{FeedEnd, Feeds, Receiver, Sender, open, settle};
+use crate::ways::{open_ways, settle_ways};
+use mark_channel::{FeedEnd, Feeds, Receiver, Sender};
 use mm_base::{NoPace, Pace, Role};
 use packet_record::{Item, Schedule, read_schedule};
 use sender_merge::{Senders, count_rows};
@@ -50,6 +51,13 @@ fn senders_from<R: Abort>(rt: &R, alloc: Global, texts: &[&[u8]]) -> Result<Send
 struct Fed {
     pub ups: Vec<Item>,
     pub downs: Vec<Item>,
+}
+
+fn nothing_fed(alloc: Global) -> Fed {
+    Fed {
+        ups: Vec::new(alloc),
+        downs: Vec::new(alloc),
+    }
 }
 
 // Receives what goes up, or what goes down, until the end, and gathers the items. The pace is asked after each.
@@ -140,36 +148,36 @@ fn feed_all<R: Threads + Wait + Sync + Abort>(
     senders: &mut Senders,
     horizon: u64,
 ) -> Result<Fed, Fail> {
-    let (mut up, mut up_end) = open(alloc, 64, horizon)?;
-    let (mut down, mut down_end) = open(alloc, 64, horizon)?;
-    let mut ups = Vec::new(alloc);
-    let mut downs = Vec::new(alloc);
+    let mut ways = open_ways(alloc, 64, horizon)?;
+    let mut fed = nothing_fed(alloc);
     let end = feed_beside(
         rt,
         senders,
         horizon,
-        &mut up,
-        &mut down,
-        &mut up_end,
-        &mut down_end,
-        &mut ups,
-        &mut downs,
+        &mut ways.up,
+        &mut ways.down,
+        &mut ways.up_end,
+        &mut ways.down_end,
+        &mut fed.ups,
+        &mut fed.downs,
     );
-    settle(up, up_end);
-    settle(down, down_end);
+    settle_ways(ways);
     assert!(rt; end == FeedEnd::Ended);
-    Ok(Fed { ups, downs })
+    Ok(fed)
 }
 
-// The numbers of the packets among items.
-fn numbers_of(alloc: Global, items: &[Item]) -> Result<Vec<u32>, AllocError> {
-    let mut numbers = Vec::new(alloc);
+// Whether the packets among items have these numbers.
+fn are_numbers(items: &[Item], numbers: &[u32]) -> bool {
+    let mut place = 0usize;
     for item in items {
         if let Item::Packet(timed) = item {
-            numbers.push(timed.packet.id)?;
+            if numbers.get(place) != Some(&timed.packet.id) {
+                return false;
+            }
+            place = place.saturating_add(1);
         }
     }
-    Ok(numbers)
+    place == numbers.len()
 }
 
 // How many of the items are packets.
@@ -184,10 +192,8 @@ fn count_packets(items: &[Item]) -> u64 {
 }
 
 // Whether the packets that were fed have these numbers, up and down.
-fn has_numbers(alloc: Global, fed: &Fed, ups: &[u32], downs: &[u32]) -> Result<bool, AllocError> {
-    let fed_up = numbers_of(alloc, fed.ups.as_slice())?;
-    let fed_down = numbers_of(alloc, fed.downs.as_slice())?;
-    Ok(fed_up.as_slice() == ups && fed_down.as_slice() == downs)
+fn has_numbers(fed: &Fed, ups: &[u32], downs: &[u32]) -> bool {
+    are_numbers(fed.ups.as_slice(), ups) && are_numbers(fed.downs.as_slice(), downs)
 }
 
 // What the senders of the schedules that these texts are feed up to a horizon.

@@ -16,6 +16,11 @@ pub fn reached(number: &AtomicU64, goal: u64) -> bool {
     false
 }
 
+// Whether a number is this.
+pub fn is_at(number: &AtomicU64, wanted: u64) -> bool {
+    number.load(Ordering::SeqCst) == wanted
+}
+
 // Gives way for long enough that a thread that may go on does.
 pub fn give_way() {
     for _ in 0..10_000 {

@@ -1,14 +1,16 @@
 // Merges of some thousand packets.
-use super::answer_of;
-use command_ends::conclude;
+use crate::command::{Command, status_of};
 use std::alloc::Global;
-use std::test::Fail;
+use std::marker::Sync;
+use std::sync::Wait;
+use std::thread::Threads;
 use test_outside::{TestOutside, words_of};
+use text_base::OutOfMemory;
 
 const WORDS: &str = "--until 9 --senders l --out f -- mm-delay 2 mm-delay 3";
 
 // A disk with a list of three senders, two of which have 3,000 packets each, and one of which has 2,000.
-fn three_senders(alloc: Global) -> Result<TestOutside, Fail> {
+fn three_senders(alloc: Global) -> Result<TestOutside, OutOfMemory> {
     let first = "3 up 100\n".repeat(alloc, 3000)?;
     let second = "3 down 100\n".repeat(alloc, 2000)?;
     let files = [
@@ -16,7 +18,7 @@ fn three_senders(alloc: Global) -> Result<TestOutside, Fail> {
         ("a", first.as_str()),
         ("b", second.as_str()),
     ];
-    Ok(TestOutside::new(alloc, &files, &[], &[])?)
+    TestOutside::new(alloc, &files, &[], &[])
 }
 
 // How many lines a file has.
@@ -27,13 +29,17 @@ fn lines_in(outside: &TestOutside, name: &str) -> usize {
     }
 }
 
-#[test]
-fn some_thousand_packets_are_merged(rt: HostRuntime) -> Result<(), Fail> {
-    let alloc = rt.alloc();
+// How many lines a merge of the three writes, and 0 where it isn't done.
+fn merged<R: Threads + Wait + Sync>(rt: &R, alloc: Global) -> Result<usize, OutOfMemory> {
     let words = words_of(alloc, WORDS)?;
     let mut outside = three_senders(alloc)?;
-    let answer = answer_of(&rt, alloc, &words, &mut outside);
-    assert!(rt; conclude(answer, &mut outside.out) == 0);
-    assert!(rt; lines_in(&outside, "f") == 8000);
-    Ok(())
+    match status_of(rt, alloc, Command::Merge, &words, &mut outside, 0) {
+        0 => Ok(lines_in(&outside, "f")),
+        _ => Ok(0),
+    }
+}
+
+#[test]
+fn some_thousand_packets_are_merged(rt: HostRuntime) {
+    assert!(rt; merged(&rt, rt.alloc()).expect(&rt, "memory") == 8000);
 }

@@ -1,14 +1,15 @@
 // What merges write.
-use super::{Merge, leaves};
+use crate::case::{Case, pass};
+use crate::command::Command;
 use std::alloc::Global;
 use std::marker::Sync;
+use std::process::Abort;
 use std::sync::Wait;
-use std::test::Fail;
 use std::thread::Threads;
 use test_outside::ABSENT;
 
 // The words, the list, the texts of the two schedules, and those of the fates and of the log `u`.
-type Written = (
+type Row = (
     &'static str,
     &'static str,
     &'static str,
@@ -17,9 +18,29 @@ type Written = (
     &'static str,
 );
 
+// `merge` leaves what a row states.
+fn writes<R: Abort + Threads + Wait + Sync>(rt: &R, alloc: Global, row: &Row) {
+    let (words, list, first, second, fates, log) = *row;
+    let case = Case {
+        words: &[words],
+        files: &[
+            ("l", list),
+            ("s1", first),
+            ("s2", second),
+            ("r\r", "1 up 100\n"),
+            ("t", "10\n"),
+        ],
+        fails: (0, 0, 0),
+        status: 0,
+        printed: "",
+        left: &[("f", fates), ("u", log)],
+    };
+    pass(rt, alloc, Command::Merge, &case);
+}
+
 const DELAY: &str = "--senders l --out f --until 100 -- mm-delay 10";
 
-static WRITTEN: [Written; 11] = [
+static CASES: [Row; 11] = [
     (
         DELAY,
         "s1\ns2\n",
@@ -109,34 +130,9 @@ static WRITTEN: [Written; 11] = [
     ),
 ];
 
-// Whether a merge of these leaves what is stated.
-fn is_written<R: Threads + Wait + Sync>(
-    rt: &R,
-    alloc: Global,
-    written: &Written,
-) -> Result<bool, Fail> {
-    let (words, list, first, second, fates, log) = *written;
-    let merge = Merge {
-        words,
-        files: &[
-            ("l", list),
-            ("s1", first),
-            ("s2", second),
-            ("r\r", "1 up 100\n"),
-            ("t", "10\n"),
-        ],
-        fails: &[],
-        status: 0,
-        line: "",
-        left: &[("f", fates), ("u", log)],
-    };
-    leaves(rt, alloc, &merge)
-}
-
 #[test]
-fn merges_write_their_fates_and_logs(rt: HostRuntime) -> Result<(), Fail> {
-    for written in &WRITTEN {
-        assert!(rt; is_written(&rt, rt.alloc(), written)?, "at {}", written.0);
+fn merges_write_their_fates_and_logs(rt: HostRuntime) {
+    for row in &CASES {
+        writes(&rt, rt.alloc(), row);
     }
-    Ok(())
 }

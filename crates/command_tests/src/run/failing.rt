@@ -1,12 +1,12 @@
 // Disks that fail.
-use super::{Left, leaves};
+use crate::case::{Case, pass};
+use crate::command::Command;
 use std::alloc::Global;
 use std::marker::Sync;
 use std::process::Abort;
 use std::sync::Wait;
 use std::thread::Threads;
 use test_outside::ABSENT;
-use text_base::OutOfMemory;
 
 // A run whose disk fails at a call: which, the status and the line, and what the files `u`, `d` and `f` hold then.
 type Failing = (
@@ -45,43 +45,47 @@ static ONE_LINK: [Failing; 15] = [
     (15, 0, "", UP, DOWN, "1 up departed 2\n"),
 ];
 
-// Whether a run of these words leaves, at a failing call, what is stated.
-fn fails_at<R: Threads + Wait + Sync>(
+// A run of these words leaves, at a failing call, what is stated.
+fn fails_at<'a, R: Abort + Threads + Wait + Sync>(
     rt: &R,
     alloc: Global,
-    words: &str,
-    files: &[(&str, &str)],
+    words: &'a [&'a str],
+    files: &'a [(&'a str, &'a str)],
     failing: &Failing,
-) -> Result<bool, OutOfMemory> {
+) {
     let (call, status, line, u, d, f) = *failing;
-    let left = Left {
+    let case = Case {
+        words,
+        files,
+        fails: (call, 0, 0),
         status,
-        line,
-        files: &[("u", u), ("d", d), ("f", f)],
+        printed: line,
+        left: &[("u", u), ("d", d), ("f", f)],
     };
-    leaves(rt, alloc, words, files, &[call], &left)
+    pass(rt, alloc, Command::Run, &case);
 }
 
-fn fails_in_turn<R: Abort + Threads + Wait + Sync>(
+// The same at each of these calls.
+fn fails_in_turn<'a, R: Abort + Threads + Wait + Sync>(
     rt: &R,
     alloc: Global,
-    words: &str,
-    files: &[(&str, &str)],
+    words: &'a [&'a str],
+    files: &'a [(&'a str, &'a str)],
     failing: &[Failing],
 ) {
     for row in failing {
-        let fails = fails_at(rt, alloc, words, files, row).expect(rt, "memory");
-        assert!(rt; fails, "at call {} of {words}", row.0);
+        fails_at(rt, alloc, words, files, row);
     }
 }
 
 static LINK_FILES: [(&str, &str); 3] = [("t", "1\n"), ("x", "1\n"), ("s", "1 up 1504\n")];
 
-fn fails_by<R: Abort + Threads + Wait + Sync>(rt: &R, alloc: Global, way: &str) {
-    let nest = "-- mm-link t x --downlink-log=d --uplink-log=u";
-    let words = format!(in alloc; "--until 2 --schedule s --out f {way} {nest}");
-    let words = words.expect(rt, "memory");
-    fails_in_turn(rt, alloc, words.as_str(), &LINK_FILES, &ONE_LINK);
+const NEST: &str = "-- mm-link t x --downlink-log=d --uplink-log=u";
+
+// The same of one link in this way.
+fn fails_by<R: Abort + Threads + Wait + Sync>(rt: &R, alloc: Global, way: &'static str) {
+    let words = ["--until 2 --schedule s --out f", way, NEST];
+    fails_in_turn(rt, alloc, &words, &LINK_FILES, &ONE_LINK);
 }
 
 #[test]
@@ -131,5 +135,5 @@ static DELAY_FILES: [(&str, &str); 3] = [
 fn threads_stop_at_each_failing_call(rt: HostRuntime) {
     let words =
         "--until 4 --schedule s --out f -- mm-delay 2 mm-link t v --uplink-log=u --downlink-log=d";
-    fails_in_turn(&rt, rt.alloc(), words, &DELAY_FILES, &DELAY_AND_LINK);
+    fails_in_turn(&rt, rt.alloc(), &[words], &DELAY_FILES, &DELAY_AND_LINK);
 }

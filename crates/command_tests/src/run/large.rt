@@ -2,12 +2,12 @@
 ghost use Rattle.std.specs.Prelude.{◌^◌, ◌-◌, None, false};
 
 use super::{answered, concludes};
+use crate::case::words_in;
 use mm_base::{Disk, DiskError, NoPace};
 use std::alloc::Global;
 use std::marker::Sync;
 use std::sync::Wait;
 use std::thread::Threads;
-use test_outside::words_of;
 use text_base::OutOfMemory;
 
 // A disk that tells no files, and on which each has one byte more than an input may have. None is read or written.
@@ -49,8 +49,7 @@ fn is_refused<R: Threads + Wait + Sync>(
     back: &str,
     line: &str,
 ) -> Result<bool, OutOfMemory> {
-    let words = format!(in alloc; "--until 9 --schedule s --out f {back}")?;
-    let words = words_of(alloc, words.as_str())?;
+    let words = words_in(alloc, &["--until 9 --schedule s --out f", back])?;
     let answer = answered(rt, alloc, &words, &mut LargeDisk, &NoPace);
     Ok(concludes(alloc, answer, 5, line))
 }

@@ -1,36 +1,22 @@
 // Runs by the bytes of a file.
-use super::{Left, answered, leaves};
-use mm_base::{NoPace, save};
+use crate::case::{Case, pass, pass_with};
+use crate::command::Command;
 use std::alloc::{AllocError, Global};
 use std::marker::Sync;
+use std::process::Abort;
 use std::sync::Wait;
 use std::thread::Threads;
-use test_outside::{ABSENT, TestOutside, words_of};
-use text_base::OutOfMemory;
+use test_outside::ABSENT;
 
-static FILES: [(&str, &str); 2] = [("t", "4\n"), ("s", "0 up 100\n0 down 100\n")];
-
-// Whether these bytes could be put into the file `o`.
-fn is_put(outside: &mut TestOutside, order: &[u8]) -> bool {
-    save(&mut outside.disk, "o", order).is_ok()
-}
-
-// Whether a run by an order of these bytes leaves the fates of the composition.
-fn leaves_by<R: Threads + Wait + Sync>(
-    rt: &R,
-    alloc: Global,
-    order: &[u8],
-) -> Result<bool, OutOfMemory> {
-    let words = "--until 100 --schedule s --out f --order o -- mm-delay 10 mm-link t t";
-    let words = words_of(alloc, words)?;
-    let mut outside = TestOutside::new(alloc, &FILES, &[], &[])?;
-    if !is_put(&mut outside, order) {
-        return Ok(false);
-    }
-    let answer = answered(rt, alloc, &words, &mut outside.disk, &NoPace);
-    let fates = "1 up departed 14\n2 down departed 12\n";
-    Ok(outside.ends_with(answer, 0, "", &[("f", fates)]))
-}
+// A run by an order that leaves the fates of the composition.
+static ORDERED: Case<'static, 'static, 'static> = Case {
+    words: &["--until 100 --schedule s --out f --order o -- mm-delay 10 mm-link t t"],
+    files: &[("t", "4\n"), ("s", "0 up 100\n0 down 100\n")],
+    fails: (0, 0, 0),
+    status: 0,
+    printed: "",
+    left: &[("f", "1 up departed 14\n2 down departed 12\n")],
+};
 
 // All bytes from 0 to 255.
 fn all_bytes(alloc: Global) -> Result<Vec<u8>, AllocError> {
@@ -43,21 +29,36 @@ fn all_bytes(alloc: Global) -> Result<Vec<u8>, AllocError> {
 
 #[test]
 fn any_bytes_are_an_order(rt: HostRuntime) {
-    let alloc = rt.alloc();
-    let all = all_bytes(alloc).expect(&rt, "memory");
-    assert!(rt; leaves_by(&rt, alloc, &[]).expect(&rt, "memory"));
-    assert!(rt; leaves_by(&rt, alloc, &[0; 3]).expect(&rt, "memory"));
-    assert!(rt; leaves_by(&rt, alloc, all.as_slice()).expect(&rt, "memory"));
+    let all = all_bytes(rt.alloc()).expect(&rt, "memory");
+    pass_with(&rt, rt.alloc(), Command::Run, &ORDERED, "o", &[]);
+    pass_with(&rt, rt.alloc(), Command::Run, &ORDERED, "o", &[0; 3]);
+    pass_with(&rt, rt.alloc(), Command::Run, &ORDERED, "o", all.as_slice());
 }
 
 const FIRST: &str = "# base timestamp: 0\n";
 
 const LOG: &str = "# base timestamp: 0\n1 # 1504\n1 + 1504\n2 # 1504\n2 - 1504 1\n";
 
-// Which call fails, the status, the line, and what `u` holds then. The calls are: a size and a read for the trace of
-// each direction, for the order and for the schedule, then a creation and two appends for `u`, and a creation and an
-// append for `f`.
-static CALLS: [(u64, u8, &str, &str); 9] = [
+// Which call fails, the status, the line, and what `u` holds then.
+type Row = (u64, u8, &'static str, &'static str);
+
+// `run` leaves what a row states.
+fn leaves<R: Abort + Threads + Wait + Sync>(rt: &R, alloc: Global, row: &Row) {
+    let (call, status, line, log) = *row;
+    let case = Case {
+        words: &["--until 2 --schedule s --out f --order o -- mm-link t t --uplink-log=u"],
+        files: &[("t", "1\n"), ("o", "x"), ("s", "1 up 1504\n")],
+        fails: (call, 0, 0),
+        status,
+        printed: line,
+        left: &[("u", log)],
+    };
+    pass(rt, alloc, Command::Run, &case);
+}
+
+// The calls are: a size and a read for the trace of each direction, for the order and for the schedule, then a creation
+// and two appends for `u`, and a creation and an append for `f`.
+static CALLS: [Row; 9] = [
     (4, 6, "mm: read fault t\n", ABSENT),
     (5, 6, "mm: read fault o\n", ABSENT),
     (6, 6, "mm: read fault o\n", ABSENT),
@@ -69,30 +70,9 @@ static CALLS: [(u64, u8, &str, &str); 9] = [
     (14, 0, "", LOG),
 ];
 
-static ORDERED: [(&str, &str); 3] = [("t", "1\n"), ("o", "x"), ("s", "1 up 1504\n")];
-
-// Whether a run by an order leaves this, where this call of the disk fails.
-fn fails_at<R: Threads + Wait + Sync>(
-    rt: &R,
-    alloc: Global,
-    call: u64,
-    status: u8,
-    line: &'static str,
-    u: &'static str,
-) -> Result<bool, OutOfMemory> {
-    let words = "--until 2 --schedule s --out f --order o -- mm-link t t --uplink-log=u";
-    let left = Left {
-        status,
-        line,
-        files: &[("u", u)],
-    };
-    leaves(rt, alloc, words, &ORDERED, &[call], &left)
-}
-
 #[test]
 fn an_order_is_read_before_the_schedule(rt: HostRuntime) {
-    for &(call, status, line, u) in &CALLS {
-        let is_left = fails_at(&rt, rt.alloc(), call, status, line, u);
-        assert!(rt; is_left.expect(&rt, "memory"), "at call {call}");
+    for row in &CALLS {
+        leaves(&rt, rt.alloc(), row);
     }
 }

@@ -1,8 +1,11 @@
 // Runs over threads some of whose turns are held.
-use super::{Left, leaves_by, numbered};
+use super::{leaves_by, numbered};
+use crate::case::Case;
 use mm_base::{Pace, Role};
 use std::alloc::{AllocError, Global};
+use std::fmt::Write;
 use std::marker::Sync;
+use std::process::Abort;
 use std::sync::Wait;
 use std::sync::atomic::{AtomicU64, Ordering};
 use std::thread::{Threads, yield_now};
@@ -140,28 +143,39 @@ impl Pace for Held<'_> {
     }
 }
 
-// Whether a run of this schedule, and a trace of one line, leaves these fates while these turns are held.
+// Whether a run leaves what it is to leave while these turns are held.
 fn is_kept<R: Threads + Wait + Sync>(
     rt: &R,
     alloc: Global,
-    words: &str,
-    schedule: &str,
+    case: &Case<'_, '_, '_>,
     holds: &[Hold],
-    fates: &str,
 ) -> Result<bool, OutOfMemory> {
-    let words = format!(in alloc; "--schedule s --out f --until {words}")?;
-    let files = [("t", "5\n"), ("s", schedule)];
     let pace = Held {
         holds,
         turns: Turns::new(),
     };
-    let left = Left {
-        status: 0,
-        line: "",
-        files: &[("f", fates)],
-    };
-    let is_left = leaves_by(rt, alloc, words.as_str(), &files, &[], &pace, &left)?;
+    let is_left = leaves_by(rt, alloc, case, &pace)?;
     Ok(is_left && pace.turns.were_kept())
+}
+
+// A run of this schedule, and a trace of one line, leaves these fates while these turns are held.
+fn keeps<R: Abort + Threads + Wait + Sync>(
+    rt: &R,
+    alloc: Global,
+    words: &'static str,
+    schedule: &str,
+    holds: &[Hold],
+    fates: &str,
+) {
+    let case = Case {
+        words: &["--schedule s --out f --until", words],
+        files: &[("t", "5\n"), ("s", schedule)],
+        fails: (0, 0, 0),
+        status: 0,
+        printed: "",
+        left: &[("f", fates)],
+    };
+    assert!(rt; is_kept(rt, alloc, &case, holds).expect(rt, "memory"));
 }
 
 // The first turn of a role waits until another has begun.
@@ -200,8 +214,7 @@ fn four_workers_run_beside_each_other(rt: HostRuntime) {
     let schedule = "5 up 100\n6 up 100\n";
     let fates = "1 up departed 25\n2 up departed 26\n";
     let words = "100 -- mm-delay 20";
-    let kept = is_kept(&rt, alloc, words, schedule, holds.as_slice(), fates);
-    assert!(rt; kept.expect(&rt, "memory"));
+    keeps(&rt, alloc, words, schedule, holds.as_slice(), fates);
 }
 
 // The source waits at its third line until the up collector has a packet.
@@ -218,8 +231,7 @@ fn a_mark_lets_a_link_go_on(rt: HostRuntime) {
     let words = "20 -- mm-link t t";
     let schedule = "0 up 100\n10 down 100\n15 down 100\n";
     let fates = "1 up departed 5\n2 down departed 15\n3 down departed 20\n";
-    let kept = is_kept(&rt, rt.alloc(), words, schedule, &THIRD_LINE, fates);
-    assert!(rt; kept.expect(&rt, "memory"));
+    keeps(&rt, rt.alloc(), words, schedule, &THIRD_LINE, fates);
 }
 
 // The up feeder begins once the source has begun the line after those that the channel and its own hands hold; the up
@@ -253,7 +265,7 @@ fn thousand_fates(alloc: Global) -> Result<String, AllocError> {
     let mut fates = String::new(alloc);
     for moment in 1..1_001u32 {
         let departed = moment + 20;
-        fates.push_str(format!(in alloc; "{moment} up departed {departed}\n")?.as_str())?;
+        writeln!(fates, "{moment} up departed {departed}")?;
     }
     Ok(fates)
 }
@@ -263,7 +275,7 @@ fn channels_hold_sixty_four_items(rt: HostRuntime) {
     let alloc = rt.alloc();
     let lines = numbered(alloc, "", 1_000, " up 100\n").expect(&rt, "memory");
     let fates = thousand_fates(alloc).expect(&rt, "memory");
-    let kept = is_kept(
+    keeps(
         &rt,
         alloc,
         "2000 -- mm-delay 20",
@@ -271,5 +283,4 @@ fn channels_hold_sixty_four_items(rt: HostRuntime) {
         &FULL_CHANNELS,
         fates.as_str(),
     );
-    assert!(rt; kept.expect(&rt, "memory"));
 }

@@ -1,17 +1,34 @@
 // What runs refuse.
-use super::{Left, leaves};
+use crate::case::{Case, pass};
+use crate::command::Command;
 use std::alloc::Global;
 use std::marker::Sync;
+use std::process::Abort;
 use std::sync::Wait;
 use std::thread::Threads;
 use test_outside::ABSENT;
-use text_base::OutOfMemory;
+
+// The words for a nest, and the line that refuses them.
+type Nest = (&'static str, &'static str);
+
+// `run` leaves what a row states.
+fn refuses_nest<R: Abort + Threads + Wait + Sync>(rt: &R, alloc: Global, row: &Nest) {
+    let (nest, line) = *row;
+    let case = Case {
+        words: &["--until 9 --schedule s --out f --", nest],
+        files: &[("t", "1\n"), ("s", "")],
+        fails: (0, 0, 0),
+        status: 2,
+        printed: line,
+        left: &[("f", ABSENT)],
+    };
+    pass(rt, alloc, Command::Run, &case);
+}
 
 const NINE: &str =
     "mm-delay 1 mm-delay 1 mm-delay 1 mm-delay 1 mm-delay 1 mm-delay 1 mm-delay 1 mm-delay 1 mm-delay 1";
 
-// The words for a nest, and the line.
-static NESTS: [(&str, &str); 24] = [
+static NESTS: [Nest; 24] = [
     ("", "mm: nest 1 0\n"),
     ("mm-delays 5", "mm: nest 2 1\n"),
     ("mm-delay", "mm: nest 3 1\n"),
@@ -42,33 +59,15 @@ static NESTS: [(&str, &str); 24] = [
     ("mm-link t t --uplink-queue", "mm: nest 3 1\n"),
 ];
 
-static FILES: [(&str, &str); 2] = [("t", "1\n"), ("s", "")];
-
-// Whether a run of this nest is refused by this line, whose status is 2.
-fn is_no_nest<R: Threads + Wait + Sync>(
-    rt: &R,
-    alloc: Global,
-    nest: &str,
-    line: &'static str,
-) -> Result<bool, OutOfMemory> {
-    let words = format!(in alloc; "--until 9 --schedule s --out f -- {nest}")?;
-    let left = Left {
-        status: 2,
-        line,
-        files: &[("f", ABSENT)],
-    };
-    leaves(rt, alloc, words.as_str(), &FILES, &[], &left)
-}
-
 #[test]
 fn shell_words_are_refused(rt: HostRuntime) {
-    for &(nest, line) in &NESTS {
-        let is_left = is_no_nest(&rt, rt.alloc(), nest, line);
-        assert!(rt; is_left.expect(&rt, "memory"), "at {nest}");
+    for row in &NESTS {
+        refuses_nest(&rt, rt.alloc(), row);
     }
 }
 
-// Words in two parts, the texts of the trace and of the schedule, the status, and the line.
+// Words in two parts, the texts of the trace and of the schedule, the status, and the line. No file is made, and these
+// stay as they are.
 type Refusal = (
     &'static str,
     &'static str,
@@ -77,6 +76,20 @@ type Refusal = (
     u8,
     &'static str,
 );
+
+// `run` leaves what a row states.
+fn refuses<R: Abort + Threads + Wait + Sync>(rt: &R, alloc: Global, row: &Refusal) {
+    let (front, back, trace, schedule, status, line) = *row;
+    let case = Case {
+        words: &[front, back],
+        files: &[("t", trace), ("s", schedule)],
+        fails: (0, 0, 0),
+        status,
+        printed: line,
+        left: &[("f", ABSENT), ("u", ABSENT), ("t", trace), ("s", schedule)],
+    };
+    pass(rt, alloc, Command::Run, &case);
+}
 
 const LINK: &str = "--until 9 --schedule s --out f -- mm-link t t";
 
@@ -213,31 +226,9 @@ static REFUSALS: [Refusal; 28] = [
     ),
 ];
 
-fn is_refused<R: Threads + Wait + Sync>(
-    rt: &R,
-    alloc: Global,
-    refusal: &Refusal,
-) -> Result<bool, OutOfMemory> {
-    let (front, back, trace, schedule, status, line) = *refusal;
-    let words = format!(in alloc; "{front} {back}")?;
-    let files = [("t", trace), ("s", schedule)];
-    let left = Left {
-        status,
-        line,
-        files: &[("f", ABSENT), ("u", ABSENT), ("t", trace), ("s", schedule)],
-    };
-    leaves(rt, alloc, words.as_str(), &files, &[], &left)
-}
-
 #[test]
 fn refusals_have_their_status_and_line(rt: HostRuntime) {
-    for refusal in &REFUSALS {
-        let is_left = is_refused(&rt, rt.alloc(), refusal);
-        assert!(rt;
-            is_left.expect(&rt, "memory"),
-            "at {} {}",
-            refusal.0,
-            refusal.1
-        );
+    for row in &REFUSALS {
+        refuses(&rt, rt.alloc(), row);
     }
 }

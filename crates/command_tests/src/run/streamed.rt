@@ -2,7 +2,9 @@
 ghost use Rattle.std.specs.Prelude.{◌^◌, ◌-◌, None, false};
 
 use super::paced::{Held, Hold, Turns, UP_COLLECTOR};
-use super::{Left, WAYS, answered, concludes, leaves, numbered};
+use super::{WAYS, answered, concludes, numbered};
+use crate::case::{Case, pass};
+use crate::command::Command;
 use mm_base::{Disk, DiskError, NoPace, Role};
 use std::alloc::{AllocError, Global};
 use std::marker::Sync;
@@ -33,60 +35,88 @@ fn many_fates(alloc: Global) -> Result<String, AllocError> {
 
 const MANY: &str = "--until 1 --schedule s --out f -- mm-delay 1";
 
-// Whether a run of this schedule in this way leaves these fates.
-fn passes<R: Threads + Wait + Sync>(
+// Ten thousand lines, and the fates of their packets.
+#[derive(Drop)]
+struct Many {
+    lines: String,
+    fates: String,
+}
+
+fn ten_thousand(alloc: Global) -> Result<Many, AllocError> {
+    let lines = many_lines(alloc, 10_000, &[])?;
+    let fates = many_fates(alloc)?;
+    Ok(Many { lines, fates })
+}
+
+// A run of this schedule in this way leaves these fates.
+fn passes<R: Abort + Threads + Wait + Sync>(
     rt: &R,
     alloc: Global,
-    way: &str,
+    way: &'static str,
     schedule: &str,
     fates: &str,
-) -> Result<bool, OutOfMemory> {
-    let words = format!(in alloc; "{way} {MANY}")?;
-    let left = Left {
+) {
+    let case = Case {
+        words: &[way, MANY],
+        files: &[("s", schedule)],
+        fails: (0, 0, 0),
         status: 0,
-        line: "",
-        files: &[("f", fates)],
+        printed: "",
+        left: &[("f", fates)],
     };
-    leaves(rt, alloc, words.as_str(), &[("s", schedule)], &[], &left)
+    pass(rt, alloc, Command::Run, &case);
 }
 
-// Whether a run of this schedule, whose call of this number fails, is answered so, and leaves no fates.
-fn is_refused<R: Threads + Wait + Sync>(
+// A run of this schedule, whose call of this number fails, is answered so, and leaves no fates.
+fn refuses<'a, R: Abort + Threads + Wait + Sync>(
     rt: &R,
     alloc: Global,
-    schedule: &str,
+    schedule: &'a str,
     fails: u64,
     status: u8,
-    line: &'static str,
-) -> Result<bool, OutOfMemory> {
-    let left = Left {
+    line: &'a str,
+) {
+    let case = Case {
+        words: &[MANY],
+        files: &[("s", schedule)],
+        fails: (fails, 0, 0),
         status,
-        line,
-        files: &[("f", ABSENT)],
+        printed: line,
+        left: &[("f", ABSENT)],
     };
-    leaves(rt, alloc, MANY, &[("s", schedule)], &[fails], &left)
+    pass(rt, alloc, Command::Run, &case);
 }
 
-// The lines that are refused, which call fails, the status and the line. The calls are: a size, and two reads. A fault
-// of reading is answered before a refusal.
-static FAULTS: [(&[u32], u64, u8, &str); 4] = [
+// The lines that are refused, which call fails, the status and the line.
+type Fault = (&'static [u32], u64, u8, &'static str);
+
+// The calls are: a size, and two reads. A fault of reading is answered before a refusal.
+static FAULTS: [Fault; 4] = [
     (&[9_999], 0, 4, "mm: bad input s 1 9999\n"),
     (&[1, 2], 0, 4, "mm: bad input s 1 1\n"),
     (&[], 3, 6, "mm: read fault s\n"),
     (&[1, 2], 3, 6, "mm: read fault s\n"),
 ];
 
+// A run of ten thousand lines is answered as it is stated.
+fn is_answered<R: Abort + Threads + Wait + Sync>(rt: &R, alloc: Global, fault: &Fault) {
+    let (refused, fails, status, line) = *fault;
+    let text = many_lines(alloc, 10_000, refused).expect(rt, "memory");
+    refuses(rt, alloc, text.as_str(), fails, status, line);
+}
+
 #[test]
 fn many_lines_are_streamed(rt: HostRuntime) {
-    let alloc = rt.alloc();
-    let fates = many_fates(alloc).expect(&rt, "memory");
-    let text = many_lines(alloc, 10_000, &[]).expect(&rt, "memory");
-    let is_left = passes(&rt, alloc, "", text.as_str(), fates.as_str());
-    assert!(rt; is_left.expect(&rt, "memory"));
-    for &(refused, fails, status, line) in &FAULTS {
-        let text = many_lines(alloc, 10_000, refused).expect(&rt, "memory");
-        let is_left = is_refused(&rt, alloc, text.as_str(), fails, status, line);
-        assert!(rt; is_left.expect(&rt, "memory"), "at {line}");
+    let many = ten_thousand(rt.alloc()).expect(&rt, "memory");
+    passes(
+        &rt,
+        rt.alloc(),
+        "",
+        many.lines.as_str(),
+        many.fates.as_str(),
+    );
+    for fault in &FAULTS {
+        is_answered(&rt, rt.alloc(), fault);
     }
 }
 
@@ -100,22 +130,23 @@ static CALLS: [(u64, u8, &str); 4] = [
 
 #[test]
 fn a_refused_schedule_is_read_to_its_end(rt: HostRuntime) {
-    let alloc = rt.alloc();
-    let text = many_lines(alloc, 20_000, &[1]).expect(&rt, "memory");
+    let text = many_lines(rt.alloc(), 20_000, &[1]).expect(&rt, "memory");
     for &(fails, status, line) in &CALLS {
-        let is_left = is_refused(&rt, alloc, text.as_str(), fails, status, line);
-        assert!(rt; is_left.expect(&rt, "memory"), "at call {fails}");
+        refuses(&rt, rt.alloc(), text.as_str(), fails, status, line);
     }
 }
 
 #[test]
 fn many_lines_pass_in_each_way(rt: HostRuntime) {
-    let alloc = rt.alloc();
-    let text = many_lines(alloc, 10_000, &[]).expect(&rt, "memory");
-    let fates = many_fates(alloc).expect(&rt, "memory");
+    let many = ten_thousand(rt.alloc()).expect(&rt, "memory");
     for &way in &WAYS {
-        let is_left = passes(&rt, alloc, way, text.as_str(), fates.as_str());
-        assert!(rt; is_left.expect(&rt, "memory"), "at {way}");
+        passes(
+            &rt,
+            rt.alloc(),
+            way,
+            many.lines.as_str(),
+            many.fates.as_str(),
+        );
     }
 }
 
@@ -179,6 +210,18 @@ static MIDDLE_LINE: [Hold; 1] = [Hold {
     stays: false,
 }];
 
+// A disk of this text, each of whose reads takes at most so many bytes.
+fn disk_of<'a>(alloc: Global, text: &'a str, most: usize, turns: &'a Turns) -> NotingDisk<'a> {
+    NotingDisk {
+        text: text.as_bytes(),
+        most,
+        written: Vec::new(alloc),
+        turns,
+        asked: 0,
+        early: None,
+    }
+}
+
 // Whether the disk was asked for no more than a piece, a packet was collected before the second piece was read, and
 // this was written.
 fn was_noted(disk: &NotingDisk<'_>, written: &str) -> bool {
@@ -191,36 +234,29 @@ fn was_noted(disk: &NotingDisk<'_>, written: &str) -> bool {
 fn is_noted<'a, R: Threads + Wait + Sync>(
     rt: &R,
     alloc: Global,
-    schedule: &'a str,
+    many: &'a Many,
     pace: &'a Held<'a>,
-    fates: &str,
 ) -> Result<bool, OutOfMemory> {
     let words = words_of(alloc, MANY)?;
-    let mut disk = NotingDisk {
-        text: schedule.as_bytes(),
-        most: usize::MAX,
-        written: Vec::new(alloc),
-        turns: &pace.turns,
-        asked: 0,
-        early: None,
-    };
+    let mut disk = disk_of(alloc, many.lines.as_str(), usize::MAX, &pace.turns);
     let answer = answered(rt, alloc, &words, &mut disk, pace);
-    Ok(concludes(alloc, answer, 0, "") && was_noted(&disk, fates))
+    Ok(concludes(alloc, answer, 0, "") && was_noted(&disk, many.fates.as_str()))
+}
+
+// Whether all lines were taken, and the turns were held.
+fn were_taken(turns: &Turns) -> bool {
+    turns.count(Role::Source) == 10_000 && turns.were_kept()
 }
 
 #[test]
 fn packets_pass_before_the_schedule_is_read(rt: HostRuntime) {
-    let alloc = rt.alloc();
-    let text = many_lines(alloc, 10_000, &[]).expect(&rt, "memory");
-    let fates = many_fates(alloc).expect(&rt, "memory");
+    let many = ten_thousand(rt.alloc()).expect(&rt, "memory");
     let pace = Held {
         holds: &MIDDLE_LINE,
         turns: Turns::new(),
     };
-    let is_said = is_noted(&rt, alloc, text.as_str(), &pace, fates.as_str());
-    assert!(rt; is_said.expect(&rt, "memory"));
-    assert!(rt; pace.turns.count(Role::Source) == 10_000);
-    assert!(rt; pace.turns.were_kept());
+    assert!(rt; is_noted(&rt, rt.alloc(), &many, &pace).expect(&rt, "memory"));
+    assert!(rt; were_taken(&pace.turns));
 }
 
 // A schedule, the status, the line and the fates.
@@ -236,14 +272,7 @@ fn is_cut<R: Threads + Wait + Sync>(
 ) -> Result<bool, OutOfMemory> {
     let turns = Turns::new();
     let words = words_of(alloc, "--until 9 --schedule s --out f -- mm-delay 1")?;
-    let mut disk = NotingDisk {
-        text: cut.0.as_bytes(),
-        most,
-        written: Vec::new(alloc),
-        turns: &turns,
-        asked: 0,
-        early: None,
-    };
+    let mut disk = disk_of(alloc, cut.0, most, &turns);
     let answer = answered(rt, alloc, &words, &mut disk, &NoPace);
     let is_said = concludes(alloc, answer, cut.1, cut.2);
     Ok(is_said && disk.written.as_slice() == cut.3.as_bytes())

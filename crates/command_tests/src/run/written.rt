@@ -1,12 +1,13 @@
 // What runs write.
-use super::{Left, WAYS, leaves, numbered};
+use super::{WAYS, numbered};
+use crate::case::{Case, pass};
+use crate::command::Command;
 use std::alloc::Global;
 use std::marker::Sync;
 use std::process::Abort;
 use std::sync::Wait;
 use std::thread::Threads;
 use test_outside::ABSENT;
-use text_base::OutOfMemory;
 
 // The last words, the texts of the trace and of the schedule, and those of the fates and of the log `u`.
 type Written = (
@@ -119,55 +120,59 @@ static ROWS: [Written; 15] = [
     ),
 ];
 
-// Whether a run in this way writes this.
-fn is_written<R: Threads + Wait + Sync>(
+// A run in this way writes this.
+fn writes<R: Abort + Threads + Wait + Sync>(
     rt: &R,
     alloc: Global,
-    way: &str,
+    way: &'static str,
     written: &Written,
-) -> Result<bool, OutOfMemory> {
+) {
     let (words, trace, schedule, fates, log) = *written;
-    let words = format!(in alloc; "--schedule s --out=f {way} --until {words}")?;
-    let files = [("t", trace), ("s", schedule)];
-    let left = Left {
+    let case = Case {
+        words: &["--schedule s --out=f", way, "--until", words],
+        files: &[("t", trace), ("s", schedule)],
+        fails: (0, 0, 0),
         status: 0,
-        line: "",
-        files: &[("f", fates), ("u", log)],
+        printed: "",
+        left: &[("f", fates), ("u", log)],
     };
-    leaves(rt, alloc, words.as_str(), &files, &[], &left)
+    pass(rt, alloc, Command::Run, &case);
 }
 
-fn are_written<R: Abort + Threads + Wait + Sync>(rt: &R, alloc: Global, way: &str) {
+// Each run in this way writes what is stated.
+fn writes_all<R: Abort + Threads + Wait + Sync>(rt: &R, alloc: Global, way: &'static str) {
     for row in &ROWS {
-        let is_said = is_written(rt, alloc, way, row).expect(rt, "memory");
-        assert!(rt; is_said, "at {} by {way}", row.0);
+        writes(rt, alloc, way, row);
     }
 }
 
 #[test]
 fn logs_and_fates_are_written_in_each_way(rt: HostRuntime) {
     for &way in &WAYS {
-        are_written(&rt, rt.alloc(), way);
+        writes_all(&rt, rt.alloc(), way);
     }
 }
 
-static FILES: [(&str, &str); 2] = [("t", "1\n"), ("s", "")];
-
-// Whether a run of no packets in this way writes this log.
-fn writes_log<R: Threads + Wait + Sync>(
+// A run of no packets in this way writes this log.
+fn writes_log<R: Abort + Threads + Wait + Sync>(
     rt: &R,
     alloc: Global,
-    way: &str,
+    way: &'static str,
     log: &str,
-) -> Result<bool, OutOfMemory> {
-    let link = "-- mm-link t t --uplink-log u";
-    let words = format!(in alloc; "--until 5000 --schedule s --out f {way} {link}")?;
-    let left = Left {
+) {
+    let case = Case {
+        words: &[
+            "--until 5000 --schedule s --out f",
+            way,
+            "-- mm-link t t --uplink-log u",
+        ],
+        files: &[("t", "1\n"), ("s", "")],
+        fails: (0, 0, 0),
         status: 0,
-        line: "",
-        files: &[("u", log)],
+        printed: "",
+        left: &[("u", log)],
     };
-    leaves(rt, alloc, words.as_str(), &FILES, &[], &left)
+    pass(rt, alloc, Command::Run, &case);
 }
 
 #[test]
@@ -176,7 +181,6 @@ fn a_log_of_many_pieces_is_written_whole(rt: HostRuntime) {
     let log = numbered(alloc, "# base timestamp: 0\n", 5_000, " # 1504\n");
     let log = log.expect(&rt, "memory");
     for &way in &WAYS {
-        let is_said = writes_log(&rt, alloc, way, log.as_str());
-        assert!(rt; is_said.expect(&rt, "memory"), "at {way}");
+        writes_log(&rt, alloc, way, log.as_str());
     }
 }

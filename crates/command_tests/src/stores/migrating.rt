@@ -1,40 +1,64 @@
 // Migrations.
 use super::{AT_81, STORE};
-use command_stores::answer_migrate;
+use crate::case::{Case, pass};
+use crate::command::Command;
 use std::alloc::Global;
-use test_outside::{ABSENT, TestOutside, words_of};
-use text_base::OutOfMemory;
+use std::marker::Sync;
+use std::process::Abort;
+use std::sync::Wait;
+use std::thread::Threads;
+use test_outside::ABSENT;
 
 // The text of the store in form 1.
 const OLD: &str =
     "MMSTORE 1\nrecord 27 40\nGET / HTTP/1.1\r\nHost: a\r\n\r\nHTTP/1.1 200 OK\r\nContent-Length: 2\r\n\r\nhi\n";
 
-// Whether `migrate` of this store, with these words and a disk whose call of this number fails, has this status,
-// prints this and leaves this in `o`.
-fn migrates(
-    alloc: Global,
-    store: &str,
-    words: &str,
-    fails: u64,
-    status: u8,
-    line: &str,
-    out: &str,
-) -> Result<bool, OutOfMemory> {
-    let words = words_of(alloc, words)?;
-    let mut outside = TestOutside::new(alloc, &[("s", store)], &[fails], &[])?;
-    let answer = answer_migrate(alloc, &words, &mut outside.disk);
-    Ok(outside.ends_with(answer, status, line, &[("s", store), ("o", out)]))
-}
-
 const WORDS: &str = "--store s --out o";
 
-// Whether the migration of this store gives this.
-pub(super) fn gives(alloc: Global, store: &str, out: &str) -> Result<bool, OutOfMemory> {
-    migrates(alloc, store, WORDS, 0, 0, "", out)
+// The store, the words, which call of the disk fails, the status, the line, and what `o` holds. The store stays as it
+// is.
+type Row = (
+    &'static str,
+    &'static str,
+    u64,
+    u8,
+    &'static str,
+    &'static str,
+);
+
+// `migrate` leaves what a row states.
+fn migrates<R: Abort + Threads + Wait + Sync>(rt: &R, alloc: Global, row: &Row) {
+    let (store, words, fails, status, line, out) = *row;
+    let case = Case {
+        words: &[words],
+        files: &[("s", store)],
+        fails: (fails, 0, 0),
+        status,
+        printed: line,
+        left: &[("s", store), ("o", out)],
+    };
+    pass(rt, alloc, Command::Migrate, &case);
 }
 
-// The store, the words, which call fails, the status, the line, and what `o` holds.
-static ROWS: [(&str, &str, u64, u8, &str, &str); 12] = [
+// The migration of this store gives this.
+pub(super) fn gives<'a, R: Abort + Threads + Wait + Sync>(
+    rt: &R,
+    alloc: Global,
+    store: &'a str,
+    out: &'a str,
+) {
+    let case = Case {
+        words: &[WORDS],
+        files: &[("s", store)],
+        fails: (0, 0, 0),
+        status: 0,
+        printed: "",
+        left: &[("s", store), ("o", out)],
+    };
+    pass(rt, alloc, Command::Migrate, &case);
+}
+
+static CASES: [Row; 12] = [
     (OLD, WORDS, 0, 0, "", STORE),
     (STORE, WORDS, 0, 0, "", STORE),
     (AT_81, WORDS, 0, 0, "", AT_81),
@@ -58,8 +82,7 @@ static ROWS: [(&str, &str, u64, u8, &str, &str); 12] = [
 
 #[test]
 fn stores_are_migrated(rt: HostRuntime) {
-    for &(store, words, fails, status, line, out) in &ROWS {
-        let is_left = migrates(rt.alloc(), store, words, fails, status, line, out);
-        assert!(rt; is_left.expect(&rt, "memory"), "at {line}");
+    for row in &CASES {
+        migrates(&rt, rt.alloc(), row);
     }
 }

@@ -1,18 +1,16 @@
 // Ten thousand packets through a state of each kind, and at once over the whole list.
-ghost use Rattle.std.specs.Prelude.{◌≡◌, ◌≤◌, length};
-ghost use Rattle.shell_core.specs.Shells.{IsInRange, opportunities};
+ghost use Rattle.std.specs.Prelude.{◌≡◌, ◌≤◌};
 
-use super::{feed, is_over, take_one};
-use crate::inputs::{queue_of, rate_of, trace_of};
+use super::{feed, is_over, state_of, take_one};
+use crate::directions::{Kind, direction_of};
 use crate::packets::{in_order, many_packets};
-use link_core::LinkLog;
 use packet_record::{Item, Timed};
 use shell_core::{Passage, run_whole};
-use shell_state::{DirSpec, ShellState, Taken};
+use shell_log::Log;
+use shell_state::{ShellState, Taken};
 use std::alloc::Global;
 use std::process::Abort;
 use text_base::OutOfMemory;
-use text_base::limits::MOST_OPPORTUNITIES;
 
 // More takes than there is ever something to take.
 const MOST_TAKES: u32 = 100_000;
@@ -47,8 +45,8 @@ fn drain(state: &mut ShellState, most: u32, burn: u32) -> Result<(), OutOfMemory
     Ok(())
 }
 
-// Feeds the packets one by one, takes at most so often after each, and all after the end, as much at once as can be where
-// nothing was taken before. False: one was refused.
+// Feeds the packets one by one, takes at most so often after each, and all after the end, as much at once as can be
+// where nothing was taken before. False: one was refused.
 fn pass(state: &mut ShellState, packets: &[Timed], most: u32) -> Result<bool, OutOfMemory>
     requires { state.old.horizon ≡ 1000 }
 {
@@ -66,144 +64,115 @@ fn pass(state: &mut ShellState, packets: &[Timed], most: u32) -> Result<bool, Ou
     Ok(true)
 }
 
-// The packets through a state, from which is taken at most so often after each.
-fn one_by_one(
-    rt: &impl Abort,
-    alloc: Global,
-    spec: DirSpec,
-    most: u32,
-) -> Result<Passage, OutOfMemory>
-    requires range { IsInRange spec }
-    requires few { length (opportunities spec 1000) ≤ 16000000 }
+// Whether all packets pass a state, from which is taken at most so often after each.
+fn pass_all(rt: &impl Abort, alloc: Global, state: &mut ShellState, most: u32) -> bool
+    requires { state.old.horizon ≡ 1000 }
 {
-    let packets = many_packets(alloc)?;
-    let mut state = ShellState::new(alloc, spec, 1000)?;
-    assert!(rt; pass(&mut state, packets.as_slice(), most)?);
+    let packets = many_packets(rt, alloc);
+    pass(state, &packets, most).expect(rt, "memory")
+}
+
+// The packets through a state, from which is taken at most so often after each.
+fn one_by_one(rt: &impl Abort, alloc: Global, kind: Kind, most: u32) -> Passage {
+    let mut state = state_of(rt, alloc, kind, 1000);
+    assert!(rt; pass_all(rt, alloc, &mut state, most));
     assert!(rt; is_over(state.taken().end()));
-    state.into_passage()
+    state.into_passage().expect(rt, "memory")
 }
 
 // The packets over the whole list.
-fn at_once(rt: &impl Abort, alloc: Global, spec: DirSpec) -> Result<Passage, OutOfMemory>
-    requires range { IsInRange spec }
-    requires few { length (opportunities spec 1000) ≤ 16000000 }
-{
-    let many = many_packets(alloc)?;
-    let packets = in_order(rt, alloc, 1000, many.as_slice())?;
-    run_whole(alloc, spec, 1000, packets)
+fn at_once(rt: &impl Abort, alloc: Global, kind: Kind) -> Passage {
+    let packets = in_order(rt, alloc, 1000, &many_packets(rt, alloc));
+    let direction = direction_of(rt, alloc, kind, 1000);
+    run_whole(alloc, direction, 1000, packets).expect(rt, "memory")
 }
 
-// Whether two links' logs have the same entries, or neither has one.
-fn is_same_log(one: Option<LinkLog>, other: Option<LinkLog>) -> Result<bool, OutOfMemory> {
-    match (one, other) {
-        (Some(one), Some(other)) => Ok(one.into_log()?.entries() == other.into_log()?.entries()),
-        (None, None) => Ok(true),
-        _ => Ok(false),
+// Whether the same packets departed, were lost and stay inside, and both or neither have a log.
+fn are_same(one: &Passage, other: &Passage) -> bool {
+    one.departed.as_slice() == other.departed.as_slice()
+        && one.lost.as_slice() == other.lost.as_slice()
+        && one.held.as_slice() == other.held.as_slice()
+        && one.log.is_some() == other.log.is_some()
+}
+
+// The log of a passage, written out. Only links have one: that of another direction is empty.
+fn log_of(rt: &impl Abort, alloc: Global, passage: Passage) -> Log {
+    let log = passage.log;
+    match log {
+        Some(log) => log.into_log().expect(rt, "memory"),
+        None => Log::new(alloc),
     }
 }
 
-fn is_same(one: Passage, other: Passage) -> Result<bool, OutOfMemory> {
-    let is_same = one.departed.as_slice() == other.departed.as_slice()
-        && one.lost.as_slice() == other.lost.as_slice()
-        && one.held.as_slice() == other.held.as_slice();
-    Ok(is_same && is_same_log(one.log, other.log)?)
+// Whether the logs of two passages have the same entries.
+fn have_same_log(rt: &impl Abort, alloc: Global, one: Passage, other: Passage) -> bool {
+    let one = log_of(rt, alloc, one);
+    one.entries() == log_of(rt, alloc, other).entries()
+}
+
+// How many packets depart, are lost and stay inside.
+fn counts(passage: &Passage) -> [usize; 3] {
+    [
+        passage.departed.len(),
+        passage.lost.len(),
+        passage.held.len(),
+    ]
 }
 
 // How many of the ten thousand packets depart, are lost and stay inside. A state must give the same as the whole list.
-fn totals(
-    rt: &impl Abort,
-    alloc: Global,
-    most: u32,
-    spec: DirSpec,
-    other: DirSpec,
-) -> Result<[usize; 3], OutOfMemory>
-    requires range { IsInRange spec × IsInRange other }
-    requires few { (length (opportunities spec 1000) ≤ 16000000) × (length (opportunities other 1000) ≤ 16000000) }
-{
-    let singly = one_by_one(rt, alloc, spec, most)?;
-    let whole = at_once(rt, alloc, other)?;
-    let counts = [whole.departed.len(), whole.lost.len(), whole.held.len()];
-    assert!(rt; is_same(singly, whole)?);
-    Ok(counts)
+fn totals(rt: &impl Abort, alloc: Global, kind: Kind, most: u32) -> [usize; 3] {
+    let singly = one_by_one(rt, alloc, kind, most);
+    let whole = at_once(rt, alloc, kind);
+    assert!(rt; are_same(&singly, &whole));
+    let counts = counts(&whole);
+    assert!(rt; have_same_log(rt, alloc, singly, whole));
+    counts
 }
 
-#[tactic(auto, unfolding(shell_core::specs::Shells::opportunities))]
-fn pass_totals(rt: &impl Abort, alloc: Global, most: u32) -> [usize; 3] {
-    totals(rt, alloc, most, DirSpec::Pass, DirSpec::Pass).expect(rt, "memory")
+// Directions, and what the packets through them come to.
+static TOTALS: [(Kind, [usize; 3]); 3] = [
+    (Kind::Pass, [10_000, 0, 0]),
+    (Kind::Delay(100), [9_010, 0, 990]),
+    (Kind::Loss("1", 1, 2), [0, 10_000, 0]),
+];
+
+// The packets through each of these directions come to what is said.
+fn go_through(rt: &impl Abort, alloc: Global, most: u32, cases: &[(Kind, [usize; 3])]) {
+    for &(kind, counts) in cases {
+        assert!(rt; totals(rt, alloc, kind, most) == counts);
+    }
 }
 
-#[tactic(auto, unfolding(shell_core::specs::Shells::opportunities))]
-fn delay_totals(rt: &impl Abort, alloc: Global, most: u32) -> [usize; 3] {
-    let late = DirSpec::Delay { ms: 100 };
-    totals(rt, alloc, most, late, DirSpec::Delay { ms: 100 }).expect(rt, "memory")
-}
-
-#[tactic(auto, unfolding(shell_core::specs::Shells::opportunities))]
-fn loss_totals(rt: &impl Abort, alloc: Global, most: u32, rate: &str) -> [usize; 3] {
-    let rate = rate_of(rt, rate);
-    let (seed, stream) = (1, 2);
-    let lossy = DirSpec::Loss { rate, seed, stream };
-    totals(rt, alloc, most, lossy, DirSpec::Loss { rate, seed, stream }).expect(rt, "memory")
-}
-
-fn go_through(rt: &impl Abort, alloc: Global, most: u32) {
-    assert!(rt; pass_totals(rt, alloc, most) == [10_000, 0, 0]);
-    assert!(rt; delay_totals(rt, alloc, most) == [9_010, 0, 990]);
-    assert!(rt; loss_totals(rt, alloc, most, "1") == [0, 10_000, 0]);
-    let counts = loss_totals(rt, alloc, most, "0.3");
-    assert!(rt; counts[0] > 6_500 && counts[1] > 2_500 && counts[2] == 0);
+// Of ten packets through a loss some seven depart, and the others are lost.
+fn lose_some(rt: &impl Abort, alloc: Global, most: u32) {
+    let [departed, lost, inside] = totals(rt, alloc, Kind::Loss("0.3", 1, 2), most);
+    assert!(rt; departed > 6_500 && lost > 2_500 && inside == 0);
 }
 
 // All is taken after each packet, or nothing before the end.
 #[test]
 fn ten_thousand_packets_go_through(rt: HostRuntime) {
-    go_through(&rt, rt.alloc(), MOST_TAKES);
-    go_through(&rt, rt.alloc(), 0);
+    go_through(&rt, rt.alloc(), MOST_TAKES, &TOTALS);
+    go_through(&rt, rt.alloc(), 0, &TOTALS);
+    lose_some(&rt, rt.alloc(), MOST_TAKES);
+    lose_some(&rt, rt.alloc(), 0);
 }
 
-// The queue of a link, and what the packets through it come to.
-type Queue = (&'static str, &'static str, [usize; 3]);
-
-// A link with an opportunity each millisecond.
-#[tactic(auto, unfolding(shell_core::specs::Shells::opportunities))]
-fn link_totals(
-    rt: &impl Abort,
-    alloc: Global,
-    most: u32,
-    kind: &str,
-    args: &str,
-) -> Result<[usize; 3], OutOfMemory> {
-    let trace = trace_of(rt, alloc, b"1\n");
-    assert!(rt; trace.count_to(1000, false) <= MOST_OPPORTUNITIES);
-    let queue = queue_of(rt, kind, args);
-    let other = DirSpec::Link {
-        trace: trace.copy()?,
-        once: false,
-        queue,
-    };
-    let spec = DirSpec::Link {
-        trace,
-        once: false,
-        queue,
-    };
-    totals(rt, alloc, most, spec, other)
-}
-
-static QUEUES: [Queue; 3] = [
-    ("infinite", "", [1_504, 0, 8_496]),
-    ("droptail", "packets=20", [1_504, 8_477, 19]),
-    ("drophead", "bytes=20000", [1_504, 8_477, 19]),
+// Links with an opportunity each millisecond.
+static LINKS: [(Kind, [usize; 3]); 3] = [
+    (Kind::Link(b"1\n", "infinite", ""), [1_504, 0, 8_496]),
+    (
+        Kind::Link(b"1\n", "droptail", "packets=20"),
+        [1_504, 8_477, 19],
+    ),
+    (
+        Kind::Link(b"1\n", "drophead", "bytes=20000"),
+        [1_504, 8_477, 19],
+    ),
 ];
-
-fn go_through_links(rt: &impl Abort, alloc: Global, most: u32) {
-    for &(kind, args, counts) in &QUEUES {
-        let came = link_totals(rt, alloc, most, kind, args).expect(rt, "memory");
-        assert!(rt; came == counts, "at {kind} {args}");
-    }
-}
 
 #[test]
 fn ten_thousand_packets_go_through_a_link(rt: HostRuntime) {
-    go_through_links(&rt, rt.alloc(), MOST_TAKES);
-    go_through_links(&rt, rt.alloc(), 0);
+    go_through(&rt, rt.alloc(), MOST_TAKES, &LINKS);
+    go_through(&rt, rt.alloc(), 0, &LINKS);
 }

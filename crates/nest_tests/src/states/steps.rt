@@ -1,15 +1,15 @@
 // States that go through tables of steps.
-ghost use Rattle.std.specs.Prelude.{◌≡◌, ◌≤◌, length};
-ghost use Rattle.shell_core.specs.Shells.{IsInRange, opportunities};
+ghost use Rattle.std.specs.Prelude.{◌≡◌, ◌≤◌};
 
-use super::{feed, is_open, is_over, take_one};
-use crate::inputs::{queue_of, rate_of, trace_of};
+use super::{feed, is_open, is_over, state_of, take_one};
+use crate::directions::Kind;
 use crate::packets::timed;
 use packet_record::{FlowEnd, Item};
-use shell_state::{DirSpec, ShellState, Taken};
+use shell_state::{ShellState, Taken};
 use std::alloc::Global;
+use std::process::Abort;
 use text_base::OutOfMemory;
-use text_base::limits::MOST_OPPORTUNITIES;
+use text_base::limits::HOUR;
 
 // An item: a packet's moment and number, or a mark's moment.
 #[derive(Clone, Copy)]
@@ -76,8 +76,11 @@ fn play(
     Ok(true)
 }
 
-// A state's steps, and what is left of it after them.
+// A state's kind, its horizon and how much a take burns at most, its steps, and what is left of it after them.
 struct Case {
+    kind: Kind,
+    horizon: u64,
+    most: u32,
     steps: &'static [Step],
     // How many packets were fed, taken and lost.
     counts: [usize; 3],
@@ -89,15 +92,19 @@ struct Case {
     lines: usize,
 }
 
-// How many lines the log of a state has. None: the end wasn't taken.
-fn log_lines(state: &ShellState) -> Result<Option<usize>, OutOfMemory> {
-    if !is_over(state.taken().end()) {
-        return Ok(None);
+// How many lines the log of a state has.
+fn log_lines(rt: &impl Abort, state: &ShellState) -> usize
+    requires { state.now.taken.end ≡ FlowEnd.Ended }
+{
+    match state.log().expect(rt, "memory") {
+        Some(log) => log.into_log().expect(rt, "memory").entries().len(),
+        None => 0,
     }
-    match state.log()? {
-        Some(log) => Ok(Some(log.into_log()?.entries().len())),
-        None => Ok(Some(0)),
-    }
+}
+
+// Whether the end was taken, and the log has so many lines.
+fn has_ended(rt: &impl Abort, state: &ShellState, lines: usize) -> bool {
+    is_over(state.taken().end()) && log_lines(rt, state) == lines
 }
 
 fn counts(state: &ShellState) -> [usize; 3] {
@@ -108,37 +115,39 @@ fn counts(state: &ShellState) -> [usize; 3] {
     ]
 }
 
-fn is_left(state: &ShellState, case: &Case) -> Result<bool, OutOfMemory> {
-    let inside = state.inside()?;
-    let lines = log_lines(state)?;
-    Ok(
-        counts(state) == case.counts
-            && inside.as_slice() == case.inside
-            && state.taken().bound() == case.bound
-            && lines == Some(case.lines),
-    )
+// Whether these stay inside a state.
+fn are_inside(rt: &impl Abort, state: &ShellState, inside: &[u32]) -> bool {
+    state.inside().expect(rt, "memory").as_slice() == inside
+}
+
+// Whether a state has this much left, and isn't broken.
+fn is_left(rt: &impl Abort, state: &ShellState, case: &Case) -> bool {
+    counts(state) == case.counts
+        && state.taken().bound() == case.bound
+        && !state.is_broken()
+        && are_inside(rt, state, case.inside)
+        && has_ended(rt, state, case.lines)
 }
 
 // Whether a state goes through its steps, and that much is left.
-fn is_as_said(
-    alloc: Global,
-    spec: DirSpec,
-    horizon: u64,
-    most: u32,
-    case: &Case,
-) -> Result<bool, OutOfMemory>
-    requires range { IsInRange spec }
-    requires horizon { horizon ≤ 3600000 }
-    requires few { length (opportunities spec horizon) ≤ 16000000 }
-    requires most { 1 ≤ most }
+fn goes_through(rt: &impl Abort, state: &mut ShellState, case: &Case) -> bool
+    requires { state.old.horizon ≡ case.now.horizon }
 {
-    let mut state = ShellState::new(alloc, spec, horizon)?;
-    let has_played = play(&mut state, horizon, most, case.steps)?;
-    let as_said = is_left(&state, case)?;
-    Ok(has_played && as_said && !state.is_broken())
+    assert!(rt; 1 <= case.most);
+    let played = play(state, case.horizon, case.most, case.steps);
+    played.expect(rt, "memory") && is_left(rt, state, case)
+}
+
+// A state of the case's kind does and leaves what is said.
+fn is_as_said(rt: &impl Abort, alloc: Global, case: &Case) {
+    assert!(rt; case.horizon <= HOUR);
+    assert!(rt; goes_through(rt, &mut state_of(rt, alloc, case.kind, case.horizon), case));
 }
 
 static PASSED: Case = Case {
+    kind: Kind::Pass,
+    horizon: 100,
+    most: 1,
     steps: &[
         Step::Wait(0),
         Step::Feed(What::Packet(5, 1)),
@@ -156,13 +165,14 @@ static PASSED: Case = Case {
 };
 
 #[test]
-#[tactic(auto, unfolding(shell_core::specs::Shells::opportunities))]
 fn a_direction_that_passes(rt: HostRuntime) {
-    let is_said = is_as_said(rt.alloc(), DirSpec::Pass, 100, 1, &PASSED);
-    assert!(rt; is_said.expect(&rt, "memory"));
+    is_as_said(&rt, rt.alloc(), &PASSED);
 }
 
 static DELAYED: Case = Case {
+    kind: Kind::Delay(20),
+    horizon: 100,
+    most: 4,
     steps: &[
         Step::Give(What::Mark(20)),
         Step::Feed(What::Packet(80, 1)),
@@ -180,13 +190,15 @@ static DELAYED: Case = Case {
 };
 
 #[test]
-#[tactic(auto, unfolding(shell_core::specs::Shells::opportunities))]
 fn a_delay(rt: HostRuntime) {
-    let is_said = is_as_said(rt.alloc(), DirSpec::Delay { ms: 20 }, 100, 4, &DELAYED);
-    assert!(rt; is_said.expect(&rt, "memory"));
+    is_as_said(&rt, rt.alloc(), &DELAYED);
 }
 
+// The words of seed 0 and stream 0 begin with 0.679 and 0.563 of all 32-bit words.
 static LOST: Case = Case {
+    kind: Kind::Loss("0.6", 0, 0),
+    horizon: 9,
+    most: 4,
     steps: &[
         Step::Feed(What::Packet(4, 1)),
         Step::Give(What::Packet(4, 1)),
@@ -204,20 +216,15 @@ static LOST: Case = Case {
     lines: 0,
 };
 
-// The words of seed 0 and stream 0 begin with 0.679 and 0.563 of all 32-bit words.
 #[test]
-#[tactic(auto, unfolding(shell_core::specs::Shells::opportunities))]
 fn a_loss(rt: HostRuntime) {
-    let spec = DirSpec::Loss {
-        rate: rate_of(&rt, "0.6"),
-        seed: 0,
-        stream: 0,
-    };
-    let is_said = is_as_said(rt.alloc(), spec, 9, 4, &LOST);
-    assert!(rt; is_said.expect(&rt, "memory"));
+    is_as_said(&rt, rt.alloc(), &LOST);
 }
 
 static LINKED: Case = Case {
+    kind: Kind::Link(b"5\n5\n9\n", "infinite", ""),
+    horizon: 20,
+    most: 1,
     steps: &[
         Step::Give(What::Mark(5)),
         Step::Wait(0),
@@ -239,17 +246,8 @@ static LINKED: Case = Case {
 };
 
 #[test]
-#[tactic(auto, unfolding(shell_core::specs::Shells::opportunities))]
 fn a_link(rt: HostRuntime) {
-    let trace = trace_of(&rt, rt.alloc(), b"5\n5\n9\n");
-    assert!(rt; trace.count_to(20, false) <= MOST_OPPORTUNITIES);
-    let spec = DirSpec::Link {
-        trace,
-        once: false,
-        queue: queue_of(&rt, "infinite", ""),
-    };
-    let is_said = is_as_said(rt.alloc(), spec, 20, 1, &LINKED);
-    assert!(rt; is_said.expect(&rt, "memory"));
+    is_as_said(&rt, rt.alloc(), &LINKED);
 }
 
 static BEFORE_BREAKING: [Step; 3] = [
@@ -259,22 +257,28 @@ static BEFORE_BREAKING: [Step; 3] = [
 ];
 
 // Whether a state that is broken off gives that, and no more.
-fn breaks_off(state: &mut ShellState) -> Result<bool, OutOfMemory> {
+fn breaks_off(rt: &impl Abort, state: &mut ShellState) -> bool {
     state.break_off();
-    let is_broken = state.is_broken() && is_open(state.taken().end());
-    let gives_that = gives(state, 4, Taken::Item(Item::Broken))?;
-    let is_cut = state.taken().end() == FlowEnd::Broken;
-    Ok(is_broken && gives_that && is_cut && state.taken().packets().len() == 1)
+    state.is_broken()
+        && is_open(state.taken().end())
+        && gives(state, 4, Taken::Item(Item::Broken)).expect(rt, "memory")
+        && state.taken().end() == FlowEnd::Broken
+        && state.taken().packets().len() == 1
 }
 
-#[tactic(auto, unfolding(shell_core::specs::Shells::opportunities))]
-fn break_one(alloc: Global) -> Result<bool, OutOfMemory> {
-    let mut state = ShellState::new(alloc, DirSpec::Pass, 9)?;
-    let has_played = play(&mut state, 9, 4, &BEFORE_BREAKING)?;
-    Ok(breaks_off(&mut state)? && has_played)
+// Whether a state goes through these steps, and is then broken off.
+fn is_broken_after(rt: &impl Abort, state: &mut ShellState, steps: &[Step]) -> bool
+    requires { state.old.horizon ≡ 9 }
+{
+    play(state, 9, 4, steps).expect(rt, "memory") && breaks_off(rt, state)
+}
+
+// A state that lets all pass goes through these steps, and is then broken off.
+fn break_after(rt: &impl Abort, alloc: Global, steps: &[Step]) {
+    assert!(rt; is_broken_after(rt, &mut state_of(rt, alloc, Kind::Pass, 9), steps));
 }
 
 #[test]
 fn a_broken_state(rt: HostRuntime) {
-    assert!(rt; break_one(rt.alloc()).expect(&rt, "memory"));
+    break_after(&rt, rt.alloc(), &BEFORE_BREAKING);
 }

@@ -1,83 +1,91 @@
 // Runs by orders, against the fates that the composition of the shells gives.
-use crate::inputs::schedule_of;
-use crate::nests::{nest_of, stepped_run};
+use crate::nests::{Coming, Prepared, Trip, prepare, stepped_run};
+use crate::runs::{Case, is_as_said};
 use nest_core::{World, Worlds, run_worlds};
-use nest_spec::{Fate, FateRow, print_fates};
-use packet_record::{Schedule, make_load};
-use std::alloc::{AllocError, Global};
+use nest_spec::{Fate, FateRow, RunResult};
+use std::alloc::Global;
 use std::process::Abort;
-use text_base::OutOfMemory;
 
-// A nest, the trace of its links, its horizon, a schedule, and its fates.
-struct Case {
-    nest: &'static str,
-    trace: &'static [u8],
-    horizon: u64,
-    schedule: &'static [u8],
-    fates: &'static [u8],
-}
+const DELAY_AND_LINK: Trip = Trip {
+    nest: "mm-delay 10 mm-link t t",
+    trace: b"4\n",
+    horizon: 100,
+    coming: Coming::Rows(b"0 up 100\n0 down 100\n"),
+};
 
 static CASES: [Case; 4] = [
     Case {
-        nest: "mm-delay 10 mm-link t t",
-        trace: b"4\n",
-        horizon: 100,
-        schedule: b"0 up 100\n0 down 100\n",
+        trip: DELAY_AND_LINK,
         fates: b"1 up departed 14\n2 down departed 12\n",
+        logs: &[],
     },
     Case {
-        nest: "mm-link t t --uplink-queue=drophead --uplink-queue-args=packets=2",
-        trace: b"1\n",
-        horizon: 3,
-        schedule: b"0 up 1000\n0 up 1000\n1 up 800\n1 up 800\n1 up 700\n",
+        trip: Trip {
+            nest: "mm-link t t --uplink-queue=drophead --uplink-queue-args=packets=2",
+            trace: b"1\n",
+            horizon: 3,
+            coming: Coming::Rows(b"0 up 1000\n0 up 1000\n1 up 800\n1 up 800\n1 up 700\n"),
+        },
         fates: b"1 up departed 1\n2 up departed 2\n3 up dropped 1 1\n4 up departed 2\n5 up departed 3\n",
+        logs: &[],
     },
     Case {
-        nest: "mm-loss uplink 1 mm-delay 3 mm-delay 6",
-        trace: b"1\n",
-        horizon: 9,
-        schedule: b"0 up 60\n0 down 60\n4 down 60\n10 up 60\n",
+        trip: Trip {
+            nest: "mm-loss uplink 1 mm-delay 3 mm-delay 6",
+            trace: b"1\n",
+            horizon: 9,
+            coming: Coming::Rows(b"0 up 60\n0 down 60\n4 down 60\n10 up 60\n"),
+        },
         fates: b"1 up dropped 1 9\n2 down departed 9\n3 down inside 3\n4 up unsent\n",
+        logs: &[],
     },
     Case {
-        nest: "mm-delay 1 mm-delay 2 mm-delay 3 mm-delay 4 mm-delay 5 mm-delay 6 mm-delay 7 mm-delay 8",
-        trace: b"1\n",
-        horizon: 40,
-        schedule: b"1 up 100\n2 down 100\n5 up 100\n",
+        trip: Trip {
+            nest: "mm-delay 1 mm-delay 2 mm-delay 3 mm-delay 4 mm-delay 5 mm-delay 6 mm-delay 7 mm-delay 8",
+            trace: b"1\n",
+            horizon: 40,
+            coming: Coming::Rows(b"1 up 100\n2 down 100\n5 up 100\n"),
+        },
         fates: b"1 up departed 37\n2 down departed 38\n3 up inside 1\n",
+        logs: &[],
     },
 ];
 
-// Whether a run by an order has the fates that are said.
-fn has_fates(rt: &impl Abort, alloc: Global, case: &Case, order: &[u8]) -> bool {
-    let nest = nest_of(rt, alloc, case.nest, case.trace, case.horizon);
-    let schedule = schedule_of(rt, alloc, case.schedule);
-    let run = stepped_run(rt, alloc, &nest, &schedule, order);
-    let text = print_fates(alloc, run.fates()).expect(rt, "memory");
-    text.as_slice() == case.fates
+// A run by an order.
+fn run_by(rt: &impl Abort, alloc: Global, trip: &Trip, order: &[u8]) -> RunResult {
+    stepped_run(rt, alloc, &prepare(rt, alloc, trip), order)
 }
 
+// A run by an order gives what is said.
+fn gives(rt: &impl Abort, alloc: Global, case: &Case, order: &[u8]) {
+    assert!(rt;
+        is_as_said(rt, alloc, case, &run_by(rt, alloc, &case.trip, order)),
+        "of {}",
+        case.trip.nest
+    );
+}
+
+// Each case by an order gives what is said.
 fn gives_the_composition(rt: &impl Abort, alloc: Global, order: &[u8]) {
     for case in &CASES {
-        assert!(rt; has_fates(rt, alloc, case, order), "of {}", case.nest);
+        gives(rt, alloc, case, order);
     }
 }
 
 // All bytes from 0 to 255.
-fn all_bytes(alloc: Global) -> Result<Vec<u8>, AllocError> {
-    let mut bytes = Vec::with_capacity(alloc, 256)?;
+fn all_bytes() -> [u8; 256] {
+    let mut bytes = [0; 256];
     for byte in 0..=255u8 {
-        bytes.push(byte)?;
+        bytes[usize::from(byte)] = byte;
     }
-    Ok(bytes)
+    bytes
 }
 
 #[test]
 fn every_order_gives_the_composition(rt: HostRuntime) {
-    let all = all_bytes(rt.alloc()).expect(&rt, "memory");
     gives_the_composition(&rt, rt.alloc(), &[]);
     gives_the_composition(&rt, rt.alloc(), &[0; 3]);
-    gives_the_composition(&rt, rt.alloc(), all.as_slice());
+    gives_the_composition(&rt, rt.alloc(), &all_bytes());
 }
 
 // The moment of the first packet that was collected, or 0 where there is none.
@@ -96,37 +104,54 @@ fn are_finished(worlds: &Worlds<'_>, numbers: u32, up: u64, down: u64) -> bool {
         && first_moment(worlds.down()) == down
 }
 
-fn end_by_an_order(rt: &impl Abort, alloc: Global) -> Result<bool, OutOfMemory> {
-    let nest = nest_of(rt, alloc, "mm-delay 10 mm-link t t", b"4\n", 100);
-    let schedule = schedule_of(rt, alloc, b"0 up 100\n0 down 100\n");
-    let worlds = run_worlds(alloc, &nest, &schedule, &[7, 250])?;
-    Ok(are_finished(&worlds, 20, 14, 12))
+// The worlds of a run by an order.
+fn worlds_of<'a>(
+    rt: &impl Abort,
+    alloc: Global,
+    prepared: &'a Prepared,
+    order: &[u8],
+) -> Worlds<'a> {
+    run_worlds(alloc, &prepared.nest, &prepared.schedule, order).expect(rt, "memory")
+}
+
+// By this order two packets go through a delay and a link.
+fn go_by(rt: &impl Abort, alloc: Global, prepared: &Prepared, order: &[u8]) {
+    assert!(rt; are_finished(&worlds_of(rt, alloc, prepared, order), 20, 14, 12));
 }
 
 #[test]
 fn the_worlds_of_an_order_are_finished(rt: HostRuntime) {
-    assert!(rt; end_by_an_order(&rt, rt.alloc()).expect(&rt, "memory"));
+    go_by(
+        &rt,
+        rt.alloc(),
+        &prepare(&rt, rt.alloc(), &DELAY_AND_LINK),
+        &[7, 250],
+    );
 }
 
+// Whether these are ten thousand fates, and all packets depart.
 fn all_depart(fates: &[FateRow]) -> bool {
     for row in fates {
         if !matches!(row.fate, Fate::Departed { .. }) {
             return false;
         }
     }
-    true
+    fates.len() == 10_000
 }
 
-fn load(rt: &impl Abort, alloc: Global) -> Schedule {
-    make_load(alloc, 1, 10_000).expect(rt, "memory")
+static LONG: Trip = Trip {
+    nest: "mm-delay 20",
+    trace: b"1\n",
+    horizon: 3_600_000,
+    coming: Coming::Load(1, 10_000),
+};
+
+// All packets of a long trip depart.
+fn depart(rt: &impl Abort, alloc: Global, trip: &Trip, order: &[u8]) {
+    assert!(rt; all_depart(run_by(rt, alloc, trip, order).fates()));
 }
 
 #[test]
 fn ten_thousand_packets_depart(rt: HostRuntime) {
-    let alloc = rt.alloc();
-    let nest = nest_of(&rt, alloc, "mm-delay 20", b"1\n", 3_600_000);
-    let schedule = load(&rt, alloc);
-    let run = stepped_run(&rt, alloc, &nest, &schedule, &[7]);
-    assert!(rt; run.fates().len() == 10_000);
-    assert!(rt; all_depart(run.fates()));
+    depart(&rt, rt.alloc(), &LONG, &[7]);
 }

@@ -1,36 +1,34 @@
 // Worlds that are stepped by drawn numbers, against what leaves the last shell when all packets pass one shell after
 // the other.
-ghost use Rattle.std.specs.Prelude.{◌≤◌};
-
 use super::step;
-use crate::nests::nest_of;
+use crate::nests::{Coming, Prepared, Trip, prepare};
+use crate::packets::{are, are_first};
 use nest_core::World;
-use nest_spec::Nest;
-use packet_record::{Direction, Draws, Schedule, Timed, make_load};
+use packet_record::{Direction, Draws};
 use std::alloc::Global;
 use std::process::Abort;
-use text_base::OutOfMemory;
 
-// A nest, the trace of its links, its horizon, the number of a load of 16 packets, and the ids and moments of what
-// leaves the last shell in each direction.
+// A nest with a load of 16 packets, and the ids and moments of what leaves the last shell in each direction.
 struct Walk {
-    nest: &'static str,
-    trace: &'static [u8],
-    horizon: u64,
-    load: u64,
+    trip: Trip,
     up: &'static [(u32, u64)],
     down: &'static [(u32, u64)],
 }
+
+const THREE_SHELLS: &str =
+    "mm-delay 7 mm-loss downlink .3 mm-link t t --downlink-queue=droptail --downlink-queue-args=packets=1";
 
 const EIGHT_SHELLS: &str =
     "mm-delay 1 mm-link t t mm-loss uplink .2 mm-delay 0 mm-link t t mm-delay 3 mm-loss downlink .25 mm-delay 2";
 
 static WALKS: [Walk; 3] = [
     Walk {
-        nest: "mm-link t t --uplink-queue=drophead --uplink-queue-args=packets=2",
-        trace: b"4\n11\n",
-        horizon: 40,
-        load: 3,
+        trip: Trip {
+            nest: "mm-link t t --uplink-queue=drophead --uplink-queue-args=packets=2",
+            trace: b"4\n11\n",
+            horizon: 40,
+            coming: Coming::Load(3, 16),
+        },
         up: &[(4, 11), (5, 11), (6, 15), (13, 22), (14, 22), (15, 26)],
         down: &[
             (1, 4),
@@ -44,10 +42,12 @@ static WALKS: [Walk; 3] = [
         ],
     },
     Walk {
-        nest: "mm-delay 7 mm-loss downlink .3 mm-link t t --downlink-queue=droptail --downlink-queue-args=packets=1",
-        trace: b"5\n5\n9\n",
-        horizon: 60,
-        load: 4,
+        trip: Trip {
+            nest: THREE_SHELLS,
+            trace: b"5\n5\n9\n",
+            horizon: 60,
+            coming: Coming::Load(4, 16),
+        },
         up: &[
             (1, 12),
             (2, 16),
@@ -64,10 +64,12 @@ static WALKS: [Walk; 3] = [
         down: &[(7, 23), (16, 32)],
     },
     Walk {
-        nest: EIGHT_SHELLS,
-        trace: b"# mm-trace 2\n3 900\n4 2000\n",
-        horizon: 50,
-        load: 5,
+        trip: Trip {
+            nest: EIGHT_SHELLS,
+            trace: b"# mm-trace 2\n3 900\n4 2000\n",
+            horizon: 50,
+            coming: Coming::Load(5, 16),
+        },
         up: &[
             (3, 13),
             (4, 13),
@@ -81,29 +83,13 @@ static WALKS: [Walk; 3] = [
     },
 ];
 
-// Whether these packets are the first of those.
-fn are_first(packets: &[Timed], departed: &[(u32, u64)]) -> bool {
-    for (packet, (id, moment)) in packets.iter().zip(departed) {
-        let is_same = packet.packet.id == *id && packet.moment == *moment;
-        if !is_same {
-            return false;
-        }
-    }
-    packets.len() <= departed.len()
-}
-
-// What was collected are the first of these.
-fn is_front(world: &World<'_>, departed: &[(u32, u64)]) -> bool {
-    are_first(world.collected().packets(), departed)
-}
-
 // Takes some hundred steps of drawn actors, after each of which what was collected are the first of these.
 fn wander(rt: &impl Abort, world: &mut World<'_>, number: u64, departed: &[(u32, u64)]) {
     let mut draws = Draws::new(number);
     for _ in 0..400 {
         let actor = draws.draw() % world.actors();
         step(rt, world, actor);
-        assert!(rt; is_front(world, departed));
+        assert!(rt; are_first(world.collected().packets(), departed));
     }
 }
 
@@ -114,58 +100,56 @@ fn round(rt: &impl Abort, world: &mut World<'_>) {
     }
 }
 
-// Takes rounds of all actors. These are many enough.
-fn finish(rt: &impl Abort, world: &mut World<'_>) {
+// Takes rounds of all actors, which are many enough. Then these are collected.
+fn finish(rt: &impl Abort, world: &mut World<'_>, departed: &[(u32, u64)]) {
     for _ in 0..100 {
         round(rt, world);
     }
-    assert!(rt; world.finished());
-    assert!(rt; world.quiet());
+    assert!(rt; world.finished() && world.quiet() && are(world.collected().packets(), departed));
 }
 
-// Whatever the steps, a direction whose channels hold so many items collects these.
+// The world of a direction, each of whose channels holds so many items.
+fn world_of<'a>(
+    rt: &impl Abort,
+    alloc: Global,
+    prepared: &'a Prepared,
+    direction: Direction,
+    capacity: u32,
+) -> World<'a> {
+    assert!(rt; 1 <= capacity && capacity <= 64);
+    World::new(
+        alloc,
+        &prepared.nest,
+        direction,
+        &prepared.schedule,
+        capacity,
+    )
+    .expect(rt, "memory")
+}
+
+// How many items the channels hold.
+static CAPACITIES: [u32; 3] = [1, 2, 64];
+
+// Whatever the steps and how much its channels hold, a direction collects these.
 fn collects(
     rt: &impl Abort,
     alloc: Global,
-    nest: &Nest,
+    prepared: &Prepared,
     direction: Direction,
-    schedule: &Schedule,
-    capacity: u32,
-    departed: &[(u32, u64)],
-) -> Result<(), OutOfMemory>
-    requires some { 1 ≤ capacity }
-    requires most { capacity ≤ 64 }
-{
-    let mut world = World::new(alloc, nest, direction, schedule, capacity)?;
-    wander(rt, &mut world, u64::from(capacity), departed);
-    finish(rt, &mut world);
-    assert!(rt; world.collected().packets().len() == departed.len());
-    assert!(rt; is_front(&world, departed));
-    Ok(())
-}
-
-fn collects_by_each(
-    rt: &impl Abort,
-    alloc: Global,
-    nest: &Nest,
-    direction: Direction,
-    schedule: &Schedule,
     departed: &[(u32, u64)],
 ) {
-    collects(rt, alloc, nest, direction, schedule, 1, departed).expect(rt, "memory");
-    collects(rt, alloc, nest, direction, schedule, 2, departed).expect(rt, "memory");
-    collects(rt, alloc, nest, direction, schedule, 64, departed).expect(rt, "memory");
+    for capacity in &CAPACITIES {
+        let mut world = world_of(rt, alloc, prepared, direction, *capacity);
+        wander(rt, &mut world, u64::from(*capacity), departed);
+        finish(rt, &mut world, departed);
+    }
 }
 
-fn load(rt: &impl Abort, alloc: Global, number: u64) -> Schedule {
-    make_load(alloc, number, 16).expect(rt, "memory")
-}
-
+// Both directions of a walk collect what leaves the last shell.
 fn is_walked(rt: &impl Abort, alloc: Global, walk: &Walk) {
-    let nest = nest_of(rt, alloc, walk.nest, walk.trace, walk.horizon);
-    let schedule = load(rt, alloc, walk.load);
-    collects_by_each(rt, alloc, &nest, Direction::Up, &schedule, walk.up);
-    collects_by_each(rt, alloc, &nest, Direction::Down, &schedule, walk.down);
+    let prepared = prepare(rt, alloc, &walk.trip);
+    collects(rt, alloc, &prepared, Direction::Up, walk.up);
+    collects(rt, alloc, &prepared, Direction::Down, walk.down);
 }
 
 #[test]

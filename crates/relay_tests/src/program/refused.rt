@@ -1,10 +1,9 @@
 // Words that have no job, files and limits that are refused, and calls that fail.
-use super::{Left, TRACE, leaves, status_of, wire_of};
-use crate::clocks::{by_one_turn, by_three_turns};
+use super::{Job, Left, TRACE, leaves, wire_of};
+use crate::clocks::Times;
 use live_relay::MemWire;
 use std::alloc::Global;
-use std::process::Abort;
-use test_outside::{ABSENT, TestOutside, words_of};
+use test_outside::ABSENT;
 use text_base::OutOfMemory;
 
 // Words after which nothing is done, and the line that says why.
@@ -115,87 +114,119 @@ fn is_alone(wire: &MemWire) -> bool {
 }
 
 // Whether the words are refused so, and the wire is left alone.
-fn is_refused(
-    rt: &impl Abort,
-    alloc: Global,
-    words: &str,
-    status: u8,
-    line: &str,
-) -> Result<bool, OutOfMemory> {
-    let words = words_of(alloc, words)?;
-    let mut outside = TestOutside::new(alloc, &FILES, &[], &[])?;
+fn is_refused(alloc: Global, words: &str, status: u8, line: &str) -> Result<bool, OutOfMemory> {
+    let job = Job {
+        words,
+        times: &Times::ThreeTurns,
+        files: &FILES,
+        disk_fails: &[],
+        out_fails: &[],
+    };
+    let left = Left {
+        status,
+        printed: line,
+        files: &[("f", ABSENT), TRACE],
+    };
     let mut wire = wire_of(alloc, &[100], &[])?;
-    let mut clock = by_three_turns(rt, alloc);
-    let answer = status_of(alloc, &words, &mut outside, &mut clock, &mut wire);
-    let is_left = outside.is_left(line, &[("f", ABSENT), TRACE]);
-    Ok(answer == status && is_left && is_alone(&wire))
+    Ok(leaves(alloc, &job, &mut wire, &left)? && is_alone(&wire))
 }
 
 #[test]
 fn what_is_refused_is_explained(rt: HostRuntime) {
     for &(words, status, line) in &ROWS {
-        let is_said = is_refused(&rt, rt.alloc(), words, status, line);
+        let is_said = is_refused(rt.alloc(), words, status, line);
         assert!(rt; is_said.expect(&rt, "memory"), "at {words}");
     }
 }
 
-// Whether a relay through a link, of which these calls of the disk and of `out` fail, leaves this.
-fn leaves_failing(
-    rt: &impl Abort,
-    alloc: Global,
-    disk_fails: u64,
-    out_fails: u64,
-    left: &Left<'_>,
-) -> Result<bool, OutOfMemory> {
-    let words = "--until 10 --listen 7 --to 9 --turns 9 --out f -- mm-link t t --uplink-log=u";
-    let words = words_of(alloc, words)?;
-    let mut outside = TestOutside::new(alloc, &[TRACE], &[disk_fails], &[out_fails])?;
-    let mut wire = wire_of(alloc, &[100], &[])?;
-    let mut clock = by_one_turn(rt, alloc);
-    let status = status_of(alloc, &words, &mut outside, &mut clock, &mut wire);
-    Ok(status == left.status && outside.is_left(left.printed, left.files))
+// Which call of the disk and of `out` fails, and what is left then.
+struct Fault {
+    disk: u64,
+    out: u64,
+    left: Left<'static>,
 }
 
-const FATES: &str = "1 up departed 8\n";
-
-const LOG: &str = "# base timestamp: 0\n4 # 1504\n4 + 100\n8 # 1504\n8 - 100 4\n";
-
-// Which call of the disk and of `out` fails, the status, what is printed, and what `f` and `u` hold.
-static FAULTS: [(u64, u64, u8, &str, &str, &str); 3] = [
-    (1, 0, 6, "mm: read fault t\n", ABSENT, ABSENT),
-    (5, 0, 7, "mm: write fault u\n", ABSENT, ABSENT),
-    (0, 1, 7, "", FATES, LOG),
+static FAULTS: [Fault; 3] = [
+    Fault {
+        disk: 1,
+        out: 0,
+        left: Left {
+            status: 6,
+            printed: "mm: read fault t\n",
+            files: &[("f", ABSENT), ("u", ABSENT)],
+        },
+    },
+    Fault {
+        disk: 5,
+        out: 0,
+        left: Left {
+            status: 7,
+            printed: "mm: write fault u\n",
+            files: &[("f", ABSENT), ("u", ABSENT)],
+        },
+    },
+    Fault {
+        disk: 0,
+        out: 1,
+        left: Left {
+            status: 7,
+            printed: "",
+            files: &[
+                ("f", "1 up departed 8\n"),
+                (
+                    "u",
+                    "# base timestamp: 0\n4 # 1504\n4 + 100\n8 # 1504\n8 - 100 4\n",
+                ),
+            ],
+        },
+    },
 ];
+
+// Whether a relay through a link leaves what is said after a fault.
+fn leaves_failing(alloc: Global, fault: &Fault) -> Result<bool, OutOfMemory> {
+    let job = Job {
+        words: "--until 10 --listen 7 --to 9 --turns 9 --out f -- mm-link t t --uplink-log=u",
+        times: &Times::OneTurn,
+        files: &[TRACE],
+        disk_fails: &[fault.disk],
+        out_fails: &[fault.out],
+    };
+    let mut wire = wire_of(alloc, &[100], &[])?;
+    leaves(alloc, &job, &mut wire, &fault.left)
+}
 
 #[test]
 fn a_fault_of_the_disk_or_of_out_is_explained(rt: HostRuntime) {
-    for &(disk, out, status, printed, fates, log) in &FAULTS {
-        let left = Left {
-            status,
-            printed,
-            files: &[("f", fates), ("u", log)],
-        };
-        let is_left = leaves_failing(&rt, rt.alloc(), disk, out, &left);
-        assert!(rt; is_left.expect(&rt, "memory"), "at {disk} and {out}");
+    for fault in &FAULTS {
+        let is_left = leaves_failing(rt.alloc(), fault).expect(&rt, "memory");
+        assert!(rt; is_left, "at {} and {}", fault.disk, fault.out);
     }
 }
 
+const DELAY: Job<'static> = Job {
+    words: "--until 20 --listen 7 --to 9 --turns 10 --out f -- mm-delay 5",
+    times: &Times::ThreeTurns,
+    files: &[TRACE],
+    disk_fails: &[],
+    out_fails: &[],
+};
+
+const NET_FAULT: Left<'static> = Left {
+    status: 8,
+    printed: "mm: net fault\n",
+    files: &[("f", ABSENT)],
+};
+
 // A relay whose wire fails at this call, which opens it, receives, or sends.
-fn stops_at(rt: &impl Abort, alloc: Global, call: u64) -> Result<bool, OutOfMemory> {
-    let words = "--until 20 --listen 7 --to 9 --turns 10 --out f -- mm-delay 5";
-    let left = Left {
-        status: 8,
-        printed: "mm: net fault\n",
-        files: &[("f", ABSENT)],
-    };
+fn stops_at(alloc: Global, call: u64) -> Result<bool, OutOfMemory> {
     let mut wire = wire_of(alloc, &[100], &[call])?;
-    leaves(alloc, words, by_three_turns(rt, alloc), &mut wire, &left)
+    leaves(alloc, &DELAY, &mut wire, &NET_FAULT)
 }
 
 #[test]
 fn a_fault_of_the_wire_stops_it(rt: HostRuntime) {
     for call in 1..6u64 {
-        let is_left = stops_at(&rt, rt.alloc(), call).expect(&rt, "memory");
+        let is_left = stops_at(rt.alloc(), call).expect(&rt, "memory");
         assert!(rt; is_left, "at {call}");
     }
 }

@@ -1,13 +1,12 @@
 // Some thousand datagrams.
 ghost use Rattle.std.specs.Prelude.{◌≡◌, ◌≤◌};
 
-use super::{Answer, Done, relay_by, wire_of};
+use super::{Answer, Done, has_text, relay_by, text_of, wire_of};
 use crate::nests::nest_of;
 use live_relay::{Clock, MemWire, RelayEnd, RelayResult, Side};
 use nest_plain::run_plain;
-use nest_spec::{NamedLog, Nest, RunResult, print_fates};
+use nest_spec::Nest;
 use packet_record::{Schedule, read_schedule};
-use shell_log::print_log;
 use std::alloc::Global;
 use std::process::Abort;
 use text_base::{Bytes, OutOfMemory, print_lines};
@@ -62,38 +61,31 @@ fn done_with(rt: &impl Abort, alloc: Global, nest: &Nest, count: u32) -> Done
     Done { relayed, wire }
 }
 
-fn put_logs(alloc: Global, text: &mut Bytes, logs: &[NamedLog]) -> Result<(), OutOfMemory> {
-    for log in logs {
-        text.append(print_log(alloc, &log.log)?.as_slice())?;
-    }
-    Ok(())
-}
-
-// The text of a run: its fates and its logs.
-fn text_of(alloc: Global, run: &RunResult) -> Result<Bytes, OutOfMemory> {
-    let mut text = print_fates(alloc, run.fates())?;
-    put_logs(alloc, &mut text, run.logs())?;
-    Ok(text)
-}
-
 // The rows of a relay, as they are read.
 fn schedule_of(rt: &impl Abort, alloc: Global, relayed: &RelayResult) -> Schedule {
     let text = print_lines(alloc, b"", relayed.rows.as_slice()).expect(rt, "memory");
     read_schedule(alloc, text.as_slice()).expect(rt, "a schedule")
 }
 
-// The plain run of a relay's rows.
-fn plain_of(rt: &impl Abort, alloc: Global, nest: &Nest, relayed: &RelayResult) -> RunResult {
+// The text of the plain run of a relay's rows.
+fn plain_text(rt: &impl Abort, alloc: Global, nest: &Nest, relayed: &RelayResult) -> Bytes {
     let schedule = schedule_of(rt, alloc, relayed);
-    run_plain(alloc, nest, &schedule).expect(rt, "memory")
+    let plain = run_plain(alloc, nest, &schedule).expect(rt, "memory");
+    text_of(alloc, &plain).expect(rt, "memory")
 }
 
 // Whether a relay comes to what the plain run of its rows gives.
 fn is_as_plain(rt: &impl Abort, alloc: Global, nest: &Nest, relayed: &RelayResult) -> bool {
-    let plain = plain_of(rt, alloc, nest, relayed);
-    let said = text_of(alloc, &plain).expect(rt, "memory");
-    let text = text_of(alloc, &relayed.run).expect(rt, "memory");
-    text.as_slice() == said.as_slice()
+    let said = plain_text(rt, alloc, nest, relayed);
+    has_text(alloc, &relayed.run, said.as_slice()).expect(rt, "memory")
+}
+
+// Whether a relay took all its turns, so many datagrams passed it, and some were sent to each side.
+fn all_passed(done: &Done, count: usize) -> bool {
+    done.relayed.end == RelayEnd::Turns
+        && done.relayed.rows.as_slice().len() == count
+        && !done.wire.sent(Side::Server).is_empty()
+        && !done.wire.sent(Side::Client).is_empty()
 }
 
 // So many datagrams pass a nest, and it comes to what the plain run of their rows gives.
@@ -102,11 +94,8 @@ fn passes_as_plain(rt: &impl Abort, alloc: Global, nest: &str, count: u32)
 {
     let nest = nest_of(rt, alloc, nest, 100_000);
     let done = done_with(rt, alloc, &nest, count);
-    assert!(rt; done.relayed.end == RelayEnd::Turns);
-    assert!(rt; done.relayed.rows.as_slice().len() == count as usize);
+    assert!(rt; all_passed(&done, count as usize));
     assert!(rt; is_as_plain(rt, alloc, &nest, &done.relayed));
-    assert!(rt; !done.wire.sent(Side::Server).is_empty());
-    assert!(rt; !done.wire.sent(Side::Client).is_empty());
 }
 
 const SHELLS: &str = "mm-delay 20 mm-loss uplink 0.1 mm-link t t --uplink-log=u --downlink-log=d";

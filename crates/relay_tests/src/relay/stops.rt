@@ -1,10 +1,9 @@
 // A wire that fails.
 use super::{Answer, relay_by, sizes_are, wire_of};
-use crate::clocks::by_four_turns;
+use crate::clocks::{Times, clock_of};
 use crate::nests::nest_of;
-use live_relay::{MemWire, RelayError, RelayResult, Side, Wire};
+use live_relay::{MemWire, RelayError, Side, Wire};
 use mm_base::EndError;
-use nest_spec::Nest;
 use std::alloc::Global;
 use std::process::Abort;
 
@@ -14,63 +13,68 @@ static THREE: [Answer; 3] = [
     Some((Side::Client, 30)),
 ];
 
-// A relay of three datagrams over a wire whose call of this number fails, and the wire. It calls seven times.
-fn relayed(
-    rt: &impl Abort,
-    alloc: Global,
-    nest: &Nest,
+// Which call fails, how the relay stops, and the sizes of what is sent to the server and to the client.
+struct Stop {
     call: u64,
-) -> (Result<RelayResult, RelayError>, MemWire) {
-    let mut wire = wire_of(alloc, &THREE, &[call]).expect(rt, "memory");
-    let mut clock = by_four_turns(rt, alloc);
-    let result = relay_by(alloc, nest, 10, &mut clock, &mut wire);
-    (result, wire)
+    error: Option<RelayError>,
+    to_server: &'static [usize],
+    to_client: &'static [usize],
 }
 
-// What was sent by a relay whose call of this number failed: it stopped there.
-fn stops(
-    rt: &impl Abort,
-    alloc: Global,
-    nest: &Nest,
-    call: u64,
-    to_server: &[usize],
-    to_client: &[usize],
-) {
-    let (result, wire) = relayed(rt, alloc, nest, call);
-    assert!(rt; matches!(result, Err(RelayError::WireFault)));
-    assert!(rt; sizes_are(&wire, Side::Server, to_server));
-    assert!(rt; sizes_are(&wire, Side::Client, to_client));
+// How a relay over this wire stops. It calls seven times.
+fn error_of(rt: &impl Abort, alloc: Global, wire: &mut MemWire) -> Option<RelayError> {
+    let nest = nest_of(rt, alloc, "mm-delay 2 mm-loss uplink 0", 20);
+    let mut clock = clock_of(alloc, &Times::FourTurns).expect(rt, "memory");
+    relay_by(alloc, &nest, 10, &mut clock, wire).err()
 }
 
-const DELAY_AND_LOSS: &str = "mm-delay 2 mm-loss uplink 0";
+// A relay of three datagrams stops so.
+fn stops(rt: &impl Abort, alloc: Global, stop: &Stop) {
+    let mut wire = wire_of(alloc, &THREE, &[stop.call]).expect(rt, "memory");
+    assert!(rt; error_of(rt, alloc, &mut wire) == stop.error);
+    assert!(rt; sizes_are(&wire, stop.to_server, stop.to_client));
+}
 
-// Which call fails, and the sizes of what is sent to the server and to the client. The relay receives at 1, 3 (and
-// sends), 6 (and sends) and 7, and sends the last at 21.
-static CALLS: [(u64, &[usize], &[usize]); 7] = [
-    (1, &[], &[]),
-    (2, &[], &[]),
-    (3, &[], &[]),
-    (4, &[10], &[]),
-    (5, &[10], &[]),
-    (6, &[10], &[20]),
-    (7, &[10], &[20]),
+// A relay whose call of this number fails.
+macro_rules! stopped {
+    ($call:expr, $to_server:expr, $to_client:expr) => {
+        Stop {
+            call: $call,
+            error: Some(RelayError::WireFault),
+            to_server: $to_server,
+            to_client: $to_client,
+        }
+    };
+}
+
+// The relay receives at 1, 3 (and sends), 6 (and sends) and 7, and sends the last at 21.
+static STOPS: [Stop; 7] = [
+    stopped!(1, &[], &[]),
+    stopped!(2, &[], &[]),
+    stopped!(3, &[], &[]),
+    stopped!(4, &[10], &[]),
+    stopped!(5, &[10], &[]),
+    stopped!(6, &[10], &[20]),
+    stopped!(7, &[10], &[20]),
 ];
 
 #[test]
 fn a_relay_stops_at_a_call_that_fails(rt: HostRuntime) {
-    let nest = nest_of(&rt, rt.alloc(), DELAY_AND_LOSS, 20);
-    for &(call, to_server, to_client) in &CALLS {
-        stops(&rt, rt.alloc(), &nest, call, to_server, to_client);
+    for stop in &STOPS {
+        stops(&rt, rt.alloc(), stop);
     }
 }
 
+static PAST: Stop = Stop {
+    call: 8,
+    error: None,
+    to_server: &[10, 30],
+    to_client: &[20],
+};
+
 #[test]
 fn a_call_past_its_end_stops_no_relay(rt: HostRuntime) {
-    let nest = nest_of(&rt, rt.alloc(), DELAY_AND_LOSS, 20);
-    let (result, wire) = relayed(&rt, rt.alloc(), &nest, 8);
-    assert!(rt; result.is_ok());
-    assert!(rt; sizes_are(&wire, Side::Server, &[10, 30]));
-    assert!(rt; sizes_are(&wire, Side::Client, &[20]));
+    stops(&rt, rt.alloc(), &PAST);
 }
 
 // Opens a wire, without what its contract says.
@@ -78,11 +82,16 @@ fn open(wire: &mut MemWire) -> Result<(), EndError> {
     wire.open(7, 9)
 }
 
+// Whether a wire has no ports after a call of `open` that fails, and has them after the next one.
+fn opens_again(wire: &mut MemWire) -> bool {
+    open(wire) == Err(EndError::Failed)
+        && wire.opened().is_none()
+        && open(wire).is_ok()
+        && wire.opened() == Some((7, 9))
+}
+
 #[test]
 fn a_wire_that_is_not_opened_has_no_ports(rt: HostRuntime) {
     let mut wire = wire_of(rt.alloc(), &[], &[1]).expect(&rt, "memory");
-    assert!(rt; matches!(open(&mut wire), Err(EndError::Failed)));
-    assert!(rt; wire.opened().is_none());
-    assert!(rt; open(&mut wire).is_ok());
-    assert!(rt; wire.opened() == Some((7, 9)));
+    assert!(rt; opens_again(&mut wire));
 }

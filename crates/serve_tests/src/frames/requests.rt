@@ -1,57 +1,46 @@
 // Requests that come in any pieces, and many of one reader.
-use super::{fault_number, request_answer};
+ghost use Rattle.std.specs.Prelude.{◌≤◌, length};
+
+use super::{answer_to, fault_number, feed_copies, request_answer};
 use http_frame::{RequestFrames, Step};
 use std::alloc::Global;
-use std::test::Fail;
 
-/// The answer to a request that is there whole. `None`: no memory.
-fn request_at_once(alloc: Global, text: &[u8]) -> Option<u64> {
-    let mut frames = RequestFrames::new(alloc);
-    frames.feed(text).ok()?;
-    Some(request_answer(&mut frames))
-}
-
-/// The first answer but More to a request in two pieces.
-fn request_in_two(alloc: Global, first: &[u8], second: &[u8]) -> Option<u64> {
-    let mut frames = RequestFrames::new(alloc);
-    frames.feed(first).ok()?;
-    let early = request_answer(&mut frames);
+/// The first answer but More to a piece and a rest in pieces of so many bytes, or else 0.
+fn first_answer(frames: &mut RequestFrames, first: &[u8], rest: &[u8], size: usize) -> u64
+    requires { 1 ≤ size }
+{
+    let early = answer_to(frames, first);
     if early > 0 {
-        return Some(early);
+        return early;
     }
-    frames.feed(second).ok()?;
-    Some(request_answer(&mut frames))
-}
-
-/// The first answer but More to a request in pieces of one byte.
-fn request_by_bytes(alloc: Global, text: &[u8]) -> Option<u64> {
-    let mut frames = RequestFrames::new(alloc);
-    for byte in text {
-        frames.feed(&[*byte]).ok()?;
-        let answer = request_answer(&mut frames);
+    for piece in rest.chunks(size) {
+        let answer = answer_to(frames, piece);
         if answer > 0 {
-            return Some(answer);
+            return answer;
         }
     }
-    Some(0)
+    0
 }
 
-/// Whether that is the answer to a request cut at each place.
-fn is_answer_cut(alloc: Global, text: &[u8], expected: u64) -> bool {
+/// The same of a request that is cut at a place, and from there on into pieces of so many bytes.
+fn answer_cut(alloc: Global, text: &[u8], cut: usize, size: usize) -> u64
+    requires within { cut ≤ length text.now }
+    requires some { 1 ≤ size }
+{
+    let mut frames = RequestFrames::new(alloc);
+    let (first, rest) = text.split_at(cut);
+    first_answer(&mut frames, first, rest, size)
+}
+
+/// Whether that is the answer to a request cut at each place, whole and byte by byte.
+fn is_request_answer(alloc: Global, text: &[u8], expected: u64) -> bool {
     for cut in 0..text.len() {
-        let (first, second) = text.split_at(cut);
-        if request_in_two(alloc, first, second) != Some(expected) {
+        if answer_cut(alloc, text, cut, text.len()) != expected {
             return false;
         }
     }
-    true
-}
-
-/// Whether that is the answer to a request whole, cut at each place and byte by byte.
-fn is_request_answer(alloc: Global, text: &[u8], expected: u64) -> bool {
-    is_answer_cut(alloc, text, expected)
-        && request_at_once(alloc, text) == Some(expected)
-        && request_by_bytes(alloc, text) == Some(expected)
+    answer_cut(alloc, text, text.len(), 1) == expected
+        && answer_cut(alloc, text, text.len().min(1), 1) == expected
 }
 
 static REQUESTS: [(&str, u64); 12] = [
@@ -115,15 +104,6 @@ fn head_answer(frames: &mut RequestFrames) -> u64 {
 
 const POST: &[u8] = b"POST /b HTTP/1.1\r\nContent-Length: 2\r\n\r\nhi";
 
-/// A reader that was fed twenty requests.
-fn reader_of_twenty(alloc: Global) -> Result<RequestFrames, Fail> {
-    let mut frames = RequestFrames::new(alloc);
-    for _ in 0..20 {
-        frames.feed(POST)?;
-    }
-    Ok(frames)
-}
-
 /// Whether a request and a head alone are taken, ten times each.
 fn gives_ten_of_both(frames: &mut RequestFrames) -> bool {
     for _ in 0..10 {
@@ -134,13 +114,23 @@ fn gives_ten_of_both(frames: &mut RequestFrames) -> bool {
     true
 }
 
+/// Whether a reader gives the twenty requests that it is fed, and then refuses a bad line each time.
+fn gives_twenty(frames: &mut RequestFrames) -> bool {
+    feed_copies(frames, POST, 20)
+        && gives_ten_of_both(frames)
+        && head_answer(frames) == 0
+        && feed_copies(frames, b"GET /\r\n", 1)
+        && head_answer(frames) == 1
+        && head_answer(frames) == 1
+}
+
+/// Whether a new reader gives twenty.
+fn reader_gives_twenty(alloc: Global) -> bool {
+    let mut frames = RequestFrames::new(alloc);
+    gives_twenty(&mut frames)
+}
+
 #[test]
-fn twenty_requests_of_one_reader(rt: HostRuntime) -> Result<(), Fail> {
-    let mut frames = reader_of_twenty(rt.alloc())?;
-    assert!(rt; gives_ten_of_both(&mut frames));
-    assert!(rt; head_answer(&mut frames) == 0);
-    frames.feed(b"GET /\r\n")?;
-    assert!(rt; head_answer(&mut frames) == 1);
-    assert!(rt; head_answer(&mut frames) == 1);
-    Ok(())
+fn twenty_requests_of_one_reader(rt: HostRuntime) {
+    assert!(rt; reader_gives_twenty(rt.alloc()));
 }

@@ -1,7 +1,7 @@
 // Responses that come in any pieces.
-ghost use Rattle.std.specs.Prelude.{◌≡◌};
+ghost use Rattle.std.specs.Prelude.{◌≡◌, ◌≤◌, false, length};
 
-use super::fault_number;
+use super::{NO_MEMORY, fault_number};
 use http_frame::{FrameFault, Response, ResponseFrames, Step};
 use std::alloc::Global;
 
@@ -33,62 +33,53 @@ fn response_answer(frames: &mut ResponseFrames, to_head: bool) -> u64
     }
 }
 
-/// The answer that came before, or else the next one.
-fn first_answer(frames: &mut ResponseFrames, to_head: bool, before: u64) -> u64
+/// The answer that came before, or else the next one after a piece more.
+fn answer_after(frames: &mut ResponseFrames, to_head: bool, before: u64, piece: &[u8]) -> u64
+    requires { frames.old.ended ≡ false }
     ensures { frames.new.ended ≡ frames.old.ended }
 {
+    if frames.feed(piece).is_err() {
+        return NO_MEMORY;
+    }
     if before > 0 {
         return before;
     }
     response_answer(frames, to_head)
 }
 
-/// The first answer but More to a response in two pieces, and the answer after the end of input. `None`: no memory.
-fn response_in_two(
-    alloc: Global,
-    to_head: bool,
-    first: &[u8],
-    second: &[u8],
-) -> Option<(u64, u64)> {
-    let mut frames = ResponseFrames::new(alloc);
-    frames.feed(first).ok()?;
-    let early = response_answer(&mut frames, to_head);
-    frames.feed(second).ok()?;
-    let before = first_answer(&mut frames, to_head, early);
+/// The answer that came before, and the answer after the end of input.
+fn answers_at_end(frames: &mut ResponseFrames, to_head: bool, before: u64) -> (u64, u64) {
     frames.end();
-    Some((before, response_answer(&mut frames, to_head)))
+    (before, response_answer(frames, to_head))
 }
 
-/// The same in pieces of one byte.
-fn response_by_bytes(alloc: Global, to_head: bool, text: &[u8]) -> Option<(u64, u64)> {
+/// The first answer but More to a response that is cut at a place, and from there on into pieces of so many bytes, and
+/// the answer after the end of input.
+fn answers_cut(alloc: Global, to_head: bool, text: &[u8], cut: usize, size: usize) -> (u64, u64)
+    requires within { cut ≤ length text.now }
+    requires some { 1 ≤ size }
+{
     let mut frames = ResponseFrames::new(alloc);
-    let mut before = 0;
-    'bytes: for byte in text {
-        frames.feed(&[*byte]).ok()?;
-        before = first_answer(&mut frames, to_head, before);
+    let (first, rest) = text.split_at(cut);
+    let mut before = answer_after(&mut frames, to_head, 0, first);
+    'pieces: for piece in rest.chunks(size) {
+        before = answer_after(&mut frames, to_head, before, piece);
     }
-    frames.end();
-    Some((before, response_answer(&mut frames, to_head)))
+    answers_at_end(&mut frames, to_head, before)
 }
 
 // A response, whether it answers a HEAD request, and the first answer but More and the one after the end of input.
 type Row = (&'static str, bool, (u64, u64));
 
-/// Whether those are the answers to a response cut at each place.
-fn are_answers_cut(alloc: Global, row: &Row) -> bool {
+/// Whether those are the answers to a response cut at each place and byte by byte.
+fn are_response_answers(alloc: Global, row: &Row) -> bool {
     let text = row.0.as_bytes();
     for cut in 0..text.len() {
-        let (first, second) = text.split_at(cut);
-        if response_in_two(alloc, row.1, first, second) != Some(row.2) {
+        if answers_cut(alloc, row.1, text, cut, text.len()) != row.2 {
             return false;
         }
     }
-    true
-}
-
-/// Whether those are the answers to a response whole, cut at each place and byte by byte.
-fn are_response_answers(alloc: Global, row: &Row) -> bool {
-    are_answers_cut(alloc, row) && response_by_bytes(alloc, row.1, row.0.as_bytes()) == Some(row.2)
+    answers_cut(alloc, row.1, text, text.len().min(1), 1) == row.2
 }
 
 static RESPONSES: [Row; 12] = [

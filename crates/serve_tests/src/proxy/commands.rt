@@ -1,11 +1,12 @@
 // The whole program over a disk, an `out`, a port and a dialer in memory.
 use super::status_of;
-use crate::links::{REQUEST, RESPONSE, link};
+use crate::links::{REQUEST, RESPONSE, links, port_of};
 use mm_base::MemPort;
 use record_proxy::MemDialer;
 use std::alloc::Global;
-use std::test::Fail;
-use test_outside::{ABSENT, TestOutside, words_of};
+use std::process::Abort;
+use test_outside::{ABSENT, TestOutside};
+use text_base::OutOfMemory;
 
 const WORDS: &str = "--port 80 --to 8080 --connections 1 --out s";
 
@@ -14,14 +15,13 @@ const STORE: &str =
 
 const NO_RECORD: &str = "MMSTORE 2\n";
 
-// The calls of these numbers fail, of the disk, of `out`, of the port, of the dialer, and of the two links.
+// The calls of these numbers fail, of the disk, of `out`, of the port, of the dialer, and of the server's link.
 #[derive(Clone, Copy)]
 struct Fails {
     disk: u64,
     out: u64,
     port: u64,
     dialer: u64,
-    client: u64,
     server: u64,
 }
 
@@ -30,205 +30,273 @@ const NONE: Fails = Fails {
     out: 0,
     port: 0,
     dialer: 0,
-    client: 0,
     server: 0,
 };
 
-// A run: its words, what the one client and the one server say, and which calls fail.
+// A run: its words, what each client says and the call of its link that fails, what the one server says, and which
+// other calls fail. Then its status, what it prints, what it leaves in the file `s`, and whether a second client is
+// given nothing.
 #[derive(Clone, Copy)]
-struct Run {
+struct Case {
     words: &'static str,
-    asked: &'static str,
+    clients: &'static [(&'static str, u64)],
     said: &'static str,
     fails: Fails,
+    status: u8,
+    printed: &'static str,
+    store: &'static str,
+    refuses_second: bool,
 }
 
-const RUN: Run = Run {
+// A connection is recorded.
+const DONE: Case = Case {
     words: WORDS,
-    asked: REQUEST,
+    clients: &[(REQUEST, 0)],
     said: RESPONSE,
     fails: NONE,
+    status: 0,
+    printed: "closed 1 bad 0 broken 0 full 0\n",
+    store: STORE,
+    refuses_second: false,
 };
 
-// A port of one client that says this. The calls of these numbers fail, of its link and of the port.
-fn port_of_one(
-    alloc: Global,
-    asked: &str,
-    link_fails: u64,
-    port_fails: u64,
-) -> Result<MemPort, Fail> {
-    let client = link(alloc, asked, 65_536, &[link_fails])?;
-    let clients = vec![in alloc; client]?;
-    Ok(MemPort::new(alloc, clients, vec![in alloc; port_fails]?))
-}
-
-// A dialer of one server that says this, likewise.
-fn dialer_of_one(
+// A dialer of one server that says this. Its link's call of that number fails, and so does its own.
+fn dialer_of(
     alloc: Global,
     said: &str,
-    link_fails: u64,
-    dialer_fails: u64,
-) -> Result<MemDialer, Fail> {
-    let server = link(alloc, said, 65_536, &[link_fails])?;
-    let servers = vec![in alloc; server]?;
-    Ok(MemDialer::new(alloc, servers, vec![in alloc; dialer_fails]?))
+    link_fail: u64,
+    fail: u64,
+) -> Result<MemDialer, OutOfMemory> {
+    let links = links(alloc, &[(said, link_fail)], 65_536)?;
+    Ok(MemDialer::new(alloc, links, Vec::from_slice(alloc, &[fail])?))
 }
 
-// Whether a run has this status, prints this, and leaves this in the file `s`.
-fn ends_with(
-    alloc: Global,
-    run: Run,
-    status: u8,
-    printed: &str,
-    store: &str,
-) -> Result<bool, Fail> {
-    let words = words_of(alloc, run.words)?;
-    let mut outside = TestOutside::new(alloc, &[], &[run.fails.disk], &[run.fails.out])?;
-    let mut port = port_of_one(alloc, run.asked, run.fails.client, run.fails.port)?;
-    let mut dialer = dialer_of_one(alloc, run.said, run.fails.server, run.fails.dialer)?;
-    let answered = status_of(alloc, &words, &mut outside, &mut port, &mut dialer);
-    Ok(answered == status && outside.is_left(printed, &[("s", store)]))
-}
-
-// The words, what is asked and said, what is printed, and what the file holds.
-static RECORDED: [(&str, &str, &str, &str, &str); 5] = [
-    (
-        WORDS,
-        REQUEST,
-        RESPONSE,
-        "closed 1 bad 0 broken 0 full 0\n",
-        STORE,
-    ),
-    (
-        "--out=s --connections=64 --to=08080 --port=65535",
-        REQUEST,
-        RESPONSE,
-        "closed 1 bad 0 broken 0 full 0\n",
-        STORE,
-    ),
-    (
-        WORDS,
-        REQUEST,
-        "HTTP/1.1 200 OK\r\n",
-        "closed 0 bad 1 broken 0 full 0\n",
-        NO_RECORD,
-    ),
-    (
-        WORDS,
-        "GET / HTTP/1.1\r\nHost: a",
-        RESPONSE,
-        "closed 0 bad 1 broken 0 full 0\n",
-        NO_RECORD,
-    ),
-    (
-        "--port 80 --to 8080 --connections 0 --out s",
-        REQUEST,
-        RESPONSE,
-        "closed 0 bad 0 broken 0 full 0\n",
-        NO_RECORD,
-    ),
-];
-
-#[test]
-fn a_connection_is_recorded_and_counted(rt: HostRuntime) -> Result<(), Fail> {
-    for &(words, asked, said, printed, store) in &RECORDED {
-        let run = Run {
-            words,
-            asked,
-            said,
-            fails: NONE,
-        };
-        assert!(rt;
-            ends_with(rt.alloc(), run, 0, printed, store)?,
-            "at {words}, {asked}"
-        );
-    }
-    Ok(())
-}
-
-const BROKEN: &str = "closed 0 bad 0 broken 1 full 0\n";
-
-// Which call fails, the status, what is printed, and what the file holds.
-static FAULTS: [(Fails, u8, &str, &str); 13] = [
-    (Fails { disk: 1, ..NONE }, 7, "mm: write fault s\n", ABSENT),
-    (Fails { disk: 2, ..NONE }, 7, "mm: write fault s\n", ""),
-    (Fails { out: 1, ..NONE }, 7, "", STORE),
-    (Fails { port: 1, ..NONE }, 8, "mm: net fault\n", ABSENT),
-    (Fails { port: 2, ..NONE }, 8, "mm: net fault\n", ABSENT),
-    (Fails { port: 3, ..NONE }, 8, "mm: net fault\n", ABSENT),
-    (Fails { dialer: 1, ..NONE }, 0, BROKEN, NO_RECORD),
-    (Fails { dialer: 2, ..NONE }, 0, BROKEN, STORE),
-    (Fails { client: 1, ..NONE }, 0, BROKEN, NO_RECORD),
-    (Fails { client: 2, ..NONE }, 0, BROKEN, NO_RECORD),
-    (Fails { client: 3, ..NONE }, 0, BROKEN, STORE),
-    (Fails { server: 1, ..NONE }, 0, BROKEN, NO_RECORD),
-    (Fails { server: 2, ..NONE }, 0, BROKEN, NO_RECORD),
-];
-
-// The client's link is read, written and read again, the server's is written and read.
-#[test]
-fn each_fault_has_its_status(rt: HostRuntime) -> Result<(), Fail> {
-    for &(fails, status, printed, store) in &FAULTS {
-        let is_left = ends_with(rt.alloc(), Run { fails, ..RUN }, status, printed, store)?;
-        assert!(rt;
-            is_left,
-            "status {status}, printed {printed}, store {store}"
-        );
-    }
-    Ok(())
-}
-
-// Words that are refused.
-static REFUSED: [&str; 8] = [
-    "",
-    "--port 80 --to 8080 --connections 1",
-    "--port 0 --to 8080 --connections 1 --out s",
-    "--port 80 --to 65536 --connections 1 --out s",
-    "--port 80 --to 8080 --connections 65 --out s",
-    "--port 80 --to 8080 --connections one --out s",
-    "--port 80 --to 8080 --connections 1 --out s more",
-    "--port 80 --port 81 --to 8080 --connections 1 --out s",
-];
-
-#[test]
-fn other_words_ask_for_nothing(rt: HostRuntime) -> Result<(), Fail> {
-    for &words in &REFUSED {
-        let run = Run { words, ..RUN };
-        assert!(rt;
-            ends_with(rt.alloc(), run, 2, "mm: usage\n", ABSENT)?,
-            "at {words}"
-        );
-    }
-    Ok(())
-}
-
-// A port of two clients that ask the same.
-fn port_of_two(alloc: Global) -> Result<MemPort, Fail> {
-    let first = link(alloc, REQUEST, 65_536, &[])?;
-    let second = link(alloc, REQUEST, 65_536, &[])?;
-    let clients = vec![in alloc; first, second]?;
-    Ok(MemPort::new(alloc, clients, Vec::new(alloc)))
-}
-
-// Whether two links are finished, the second of which was given nothing.
-fn are_finished(port: &MemPort) -> bool {
+// Whether one server and two clients are finished, the second of which was given nothing.
+fn refuses_second(port: &MemPort, dialer: &MemDialer) -> bool {
     match port.finished() {
-        [_, second] => second.given().is_empty(),
+        [_, second] => dialer.finished().len() == 1 && second.given().is_empty(),
         _ => false,
     }
 }
 
-// Two clients, and one server alone.
+// The status of a run over this disk and this `out`, and whether it refuses a second client.
+fn status_in(
+    alloc: Global,
+    case: &Case,
+    outside: &mut TestOutside,
+) -> Result<(u8, bool), OutOfMemory> {
+    let mut port = port_of(alloc, case.clients, 65_536, case.fails.port)?;
+    let mut dialer = dialer_of(alloc, case.said, case.fails.server, case.fails.dialer)?;
+    let status = status_of(alloc, case.words, outside, &mut port, &mut dialer)?;
+    Ok((status, refuses_second(&port, &dialer)))
+}
+
+// Whether a run over this disk and this `out` has its status, and leaves what it should.
+fn leaves(alloc: Global, case: &Case, outside: &mut TestOutside) -> bool {
+    status_in(alloc, case, outside) == Ok((case.status, case.refuses_second))
+        && outside.is_left(case.printed, &[("s", case.store)])
+}
+
+// The same over a disk and an `out` of its own.
+fn is_left(alloc: Global, case: &Case) -> bool {
+    match TestOutside::new(alloc, &[], &[case.fails.disk], &[case.fails.out]) {
+        Ok(mut outside) => leaves(alloc, case, &mut outside),
+        Err(_) => false,
+    }
+}
+
+// Each run leaves what it should.
+fn are_left(rt: &impl Abort, alloc: Global, cases: &[Case]) {
+    for case in cases {
+        assert!(rt;
+            is_left(alloc, case),
+            "at {}, which leaves {} and {}",
+            case.words,
+            case.printed,
+            case.store
+        );
+    }
+}
+
+// A bad connection isn't recorded.
+const BAD: Case = Case {
+    printed: "closed 0 bad 1 broken 0 full 0\n",
+    store: NO_RECORD,
+    ..DONE
+};
+
+// A run of each kind, words in another form, a response and a request that are cut, and no connection.
+static RECORDED: [Case; 5] = [
+    DONE,
+    Case {
+        words: "--out=s --connections=64 --to=08080 --port=65535",
+        ..DONE
+    },
+    Case {
+        said: "HTTP/1.1 200 OK\r\n",
+        ..BAD
+    },
+    Case {
+        clients: &[("GET / HTTP/1.1\r\nHost: a", 0)],
+        ..BAD
+    },
+    Case {
+        words: "--port 80 --to 8080 --connections 0 --out s",
+        printed: "closed 0 bad 0 broken 0 full 0\n",
+        store: NO_RECORD,
+        ..DONE
+    },
+];
+
 #[test]
-fn a_client_for_which_nothing_is_dialed_is_broken(rt: HostRuntime) -> Result<(), Fail> {
-    let alloc = rt.alloc();
-    let words = words_of(alloc, "--port 80 --to 8080 --connections 2 --out s")?;
-    let mut outside = TestOutside::new(alloc, &[], &[], &[])?;
-    let mut port = port_of_two(alloc)?;
-    let mut dialer = dialer_of_one(alloc, RESPONSE, 0, 0)?;
-    assert!(rt; status_of(alloc, &words, &mut outside, &mut port, &mut dialer) == 0);
-    assert!(rt; outside.is_left("closed 1 bad 0 broken 1 full 0\n", &[("s", STORE)]));
-    assert!(rt; dialer.finished().len() == 1);
-    assert!(rt; are_finished(&port));
-    Ok(())
+fn a_connection_is_recorded_and_counted(rt: HostRuntime) {
+    are_left(&rt, rt.alloc(), &RECORDED);
+}
+
+// A disk that can't be written, a port that fails, and a connection that breaks.
+const UNWRITTEN: Case = Case {
+    status: 7,
+    printed: "mm: write fault s\n",
+    ..DONE
+};
+
+const NET_FAULT: Case = Case {
+    status: 8,
+    printed: "mm: net fault\n",
+    store: ABSENT,
+    ..DONE
+};
+
+const BROKEN: Case = Case {
+    printed: "closed 0 bad 0 broken 1 full 0\n",
+    ..DONE
+};
+
+const BROKEN_BEFORE: Case = Case {
+    store: NO_RECORD,
+    ..BROKEN
+};
+
+// The client's link is read, written and read again, the server's is written and read.
+static FAULTS: [Case; 13] = [
+    Case {
+        fails: Fails { disk: 1, ..NONE },
+        store: ABSENT,
+        ..UNWRITTEN
+    },
+    Case {
+        fails: Fails { disk: 2, ..NONE },
+        store: "",
+        ..UNWRITTEN
+    },
+    Case {
+        fails: Fails { out: 1, ..NONE },
+        printed: "",
+        ..UNWRITTEN
+    },
+    Case {
+        fails: Fails { port: 1, ..NONE },
+        ..NET_FAULT
+    },
+    Case {
+        fails: Fails { port: 2, ..NONE },
+        ..NET_FAULT
+    },
+    Case {
+        fails: Fails { port: 3, ..NONE },
+        ..NET_FAULT
+    },
+    Case {
+        fails: Fails { dialer: 1, ..NONE },
+        ..BROKEN_BEFORE
+    },
+    Case {
+        fails: Fails { dialer: 2, ..NONE },
+        ..BROKEN
+    },
+    Case {
+        clients: &[(REQUEST, 1)],
+        ..BROKEN_BEFORE
+    },
+    Case {
+        clients: &[(REQUEST, 2)],
+        ..BROKEN_BEFORE
+    },
+    Case {
+        clients: &[(REQUEST, 3)],
+        ..BROKEN
+    },
+    Case {
+        fails: Fails { server: 1, ..NONE },
+        ..BROKEN_BEFORE
+    },
+    Case {
+        fails: Fails { server: 2, ..NONE },
+        ..BROKEN_BEFORE
+    },
+];
+
+#[test]
+fn each_fault_has_its_status(rt: HostRuntime) {
+    are_left(&rt, rt.alloc(), &FAULTS);
+}
+
+// Words that are refused.
+const REFUSED: Case = Case {
+    words: "",
+    status: 2,
+    printed: "mm: usage\n",
+    store: ABSENT,
+    ..DONE
+};
+
+static OTHER_WORDS: [Case; 8] = [
+    REFUSED,
+    Case {
+        words: "--port 80 --to 8080 --connections 1",
+        ..REFUSED
+    },
+    Case {
+        words: "--port 0 --to 8080 --connections 1 --out s",
+        ..REFUSED
+    },
+    Case {
+        words: "--port 80 --to 65536 --connections 1 --out s",
+        ..REFUSED
+    },
+    Case {
+        words: "--port 80 --to 8080 --connections 65 --out s",
+        ..REFUSED
+    },
+    Case {
+        words: "--port 80 --to 8080 --connections one --out s",
+        ..REFUSED
+    },
+    Case {
+        words: "--port 80 --to 8080 --connections 1 --out s more",
+        ..REFUSED
+    },
+    Case {
+        words: "--port 80 --port 81 --to 8080 --connections 1 --out s",
+        ..REFUSED
+    },
+];
+
+#[test]
+fn other_words_ask_for_nothing(rt: HostRuntime) {
+    are_left(&rt, rt.alloc(), &OTHER_WORDS);
+}
+
+// Two clients that ask the same, and one server alone.
+static TWO_CLIENTS: [Case; 1] = [Case {
+    words: "--port 80 --to 8080 --connections 2 --out s",
+    clients: &[(REQUEST, 0), (REQUEST, 0)],
+    printed: "closed 1 bad 0 broken 1 full 0\n",
+    refuses_second: true,
+    ..DONE
+}];
+
+#[test]
+fn a_client_for_which_nothing_is_dialed_is_broken(rt: HostRuntime) {
+    are_left(&rt, rt.alloc(), &TWO_CLIENTS);
 }

@@ -1,90 +1,103 @@
 // Long connections.
 ghost use Rattle.std.specs.Prelude.{◌≤◌};
 
-use super::end_of;
+use super::{Seen, Talk, seen_of};
 use crate::links::{REQUEST, RESPONSE};
-use crate::texts::{copies, long_message};
-use mm_base::MemLink;
+use crate::texts::long_messages;
 use record_proxy::ProxyEnd;
-use record_store::Store;
 use std::alloc::Global;
-use std::test::Fail;
-use text_base::Bytes;
+use text_base::OutOfMemory;
 
-// How a connection ends whose client and server say this, of which a read brings at most so many bytes, how many
-// records it adds, and how many bytes the client is given.
-fn end_where(
-    alloc: Global,
-    asked: Bytes,
-    said: Bytes,
-    most: usize,
-) -> Result<(ProxyEnd, usize, usize), Fail>
+// A message's head, how many letters its body has, and how often it comes.
+type Many = (&'static str, usize, u32);
+
+// What a client and a server say.
+struct Case {
+    asked: Many,
+    said: Many,
+}
+
+// What is seen of such a connection, where a read brings at most so many bytes.
+fn seen_where(alloc: Global, case: &Case, most: usize) -> Result<Seen, OutOfMemory>
     requires { 1 ≤ most }
 {
-    let mut client = MemLink::new(alloc, asked, most, Vec::new(alloc));
-    let mut server = MemLink::new(alloc, said, most, Vec::new(alloc));
-    let mut store = Store::new(alloc);
-    let end = end_of(alloc, &mut client, &mut server, 80, &mut store)?;
-    Ok((end, store.records().len(), client.given().len()))
+    let asked = long_messages(alloc, case.asked.0.as_bytes(), case.asked.1, case.asked.2)?;
+    let said = long_messages(alloc, case.said.0.as_bytes(), case.said.1, case.said.2)?;
+    let talk = Talk {
+        asked: asked.as_slice(),
+        said: said.as_slice(),
+        most,
+        client_fail: 0,
+        server_fail: 0,
+    };
+    seen_of(alloc, &talk, 80)
 }
+
+static EXCHANGES: Case = Case {
+    asked: (REQUEST, 0, 5_000),
+    said: (RESPONSE, 0, 5_000),
+};
 
 #[test]
-fn thousands_of_exchanges_are_recorded(rt: HostRuntime) -> Result<(), Fail> {
-    let alloc = rt.alloc();
-    let asked = copies(alloc, b"", REQUEST.as_bytes(), 5_000)?;
-    let said = copies(alloc, b"", RESPONSE.as_bytes(), 5_000)?;
-    let (end, records, given) = end_where(alloc, asked, said, 65_536)?;
-    assert!(rt; end == ProxyEnd::Closed);
-    assert!(rt; records == 5_000);
-    assert!(rt; given == 200_000);
-    Ok(())
+fn thousands_of_exchanges_are_recorded(rt: HostRuntime) {
+    let seen = seen_where(rt.alloc(), &EXCHANGES, 65_536).expect(&rt, "memory");
+    assert!(rt; seen.end == ProxyEnd::Closed && seen.records == 5_000);
+    assert!(rt; seen.said == Some(200_000));
 }
-
-const LONG_REQUEST: &[u8] = b"POST / HTTP/1.1\r\nHost: a\r\nContent-Length: 65484\r\n\r\n";
 
 // Each read of the client brings a request of 65,535 bytes. After 1,024 of them it brings 1,024 bytes more.
-#[test]
-fn a_client_brings_no_more_than_its_limit(rt: HostRuntime) -> Result<(), Fail> {
-    let alloc = rt.alloc();
-    let message = long_message(alloc, LONG_REQUEST, 65_484)?;
-    let asked = copies(alloc, b"", message.as_slice(), 1_025)?;
-    let said = copies(alloc, b"", b"HTTP/1.1 204 No Content\r\n\r\n", 1_025)?;
-    let (end, records, _) = end_where(alloc, asked, said, 65_535)?;
-    assert!(rt; end == ProxyEnd::Full);
-    assert!(rt; records == 1_024);
-    Ok(())
-}
-
-const LONG_RESPONSE: &[u8] = b"HTTP/1.1 200 OK\r\nContent-Length: 65495\r\n\r\n";
+static LONG_REQUESTS: Case = Case {
+    asked: (
+        "POST / HTTP/1.1\r\nHost: a\r\nContent-Length: 65484\r\n\r\n",
+        65_484,
+        1_025,
+    ),
+    said: ("HTTP/1.1 204 No Content\r\n\r\n", 0, 1_025),
+};
 
 #[test]
-fn a_server_brings_no_more_than_its_limit(rt: HostRuntime) -> Result<(), Fail> {
-    let alloc = rt.alloc();
-    let message = long_message(alloc, LONG_RESPONSE, 65_495)?;
-    let asked = copies(alloc, b"", REQUEST.as_bytes(), 1_025)?;
-    let said = copies(alloc, b"", message.as_slice(), 1_025)?;
-    let (end, records, _) = end_where(alloc, asked, said, 65_536)?;
-    assert!(rt; end == ProxyEnd::Full);
-    assert!(rt; records == 1_023);
-    Ok(())
+fn a_client_brings_no_more_than_its_limit(rt: HostRuntime) {
+    let seen = seen_where(rt.alloc(), &LONG_REQUESTS, 65_535).expect(&rt, "memory");
+    assert!(rt; seen.end == ProxyEnd::Full && seen.records == 1_024);
 }
 
-// How a connection ends whose response has this head and a body of so many bytes.
-fn end_of_body(alloc: Global, head: &[u8], body: usize) -> Result<ProxyEnd, Fail> {
-    let said = long_message(alloc, head, body)?;
-    let asked = Bytes::from_slice(alloc, REQUEST.as_bytes())?;
-    let (end, _, _) = end_where(alloc, asked, said, 65_536)?;
-    Ok(end)
-}
-
-const GREATEST: &[u8] = b"HTTP/1.1 200 OK\r\nContent-Length: 16777216\r\n\r\n";
-
-const GREATER: &[u8] = b"HTTP/1.1 200 OK\r\nContent-Length: 16777217\r\n\r\n";
+static LONG_RESPONSES: Case = Case {
+    asked: (REQUEST, 0, 1_025),
+    said: (
+        "HTTP/1.1 200 OK\r\nContent-Length: 65495\r\n\r\n",
+        65_495,
+        1_025,
+    ),
+};
 
 #[test]
-fn a_body_of_the_greatest_length_passes(rt: HostRuntime) -> Result<(), Fail> {
-    let alloc = rt.alloc();
-    assert!(rt; end_of_body(alloc, GREATEST, 16_777_216)? == ProxyEnd::Closed);
-    assert!(rt; end_of_body(alloc, GREATER, 16_777_217)? == ProxyEnd::BadResponse);
-    Ok(())
+fn a_server_brings_no_more_than_its_limit(rt: HostRuntime) {
+    let seen = seen_where(rt.alloc(), &LONG_RESPONSES, 65_536).expect(&rt, "memory");
+    assert!(rt; seen.end == ProxyEnd::Full && seen.records == 1_023);
+}
+
+static GREATEST: Case = Case {
+    asked: (REQUEST, 0, 1),
+    said: (
+        "HTTP/1.1 200 OK\r\nContent-Length: 16777216\r\n\r\n",
+        16_777_216,
+        1,
+    ),
+};
+
+static GREATER: Case = Case {
+    asked: (REQUEST, 0, 1),
+    said: (
+        "HTTP/1.1 200 OK\r\nContent-Length: 16777217\r\n\r\n",
+        16_777_217,
+        1,
+    ),
+};
+
+#[test]
+fn a_body_of_the_greatest_length_passes(rt: HostRuntime) {
+    let greatest = seen_where(rt.alloc(), &GREATEST, 65_536).expect(&rt, "memory");
+    let greater = seen_where(rt.alloc(), &GREATER, 65_536).expect(&rt, "memory");
+    assert!(rt; greatest.end == ProxyEnd::Closed);
+    assert!(rt; greater.end == ProxyEnd::BadResponse);
 }

@@ -9,12 +9,11 @@ use crate::links::{REQUEST, RESPONSE};
 use mm_base::{EndError, Link, MemLink, Port};
 use record_proxy::Dialer;
 use std::alloc::Global;
-use std::test::Fail;
-use test_outside::{TestOutside, words_of};
+use test_outside::TestOutside;
 use text_base::Bytes;
 
 // How often an output was ended, and how many calls came after that.
-#[derive(Drop)]
+#[derive(Clone, Copy)]
 struct Calls {
     ends: u32,
     late: u32,
@@ -67,7 +66,7 @@ impl Link for Watched {
 }
 
 // So many connections that say this, each used well when it was finished, at a port of this number.
-#[derive(Drop)]
+#[derive(Clone, Copy)]
 pub struct WatchedNet {
     alloc: Global,
     says: &'static str,
@@ -103,7 +102,8 @@ impl WatchedNet {
         })
     }
 
-    fn note_end(&mut self, conn: &Watched)
+    // Notes whether a connection was used well, and lets it go.
+    fn note_end(&mut self, conn: Watched)
         ensures left { self.new.left ≡ self.old.left }
         ensures given { self.new.given ≡ self.old.given }
     {
@@ -143,7 +143,7 @@ impl Port for WatchedNet {
     }
 
     fn finish(&mut self, conn: Watched) -> Result<(), EndError> {
-        self.note_end(&conn);
+        self.note_end(conn);
         Ok(())
     }
 }
@@ -164,7 +164,7 @@ impl Dialer for WatchedNet {
     }
 
     fn finish(&mut self, conn: Watched) -> Result<(), EndError> {
-        self.note_end(&conn);
+        self.note_end(conn);
         Ok(())
     }
 }
@@ -182,18 +182,25 @@ fn length_of(outside: &TestOutside, name: &str) -> Option<usize> {
     }
 }
 
-// Of 65 clients that wait, 64 are served.
-#[test]
-fn each_of_many_clients_is_served_and_ended(rt: HostRuntime) -> Result<(), Fail> {
-    let alloc = rt.alloc();
-    let words = words_of(alloc, "--port 80 --to 8080 --connections 64 --out s")?;
-    let mut outside = TestOutside::new(alloc, &[], &[], &[])?;
+// Whether a program that serves 64 clients ends well, at its ports, where 65 wait.
+fn serves_many(alloc: Global, outside: &mut TestOutside) -> bool {
+    let words = "--port 80 --to 8080 --connections 64 --out s";
     let mut port = WatchedNet::new(alloc, REQUEST, RESPONSE, 65);
     let mut dialer = WatchedNet::new(alloc, RESPONSE, REQUEST, 0);
-    assert!(rt; status_of(alloc, &words, &mut outside, &mut port, &mut dialer) == 0);
-    assert!(rt; outside.is_left("closed 64 bad 0 broken 0 full 0\n", &[]));
-    assert!(rt; length_of(&outside, "s") == Some(10 + 64 * 91));
-    assert!(rt; is_used(&port, 80, 1));
-    assert!(rt; is_used(&dialer, 8080, 0));
-    Ok(())
+    status_of(alloc, words, outside, &mut port, &mut dialer) == Ok(0)
+        && is_used(&port, 80, 1)
+        && is_used(&dialer, 8080, 0)
+}
+
+// Whether such a program leaves their records.
+fn records_many(alloc: Global, outside: &mut TestOutside) -> bool {
+    serves_many(alloc, outside)
+        && outside.is_left("closed 64 bad 0 broken 0 full 0\n", &[])
+        && length_of(outside, "s") == Some(10 + 64 * 91)
+}
+
+#[test]
+fn each_of_many_clients_is_served_and_ended(rt: HostRuntime) {
+    let mut outside = TestOutside::new(rt.alloc(), &[], &[], &[]).expect(&rt, "memory");
+    assert!(rt; records_many(rt.alloc(), &mut outside));
 }

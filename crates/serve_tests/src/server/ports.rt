@@ -1,25 +1,24 @@
 // Servings over ports in memory.
 ghost use Rattle.std.specs.Prelude.{◌≤◌};
-ghost use Rattle.mm_base.specs.MemLink.{IsUnused};
 ghost use Rattle.mm_base.specs.MemPort.{mem_port_view};
 
-use super::{TWO, TWO_ANSWERS, store_of_one};
-use crate::links::link;
+use super::{TWO, TWO_ANSWERS};
+use crate::links::{REQUEST, RESPONSE, port_of};
+use crate::store::paired;
 use mm_base::{EndError, MemLink, MemPort, NoPace, Pace, Port, Role};
-use record_store::Store;
 use replay_server::{ServeError, Served, serve};
 use std::alloc::Global;
 use std::marker::Sync;
 use std::sync::Wait;
 use std::sync::atomic::{AtomicU64, Ordering};
-use std::test::Fail;
 use std::thread::{self, Threads};
+use text_base::OutOfMemory;
 
-/// What `serve` answers. No test needs what its contract says of that, and so this has none.
+/// What `serve` answers with the store of one request. No test needs what its contract says of that, and so this has
+/// none.
 fn served<R: Threads + Wait + Sync, P: Port, Q: Pace + Sync>(
     rt: &R,
     alloc: Global,
-    store: &Store,
     port: &mut P,
     number: u16,
     site: Option<u16>,
@@ -29,7 +28,10 @@ fn served<R: Threads + Wait + Sync, P: Port, Q: Pace + Sync>(
     requires some { 1 ≤ connections }
     requires few { connections ≤ 64 }
 {
-    serve(rt, alloc, store, port, number, site, connections, pace)
+    match paired(alloc, REQUEST.as_bytes(), RESPONSE.as_bytes(), 0) {
+        Ok(store) => serve(rt, alloc, &store, port, number, site, connections, pace),
+        Err(_) => Err(ServeError::OutOfMemory),
+    }
 }
 
 // The first turns of connections 1 to 4 wait for each other.
@@ -68,23 +70,8 @@ impl Pace for Together {
     }
 }
 
-/// A port of two connections of two requests, the first of which fails, and of these.
-fn port_before(alloc: Global, third: MemLink, fourth: MemLink) -> Result<MemPort, Fail>
-    requires third { IsUnused third }
-    requires fourth { IsUnused fourth }
-{
-    let first = link(alloc, TWO, 1, &[3])?;
-    let second = link(alloc, TWO, 1, &[])?;
-    let links = vec![in alloc; first, second, third, fourth]?;
-    Ok(MemPort::new(alloc, links, Vec::new(alloc)))
-}
-
-/// A port of four connections: three of two requests, the first of which fails, and a bad one.
-fn port_of_four(alloc: Global) -> Result<MemPort, Fail> {
-    let third = link(alloc, "BAD\x00\n", 1, &[])?;
-    let fourth = link(alloc, TWO, 1, &[])?;
-    port_before(alloc, third, fourth)
-}
+// Four connections: three of two requests, the first of which fails, and a bad one.
+static FOUR: [(&str, u64); 4] = [(TWO, 3), (TWO, 0), ("BAD\x00\n", 0), (TWO, 0)];
 
 // Two are served to their end, one is bad and one fails.
 const OF_FOUR: Served = Served {
@@ -102,28 +89,33 @@ fn are_finished(port: &MemPort) -> bool {
     }
 }
 
-#[test]
-fn connections_are_served_beside_each_other(rt: HostRuntime) -> Result<(), Fail> {
-    let alloc = rt.alloc();
-    let store = store_of_one(alloc)?;
-    let mut port = port_of_four(alloc)?;
+/// Whether the four connections of a port are served beside each other.
+fn are_served_together<R: Threads + Wait + Sync>(
+    rt: &R,
+    alloc: Global,
+    port: &mut MemPort,
+) -> bool {
     let pace = Together {
         begun: AtomicU64::new(0),
         limits: AtomicU64::new(0),
     };
-    let answer = served(&rt, alloc, &store, &mut port, 80, None, 5, &pace);
-    assert!(rt; answer == Ok(OF_FOUR));
-    assert!(rt; pace.limits.load(Ordering::SeqCst) == 0);
-    assert!(rt; are_finished(&port));
-    Ok(())
+    let answer = served(rt, alloc, port, 80, None, 5, &pace);
+    answer == Ok(OF_FOUR) && pace.limits.load(Ordering::SeqCst) == 0
 }
 
-/// A port of one connection, one of whose calls may fail.
-fn port_of_one(alloc: Global, fails: &[u64]) -> Result<MemPort, Fail> {
-    let only = link(alloc, TWO, 8, &[])?;
-    let links = vec![in alloc; only]?;
-    Ok(MemPort::new(alloc, links, fails.to_vec(alloc)?))
+/// Whether a port of four connections has them served and finished.
+fn serves_four<R: Threads + Wait + Sync>(rt: &R, alloc: Global) -> Result<bool, OutOfMemory> {
+    let mut port = port_of(alloc, &FOUR, 1, 0)?;
+    Ok(are_served_together(rt, alloc, &mut port) && are_finished(&port))
 }
+
+#[test]
+fn connections_are_served_beside_each_other(rt: HostRuntime) {
+    assert!(rt; serves_four(&rt, rt.alloc()) == Ok(true));
+}
+
+// One connection of two requests.
+static ONLY: [(&str, u64); 1] = [(TWO, 0)];
 
 // A call of the port that fails, what the serving then answers, and how many connections are finished. The calls are
 // listening, accepting, accepting and finishing.
@@ -138,22 +130,20 @@ static FAILS: [(u64, ServeError, usize); 4] = [
 fn stops_at<R: Threads + Wait + Sync>(
     rt: &R,
     alloc: Global,
-    store: &Store,
     row: &(u64, ServeError, usize),
-) -> Result<bool, Fail> {
-    let mut port = port_of_one(alloc, &[row.0])?;
-    let answer = served(rt, alloc, store, &mut port, 80, None, 2, &NoPace);
-    Ok(answer == Err(row.1) && port.finished().len() == row.2)
+) -> bool {
+    let Ok(mut port) = port_of(alloc, &ONLY, 8, row.0) else {
+        return false;
+    };
+    let answer = served(rt, alloc, &mut port, 80, None, 2, &NoPace);
+    answer == Err(row.1) && port.finished().len() == row.2
 }
 
 #[test]
-fn a_port_that_fails_stops_the_serving(rt: HostRuntime) -> Result<(), Fail> {
-    let alloc = rt.alloc();
-    let store = store_of_one(alloc)?;
+fn a_port_that_fails_stops_the_serving(rt: HostRuntime) {
     for row in &FAILS {
-        assert!(rt; stops_at(&rt, alloc, &store, row)?, "at {}", row.0);
+        assert!(rt; stops_at(&rt, rt.alloc(), row), "at {}", row.0);
     }
-    Ok(())
 }
 
 // A port in memory that notes the number that it listened at last, and how often it listened.
@@ -185,27 +175,22 @@ impl Port for Heard {
 }
 
 /// Whether a serving listens once, at its number, whatever its site.
-fn listens<R: Threads + Wait + Sync>(
-    rt: &R,
-    alloc: Global,
-    store: &Store,
-    site: Option<u16>,
-) -> Result<bool, Fail> {
+fn listens<R: Threads + Wait + Sync>(rt: &R, alloc: Global, site: Option<u16>) -> bool {
+    let Ok(port) = port_of(alloc, &ONLY, 8, 0) else {
+        return false;
+    };
     let mut port = Heard {
-        port: port_of_one(alloc, &[])?,
+        port,
         number: 0,
         times: 0,
     };
-    let answer = served(rt, alloc, store, &mut port, 8_080, site, 1, &NoPace);
-    let is_closed = answer.is_ok_and(|n| n.closed == 1);
-    Ok(is_closed && port.number == 8_080 && port.times == 1)
+    let answer = served(rt, alloc, &mut port, 8_080, site, 1, &NoPace);
+    let is_closed = matches!(answer, Ok(Served { closed: 1, .. }));
+    is_closed && port.number == 8_080 && port.times == 1
 }
 
 #[test]
-fn a_serving_listens_at_its_number(rt: HostRuntime) -> Result<(), Fail> {
-    let alloc = rt.alloc();
-    let store = store_of_one(alloc)?;
-    assert!(rt; listens(&rt, alloc, &store, None)?);
-    assert!(rt; listens(&rt, alloc, &store, Some(443))?);
-    Ok(())
+fn a_serving_listens_at_its_number(rt: HostRuntime) {
+    assert!(rt; listens(&rt, rt.alloc(), None));
+    assert!(rt; listens(&rt, rt.alloc(), Some(443)));
 }

@@ -1,15 +1,14 @@
 // What a session does beside its bytes: the turns of its pace, and the close of its output.
 ghost use Rattle.mm_base.specs.MemLink.{mem_link_view};
 
-use super::{TWO, end_of, store_of_one};
+use super::{ONE, TWO, end_of};
 use crate::links::link;
 use mm_base::{EndError, Link, MemLink, Pace, Role};
-use record_store::Store;
 use replay_server::ConnEnd;
 use std::alloc::Global;
 use std::sync::Wait;
 use std::sync::atomic::{AtomicU64, Ordering};
-use std::test::Fail;
+use text_base::OutOfMemory;
 
 const NUMBER: u32 = 7;
 
@@ -84,10 +83,6 @@ impl<'a> Watched<'a> {
     pub fn is_well(&self) -> bool {
         self.unasked == 0 && self.closed == 1
     }
-
-    pub fn given(&self) -> &[u8] {
-        self.link.given()
-    }
 }
 
 impl Link for Watched<'_> {
@@ -128,19 +123,17 @@ static ENDS: [Row; 5] = [
 ];
 
 /// Whether a session ends so, with a turn for each read, one at its end, and one close of its output.
-fn ends_so<R: Wait>(rt: &R, alloc: Global, store: &Store, row: &Row) -> Result<bool, Fail> {
+fn ends_so<R: Wait>(rt: &R, alloc: Global, row: &Row) -> Result<bool, OutOfMemory> {
+    let link = link(alloc, row.0.as_bytes(), 1, row.1)?;
     let turns = Turns::new();
-    let mut watched = Watched::new(link(alloc, row.0, 1, &[row.1])?, &turns);
-    let end = end_of(rt, alloc, store, &mut watched, NUMBER, &turns);
+    let mut watched = Watched::new(link, &turns);
+    let end = end_of(rt, alloc, &ONE, &mut watched, NUMBER, &turns);
     Ok(end == row.2 && watched.is_well() && turns.counts() == (row.3, 1, 0))
 }
 
 #[test]
-fn each_read_has_its_turn_and_each_end_closes_the_output(rt: HostRuntime) -> Result<(), Fail> {
-    let alloc = rt.alloc();
-    let store = store_of_one(alloc)?;
+fn each_read_has_its_turn_and_each_end_closes_the_output(rt: HostRuntime) {
     for row in &ENDS {
-        assert!(rt; ends_so(&rt, alloc, &store, row)?, "at {}", row.0);
+        assert!(rt; ends_so(&rt, rt.alloc(), row) == Ok(true), "at {}", row.0);
     }
-    Ok(())
 }

@@ -9,6 +9,7 @@ use crate::packets::timed;
 use packet_record::{FlowEnd, Item, Packet, Timed};
 use shell_cell::{DrainSeat, FeedSeat, ShellCell};
 use shell_state::{ShellState, Taken};
+use std::alloc::Global;
 use std::process::Abort;
 use std::sync::Wait;
 use std::test::Fail;
@@ -134,11 +135,16 @@ fn count_lines(rt: &impl Abort, state: &ShellState) -> Result<usize, Fail> {
     Ok(log.entries().len())
 }
 
+// What they leave of the link.
+fn passed_one<R: Wait + Abort>(rt: &R, alloc: Global) -> Result<ShellState, Fail> {
+    let mut seated = link_cell(rt, alloc)?;
+    pass_one(rt, &seated.cell, &mut seated.feed, &mut seated.drain)?;
+    Ok(close(seated))
+}
+
 #[test]
 fn answers_as_the_state_alone(rt: HostRuntime) -> Result<(), Fail> {
-    let (cell, mut feed, mut drain) = link_cell(&rt, rt.alloc())?;
-    pass_one(&rt, &cell, &mut feed, &mut drain)?;
-    let state = close(cell, feed, drain);
+    let state = passed_one(&rt, rt.alloc())?;
     assert!(rt; has_passed_one(&state));
     assert!(rt; count_lines(&rt, &state)? == 8);
     Ok(())
@@ -163,14 +169,24 @@ fn break_it<R: Wait + Abort>(
     Ok(())
 }
 
+// What is left of a delay that was broken off.
+fn broken<R: Wait + Abort>(rt: &R, alloc: Global) -> Result<ShellState, Fail> {
+    let mut seated = delay_cell(alloc)?;
+    break_it(rt, &seated.cell, &mut seated.feed, &mut seated.drain)?;
+    Ok(close(seated))
+}
+
+// Whether a state is broken, though nothing was fed that says so.
+fn is_broken_off(state: &ShellState) -> bool {
+    state.is_broken()
+        && state.fed().end() == FlowEnd::Open
+        && state.taken().end() == FlowEnd::Broken
+}
+
 #[test]
 fn a_broken_cell_stays_broken(rt: HostRuntime) -> Result<(), Fail> {
-    let (cell, mut feed, mut drain) = delay_cell(rt.alloc())?;
-    break_it(&rt, &cell, &mut feed, &mut drain)?;
-    let state = close(cell, feed, drain);
-    assert!(rt; state.is_broken());
-    assert!(rt; state.fed().end() == FlowEnd::Open);
-    assert!(rt; state.taken().end() == FlowEnd::Broken);
+    let state = broken(&rt, rt.alloc())?;
+    assert!(rt; is_broken_off(&state));
     Ok(())
 }
 
@@ -200,8 +216,8 @@ fn wait_after_feeds<R: Wait + Abort>(
 // A feed that came after the last take is there at once.
 #[test]
 fn a_wait_after_a_feed_returns(rt: HostRuntime) -> Result<(), Fail> {
-    let (cell, mut feed, mut drain) = link_cell(&rt, rt.alloc())?;
-    wait_after_feeds(&rt, &cell, &mut feed, &mut drain)?;
-    let _ = close(cell, feed, drain);
+    let mut seated = link_cell(&rt, rt.alloc())?;
+    wait_after_feeds(&rt, &seated.cell, &mut seated.feed, &mut seated.drain)?;
+    close(seated);
     Ok(())
 }

@@ -111,12 +111,14 @@ fn pass_all<R: Threads + Wait + Sync>(
 fn run_both<R: Threads + Wait + Sync>(rt: &R, alloc: Global, count: u32) -> Result<ShellState, Fail>
     requires { count ≤ 2000 }
 {
-    let (cell, mut feed, mut drain) = delay_cell(alloc)?;
-    cross(&cell, &feed, &drain);
-    if !pass_all(rt, &cell, &mut feed, &mut drain, count) {
+    let mut seated = delay_cell(alloc)?;
+    cross(&seated.cell, &seated.feed, &seated.drain);
+    let passed = pass_all(rt, &seated.cell, &mut seated.feed, &mut seated.drain, count);
+    let state = close(seated);
+    if !passed {
         return Err(Fail::from("a thread found no memory, or a broken state"));
     }
-    Ok(close(cell, feed, drain))
+    Ok(state)
 }
 
 // Whether the packets are numbered from 1 on, each a millisecond after the one before, and the first at 2.
@@ -131,13 +133,16 @@ fn are_in_order(packets: &[Timed]) -> bool {
     true
 }
 
+// Whether so many packets were taken in their order, and then the end.
+fn has_passed(state: &ShellState, count: usize) -> bool {
+    let taken = state.taken();
+    taken.packets().len() == count && are_in_order(taken.packets()) && taken.end() == FlowEnd::Ended
+}
+
 #[test]
 fn two_threads_pass_all_through(rt: HostRuntime) -> Result<(), Fail> {
     let state = run_both(&rt, rt.alloc(), 1000)?;
-    let taken = state.taken();
-    assert!(rt; taken.packets().len() == 1000);
-    assert!(rt; are_in_order(taken.packets()));
-    assert!(rt; taken.end() == FlowEnd::Ended);
+    assert!(rt; has_passed(&state, 1000));
     Ok(())
 }
 
@@ -178,9 +183,9 @@ fn end_late<R: Threads + Wait + Sync>(
 }
 
 fn wait_in_turns<R: Threads + Wait + Sync>(rt: &R, alloc: Global) -> Result<Option<u64>, Fail> {
-    let (cell, mut feed, mut drain) = delay_cell(alloc)?;
-    let (fed, takes) = end_late(rt, &cell, &mut feed, &mut drain);
-    let _ = close(cell, feed, drain);
+    let mut seated = delay_cell(alloc)?;
+    let (fed, takes) = end_late(rt, &seated.cell, &mut seated.feed, &mut seated.drain);
+    close(seated);
     if !fed {
         return Err(Fail::from("nobody waits"));
     }

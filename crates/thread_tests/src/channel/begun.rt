@@ -4,7 +4,8 @@ ghost use Rattle.std.specs.Thread.{IsSync};
 ghost use Rattle.packet_record.specs.declared.item.FlowEnd.TheVariants.{Open};
 
 use crate::waiting::give_way;
-use mark_channel::{Begun, Sender, open};
+use crate::ways::open_ways;
+use mark_channel::{Begun, Sender};
 use packet_record::Item;
 use std::alloc::Global;
 use std::marker::Sync;
@@ -46,15 +47,20 @@ fn wait_beside<R: Threads + Wait + Sync>(
     )
 }
 
-#[test]
-fn the_first_sender_waits_for_all_workers(rt: HostRuntime) -> Result<(), Fail> {
-    let alloc = rt.alloc();
-    let (mut up, _up_end) = open(alloc, 1, 10)?;
-    let (mut down, _down_end) = open(alloc, 1, 10)?;
+// Waits for two workers in two channels.
+fn wait_for_two<R: Threads + Wait + Sync>(
+    rt: &R,
+    alloc: Global,
+) -> Result<(bool, bool), OutOfMemory> {
+    let mut ways = open_ways(alloc, 1, 10)?;
     let begun = Begun::new(2);
     let waited = AtomicU64::new(0);
-    let ends = wait_beside(&rt, &begun, &waited, &mut up, &mut down);
-    assert!(rt; ends == (false, true));
+    Ok(wait_beside(rt, &begun, &waited, &mut ways.up, &mut ways.down))
+}
+
+#[test]
+fn the_first_sender_waits_for_all_workers(rt: HostRuntime) -> Result<(), Fail> {
+    assert!(rt; wait_for_two(&rt, rt.alloc())? == (false, true));
     Ok(())
 }
 
@@ -64,12 +70,11 @@ fn wait_once<R: Wait>(
     alloc: Global,
     begun: &Begun,
 ) -> Result<Option<(Item, Item)>, OutOfMemory> {
-    let (mut up, mut up_end) = open(alloc, 1, 10)?;
-    let (mut down, mut down_end) = open(alloc, 1, 10)?;
-    if begun.wait(rt, &mut up, &mut down).is_ok() {
+    let mut ways = open_ways(alloc, 1, 10)?;
+    if begun.wait(rt, &mut ways.up, &mut ways.down).is_ok() {
         return Ok(None);
     }
-    Ok(Some((up_end.recv(rt), down_end.recv(rt))))
+    Ok(Some((ways.up_end.recv(rt), ways.down_end.recv(rt))))
 }
 
 const BROKEN: Option<(Item, Item)> = Some((Item::Broken, Item::Broken));

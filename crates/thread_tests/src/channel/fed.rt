@@ -6,7 +6,8 @@ ghost use Rattle.mark_channel.specs.Feedings.{HasSentRows};
 
 use super::receive_all;
 use crate::packets::timed;
-use mark_channel::{FeedEnd, Feeds, Sender, open, settle};
+use crate::ways::{open_ways, settle_ways};
+use mark_channel::{FeedEnd, Feeds, Sender};
 use packet_record::{Direction, Item, Row};
 use std::alloc::Global;
 use std::process::Abort;
@@ -83,13 +84,11 @@ fn feed_two<F: Feeds, R: Threads + Wait + Sync>(
     alloc: Global,
     feeds: &mut F,
 ) -> Result<(FeedEnd, u32, u32), OutOfMemory> {
-    let (mut up, mut up_end) = open(alloc, 64, 20)?;
-    let (mut down, mut down_end) = open(alloc, 64, 20)?;
-    let end = feed_both(rt, feeds, 20, &mut up, &mut down);
-    let went_up = receive_all(rt, &mut up_end);
-    let went_down = receive_all(rt, &mut down_end);
-    settle(up, up_end);
-    settle(down, down_end);
+    let mut ways = open_ways(alloc, 64, 20)?;
+    let end = feed_both(rt, feeds, 20, &mut ways.up, &mut ways.down);
+    let went_up = receive_all(rt, &mut ways.up_end);
+    let went_down = receive_all(rt, &mut ways.down_end);
+    settle_ways(ways);
     Ok((end, went_up, went_down))
 }
 

@@ -100,7 +100,7 @@ fn cut_both<R: Wait>(rt: &R, up: &mut Sender, down: &mut Sender)
 }
 
 // How a feeding ends after its rows.
-#[derive(Clone, Copy, PartialEq, Eq)]
+#[derive(Clone, Copy)]
 enum Ending {
     // By the end.
     Whole,
@@ -170,17 +170,28 @@ fn run_fed<R: Threads + Wait + Sync>(
     run_feeds(rt, alloc, nest, fed, &NoPace)
 }
 
+// The result of a case that is fed and ends so. The feeding is called once.
+fn result_of<R: Threads + Wait + Abort + Sync>(
+    rt: &R,
+    alloc: Global,
+    case: &Case<'_>,
+    ending: Ending,
+) -> Result<Result<RunResult, OutOfMemory>, Fail> {
+    let nest = nest_in(rt, alloc, case)?;
+    let mut fed = fed_of(alloc, case, ending)?;
+    let result = run_fed(rt, alloc, &nest, &mut fed);
+    assert!(rt; fed.calls == 1);
+    Ok(result)
+}
+
 // Feeds a run, and compares the text of the fates.
 pub(super) fn feeds<R: Threads + Wait + Abort + Sync>(
     rt: &R,
     alloc: Global,
     case: &Case<'_>,
 ) -> Result<(), Fail> {
-    let nest = nest_in(rt, alloc, case)?;
-    let mut fed = fed_of(alloc, case, Ending::Whole)?;
-    let result = run_fed(rt, alloc, &nest, &mut fed)?;
+    let result = result_of(rt, alloc, case, Ending::Whole)??;
     assert!(rt; has_fates(alloc, &result, case.fates)?);
-    assert!(rt; fed.calls == 1);
     Ok(())
 }
 
@@ -199,10 +210,7 @@ fn wants<R: Threads + Wait + Abort + Sync>(
     case: &Case<'_>,
     ending: Ending,
 ) -> Result<(), Fail> {
-    let nest = nest_in(rt, alloc, case)?;
-    let mut fed = fed_of(alloc, case, ending)?;
-    assert!(rt; run_fed(rt, alloc, &nest, &mut fed).is_err());
-    assert!(rt; fed.calls == 1);
+    assert!(rt; result_of(rt, alloc, case, ending)?.is_err());
     Ok(())
 }
 

@@ -1,6 +1,6 @@
 // Paces that hold some turns until others have begun.
-use super::{CALLS, Call, Case, agrees_at, fates_of, rows_of};
-use crate::waiting::{give_way, reached};
+use super::{Call, Case, agrees_at, case_of, many_of};
+use crate::waiting::{give_way, is_at, reached};
 use mm_base::{Pace, Role};
 use std::alloc::Global;
 use std::marker::Sync;
@@ -9,11 +9,6 @@ use std::sync::Wait;
 use std::sync::atomic::{AtomicU64, Ordering};
 use std::test::Fail;
 use std::thread::Threads;
-
-// Whether a count is this.
-fn is_at(count: &AtomicU64, wanted: u64) -> bool {
-    count.load(Ordering::SeqCst) == wanted
-}
 
 // The first turns of the four workers of one shell wait until all four have begun.
 #[derive(Drop)]
@@ -53,17 +48,14 @@ fn runs_together<R: Threads + Wait + Abort + Sync>(
         limits: AtomicU64::new(0),
     };
     agrees_at(rt, alloc, call, &TWO_ROWS, &pace)?;
-    assert!(rt; is_at(&pace.begun, 4));
-    assert!(rt; is_at(&pace.limits, 0));
+    assert!(rt; is_at(&pace.begun, 4) && is_at(&pace.limits, 0));
     Ok(())
 }
 
 #[test]
 fn four_workers_run_beside_each_other(rt: HostRuntime) -> Result<(), Fail> {
-    for call in CALLS {
-        runs_together(&rt, rt.alloc(), call)?;
-    }
-    Ok(())
+    runs_together(&rt, rt.alloc(), Call::Threads)?;
+    runs_together(&rt, rt.alloc(), Call::Stream)
 }
 
 // The source waits at its third row until the up collector has a packet.
@@ -111,10 +103,8 @@ fn goes_on_by_marks<R: Threads + Wait + Abort + Sync>(
 
 #[test]
 fn a_mark_lets_a_link_go_on(rt: HostRuntime) -> Result<(), Fail> {
-    for call in CALLS {
-        goes_on_by_marks(&rt, rt.alloc(), call)?;
-    }
-    Ok(())
+    goes_on_by_marks(&rt, rt.alloc(), Call::Threads)?;
+    goes_on_by_marks(&rt, rt.alloc(), Call::Stream)
 }
 
 // The up feeder begins once the source has begun the row after those that the channel and its own hands hold; the up
@@ -187,16 +177,8 @@ fn agrees_with_thousand<Q: Pace + Sync, R: Threads + Wait + Abort + Sync>(
     call: Call,
     pace: &Q,
 ) -> Result<(), Fail> {
-    let schedule = rows_of(alloc, 1_000)?;
-    let fates = fates_of(alloc, 1_000)?;
-    let case = Case {
-        nest: "mm-delay 20",
-        trace: b"1\n",
-        horizon: 2_000,
-        schedule: schedule.as_bytes(),
-        fates: fates.as_bytes(),
-    };
-    agrees_at(rt, alloc, call, &case, pace)
+    let many = many_of(alloc, 1_000)?;
+    agrees_at(rt, alloc, call, &case_of(&many, 2_000), pace)
 }
 
 fn fills_channels<R: Threads + Wait + Abort + Sync>(
@@ -212,17 +194,14 @@ fn fills_channels<R: Threads + Wait + Abort + Sync>(
         early: AtomicU64::new(0),
     };
     agrees_with_thousand(rt, alloc, call, &pace)?;
-    assert!(rt; is_at(&pace.limits, 0));
-    assert!(rt; is_at(&pace.early, 0));
+    assert!(rt; is_at(&pace.limits, 0) && is_at(&pace.early, 0));
     Ok(())
 }
 
 #[test]
 fn channels_hold_sixty_four_items(rt: HostRuntime) -> Result<(), Fail> {
-    for call in CALLS {
-        fills_channels(&rt, rt.alloc(), call)?;
-    }
-    Ok(())
+    fills_channels(&rt, rt.alloc(), Call::Threads)?;
+    fills_channels(&rt, rt.alloc(), Call::Stream)
 }
 
 // Notes which shells' feeders have had a turn in a nest of two, and counts the turns of a second shell that come before
@@ -291,8 +270,6 @@ fn has_numbers<R: Threads + Wait + Abort + Sync>(
 
 #[test]
 fn shells_have_their_numbers(rt: HostRuntime) -> Result<(), Fail> {
-    for call in CALLS {
-        has_numbers(&rt, rt.alloc(), call)?;
-    }
-    Ok(())
+    has_numbers(&rt, rt.alloc(), Call::Threads)?;
+    has_numbers(&rt, rt.alloc(), Call::Stream)
 }

@@ -6,6 +6,7 @@ ghost use Rattle.nest_spec.specs.Nests.{AllFit};
 ghost use Rattle.shell_workers.specs.Stages.{AllFresh, IsFresh};
 
 use super::nest_of;
+use crate::ways::{Ways, open_ways};
 use mark_channel::{Receiver, Sender, open};
 use mm_base::{NoPace, Role};
 use nest_spec::Nest;
@@ -115,20 +116,38 @@ fn end_way<R: Threads + Wait + Abort + Sync>(
     Ok(ends == (WorkEnd::Ended, WorkEnd::Ended))
 }
 
+// Runs the parts of both directions, whose packets are in these channels.
+fn end_ways<R: Threads + Wait + Abort + Sync>(
+    rt: &R,
+    alloc: Global,
+    nest: &Nest,
+    up: Receiver,
+    down: Receiver,
+) -> Result<bool, Fail>
+    requires up { (up.flow ≡ no_items) × (up.horizon ≡ nest.now.horizon) }
+    requires down { (down.flow ≡ no_items) × (down.horizon ≡ nest.now.horizon) }
+{
+    let up_ends = end_way(rt, alloc, nest, Direction::Up, nest.shells(), up)?;
+    let down_ends = end_way(rt, alloc, nest, Direction::Down, 1, down)?;
+    Ok(up_ends && down_ends)
+}
+
 // Sends a schedule, and then runs the parts of both directions.
 fn end_both<R: Threads + Wait + Abort + Sync>(
     rt: &R,
     alloc: Global,
     nest: &Nest,
     schedule: &Schedule,
-) -> Result<(), Fail> {
+) -> Result<bool, Fail> {
     let horizon = nest.horizon();
-    let (mut up, up_end) = open(alloc, CAPACITY, horizon)?;
-    let (mut down, down_end) = open(alloc, CAPACITY, horizon)?;
+    let Ways {
+        mut up,
+        up_end,
+        mut down,
+        down_end,
+    } = open_ways(alloc, CAPACITY, horizon)?;
     send_all(rt, schedule, horizon, &mut up, &mut down);
-    assert!(rt; end_way(rt, alloc, nest, Direction::Up, nest.shells(), up_end)?);
-    assert!(rt; end_way(rt, alloc, nest, Direction::Down, 1, down_end)?);
-    Ok(())
+    end_ways(rt, alloc, nest, up_end, down_end)
 }
 
 #[test]
@@ -136,7 +155,8 @@ fn the_parts_of_a_run_come_to_their_ends(rt: HostRuntime) -> Result<(), Fail> {
     let alloc = rt.alloc();
     let nest = nest_of(&rt, alloc, "mm-delay 10 mm-link t t", b"4\n", 100)?;
     let schedule = read_schedule(alloc, b"0 up 100\n0 down 100\n")?;
-    end_both(&rt, alloc, &nest, &schedule)
+    assert!(rt; end_both(&rt, alloc, &nest, &schedule)?);
+    Ok(())
 }
 
 #[test]

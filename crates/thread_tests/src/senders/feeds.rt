@@ -2,6 +2,7 @@
 use super::{Fed, count_packets, feed_all, feed_texts, has_numbers, senders_from, senders_of};
 use mark_channel::Feeds;
 use packet_record::{Direction, Item, Packet, Row, Schedule, Timed, make_load};
+use sender_merge::Senders;
 use std::alloc::{AllocError, Global};
 use std::marker::Sync;
 use std::process::Abort;
@@ -17,31 +18,54 @@ const SECOND: &[u8] = b"0 up 200\n3 down 50\n9 up 1\n";
 // And one that sends nothing.
 const THIRD: &[u8] = b"";
 
-static THREE: [&[u8]; 3] = [FIRST, SECOND, THIRD];
+// The texts of senders, the horizon up to which they feed, and the numbers of the packets that are fed.
+struct Case {
+    texts: &'static [&'static [u8]],
+    horizon: u64,
+    ups: &'static [u32],
+    downs: &'static [u32],
+}
+
+// A case's senders feed what it says.
+fn feeds<R: Threads + Wait + Sync + Abort>(rt: &R, alloc: Global, case: &Case) -> Result<(), Fail> {
+    let fed = feed_texts(rt, alloc, case.texts, case.horizon)?;
+    assert!(rt; has_numbers(&fed, case.ups, case.downs));
+    Ok(())
+}
+
+static THREE: Case = Case {
+    texts: &[FIRST, SECOND, THIRD],
+    horizon: 8,
+    ups: &[1, 2, 17],
+    downs: &[18],
+};
 
 #[test]
 fn rows_go_by_moment_then_sender(rt: HostRuntime) -> Result<(), Fail> {
-    let fed = feed_texts(&rt, rt.alloc(), &THREE, 8)?;
-    assert!(rt; has_numbers(rt.alloc(), &fed, &[1, 2, 17], &[18])?);
-    Ok(())
+    feeds(&rt, rt.alloc(), &THREE)
 }
 
 static TWO: [&[u8]; 2] = [FIRST, SECOND];
 
-// The numbers of the rows that are fed.
-fn row_numbers<F: Feeds>(alloc: Global, feeds: &F) -> Result<Vec<u32>, AllocError> {
-    let mut numbers = Vec::new(alloc);
-    for row in feeds.rows() {
-        numbers.push(row.timed.packet.id)?;
+// Whether rows have these numbers.
+fn are_numbered(rows: &[Row], numbers: &[u32]) -> bool {
+    for (row, number) in rows.iter().zip(numbers.iter()) {
+        if row.timed.packet.id != *number {
+            return false;
+        }
     }
-    Ok(numbers)
+    rows.len() == numbers.len()
+}
+
+// Whether the rows that are fed have these numbers.
+fn feeds_numbered<F: Feeds>(feeds: &F, numbers: &[u32]) -> bool {
+    are_numbered(feeds.rows(), numbers)
 }
 
 #[test]
 fn the_rows_are_merged(rt: HostRuntime) -> Result<(), Fail> {
     let senders = senders_from(&rt, rt.alloc(), &TWO)?;
-    let numbers = row_numbers(rt.alloc(), &senders)?;
-    assert!(rt; numbers.as_slice() == [1, 2, 18, 17, 34].as_slice());
+    assert!(rt; feeds_numbered(&senders, &[1, 2, 18, 17, 34]));
     Ok(())
 }
 
@@ -64,35 +88,33 @@ const ONE_EACH_UP: [Item; 3] = [packet!(1, 5), packet!(2, 7), Item::End];
 
 const ONE_EACH_DOWN: [Item; 3] = [Item::Mark(5), Item::Mark(7), Item::End];
 
+// Whether these items were fed.
+fn is_fed(fed: &Fed, ups: &[Item], downs: &[Item]) -> bool {
+    fed.ups.as_slice() == ups && fed.downs.as_slice() == downs
+}
+
 // What each sender says of the other direction goes on as far as both have come.
 #[test]
 fn marks_are_passed_on(rt: HostRuntime) -> Result<(), Fail> {
     let fed = feed_texts(&rt, rt.alloc(), &ONE_EACH, 10)?;
-    assert!(rt; fed.ups.as_slice() == ONE_EACH_UP.as_slice());
-    assert!(rt; fed.downs.as_slice() == ONE_EACH_DOWN.as_slice());
+    assert!(rt; is_fed(&fed, &ONE_EACH_UP, &ONE_EACH_DOWN));
     Ok(())
-}
-
-// Sixteen numbers from this one on.
-fn numbers_from(alloc: Global, first: u32) -> Result<Vec<u32>, AllocError> {
-    let mut numbers = Vec::new(alloc);
-    for number in 0..16u32 {
-        numbers.push(first.saturating_add(number))?;
-    }
-    Ok(numbers)
 }
 
 const BOTH_WAYS: &[u8] = b"4 up 100\n4 down 100\n";
 
-static SIXTEEN: [&[u8]; 16] = [BOTH_WAYS; 16];
+static SIXTEEN: Case = Case {
+    texts: &[BOTH_WAYS; 16],
+    horizon: 10,
+    ups: &[1, 2, 3, 4, 5, 6, 7, 8, 9, 10, 11, 12, 13, 14, 15, 16],
+    downs: &[
+        17, 18, 19, 20, 21, 22, 23, 24, 25, 26, 27, 28, 29, 30, 31, 32,
+    ],
+};
 
 #[test]
 fn sixteen_equal_schedules(rt: HostRuntime) -> Result<(), Fail> {
-    let fed = feed_texts(&rt, rt.alloc(), &SIXTEEN, 10)?;
-    let ups = numbers_from(rt.alloc(), 1)?;
-    let downs = numbers_from(rt.alloc(), 17)?;
-    assert!(rt; has_numbers(rt.alloc(), &fed, ups.as_slice(), downs.as_slice())?);
-    Ok(())
+    feeds(&rt, rt.alloc(), &SIXTEEN)
 }
 
 // The text of so many equal lines.
@@ -112,12 +134,19 @@ fn feed_apart<R: Threads + Wait + Sync + Abort>(rt: &R, alloc: Global) -> Result
     feed_texts(rt, alloc, texts.as_slice(), 20)
 }
 
+// How many packets were fed up, and down.
+fn counts(fed: &Fed) -> (u64, u64) {
+    (
+        count_packets(fed.ups.as_slice()),
+        count_packets(fed.downs.as_slice()),
+    )
+}
+
 // Each merge needs the sender that is behind, while the one that is ahead fills its channel in the other direction.
 #[test]
 fn senders_that_are_apart_do_not_stop_each_other(rt: HostRuntime) -> Result<(), Fail> {
     let fed = feed_apart(&rt, rt.alloc())?;
-    assert!(rt; count_packets(fed.ups.as_slice()) == 1_000);
-    assert!(rt; count_packets(fed.downs.as_slice()) == 1_000);
+    assert!(rt; counts(&fed) == (1_000, 1_000));
     Ok(())
 }
 
@@ -176,12 +205,29 @@ fn numbers_up_to(
 fn is_of(alloc: Global, fed: &Fed, rows: &[Row]) -> Result<bool, AllocError> {
     let ups = numbers_up_to(alloc, rows, Direction::Up)?;
     let downs = numbers_up_to(alloc, rows, Direction::Down)?;
-    has_numbers(alloc, fed, ups.as_slice(), downs.as_slice())
+    Ok(has_numbers(fed, ups.as_slice(), downs.as_slice()))
 }
 
 // Whether these rows are fed. It says nothing of them.
 fn has_rows<F: Feeds>(feeds: &F, rows: &[Row]) -> bool {
     feeds.rows() == rows
+}
+
+// Senders, and their rows in the order of a stable sort.
+#[derive(Drop)]
+struct Made {
+    senders: Senders,
+    rows: Vec<Row>,
+}
+
+// So many senders, whose schedules are made.
+fn made_by<R: Abort>(rt: &R, alloc: Global, count: u64) -> Result<Made, Fail> {
+    let schedules = made_schedules(alloc, count, count)?;
+    let rows = sorted_rows(alloc, schedules.as_slice())?;
+    Ok(Made {
+        senders: senders_of(rt, alloc, schedules)?,
+        rows,
+    })
 }
 
 // Compares what so many senders feed with their rows in the order of a stable sort.
@@ -190,12 +236,10 @@ fn feeds_sorted<R: Threads + Wait + Sync + Abort>(
     alloc: Global,
     count: u64,
 ) -> Result<(), Fail> {
-    let schedules = made_schedules(alloc, count, count)?;
-    let rows = sorted_rows(alloc, schedules.as_slice())?;
-    let mut senders = senders_of(rt, alloc, schedules)?;
-    assert!(rt; has_rows(&senders, rows.as_slice()));
-    let fed = feed_all(rt, alloc, &mut senders, HORIZON)?;
-    assert!(rt; is_of(alloc, &fed, rows.as_slice())?);
+    let mut made = made_by(rt, alloc, count)?;
+    assert!(rt; has_rows(&made.senders, made.rows.as_slice()));
+    let fed = feed_all(rt, alloc, &mut made.senders, HORIZON)?;
+    assert!(rt; is_of(alloc, &fed, made.rows.as_slice())?);
     Ok(())
 }
 

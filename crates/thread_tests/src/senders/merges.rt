@@ -250,12 +250,18 @@ fn sixteen_packets(alloc: Global) -> Result<Vec<Item>, OutOfMemory> {
     Ok(items)
 }
 
-#[test]
-fn sixteen_heads_go_by_sender(rt: HostRuntime) -> Result<(), Fail> {
-    let mut core = MergeCore::new(rt.alloc(), 16)?;
-    let mut given = Vec::new(rt.alloc());
+// What the merge of them gives.
+fn given_of_sixteen(rt: &impl Abort, alloc: Global) -> Result<Vec<Item>, Fail> {
+    let mut core = MergeCore::new(alloc, 16)?;
+    let mut given = Vec::new(alloc);
     assert!(rt; add_sixteen(&mut core)?);
     assert!(rt; take_given(&mut core, &mut given)? == 0);
+    Ok(given)
+}
+
+#[test]
+fn sixteen_heads_go_by_sender(rt: HostRuntime) -> Result<(), Fail> {
+    let given = given_of_sixteen(&rt, rt.alloc())?;
     let wanted = sixteen_packets(rt.alloc())?;
     assert!(rt; given.as_slice() == wanted.as_slice());
     Ok(())

@@ -5,9 +5,10 @@ ghost use Rattle.packet_record.specs.declared.item.FlowEnd.TheVariants.{Open};
 ghost use Rattle.packet_record.specs.Streams.{no_items};
 ghost use Rattle.mark_channel.specs.Ends.{IsSameEnd};
 
-use super::{numbers_of, receive_all, senders_from};
-use crate::waiting::reached;
-use mark_channel::{Begun, FeedEnd, Receiver, Sender, open, settle};
+use super::{Fed, are_numbers, count_packets, nothing_fed, receive_all, senders_from};
+use crate::waiting::{is_at, reached};
+use crate::ways::{open_ways, settle_ways};
+use mark_channel::{Begun, FeedEnd, Receiver, Sender};
 use mm_base::{NoPace, Pace, Role};
 use packet_record::Item;
 use sender_merge::Senders;
@@ -54,7 +55,7 @@ fn feed_beside<Q: Pace + Sync, R: Threads + Wait + Sync>(
     end
 }
 
-// Feeds two channels up to a horizon: what came out of the one up, where all was fed. The pace is the one that each
+// Feeds two channels up to a horizon: what came out, where all was fed. The pace is the one that each
 // sender asks before a row, and the receiver after an item.
 fn feed_paced<Q: Pace + Sync, R: Threads + Wait + Sync + Abort>(
     rt: &R,
@@ -62,27 +63,36 @@ fn feed_paced<Q: Pace + Sync, R: Threads + Wait + Sync + Abort>(
     senders: &mut Senders,
     horizon: u64,
     pace: &Q,
-) -> Result<Vec<Item>, Fail> {
-    let (mut up, mut up_end) = open(alloc, 64, horizon)?;
-    let (mut down, mut down_end) = open(alloc, 64, horizon)?;
-    let mut ups = Vec::new(alloc);
+) -> Result<Fed, Fail> {
+    let mut ways = open_ways(alloc, 64, horizon)?;
+    let mut fed = nothing_fed(alloc);
     let end = feed_beside(
         rt,
         senders,
         horizon,
-        &mut up,
-        &mut down,
-        &mut up_end,
-        &mut ups,
+        &mut ways.up,
+        &mut ways.down,
+        &mut ways.up_end,
+        &mut fed.ups,
         pace,
     );
-    let mut downs = Vec::new(alloc);
-    receive_all(rt, &mut down_end, &mut downs, false, &NoPace);
-    settle(up, up_end);
-    settle(down, down_end);
-    assert!(rt; downs.last() == Some(&Item::End));
+    receive_all(rt, &mut ways.down_end, &mut fed.downs, false, &NoPace);
+    settle_ways(ways);
     assert!(rt; end == FeedEnd::Ended);
-    Ok(ups)
+    Ok(fed)
+}
+
+// Feeds what senders of these texts send up to 5, at this pace: what came out. The end came last of what went down.
+fn feed_texts_at<Q: Pace + Sync, R: Threads + Wait + Sync + Abort>(
+    rt: &R,
+    alloc: Global,
+    texts: &[&[u8]],
+    pace: &Q,
+) -> Result<Fed, Fail> {
+    let mut senders = senders_from(rt, alloc, texts)?;
+    let fed = feed_paced(rt, alloc, &mut senders, 5, pace)?;
+    assert!(rt; fed.downs.last() == Some(&Item::End));
+    Ok(fed)
 }
 
 // The first turn of each sender waits until two have begun.
@@ -112,12 +122,9 @@ fn two_senders_run_beside_each_other(rt: HostRuntime) -> Result<(), Fail> {
         begun: AtomicU64::new(0),
         limits: AtomicU64::new(0),
     };
-    let mut senders = senders_from(&rt, rt.alloc(), &TWO)?;
-    let ups = feed_paced(&rt, rt.alloc(), &mut senders, 5, &pace)?;
-    let numbers = numbers_of(rt.alloc(), ups.as_slice())?;
-    assert!(rt; numbers.as_slice() == [1, 2].as_slice());
-    assert!(rt; pace.begun.load(Ordering::SeqCst) == 2);
-    assert!(rt; pace.limits.load(Ordering::SeqCst) == 0);
+    let fed = feed_texts_at(&rt, rt.alloc(), &TWO, &pace)?;
+    assert!(rt; are_numbers(fed.ups.as_slice(), &[1, 2]));
+    assert!(rt; is_at(&pace.begun, 2) && is_at(&pace.limits, 0));
     Ok(())
 }
 
@@ -151,10 +158,8 @@ fn packets_are_given_before_a_sender_has_ended(rt: HostRuntime) -> Result<(), Fa
         received: AtomicU64::new(0),
         limits: AtomicU64::new(0),
     };
-    let mut senders = senders_from(&rt, rt.alloc(), &TWO_OF_FOUR)?;
-    let ups = feed_paced(&rt, rt.alloc(), &mut senders, 5, &pace)?;
-    let numbers = numbers_of(rt.alloc(), ups.as_slice())?;
-    assert!(rt; numbers.len() == 8);
-    assert!(rt; pace.limits.load(Ordering::SeqCst) == 0);
+    let fed = feed_texts_at(&rt, rt.alloc(), &TWO_OF_FOUR, &pace)?;
+    assert!(rt; count_packets(fed.ups.as_slice()) == 8);
+    assert!(rt; is_at(&pace.limits, 0));
     Ok(())
 }

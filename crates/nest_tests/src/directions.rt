@@ -1,0 +1,75 @@
+// Directions of shells by static words, and what runs of them leave.
+ghost use Rattle.std.specs.Prelude.{◌≤◌, length};
+ghost use Rattle.shell_core.specs.Shells.{IsInRange, opportunities};
+
+use crate::inputs::{queue_of, rate_of, trace_of};
+use shell_core::{DirSpec, Passage};
+use shell_log::Log;
+use std::alloc::Global;
+use std::process::Abort;
+use text_base::limits::{HOUR, MOST_OPPORTUNITIES};
+
+// What a direction does.
+#[derive(Clone, Copy)]
+pub enum Kind {
+    Pass,
+    // So many milliseconds.
+    Delay(u64),
+    // A rate, a seed and a stream.
+    Loss(&'static str, u64, u64),
+    // A trace, which is played again and again, and a queue with its arguments.
+    Link(&'static [u8], &'static str, &'static str),
+}
+
+// A link with this trace, which is played again and again, and this queue.
+#[tactic(auto, unfolding(shell_core::specs::Shells::opportunities))]
+fn link_of(
+    rt: &impl Abort,
+    alloc: Global,
+    trace: &[u8],
+    queue: (&str, &str),
+    horizon: u64,
+) -> DirSpec
+    requires horizon { horizon ≤ 3600000 }
+    ensures range { IsInRange result }
+    ensures few { length (opportunities result horizon) ≤ 16000000 }
+{
+    let trace = trace_of(rt, alloc, trace);
+    assert!(rt; trace.count_to(horizon, false) <= MOST_OPPORTUNITIES);
+    DirSpec::Link {
+        trace,
+        once: false,
+        queue: queue_of(rt, queue.0, queue.1),
+    }
+}
+
+// A direction of this kind, which runs up to the horizon.
+#[tactic(auto, unfolding(shell_core::specs::Shells::opportunities))]
+pub fn direction_of(rt: &impl Abort, alloc: Global, kind: Kind, horizon: u64) -> DirSpec
+    requires horizon { horizon ≤ 3600000 }
+    ensures range { IsInRange result }
+    ensures few { length (opportunities result horizon) ≤ 16000000 }
+{
+    match kind {
+        Kind::Pass => DirSpec::Pass,
+        Kind::Delay(ms) => {
+            assert!(rt; ms <= HOUR);
+            DirSpec::Delay { ms }
+        }
+        Kind::Loss(rate, seed, stream) => DirSpec::Loss {
+            rate: rate_of(rt, rate),
+            seed,
+            stream,
+        },
+        Kind::Link(trace, queue, args) => link_of(rt, alloc, trace, (queue, args), horizon),
+    }
+}
+
+// The log of a passage, written out.
+pub fn log_of(rt: &impl Abort, passage: Passage) -> Log {
+    passage
+        .log
+        .expect(rt, "a log")
+        .into_log()
+        .expect(rt, "memory")
+}
