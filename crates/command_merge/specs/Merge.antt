@@ -11,10 +11,11 @@ use Rattle.nest_spec.specs.Words.{NestPlan}
 use Rattle.sender_merge.specs.Merges.{merge_rows}
 use Rattle.option_words.specs.Commands.{MergeTexts, merge_texts}
 use Rattle.option_words.specs.Givens.{◌>>=◌}
+use Rattle.option_words.specs.Numbers.{seed_of}
 use Rattle.command_ends.specs.Causes.{Text}
 use Rattle.command_ends.specs.Outputs.{NamedText, Output, named_text, writes}
 use Rattle.command_run.specs.Inputs.{AreTraceTexts}
-use Rattle.command_run.specs.Run.{ends_options, log_file, seed_of}
+use Rattle.command_run.specs.Run.{ends_options, log_file}
 use Rattle.command_merge.specs.FateLines.{merged_fates_text}
 
 -- its horizon in milliseconds, the name of the list of its senders, that of its fates, its seed, and the words of its

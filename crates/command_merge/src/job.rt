@@ -6,7 +6,7 @@ ghost use Rattle.command_merge.specs.Merge.{merge_numbers, merge_of};
 ghost use Rattle.command_merge.specs.View.{merge_values};
 
 use command_run::end_of_options;
-use option_words::{MergeWords, parse_merge};
+use option_words::{MergeWords, parse_merge, read_seed};
 use std::alloc::Global;
 use text_base::{OutOfMemory, read_decimal};
 
@@ -45,10 +45,7 @@ fn merge_job<'a>(texts: MergeWords<'a>, shells: &'a [String]) -> Option<MergeJob
         (merge_texts_of texts.entry) }
 {
     let until = read_decimal(texts.until.as_bytes())?;
-    let seed = match texts.seed {
-        Some(seed) => read_decimal(seed.as_bytes())?,
-        None => 0,
-    };
+    let seed = read_seed(texts.seed)?;
     Some(MergeJob {
         until,
         senders: texts.senders,

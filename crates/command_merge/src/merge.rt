@@ -92,7 +92,7 @@ fn merge<R: Threads + Wait + Sync, D: Disk, Q: Pace + Sync>(
     write_files(alloc, disk, job.out, run)
 }
 
-/// Does what the words after `merge` say: passes the packets of up to 16 senders, each with a schedule and threads of
+/// Does what the words after `merge` say: passes the packets of up to 16 senders, each with a schedule and a thread of
 /// its own, through a nest of shells, and writes the logs that the shells' words name and then the fates of the packets
 /// in the order of their merge: by moment, then sender, then line. The pace is asked before the turns of the threads.
 /// Nothing is printed, and no net is touched.

@@ -1,9 +1,8 @@
 -- What `replay` is asked for, what it reads and refuses, and what it does with its port.
-use Rattle.std.specs.Prelude.{◌≡◌, ℕ, List, [], ◌∷◌, ◌++◌, Option, Some, None, Ok, Err, ◌&&◌, nat_le, codes, decimal}
-use Rattle.std.specs.Prelude.{option_and_then, if◌then◌else◌}
+use Rattle.std.specs.Prelude.{◌≡◌, ℕ, List, [], ◌∷◌, ◌++◌, Option, Some, None, Ok, Err, codes, decimal}
+use Rattle.std.specs.Prelude.{option_and_then}
 use Rattle.mm_base.specs.Counts.{Rose}
 use Rattle.mm_base.specs.Link.{LinkView}
-use Rattle.text_base.specs.Numbers.{decimal_of}
 use Rattle.mm_base.specs.Port.{PortView}
 use Rattle.record_store.specs.StoreText.{StoreSays}
 use Rattle.record_store.specs.declared.record.Record.{Record}
@@ -13,6 +12,7 @@ use Rattle.replay_server.specs.declared.ends.ServeError.{ServeError}
 use Rattle.replay_server.specs.declared.ends.ServeError.TheVariants as errors
 use Rattle.option_words.specs.Commands.{ReplayTexts, replay_texts}
 use Rattle.option_words.specs.Givens.{◌>>=◌}
+use Rattle.option_words.specs.Numbers.{number_within, port_of}
 use Rattle.command_ends.specs.Causes.{Text}
 use Rattle.command_ends.specs.Outputs.{Output, prints}
 use Rattle.command_ends.specs.Readings.{Reading, Done, asked}
@@ -29,25 +29,16 @@ pub record ReplayJob : Type 0 where
   pub connections : ℕ
   pub site : ℕ
 
-abbrev pub within : ℕ → ℕ → Option ℕ
-within most number = if nat_le 1 number && nat_le number most then Some number else None
-
--- the number that a text stands for, if it is a decimal of 1 to that many
-unfoldable pub number_in : ℕ → Text → Option ℕ
-number_in most text = do
-  number ← decimal_of text
-  within most number
-
 -- the port that requests are asked at: the given one, or else the one that is listened at
 abbrev pub site_in : ℕ → Option Text → Option ℕ
 site_in port None = Some port
-site_in port (Some text) = number_in 65535 text
+site_in port (Some text) = port_of text
 
 -- the numbers are within their ranges
 unfoldable pub replay_with : ReplayTexts → Option ReplayJob
 replay_with texts = do
-  port ← number_in 65535 texts.port
-  connections ← number_in 64 texts.connections
+  port ← port_of texts.port
+  connections ← number_within 1 64 texts.connections
   site ← site_in port texts.site_port
   Some (record { store = texts.store; port = port; connections = connections; site = site })
 

@@ -1,37 +1,13 @@
 // What the words after `replay` ask for.
-ghost use Rattle.std.specs.Prelude.{◌≡◌, ◌≤◌, IfOk, IfSome, map, string_bytes, option_map};
+ghost use Rattle.std.specs.Prelude.{◌≡◌, IfOk, map, string_bytes, option_map};
 ghost use Rattle.option_words.specs.View.{replay_texts_of};
-ghost use Rattle.command_replay.specs.Replay.{number_in, replay_job_of, replay_with, site_in};
+ghost use Rattle.command_replay.specs.Replay.{replay_job_of, replay_with, site_in};
 ghost use Rattle.command_replay.specs.View.{replay_values};
 
 use crate::job::ReplayJob;
-use option_words::{ReplayWords, parse_replay};
+use option_words::{ReplayWords, parse_replay, read_port, read_within};
 use std::alloc::Global;
-use text_base::{OutOfMemory, read_decimal};
-
-// The number that a text stands for: a decimal of 1 to that many.
-#[tactic(auto, unfolding(crate::specs::Replay::number_in))]
-fn read_number(text: &str, most: u64) -> Option<u64>
-    ensures number { result ≡ number_in most text.now }
-    ensures some { IfSome result (λ n. 1 ≤ n) }
-    ensures within { IfSome result (λ n. n ≤ most) }
-{
-    let number = read_decimal(text.as_bytes())?;
-    if 1 <= number && number <= most {
-        return Some(number);
-    }
-    None
-}
-
-// A port of that number.
-fn read_port(text: &str) -> Option<u16>
-    ensures { result ≡ number_in 65535 text.now }
-{
-    match read_number(text, 65_535) {
-        Some(port) => Some(port as u16),
-        None => None,
-    }
-}
+use text_base::OutOfMemory;
 
 // The port that requests are asked at: the given one, or else the one that is listened at.
 fn read_site(text: Option<&str>, port: u16) -> Option<u16>
@@ -49,7 +25,7 @@ fn with_numbers<'a>(texts: ReplayWords<'a>) -> Option<ReplayJob<'a>>
     ensures { option_map replay_values result ≡ replay_with (replay_texts_of texts.entry) }
 {
     let port = read_port(texts.port)?;
-    let connections = read_number(texts.connections, 64)?;
+    let connections = read_within(texts.connections, 1, 64)?;
     let site = read_site(texts.site_port, port)?;
     Some(ReplayJob {
         store: texts.store,

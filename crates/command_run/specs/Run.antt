@@ -12,6 +12,7 @@ use Rattle.nest_spec.specs.Nests.{NestParts, RunLists, built, result_of}
 use Rattle.nest_spec.specs.Once.{HaveOneFate}
 use Rattle.nest_spec.specs.Walk.{NamedEntries}
 use Rattle.nest_spec.specs.Words.{NestPlan}
+use Rattle.option_words.specs.Numbers.{seed_of}
 use Rattle.option_words.specs.RunApp.{RunTexts, run_texts}
 use Rattle.command_ends.specs.Causes.{Text}
 use Rattle.command_ends.specs.Outputs.{NamedText, Output, named_text, writes}
@@ -31,11 +32,6 @@ pub record RunJob : Type 0 where
   pub plain : Bool
   pub order : Option Text
   pub shells : List Text
-
--- the seed is 0 where none is given
-abbrev pub seed_of : Option Text → Option ℕ
-seed_of None = Some 0
-seed_of (Some text) = decimal_of text
 
 -- the numbers are decimals
 unfoldable pub run_numbers : List Text → RunTexts → Option RunJob

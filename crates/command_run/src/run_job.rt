@@ -5,7 +5,7 @@ ghost use Rattle.option_words.specs.View.{texts_of};
 ghost use Rattle.command_run.specs.Run.{ends_options, run_numbers, run_with, run_of};
 ghost use Rattle.command_run.specs.View.{run_values};
 
-use option_words::{RunWords, parse_run};
+use option_words::{RunWords, parse_run, read_seed};
 use std::alloc::Global;
 use text_base::{OutOfMemory, read_decimal};
 
@@ -63,10 +63,7 @@ fn with_numbers<'a>(texts: RunWords<'a>, shells: &'a [String]) -> Option<RunJob<
     ensures { option_map run_values result ≡ run_numbers (map string_bytes shells.now) (texts_of texts.entry) }
 {
     let until = read_decimal(texts.until.as_bytes())?;
-    let seed = match texts.seed {
-        Some(seed) => read_decimal(seed.as_bytes())?,
-        None => 0,
-    };
+    let seed = read_seed(texts.seed)?;
     Some(RunJob {
         until,
         schedule: texts.schedule,

@@ -20,7 +20,8 @@ const STORE: &str =
     "MMSTORE 1\nrecord 27 40\nGET / HTTP/1.1\r\nHost: a\r\n\r\nHTTP/1.1 200 OK\r\nContent-Length: 2\r\n\r\nhi\n";
 
 const STORE_OF_80: &str =
-    "MMSTORE 2\nrecord http 80 27 40\nGET / HTTP/1.1\r\nHost: a\r\n\r\nHTTP/1.1 200 OK\r\nContent-Length: 2\r\n\r\nhi\n";
+    "MMSTORE 2\nrecord http 80 27 40\nGET / HTTP/1.1\r\nHost: a\r\n\r\nHTTP/1.1 200 OK\r\nContent-Length: 2\r\n\r\n\
+        hi\n";
 
 // Two requests, of which the store answers the first.
 const TWO: &str = "GET / HTTP/1.1\r\nHost: a\r\n\r\nGET /x HTTP/1.1\r\nHost: a\r\n\r\n";

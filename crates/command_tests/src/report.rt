@@ -9,7 +9,8 @@ use std::thread::Threads;
 
 // The log of five packets through a queue of two.
 const LOG: &str =
-    "# base timestamp: 0\n0 + 1000\n0 + 1000\n1 # 1504\n1 - 1000 1\n1 + 800\n1 + 800\n1 + 700\n1 d 1 800\n2 # 1504\n2 - 1000 2\n2 - 800 1\n3 # 1504\n3 - 700 2\n";
+    "# base timestamp: 0\n0 + 1000\n0 + 1000\n1 # 1504\n1 - 1000 1\n1 + 800\n1 + 800\n1 + 700\n1 d 1 800\n2 # 1504\n\
+        2 - 1000 2\n2 - 800 1\n3 # 1504\n3 - 700 2\n";
 
 // Its report.
 const REPORT: &str =

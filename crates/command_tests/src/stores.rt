@@ -18,7 +18,8 @@ const STORE: &str =
     "MMSTORE 2\nrecord http 0 27 40\nGET / HTTP/1.1\r\nHost: a\r\n\r\nHTTP/1.1 200 OK\r\nContent-Length: 2\r\n\r\nhi\n";
 
 const AT_81: &str =
-    "MMSTORE 2\nrecord http 81 27 40\nGET / HTTP/1.1\r\nHost: a\r\n\r\nHTTP/1.1 200 OK\r\nContent-Length: 2\r\n\r\nhi\n";
+    "MMSTORE 2\nrecord http 81 27 40\nGET / HTTP/1.1\r\nHost: a\r\n\r\nHTTP/1.1 200 OK\r\nContent-Length: 2\r\n\r\n\
+        hi\n";
 
 // A text of 33 times three messages, and of a last one.
 fn hundred(alloc: Global, three: &str, last: &str) -> Result<String, AllocError> {
@@ -34,11 +35,13 @@ const GET: &str =
     "GET /index.html HTTP/1.1\r\nHost: 127.0.0.1:8080\r\nUser-Agent: curl/8.5.0\r\nAccept: */*\r\n\r\n";
 
 const THREE_GETS: &str =
-    "GET /a HTTP/1.1\r\nHost: a\r\nUser-Agent: curl/8.5.0\r\nAccept: */*\r\n\r\nHEAD /a HTTP/1.1\r\nHost: a\r\n\r\nPOST /a HTTP/1.1\r\nHost: a\r\nContent-Length: 3\r\n\r\nabc";
+    "GET /a HTTP/1.1\r\nHost: a\r\nUser-Agent: curl/8.5.0\r\nAccept: */*\r\n\r\nHEAD /a HTTP/1.1\r\nHost: a\r\n\r\n\
+        POST /a HTTP/1.1\r\nHost: a\r\nContent-Length: 3\r\n\r\nabc";
 
 // By a length, without a body, and in chunks.
 const THREE_ANSWERS: &str =
-    "HTTP/1.1 200 OK\r\nContent-Length: 5\r\n\r\nhelloHTTP/1.1 200 OK\r\nContent-Length: 5\r\n\r\nHTTP/1.1 200 OK\r\nTransfer-Encoding: chunked\r\n\r\n5\r\nhello\r\n0\r\n\r\n";
+    "HTTP/1.1 200 OK\r\nContent-Length: 5\r\n\r\nhelloHTTP/1.1 200 OK\r\nContent-Length: 5\r\n\r\nHTTP/1.1 200 OK\r\n\
+        Transfer-Encoding: chunked\r\n\r\n5\r\nhello\r\n0\r\n\r\n";
 
 // It ends by closing.
 const CLOSING: &str = "HTTP/1.1 200 OK\r\n\r\nthe rest";

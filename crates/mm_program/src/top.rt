@@ -71,7 +71,7 @@ fn answer<R: Threads + Wait + Sync, D: Disk, O: Sink, P: Port, Q: Pace + Sync>(
 /// with `--order` by single steps in the order that the bytes of a file state, whatever they are; the same is written
 /// in each way, and both options together have no job. `merge --until MS --senders FILE --out FILE [--seed N] --
 /// SHELLS` passes the packets of up to 16 senders through one nest: each line of the file names the schedule of a
-/// sender, each sender has threads of its own, and the fates are written with sender and line, in the order of the
+/// sender, each sender has a thread of its own, and the fates are written with sender and line, in the order of the
 /// merge: by moment, then sender, then line. `report --log FILE` prints the report of a log, or `empty`. `make --number
 /// N --packets COUNT` prints the summary of a run of 1 to 1,000,000 packets that is made of a number, up to ten digits
 /// of it. `record --client FILE --server FILE --out FILE [--port N]` writes the store of the two byte streams of a

@@ -1,13 +1,12 @@
 -- What `mm-record` is asked for, and what it does with its port and its dialer.
-use Rattle.std.specs.Prelude.{◌≡◌, ◌⊎◌, ℕ, List, [], Option, Some, None, Err, ◌&&◌, nat_le, option_and_then}
-use Rattle.std.specs.Prelude.{if◌then◌else◌}
+use Rattle.std.specs.Prelude.{◌≡◌, ◌⊎◌, ℕ, List, [], Option, Some, None, Err, option_and_then}
 use Rattle.mm_base.specs.Counts.{Rose}
 use Rattle.mm_base.specs.Link.{LinkView}
-use Rattle.text_base.specs.Numbers.{decimal_of}
 use Rattle.record_store.specs.declared.record.Record.{Record}
 use Rattle.replay_server.specs.declared.ends.Served.{Served}
 use Rattle.option_words.specs.Commands.{ProxyTexts, proxy_texts}
 use Rattle.option_words.specs.Givens.{◌>>=◌}
+use Rattle.option_words.specs.Numbers.{number_within, port_of}
 use Rattle.command_ends.specs.Causes.{Text}
 use Rattle.command_ends.specs.Outputs.{Output}
 use Rattle.command_ends.specs.Readings.{Reading, Done, asked}
@@ -27,21 +26,12 @@ pub record ProxyJob : Type 0 where
   pub connections : ℕ
   pub out : Text
 
-abbrev pub between : ℕ → ℕ → ℕ → Option ℕ
-between least most number = if nat_le least number && nat_le number most then Some number else None
-
--- the number that a text stands for, if it is a decimal within these
-unfoldable pub number_between : ℕ → ℕ → Text → Option ℕ
-number_between least most text = do
-  number ← decimal_of text
-  between least most number
-
 -- the numbers are within their ranges
 unfoldable pub proxy_job_with : ProxyTexts → Option ProxyJob
 proxy_job_with texts = do
-  port ← number_between 1 65535 texts.port
-  site ← number_between 1 65535 texts.to
-  connections ← number_between 0 64 texts.connections
+  port ← port_of texts.port
+  site ← port_of texts.to
+  connections ← number_within 0 64 texts.connections
   Some (record { port = port; site = site; connections = connections; out = texts.out })
 
 -- the job of the words

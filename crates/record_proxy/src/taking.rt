@@ -14,9 +14,10 @@ use crate::ends::ProxyEnd;
 use crate::talk::Talk;
 use mm_base::{EndError, Link};
 use text_base::OutOfMemory;
+use text_base::limits::MOST_CONNECTION_BYTES;
 
 /// How many bytes are taken of a side at most.
-const MOST: usize = 67_108_864;
+const MOST: usize = MOST_CONNECTION_BYTES as usize;
 
 /// How a connection ends at a refusal of a link.
 pub fn refused(fault: ProxyEnd, error: EndError) -> Result<ProxyEnd, OutOfMemory>

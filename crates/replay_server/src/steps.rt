@@ -16,9 +16,10 @@ use crate::gathered::{flush, gather};
 use crate::talk::Talk;
 use mm_base::{EndError, Link, Pace, Role};
 use std::sync::Wait;
+use text_base::limits::MOST_CONNECTION_BYTES;
 
 /// How many bytes are taken at most.
-const MOST: usize = 67_108_864;
+const MOST: usize = MOST_CONNECTION_BYTES as usize;
 
 /// How a session ends at a refusal of its link.
 fn refused(error: EndError) -> ConnEnd

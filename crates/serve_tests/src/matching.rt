@@ -91,7 +91,8 @@ fn greatest_score_first_of_equals(rt: HostRuntime) {
 
 // Two records of one request, from the ports 80 and 8080.
 const TWO_PORTS: &str =
-    "MMSTORE 2\nrecord http 80 27 39\nGET / HTTP/1.1\r\nHost: a\r\n\r\nHTTP/1.1 200 OK\r\nContent-Length: 1\r\n\r\na\nrecord http 8080 27 39\nGET / HTTP/1.1\r\nHost: a\r\n\r\nHTTP/1.1 200 OK\r\nContent-Length: 1\r\n\r\nb\n";
+    "MMSTORE 2\nrecord http 80 27 39\nGET / HTTP/1.1\r\nHost: a\r\n\r\nHTTP/1.1 200 OK\r\nContent-Length: 1\r\n\r\n\
+        a\nrecord http 8080 27 39\nGET / HTTP/1.1\r\nHost: a\r\n\r\nHTTP/1.1 200 OK\r\nContent-Length: 1\r\n\r\nb\n";
 
 const ANSWER: &str = "HTTP/1.1 200 OK\r\nContent-Length: 1\r\n\r\na";
 

@@ -79,7 +79,8 @@ static ROWS: [Row; 9] = [
     ),
     (
         "GET / HTTP/1.1\r\nHost: a\r\n\r\nBAD\x00\n",
-        "HTTP/1.1 200 OK\r\nContent-Length: 2\r\n\r\nhiHTTP/1.1 400 Bad Request\r\nContent-Length: 0\r\nConnection: close\r\n\r\n",
+        "HTTP/1.1 200 OK\r\nContent-Length: 2\r\n\r\nhiHTTP/1.1 400 Bad Request\r\nContent-Length: 0\r\n\
+            Connection: close\r\n\r\n",
         ConnEnd::BadRequest,
     ),
     (

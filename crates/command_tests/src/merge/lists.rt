@@ -14,7 +14,10 @@ const SIXTEEN: &str = "s\ns\ns\ns\ns\ns\ns\ns\ns\ns\ns\ns\ns\ns\ns\ns\n";
 
 // The fates of a packet of each of sixteen senders at one moment.
 const EQUAL_FATES: &str =
-    "1 1 up departed 10\n2 1 up departed 10\n3 1 up departed 10\n4 1 up departed 10\n5 1 up departed 10\n6 1 up departed 10\n7 1 up departed 10\n8 1 up departed 10\n9 1 up departed 10\n10 1 up departed 10\n11 1 up departed 10\n12 1 up departed 10\n13 1 up departed 10\n14 1 up departed 10\n15 1 up departed 10\n16 1 up departed 10\n";
+    "1 1 up departed 10\n2 1 up departed 10\n3 1 up departed 10\n4 1 up departed 10\n5 1 up departed 10\n\
+        6 1 up departed 10\n7 1 up departed 10\n8 1 up departed 10\n9 1 up departed 10\n10 1 up departed 10\n\
+        11 1 up departed 10\n12 1 up departed 10\n13 1 up departed 10\n14 1 up departed 10\n15 1 up departed 10\n\
+        16 1 up departed 10\n";
 
 // Sixteen senders of a schedule, and their fates.
 macro_rules! sixteen {

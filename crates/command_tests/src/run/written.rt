@@ -46,7 +46,8 @@ static ROWS: [Written; 15] = [
         "1\n",
         "0 up 500\n0 up 500\n0 up 500\n0 up 500\n",
         "1 up departed 1\n2 up departed 1\n3 up departed 1\n4 up departed 2\n",
-        "# base timestamp: 0\n0 + 500\n0 + 500\n0 + 500\n0 + 500\n1 # 1504\n1 - 500 1\n1 - 500 1\n1 - 500 1\n2 # 1504\n2 - 500 2\n",
+        "# base timestamp: 0\n0 + 500\n0 + 500\n0 + 500\n0 + 500\n1 # 1504\n1 - 500 1\n1 - 500 1\n1 - 500 1\n\
+            2 # 1504\n2 - 500 2\n",
     ),
     (
         "50 -- mm-link t t --once",
@@ -67,7 +68,8 @@ static ROWS: [Written; 15] = [
         "1\n",
         "0 up 1000\n0 up 1000\n1 up 800\n1 up 800\n1 up 700\n",
         "1 up departed 1\n2 up departed 2\n3 up dropped 1 1\n4 up departed 2\n5 up departed 3\n",
-        "# base timestamp: 0\n0 + 1000\n0 + 1000\n1 # 1504\n1 - 1000 1\n1 + 800\n1 + 800\n1 + 700\n1 d 1 800\n2 # 1504\n2 - 1000 2\n2 - 800 1\n3 # 1504\n3 - 700 2\n",
+        "# base timestamp: 0\n0 + 1000\n0 + 1000\n1 # 1504\n1 - 1000 1\n1 + 800\n1 + 800\n1 + 700\n1 d 1 800\n\
+            2 # 1504\n2 - 1000 2\n2 - 800 1\n3 # 1504\n3 - 700 2\n",
     ),
     (
         "10 -- mm-link t t --uplink-log=u --uplink-queue=drophead --uplink-queue-args=bytes=250",

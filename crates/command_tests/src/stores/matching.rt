@@ -10,11 +10,13 @@ use std::thread::Threads;
 
 // Two records of one request, from the ports 80 and 8080.
 const TWO_PORTS: &str =
-    "MMSTORE 2\nrecord http 80 27 39\nGET / HTTP/1.1\r\nHost: a\r\n\r\nHTTP/1.1 200 OK\r\nContent-Length: 1\r\n\r\na\nrecord http 8080 27 39\nGET / HTTP/1.1\r\nHost: a\r\n\r\nHTTP/1.1 200 OK\r\nContent-Length: 1\r\n\r\nb\n";
+    "MMSTORE 2\nrecord http 80 27 39\nGET / HTTP/1.1\r\nHost: a\r\n\r\nHTTP/1.1 200 OK\r\nContent-Length: 1\r\n\r\n\
+        a\nrecord http 8080 27 39\nGET / HTTP/1.1\r\nHost: a\r\n\r\nHTTP/1.1 200 OK\r\nContent-Length: 1\r\n\r\nb\n";
 
 // Two records whose queries differ in their last byte.
 const TWO_QUERIES: &str =
-    "MMSTORE 1\nrecord 36 38\nGET /a?x=1&y=2 HTTP/1.1\r\nHost: a\r\n\r\nHTTP/1.1 200 OK\r\nContent-Length: 0\r\n\r\n\nrecord 36 38\nGET /a?x=1&y=3 HTTP/1.1\r\nHost: a\r\n\r\nHTTP/1.1 200 OK\r\nContent-Length: 0\r\n\r\n\n";
+    "MMSTORE 1\nrecord 36 38\nGET /a?x=1&y=2 HTTP/1.1\r\nHost: a\r\n\r\nHTTP/1.1 200 OK\r\nContent-Length: 0\r\n\r\n\
+        \nrecord 36 38\nGET /a?x=1&y=3 HTTP/1.1\r\nHost: a\r\n\r\nHTTP/1.1 200 OK\r\nContent-Length: 0\r\n\r\n\n";
 
 const WORDS: &str = "--store s --request q";
 

@@ -6,7 +6,8 @@ use text_base::Bytes;
 
 // A request and four bytes more.
 const ASKED: &str =
-    "\r\nHEAD /a?b HTTP/1.1\nHOST: \t127.0.0.1:8080 \r\nHost: other\r\nUser-Agent: curl/8.5.0\r\nConnection: keep-alive ,\t Close\r\n\r\nrest";
+    "\r\nHEAD /a?b HTTP/1.1\nHOST: \t127.0.0.1:8080 \r\nHost: other\r\nUser-Agent: curl/8.5.0\r\n\
+        Connection: keep-alive ,\t Close\r\n\r\nrest";
 
 const LINE: &[u8] = b"HEAD /a?b HTTP/1.1";
 

@@ -11,7 +11,8 @@ use text_base::OutOfMemory;
 const WORDS: &str = "--port 80 --to 8080 --connections 1 --out s";
 
 const STORE: &str =
-    "MMSTORE 2\nrecord http 8080 27 40\nGET / HTTP/1.1\r\nHost: a\r\n\r\nHTTP/1.1 200 OK\r\nContent-Length: 2\r\n\r\nhi\n";
+    "MMSTORE 2\nrecord http 8080 27 40\nGET / HTTP/1.1\r\nHost: a\r\n\r\nHTTP/1.1 200 OK\r\nContent-Length: 2\r\n\r\n\
+        hi\n";
 
 const NO_RECORD: &str = "MMSTORE 2\n";
 

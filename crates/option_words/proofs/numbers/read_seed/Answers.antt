@@ -1,5 +1,5 @@
 use Rattle.std.proofs.Common.{rules}
-use Rattle.command_relay.proofs.words.read_seed.Goals as goal
+use Rattle.option_words.proofs.numbers.read_seed.Goals as goal
 
 pub returns-in-None : goal.returns-in-None
 returns-in-None c = search rules
