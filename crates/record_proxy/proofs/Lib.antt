@@ -4,5 +4,10 @@ pub mod TextLemmas
 pub mod PairLemmas
 pub mod FrameSteps
 pub mod StandLemmas
+pub mod RequestLemmas
+pub mod ResponseLemmas
+pub mod ClientLemmas
+pub mod ServerLemmas
+pub mod FirstLemmas
 pub mod ServingLemmas
 pub mod CommandLemmas

@@ -8,7 +8,8 @@ use Rattle.record_proxy.specs.Progress.{Progress, taken_of, to_do}
 use Rattle.record_proxy.proofs.TextLemmas.{begun}
 use Rattle.record_proxy.proofs.FrameSteps.{takes, waits, fails, is_response, response_shortens, stops_there, needs_more}
 use Rattle.record_proxy.proofs.FrameSteps.{refuses}
-use Rattle.record_proxy.proofs.StandLemmas.{due_stands, still_answering, stored_cut, refused_response}
+use Rattle.record_proxy.proofs.StandLemmas.{due_stands, still_answering, stored_cut}
+use Rattle.record_proxy.proofs.ServerLemmas.{refused_response}
 use Rattle.record_proxy.proofs.exchange.answer.Goals as goal
 
 pub pass_response-requires-clause-response : goal.pass_response-requires-clause-response

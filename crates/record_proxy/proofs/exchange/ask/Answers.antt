@@ -6,9 +6,10 @@ use Rattle.replay_server.specs.Sessions.{MayGoOn}
 use Rattle.replay_server.proofs.StepLemmas.{if_none}
 use Rattle.record_proxy.specs.Links.{links}
 use Rattle.record_proxy.specs.Progress.{Progress, taken_of, to_do}
-use Rattle.record_proxy.proofs.FrameSteps.{takes, waits, fails, is_request, request_shortens}
-use Rattle.record_proxy.proofs.FrameSteps.{none_waiting, none_refused, may_follow, is_hopeless}
-use Rattle.record_proxy.proofs.StandLemmas.{idle_stands, stored_cut, refused_request, still_progress}
+use Rattle.record_proxy.proofs.FrameSteps.{takes, waits, fails, is_request, request_shortens, none_waiting}
+use Rattle.record_proxy.proofs.FrameSteps.{none_refused, may_follow, is_hopeless}
+use Rattle.record_proxy.proofs.StandLemmas.{idle_stands, stored_cut, still_progress}
+use Rattle.record_proxy.proofs.ClientLemmas.{refused_request}
 use Rattle.record_proxy.proofs.exchange.ask.Goals as goal
 
 pub returns-in-Ok-Message-clause-goes_on : goal.returns-in-Ok-Message-clause-goes_on

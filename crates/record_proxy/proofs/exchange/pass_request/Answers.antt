@@ -3,7 +3,8 @@ use Rattle.std.specs.Option.{option_map}
 use Rattle.mm_base.specs.Link.{giving}
 use Rattle.record_proxy.specs.Giving.{Breaks}
 use Rattle.record_proxy.specs.Progress.{taken_of}
-use Rattle.record_proxy.proofs.StandLemmas.{idle_stands, progress_due, passed_request, broken_request}
+use Rattle.record_proxy.proofs.StandLemmas.{idle_stands, progress_due}
+use Rattle.record_proxy.proofs.RequestLemmas.{passed_request, broken_request}
 use Rattle.record_proxy.proofs.exchange.pass_request.Goals as goal
 
 pub returns-in-Err-clause-goes_on : goal.returns-in-Err-clause-goes_on

@@ -7,8 +7,9 @@ use Rattle.record_proxy.specs.Links.{IsStored, links}
 use Rattle.record_proxy.specs.Progress.{Progress, taken_of}
 use Rattle.record_proxy.specs.declared.ends.ProxyEnd.TheVariants.{Closed}
 use Rattle.record_proxy.proofs.TextLemmas.{exchange}
-use Rattle.record_proxy.proofs.StandLemmas.{due_stands, progress_due, progress_idle, broken_response, passed_interim}
-use Rattle.record_proxy.proofs.StandLemmas.{passed_final, final_unadded, final_closes, records_push}
+use Rattle.record_proxy.proofs.StandLemmas.{due_stands, progress_due, progress_idle}
+use Rattle.record_proxy.proofs.ResponseLemmas.{broken_response, passed_interim, passed_final, final_unadded}
+use Rattle.record_proxy.proofs.ResponseLemmas.{final_closes, records_push}
 use Rattle.record_proxy.proofs.exchange.pass_response.Goals as goal
 
 pub returns-in-Err-clause-goes_on : goal.returns-in-Err-clause-goes_on

@@ -4,7 +4,7 @@ use Rattle.mm_base.proofs.Then.{CountsFaults-none}
 use Rattle.record_proxy.specs.Links.{links}
 use Rattle.record_proxy.specs.Progress.{Progress}
 use Rattle.record_proxy.specs.declared.talk.Talk.{Talk}
-use Rattle.record_proxy.proofs.StandLemmas.{progress_first}
+use Rattle.record_proxy.proofs.FirstLemmas.{progress_first}
 use Rattle.record_proxy.proofs.proxy.converse.Goals as goal
 
 pub steps-init : goal.steps-init

@@ -1,5 +1,5 @@
 use Rattle.record_proxy.specs.Links.{links}
-use Rattle.record_proxy.proofs.StandLemmas.{no_memory_at_first}
+use Rattle.record_proxy.proofs.FirstLemmas.{no_memory_at_first}
 use Rattle.record_proxy.proofs.proxy.proxy_conn.Goals as goal
 
 pub returns-in-Err-clause-stored : goal.returns-in-Err-clause-stored

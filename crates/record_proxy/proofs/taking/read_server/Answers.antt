@@ -8,8 +8,8 @@ use Rattle.replay_server.specs.Sessions.{most}
 use Rattle.record_proxy.specs.Links.{links}
 use Rattle.record_proxy.specs.Progress.{Progress, taken_of}
 use Rattle.record_proxy.proofs.TextLemmas.{begun}
-use Rattle.record_proxy.proofs.StandLemmas.{due_stands, progress_due, server_fails, server_ends, server_brings}
-use Rattle.record_proxy.proofs.StandLemmas.{stored_cut, brought}
+use Rattle.record_proxy.proofs.StandLemmas.{due_stands, progress_due, stored_cut, brought}
+use Rattle.record_proxy.proofs.ServerLemmas.{server_fails, server_ends, server_brings}
 use Rattle.record_proxy.proofs.taking.read_server.Goals as goal
 
 pub returns-in-Err-clause-goes_on : goal.returns-in-Err-clause-goes_on

@@ -1,5 +1,6 @@
 use Rattle.record_proxy.specs.Progress.{taken_of}
-use Rattle.record_proxy.proofs.StandLemmas.{idle_stands, client_full}
+use Rattle.record_proxy.proofs.StandLemmas.{idle_stands}
+use Rattle.record_proxy.proofs.ClientLemmas.{client_full}
 use Rattle.record_proxy.proofs.taking.take_of_client.Goals as goal
 
 pub returns-then-talk-ge-MOST-clause-goes_on : goal.returns-then-talk-ge-MOST-clause-goes_on

@@ -1,6 +1,7 @@
 use Rattle.record_proxy.specs.Progress.{taken_of}
 use Rattle.record_proxy.proofs.TextLemmas.{begun}
-use Rattle.record_proxy.proofs.StandLemmas.{due_stands, server_left, server_full}
+use Rattle.record_proxy.proofs.StandLemmas.{due_stands}
+use Rattle.record_proxy.proofs.ServerLemmas.{server_left, server_full}
 use Rattle.record_proxy.proofs.taking.take_of_server.Goals as goal
 
 pub returns-then-talk-clause-goes_on : goal.returns-then-talk-clause-goes_on
