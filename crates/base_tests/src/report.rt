@@ -20,7 +20,8 @@ const LATE: &[u8] =
 const TEXTS: [(&[u8], &[u8]); 5] = [
     (
         QUEUED,
-        b"entries 13\nspan 0 3\narrived 5 4300\noffered 3 4512\ndeparted 4 3500\ndropped 1 800\nused 775\ndelay 1 2 2\n",
+        b"entries 13\nspan 0 3\narrived 5 4300\noffered 3 4512\ndeparted 4 3500\ndropped 1 800\n\
+used 775\ndelay 1 2 2\n",
     ),
     (
         STATED,
@@ -33,7 +34,8 @@ delay 65536 9999999999 9999999999\n",
     ),
     (
         b"# base timestamp: 0\n7 # 1504\n8 d 9999999999 9999999999\n8 d 9999999999 9999999999\n",
-        b"entries 3\nspan 7 8\narrived 0 0\noffered 1 1504\ndeparted 0 0\ndropped 19999999998 19999999998\nused 0\ndelay none\n",
+        b"entries 3\nspan 7 8\narrived 0 0\noffered 1 1504\ndeparted 0 0\ndropped 19999999998 19999999998\n\
+used 0\ndelay none\n",
     ),
     (b"# base timestamp: 0\n", EMPTY),
 ];

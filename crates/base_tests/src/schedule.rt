@@ -193,7 +193,7 @@ fn is_read_in_pieces(alloc: Global, text: &[u8], size: usize) -> Result<bool, Ou
 
 static SIZES: [usize; 5] = [1, 2, 13, 27, 65_536];
 
-// Whether a text is so in pieces of any size.
+// Whether a text is read and printed as it was in pieces of any size.
 fn is_read_in_any_pieces(alloc: Global, text: &[u8]) -> Result<bool, OutOfMemory> {
     for &size in &SIZES {
         if !is_read_in_pieces(alloc, text, size)? {
