@@ -14,7 +14,7 @@ use Rattle.command_ends.specs.Stops.{StopsAtOutput, StopsWriting}
 use Rattle.command_ends.specs.declared.cause.Cause.{Cause}
 use Rattle.command_ends.specs.declared.cause.Cause.TheVariants.{OutOfMemory}
 use Rattle.command_ends.proofs.OutputLemmas.{one_written, stops_at_file}
-use Rattle.command_run.specs.Run.{log_file}
+use Rattle.nest_command.specs.RunFiles.{log_file}
 use Rattle.command_merge.specs.FateLines.{merged_fate_line, merged_fates_text}
 use Rattle.command_merge.specs.Merge.{merge_files}
 use Rattle.command_merge.specs.declared.fate.SenderFate.{SenderFate}

@@ -26,11 +26,11 @@ use Rattle.command_ends.proofs.CountLemmas.{reads_none}
 use Rattle.command_ends.proofs.EndLemmas.{finishes_only}
 use Rattle.command_ends.proofs.ReadingLemmas.{HasOneEnd, found_stop, leads_text, leads_then, leads_unless, stays}
 use Rattle.command_ends.proofs.ReadingLemmas.{stops_at, stops_here, stops_later, text_stops}
-use Rattle.command_run.specs.Inputs.{reading_traces, schedule_refusal, trace_refusal}
-use Rattle.command_run.specs.Loaded.{HaveTraces}
-use Rattle.command_run.specs.RunReading.{nest_refusal, refused_count, refused_horizon, with_nest}
-use Rattle.command_run.proofs.InputLemmas.{have_said, have_texts, leads_traces}
-use Rattle.command_run.proofs.NestLemmas.{count_text, count_within, horizon_text, names_there}
+use Rattle.nest_command.specs.Inputs.{reading_traces, schedule_refusal, trace_refusal}
+use Rattle.nest_command.specs.Loaded.{HaveTraces}
+use Rattle.nest_command.specs.NestReading.{nest_refusal, refused_count, refused_horizon, with_nest}
+use Rattle.nest_command.proofs.InputLemmas.{have_said, have_texts, leads_traces}
+use Rattle.nest_command.proofs.NestLemmas.{count_text, count_within, horizon_text, names_there}
 use Rattle.command_merge.specs.List.{list_refusal}
 use Rattle.command_merge.specs.Loaded.{AddsSchedules, HasSenders, HasTraces, HaveSchedules}
 use Rattle.command_merge.specs.Merge.{GivesMerge, MergeJob, MergeTask, merge_files, merge_of, nest_for}

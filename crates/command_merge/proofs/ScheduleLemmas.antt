@@ -19,8 +19,8 @@ use Rattle.command_ends.specs.declared.cause.Refusal.{Refusal}
 use Rattle.command_ends.specs.declared.cause.Refusal.TheVariants.{Limit}
 use Rattle.command_ends.proofs.ReadingLemmas.{StopsAlike, alike_done, alike_text, alike_unless, found_stop, leads_text}
 use Rattle.command_ends.proofs.ReadingLemmas.{leads_then, leads_unless, stays, stops_alike, stops_later}
-use Rattle.command_run.specs.Inputs.{reading_schedule, schedule_refusal}
-use Rattle.command_run.specs.Loaded.{HasSchedule}
+use Rattle.nest_command.specs.Inputs.{reading_schedule, schedule_refusal}
+use Rattle.nest_command.specs.Loaded.{HasSchedule}
 use Rattle.command_merge.specs.Loaded.{AddsSchedules, HasNext, HaveSchedules, NoSchedules, MoreSchedules}
 use Rattle.command_merge.specs.Merge.{AreScheduleTexts}
 use Rattle.command_merge.specs.MergeReading.{reading_next, reading_schedules, refused_total}

@@ -4,8 +4,8 @@ use Rattle.std.specs.List.{position, drop-map, take-map}
 use Rattle.std.specs.Prelude.{option_and_then}
 use Rattle.option_words.specs.Commands.{merge_texts}
 use Rattle.command_ends.specs.Causes.{Text}
-use Rattle.command_run.specs.Run.{ends_options}
-use Rattle.command_run.proofs.WordLemmas.{position-map}
+use Rattle.nest_command.specs.Words.{ends_options}
+use Rattle.nest_command.proofs.WordLemmas.{position-map}
 use Rattle.command_merge.specs.Merge.{merge_at, merge_numbers, merge_of}
 
 -- the job of words that have an end of options

@@ -8,7 +8,7 @@ use Rattle.nest_spec.specs.Nests.{opportunities_of}
 use Rattle.nest_spec.specs.Words.{NestPlan}
 use Rattle.command_ends.specs.Causes.{Text}
 use Rattle.command_ends.specs.Stops.{IsInput}
-use Rattle.command_run.specs.Loaded.{HasSchedule, HaveTraces}
+use Rattle.nest_command.specs.Loaded.{HasSchedule, HaveTraces}
 use Rattle.command_merge.specs.List.{list_refusal}
 use Rattle.command_merge.specs.Merge.{MergeJob}
 use Rattle.command_merge.specs.MergeReading.{refused_listed, refused_total}

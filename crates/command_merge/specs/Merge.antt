@@ -14,8 +14,9 @@ use Rattle.option_words.specs.Givens.{◌>>=◌}
 use Rattle.option_words.specs.Numbers.{seed_of}
 use Rattle.command_ends.specs.Causes.{Text}
 use Rattle.command_ends.specs.Outputs.{NamedText, Output, named_text, writes}
-use Rattle.command_run.specs.Inputs.{AreTraceTexts}
-use Rattle.command_run.specs.Run.{ends_options, log_file}
+use Rattle.nest_command.specs.Inputs.{AreTraceTexts}
+use Rattle.nest_command.specs.Words.{ends_options}
+use Rattle.nest_command.specs.RunFiles.{log_file}
 use Rattle.command_merge.specs.FateLines.{merged_fates_text}
 
 -- its horizon in milliseconds, the name of the list of its senders, that of its fates, its seed, and the words of its

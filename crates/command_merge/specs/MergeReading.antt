@@ -9,8 +9,8 @@ use Rattle.command_ends.specs.Readings.{Reading, Done, asked, reading_text, unle
 use Rattle.command_ends.specs.declared.cause.Limit.TheVariants.{Packets}
 use Rattle.command_ends.specs.declared.cause.Refusal.{Refusal}
 use Rattle.command_ends.specs.declared.cause.Refusal.TheVariants.{Limit}
-use Rattle.command_run.specs.Inputs.{reading_schedule, reading_traces}
-use Rattle.command_run.specs.RunReading.{refused_count, refused_horizon, with_nest}
+use Rattle.nest_command.specs.Inputs.{reading_schedule, reading_traces}
+use Rattle.nest_command.specs.NestReading.{refused_count, refused_horizon, with_nest}
 use Rattle.command_merge.specs.List.{list_refusal}
 use Rattle.command_merge.specs.Merge.{MergeJob, MergeTask, merge_of}
 

@@ -9,8 +9,8 @@ ghost use Rattle.command_merge.specs.Merge.{merge_files};
 
 use crate::fate::{SenderFate, sender_fates};
 use command_ends::{Cause, file_written};
-use command_run::write_logs;
 use mm_base::{Disk, save_lines};
+use nest_command::write_logs;
 use nest_plain::NestRun;
 use std::alloc::Global;
 

@@ -5,7 +5,7 @@ ghost use Rattle.option_words.specs.View.{merge_texts_of};
 ghost use Rattle.command_merge.specs.Merge.{merge_numbers, merge_of};
 ghost use Rattle.command_merge.specs.View.{merge_values};
 
-use command_run::end_of_options;
+use nest_command::end_of_options;
 use option_words::{MergeWords, parse_merge, read_seed};
 use std::alloc::Global;
 use text_base::{OutOfMemory, read_decimal};

@@ -26,12 +26,12 @@ use Rattle.command_ends.proofs.ReadingLemmas.{HasOneEnd, RefusesNoWords, Refuses
 use Rattle.command_ends.proofs.ReadingLemmas.{found_stop, leads_then, leads_unless, none_first, stays, stops_here}
 use Rattle.command_ends.proofs.ReadingLemmas.{stops_later}
 use Rattle.command_ends.proofs.ReadingLemmas.{unless_first, unless_no_words}
-use Rattle.command_run.specs.Inputs.{reading_traces, trace_refusal}
-use Rattle.command_run.specs.Loaded.{HaveTraces}
-use Rattle.command_run.specs.Run.{run_files}
-use Rattle.command_run.specs.RunReading.{nest_refusal, refused_count, refused_horizon, with_nest}
-use Rattle.command_run.proofs.InputLemmas.{have_said, have_texts, leads_traces, trace_text}
-use Rattle.command_run.proofs.NestLemmas.{count_text, count_within, horizon_text, names_there}
+use Rattle.nest_command.specs.Inputs.{reading_traces, trace_refusal}
+use Rattle.nest_command.specs.Loaded.{HaveTraces}
+use Rattle.nest_command.specs.RunFiles.{run_files}
+use Rattle.nest_command.specs.NestReading.{nest_refusal, refused_count, refused_horizon, with_nest}
+use Rattle.nest_command.proofs.InputLemmas.{have_said, have_texts, leads_traces, trace_text}
+use Rattle.nest_command.proofs.NestLemmas.{count_text, count_within, horizon_text, names_there}
 use Rattle.command_relay.specs.Jobs.{RelayJob, relay_of}
 use Rattle.command_relay.specs.Lines.{relay_line}
 use Rattle.command_relay.specs.Loaded.{HasNest}

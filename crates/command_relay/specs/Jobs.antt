@@ -5,7 +5,7 @@ use Rattle.option_words.specs.Givens.{◌>>=◌}
 use Rattle.option_words.specs.Numbers.{number_within, port_of, seed_of}
 use Rattle.option_words.specs.RelayApp.{RelayTexts, relay_texts}
 use Rattle.command_ends.specs.Causes.{Text}
-use Rattle.command_run.specs.Run.{ends_options}
+use Rattle.nest_command.specs.Words.{ends_options}
 
 -- its horizon in milliseconds, the port at which it listens for the client, the server's port, how many turns it takes
 -- at most, the name of the fates' file, its seed, and the words of its shells

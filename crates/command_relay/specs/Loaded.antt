@@ -4,7 +4,7 @@ use Rattle.mm_base.specs.Files.{Files}
 use Rattle.trace_reader.specs.Traces.{TraceView}
 use Rattle.nest_spec.specs.Nests.{NestParts, opportunities_of}
 use Rattle.nest_spec.specs.Words.{NestPlan}
-use Rattle.command_run.specs.Loaded.{HaveTraces}
+use Rattle.nest_command.specs.Loaded.{HaveTraces}
 use Rattle.command_relay.specs.Jobs.{RelayJob}
 use Rattle.command_relay.specs.Relaying.{nest_for}
 

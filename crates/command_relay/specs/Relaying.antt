@@ -22,9 +22,9 @@ use Rattle.command_ends.specs.Works.{Work}
 use Rattle.command_ends.specs.declared.cause.Cause.{Cause}
 use Rattle.command_ends.specs.declared.cause.Cause.TheVariants.{NetFault, OutOfMemory}
 use Rattle.command_ends.specs.declared.cause.Refusal.{Refusal}
-use Rattle.command_run.specs.Inputs.{AreTraceTexts, reading_traces}
-use Rattle.command_run.specs.Run.{run_files}
-use Rattle.command_run.specs.RunReading.{refused_count, refused_horizon, with_nest}
+use Rattle.nest_command.specs.Inputs.{AreTraceTexts, reading_traces}
+use Rattle.nest_command.specs.RunFiles.{run_files}
+use Rattle.nest_command.specs.NestReading.{refused_count, refused_horizon, with_nest}
 use Rattle.command_relay.specs.Jobs.{RelayJob, relay_of}
 use Rattle.command_relay.specs.Lines.{relay_line}
 

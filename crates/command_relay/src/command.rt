@@ -20,9 +20,9 @@ use crate::line::print_relayed;
 use crate::passing::relay_job;
 use crate::words::read_relay;
 use command_ends::{Cause, conclude};
-use command_run::write_whole;
 use live_relay::{Clock, Wire};
 use mm_base::{Disk, Sink};
+use nest_command::write_whole;
 use std::alloc::Global;
 
 // Does the job: its inputs are read, datagrams pass the nest, the logs and the fates are written, and then it is

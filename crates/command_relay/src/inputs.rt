@@ -8,8 +8,8 @@ ghost use Rattle.command_relay.specs.View.{relay_values};
 
 use crate::job::RelayJob;
 use command_ends::Cause;
-use command_run::{check_count, check_horizon, check_outputs, load_traces, names_of, nest_cause};
 use mm_base::Disk;
+use nest_command::{check_count, check_horizon, check_outputs, load_traces, names_of, nest_cause};
 use nest_spec::{Nest, NestWords, build, read_nest};
 use std::alloc::Global;
 use text_base::{OutOfMemory, Text};

@@ -5,7 +5,7 @@ ghost use Rattle.command_relay.specs.Jobs.{relay_numbers, relay_of};
 ghost use Rattle.command_relay.specs.View.{relay_values};
 
 use crate::job::RelayJob;
-use command_run::end_of_options;
+use nest_command::end_of_options;
 use option_words::{RelayWords, parse_relay, read_port, read_seed, read_within};
 use std::alloc::Global;
 use text_base::{OutOfMemory, read_decimal};

@@ -6,13 +6,16 @@ use Rattle.command_ends.specs.Causes.{Text}
 use Rattle.command_ends.specs.Readings.{Reading, Done, unless}
 use Rattle.command_ends.proofs.ReadingLemmas.{RefusesNoWords, RefusesWordsFirst, asked_first, none_first, unless_first}
 use Rattle.command_ends.proofs.ReadingLemmas.{unless_no_words}
-use Rattle.command_run.specs.Inputs.{reading_order, reading_schedule, reading_traces, schedule_refusal, trace_refusal}
+use Rattle.nest_command.specs.Inputs.{reading_schedule, reading_traces, schedule_refusal, trace_refusal}
+use Rattle.command_run.specs.RunReading.{reading_order}
 use Rattle.command_run.specs.Run.{RunJob, RunTask, run_of}
-use Rattle.command_run.specs.RunReading.{refused_count, refused_horizon, refused_outputs, run_inputs, run_reading}
-use Rattle.command_run.specs.RunReading.{run_words, with_nest}
+use Rattle.nest_command.specs.NestReading.{refused_count, refused_horizon}
+use Rattle.command_run.specs.RunReading.{refused_outputs, run_inputs, run_reading}
+use Rattle.nest_command.specs.NestReading.{with_nest}
+use Rattle.command_run.specs.RunReading.{run_words}
 use Rattle.trace_reader.specs.TraceIn.{trace_in}
-use Rattle.command_run.proofs.InputLemmas.{schedule_text, trace_text}
-use Rattle.command_run.proofs.NestLemmas.{count_text}
+use Rattle.nest_command.proofs.InputLemmas.{schedule_text, trace_text}
+use Rattle.nest_command.proofs.NestLemmas.{count_text}
 
 -- after a trace is read no words are refused
 traces_no_words : (names : List Text) (next : List (List ℕ) → Reading RunTask)

@@ -1,9 +1,4 @@
 pub mod WordLemmas
-pub mod TraceLemmas
-pub mod InputLemmas
-pub mod NestLemmas
-pub mod LogFileLemmas
-pub mod OutputLemmas
 pub mod RunLemmas
 pub mod FirstLemmas
 pub mod StreamLemmas

@@ -22,16 +22,21 @@ use Rattle.command_ends.proofs.CountLemmas.{reads_none}
 use Rattle.command_ends.proofs.EndLemmas.{finishes_only}
 use Rattle.command_ends.proofs.ReadingLemmas.{found_stop, leads_text, leads_then, leads_unless, stays, stops_here}
 use Rattle.command_ends.proofs.ReadingLemmas.{leads_past, stops_at, stops_later, text_stops_before}
-use Rattle.command_run.specs.Inputs.{reading_order, reading_schedule, schedule_refusal}
-use Rattle.command_run.specs.Loaded.{HasNest, HasOrder, HasRun, HasSchedule, HaveTraces, StopsAtOrder}
-use Rattle.command_run.specs.Run.{GivesRun, RunJob, RunTask, nest_with, run_files}
-use Rattle.command_run.specs.RunReading.{nest_refusal, refused_count, refused_horizon, refused_outputs, run_inputs}
-use Rattle.command_run.specs.RunReading.{run_reading, with_nest}
+use Rattle.nest_command.specs.Inputs.{reading_schedule, schedule_refusal}
+use Rattle.command_run.specs.RunReading.{reading_order}
+use Rattle.nest_command.specs.Loaded.{HasSchedule, HaveTraces}
+use Rattle.command_run.specs.Loaded.{HasNest, HasOrder, HasRun, StopsAtOrder}
+use Rattle.nest_command.specs.RunFiles.{run_files}
+use Rattle.command_run.specs.Run.{GivesRun, RunJob, RunTask, nest_with}
+use Rattle.nest_command.specs.NestReading.{nest_refusal, refused_count, refused_horizon}
+use Rattle.command_run.specs.RunReading.{refused_outputs, run_inputs}
+use Rattle.nest_command.specs.NestReading.{with_nest}
+use Rattle.command_run.specs.RunReading.{run_reading}
 use Rattle.trace_reader.specs.TraceIn.{trace_in}
-use Rattle.command_run.proofs.InputLemmas.{have_said, have_texts, leads_traces}
+use Rattle.nest_command.proofs.InputLemmas.{have_said, have_texts, leads_traces}
 use Rattle.command_run.specs.PassedViews.{passed_lists}
 use Rattle.command_run.specs.declared.passing.Passed.{Passed}
-use Rattle.command_run.proofs.NestLemmas.{count_text, count_within, horizon_text, names_there}
+use Rattle.nest_command.proofs.NestLemmas.{count_text, count_within, horizon_text, names_there}
 
 -- a run's reading after its nest is known
 abbrev after_nest : RunJob → NestPlan → Reading RunTask

@@ -24,9 +24,10 @@ use Rattle.command_ends.specs.declared.cause.Limit.TheVariants.{File}
 use Rattle.command_ends.specs.declared.cause.Refusal.TheVariants.{Absent, Limit}
 use Rattle.command_ends.proofs.InputLemmas.{load_stops}
 use Rattle.command_ends.proofs.ReadingLemmas.{stops_at, text_stops}
-use Rattle.command_run.specs.Inputs.{reading_schedule, schedule_refusal}
-use Rattle.command_run.specs.Loaded.{HasRun, HasSchedule}
-use Rattle.command_run.proofs.InputLemmas.{schedule_accepted, schedule_text}
+use Rattle.nest_command.specs.Inputs.{reading_schedule, schedule_refusal}
+use Rattle.nest_command.specs.Loaded.{HasSchedule}
+use Rattle.command_run.specs.Loaded.{HasRun}
+use Rattle.nest_command.proofs.InputLemmas.{schedule_accepted, schedule_text}
 
 text_input : (told : Option Files) (name : Text) (bytes : List ℕ) → IsText told name bytes → IsInput told name bytes
 text_input told name bytes is = record {

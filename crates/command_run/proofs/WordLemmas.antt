@@ -7,19 +7,8 @@ use Rattle.std.specs.List.{drop-map, take-map}
 use Rattle.std.proofs.lemmas.List.{length-map}
 use Rattle.command_ends.specs.Causes.{Text}
 use Rattle.option_words.specs.RunApp.{run_texts}
-use Rattle.command_run.specs.Run.{ends_options, run_at, run_of, run_with}
-
-prefix_len-map : {X Y : Type 0} (f : X → Y) (p : Y → Bool) (xs : List X)
-    → prefix_len p (map f xs) ≡ prefix_len (λ x. p (f x)) xs
-prefix_len-map f p [] = refl
-prefix_len-map f p (x ∷ xs) = ap (λ n. cond (p (f x)) (1 + n) 0) (prefix_len-map f p xs)
-
-pub position-map : {X Y : Type 0} (f : X → Y) (p : Y → Bool) (xs : List X)
-    → position p (map f xs) ≡ position (λ x. p (f x)) xs
-position-map f p xs =
-    ap (λ n. cond (nat_lt n (length (map f xs))) (Some n) None) (prefix_len-map f (λ y. not (p y)) xs)
-    ∙ ap (λ n. cond (nat_lt (prefix_len (λ x. not (p (f x))) xs) n) (Some (prefix_len (λ x. not (p (f x))) xs)) None)
-    (length-map xs f)
+use Rattle.nest_command.specs.Words.{ends_options}
+use Rattle.command_run.specs.Run.{run_at, run_of, run_with}
 
 -- the job of words that have an end of options
 pub run_parts : {S : Type 0} (f : S → Text) (words : List S) (place : ℕ)

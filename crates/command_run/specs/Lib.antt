@@ -1,4 +1,3 @@
-pub mod Inputs
 pub mod Run
 pub mod RunReading
 pub mod Loaded

@@ -13,28 +13,8 @@ use Rattle.command_ends.specs.Causes.{Text}
 use Rattle.command_ends.specs.Stops.{IsInput, StopsAtFile}
 use Rattle.command_ends.specs.declared.cause.Cause.{Cause}
 use Rattle.command_ends.specs.declared.cause.Cause.TheVariants.{OutOfMemory}
-use Rattle.command_run.specs.Inputs.{schedule_refusal, trace_refusal}
+use Rattle.nest_command.specs.Inputs.{schedule_refusal, trace_refusal}
 use Rattle.command_run.specs.Run.{RunJob, nest_with}
-
--- the file of this name has this text, which is that of this trace
-pub record HasTrace (told : Option Files) (name : Text) (text : List ℕ) (trace : TraceView) : Type 0 where
-  pub input : IsInput told name text
-  pub accepted : trace_refusal name text ≡ None
-  pub trace_is : IsTraceText text trace
-
--- it has this text, which is that of these rows
-pub record HasSchedule (told : Option Files) (name : Text) (text : List ℕ) (rows : List Row) : Type 0 where
-  pub input : IsInput told name text
-  pub accepted : schedule_refusal name text ≡ None
-  pub rows_are : IsScheduleText text rows
-
--- the files of these names have these texts, which are those of these traces
-pub data HaveTraces (told : Option Files) : List Text → List (List ℕ) → List TraceView → Type 0 where
-  NoTraces : HaveTraces told [] [] []
-  MoreTraces : (name : Text) (names : List Text) (text : List ℕ) (texts : List (List ℕ)) (trace : TraceView)
-      (traces : List TraceView)
-      → HasTrace told name text trace → HaveTraces told names texts traces
-      → HaveTraces told (name ∷ names) (text ∷ texts) (trace ∷ traces)
 
 -- the file of the order is an input, where there is one
 abbrev pub HasOrder : Option Files → Option Text → Type 0

@@ -16,7 +16,7 @@ use Rattle.option_words.specs.Numbers.{seed_of}
 use Rattle.option_words.specs.RunApp.{RunTexts, run_texts}
 use Rattle.command_ends.specs.Causes.{Text}
 use Rattle.command_ends.specs.Outputs.{NamedText, Output, named_text, writes}
-use Rattle.command_run.specs.Inputs.{AreTraceTexts}
+use Rattle.nest_command.specs.Inputs.{AreTraceTexts}
 
 infixl 10 ◌>>=◌
 abbrev pub ◌>>=◌ : {A B : Type 0} → Option A → (A → Option B) → Option B
@@ -52,9 +52,6 @@ run_numbers shells texts = do
 abbrev pub run_with : List Text → RunTexts → Option RunJob
 run_with shells texts = if texts.plain && is_some texts.order then None else run_numbers shells texts
 
-abbrev pub ends_options : Text → Bool
-ends_options word = bytes_eq word (codes "--")
-
 -- the words before the one at this place are options, and those after it are the shells'
 abbrev pub run_at : Option ℕ → List Text → Option RunJob
 run_at None words = None
@@ -74,13 +71,6 @@ pub record RunTask : Type 0 where
 -- the nest of the shells' words with these traces
 abbrev pub nest_with : RunJob → NestPlan → List TraceView → NestParts
 nest_with job plan traces = built plan traces job.seed job.until
-
-abbrev pub log_file : NamedEntries → NamedText
-log_file log = named_text log.name (log_text log.entries)
-
--- the text of each log that has a name, in the order of the shells, up before down, and then the text of the fates
-abbrev pub run_files : Text → RunLists → List NamedText
-run_files out run = map log_file run.logs ++ named_text out (fates_text run.fates) ∷ []
 
 -- A run gives the files of its result, over the traces and the rows that the texts state. Each row has one fate.
 pub record GivesRun (task : RunTask) (output : Output) : Type 0 where

@@ -14,17 +14,10 @@ use Rattle.command_ends.specs.declared.cause.Limit.TheVariants.{Horizon, Opportu
 use Rattle.command_ends.specs.declared.cause.Refusal.{Refusal}
 use Rattle.command_ends.specs.declared.cause.Refusal.TheVariants.{Words, Limit}
 use Rattle.command_ends.specs.declared.cause.WordsRefusal.TheVariants.{Nest}
-use Rattle.command_run.specs.Inputs.{reading_order, reading_schedule, reading_traces}
+use Rattle.nest_command.specs.Inputs.{reading_schedule, reading_traces}
+use Rattle.command_run.specs.RunReading.{reading_order}
 use Rattle.command_run.specs.Run.{RunJob, RunTask, run_of}
 use Rattle.trace_reader.specs.TraceIn.{trace_in}
-
-abbrev pub nest_refusal : NestError → Refusal
-nest_refusal error = Words (Nest (number_of error) (place_of error) (inner_of error))
-
--- the words of a nest come first
-abbrev pub with_nest : {A : Type 0} → Result NestPlan NestError → (NestPlan → Reading A) → Reading A
-with_nest (Err error) next = Refuses (nest_refusal error)
-with_nest (Ok plan) next = next plan
 
 -- the names of the inputs: the traces, the schedule, and the order if there is one
 abbrev pub input_names : RunJob → NestPlan → List Text
@@ -34,14 +27,10 @@ input_names job plan = (plan.traces ++ job.schedule ∷ []) ++ option_to_list jo
 abbrev pub refused_outputs : RunJob → NestPlan → Option Refusal
 refused_outputs job plan = refused_names (input_names job plan) (plan.logs ++ job.out ∷ [])
 
--- the horizon is at most an hour
-unfoldable pub refused_horizon : ℕ → Option Refusal
-refused_horizon until = if nat_lt 3600000 until then Some (Limit Horizon) else None
-
--- the links of the shells have at most 16,000,000 opportunities up to the horizon, both directions together
-unfoldable pub refused_count : ℕ → List ShellWords → List TraceView → Option Refusal
-refused_count until shells traces = if nat_lt 16000000 (opportunities_of until shells traces)
-    then Some (Limit Opportunities) else None
+-- The file of the order is read, where there is one. Any bytes are an order, and the run gives the same by each.
+abbrev pub reading_order : {A : Type 0} → Option Text → Reading A → Reading A
+reading_order None next = next
+reading_order (Some name) next = Reads name (λ order. next)
 
 -- the traces, in the order of the shells, up before down, the order if there is one, and the schedule
 abbrev pub run_inputs : RunJob → NestPlan → Reading RunTask

@@ -5,13 +5,13 @@ ghost use Rattle.mm_base.specs.Disk.{DiskView, OnlyReads};
 ghost use Rattle.nest_runner.specs.Streaming.{HasStreamCause};
 ghost use Rattle.command_ends.specs.Readings.{Done};
 ghost use Rattle.command_ends.specs.Stops.{StopsReading};
-ghost use Rattle.command_run.specs.Inputs.{reading_schedule};
+ghost use Rattle.nest_command.specs.Inputs.{reading_schedule};
 ghost use Rattle.command_run.specs.Loaded.{HasRun};
 ghost use Rattle.command_run.specs.PassedViews.{passed_lists};
 
-use crate::inputs::{load_schedule, schedule_cause};
 use command_ends::{Cause, Limit, Refusal};
 use mm_base::{Disk, Pace};
+use nest_command::{load_schedule, schedule_cause};
 use nest_core::run_order;
 use nest_plain::{NestRun, run_nest};
 use nest_runner::{StreamError, run_nest_stream};

@@ -2,9 +2,11 @@
 ghost use Rattle.std.specs.Prelude.{◌≡◌, ◌<◌, IfOk, IfSome, map, string_bytes, position, length};
 ghost use Rattle.std.specs.Option.{option_map};
 ghost use Rattle.option_words.specs.View.{texts_of};
-ghost use Rattle.command_run.specs.Run.{ends_options, run_numbers, run_with, run_of};
+ghost use Rattle.nest_command.specs.Words.{ends_options};
+ghost use Rattle.command_run.specs.Run.{run_numbers, run_with, run_of};
 ghost use Rattle.command_run.specs.View.{run_values};
 
+use nest_command::end_of_options;
 use option_words::{RunWords, parse_run, read_seed};
 use std::alloc::Global;
 use text_base::{OutOfMemory, read_decimal};
@@ -37,14 +39,6 @@ pub(crate) fn read_run<'a>(
         Some(texts) => Ok(run_job(texts, &words[end + 1..])),
         None => Ok(None),
     }
-}
-
-/// Where the first `--` stands, which ends the options.
-pub fn end_of_options(words: &[String]) -> Option<usize>
-    ensures place { result ≡ position (λ word. ends_options (string_bytes word)) words.now }
-    ensures within { IfSome result (λ place. place < length words.now) }
-{
-    words.iter().position(|word| word.as_str() == "--")
 }
 
 // The job of the options' values. `--plain` and `--order` exclude each other.

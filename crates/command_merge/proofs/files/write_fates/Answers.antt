@@ -1,7 +1,7 @@
 use Rattle.std.proofs.Common.{◌≡◌, ℕ, List, OnErr, OnOk, subst}
 use Rattle.mm_base.specs.Files.{holding}
 use Rattle.command_ends.specs.Outputs.{HoldsSome, named_text}
-use Rattle.command_run.proofs.OutputLemmas.{same_answer}
+use Rattle.nest_command.proofs.OutputLemmas.{same_answer}
 use Rattle.command_merge.proofs.FileLemmas.{fate_lines, same_done}
 use Rattle.command_merge.proofs.files.write_fates.Goals as goal
 

@@ -1,5 +1,5 @@
 use Rattle.std.proofs.Common.{◌≡◌, ◌++◌, ◌∷◌, [], map, ap, ◌∙◌}
-use Rattle.command_run.proofs.NestLemmas.{names_checked}
+use Rattle.nest_command.proofs.NestLemmas.{names_checked}
 use Rattle.command_merge.proofs.inputs.check_listed.Goals as goal
 
 pub returns : goal.returns

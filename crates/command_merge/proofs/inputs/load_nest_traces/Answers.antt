@@ -6,10 +6,10 @@ use Rattle.command_ends.specs.Causes.{Text}
 use Rattle.command_ends.specs.Readings.{Done}
 use Rattle.command_ends.specs.Stops.{RefusesText, StopsReading}
 use Rattle.command_ends.specs.declared.cause.Cause.{Cause}
-use Rattle.command_run.specs.Inputs.{reading_traces}
-use Rattle.command_run.specs.Loaded.{HaveTraces}
-use Rattle.command_run.specs.RunReading.{refused_count}
-use Rattle.command_run.proofs.InputLemmas.{traces_stop_before}
+use Rattle.nest_command.specs.Inputs.{reading_traces}
+use Rattle.nest_command.specs.Loaded.{HaveTraces}
+use Rattle.nest_command.specs.NestReading.{refused_count}
+use Rattle.nest_command.proofs.InputLemmas.{traces_stop_before}
 use Rattle.command_merge.specs.MergeReading.{merge_inputs}
 use Rattle.command_merge.specs.View.{merge_values}
 use Rattle.command_merge.proofs.MergeLemmas.{after_traces, count_stop}

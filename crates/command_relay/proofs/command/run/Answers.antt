@@ -6,7 +6,7 @@ use Rattle.command_ends.specs.declared.cause.Cause.{Cause}
 use Rattle.command_ends.proofs.CountLemmas.{reads_none}
 use Rattle.command_ends.proofs.EndLemmas.{ends_stopped, ends_unwritten, ends_whole, keeps, keeps_all}
 use Rattle.command_ends.proofs.ReadingLemmas.{stops_later}
-use Rattle.command_run.specs.Run.{run_files}
+use Rattle.nest_command.specs.RunFiles.{run_files}
 use Rattle.live_relay.specs.declared.outcome.RelayResult.{RelayResult}
 use Rattle.command_relay.specs.Lines.{relay_line}
 use Rattle.command_relay.specs.Relaying.{net, relay_inputs, relay_reading, relay_work}

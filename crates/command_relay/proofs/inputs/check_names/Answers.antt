@@ -1,6 +1,6 @@
 use Rattle.std.proofs.Common.{◌≡◌, ◌++◌, ◌∷◌, [], map, ap, ◌∙◌}
 use Rattle.command_relay.specs.View.{relay_values}
-use Rattle.command_run.proofs.NestLemmas.{names_checked}
+use Rattle.nest_command.proofs.NestLemmas.{names_checked}
 use Rattle.command_relay.proofs.inputs.check_names.Goals as goal
 
 pub returns : goal.returns

@@ -3,7 +3,7 @@ use Rattle.nest_runner.specs.Streaming.{HasStreamCause}
 use Rattle.command_ends.specs.Readings.{Done}
 use Rattle.command_ends.specs.Stops.{StopsReading}
 use Rattle.command_ends.specs.declared.cause.Cause.{Cause}
-use Rattle.command_run.specs.Inputs.{reading_schedule}
+use Rattle.nest_command.specs.Inputs.{reading_schedule}
 use Rattle.command_run.proofs.StreamLemmas.{absent_stop, failed_stop, long_stop, text_stop, wants_stop}
 use Rattle.command_run.proofs.passing.stream_cause.Goals as goal
 

@@ -2,7 +2,7 @@ use Rattle.std.proofs.Common.{subst, sym}
 use Rattle.nest_runner.specs.Streaming.{HasStreamCause}
 use Rattle.command_ends.specs.Readings.{Done}
 use Rattle.command_ends.specs.Stops.{StopsReading}
-use Rattle.command_run.specs.Inputs.{reading_schedule}
+use Rattle.nest_command.specs.Inputs.{reading_schedule}
 use Rattle.command_run.proofs.StreamLemmas.{streamed_run}
 use Rattle.command_run.proofs.passing.stream_packets.Goals as goal
 

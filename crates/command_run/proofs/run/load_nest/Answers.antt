@@ -5,11 +5,12 @@ use Rattle.command_ends.specs.Causes.{Text}
 use Rattle.command_ends.specs.Stops.{RefusesText, StopsReading}
 use Rattle.command_ends.specs.declared.cause.Cause.{Cause}
 use Rattle.command_ends.specs.Readings.{Done}
-use Rattle.command_run.specs.Inputs.{reading_traces}
-use Rattle.command_run.specs.Loaded.{HaveTraces}
-use Rattle.command_run.specs.RunReading.{refused_count, run_inputs}
+use Rattle.nest_command.specs.Inputs.{reading_traces}
+use Rattle.nest_command.specs.Loaded.{HaveTraces}
+use Rattle.nest_command.specs.NestReading.{refused_count}
+use Rattle.command_run.specs.RunReading.{run_inputs}
 use Rattle.command_run.specs.View.{run_values}
-use Rattle.command_run.proofs.InputLemmas.{traces_stop_before}
+use Rattle.nest_command.proofs.InputLemmas.{traces_stop_before}
 use Rattle.command_run.proofs.RunLemmas.{after_traces, count_stop}
 use Rattle.command_run.proofs.run.load_nest.Goals as goal
 

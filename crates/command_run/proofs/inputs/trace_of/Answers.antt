@@ -1,5 +1,0 @@
-use Rattle.command_run.proofs.InputLemmas.{trace_accepted}
-use Rattle.command_run.proofs.inputs.trace_of.Goals as goal
-
-pub returns-in-Ok-clause-refused : goal.returns-in-Ok-clause-refused
-returns-in-Ok-clause-refused c = trace_accepted c.args.name.now c.args.text.now c.in-Ok.ensures.exact

@@ -1,0 +1,6 @@
+pub mod WordLemmas
+pub mod TraceLemmas
+pub mod InputLemmas
+pub mod NestLemmas
+pub mod LogFileLemmas
+pub mod OutputLemmas

@@ -1,0 +1,5 @@
+pub mod Inputs
+pub mod Loaded
+pub mod NestReading
+pub mod RunFiles
+pub mod Words

@@ -1,0 +1,84 @@
+// What commands that run a nest ask of its words, its names, its horizon and its traces.
+ghost use Rattle.std.specs.Prelude.{◌≡◌, ◌≢◌, ◌⊎◌, ◌≤◌, ◌∷◌, ◌++◌, [], None, IfErr, IfOk, MatchResult, OnOk, length};
+ghost use Rattle.std.specs.Prelude.{map};
+ghost use Rattle.command_ends.specs.Names.{refused_names};
+ghost use Rattle.command_ends.specs.Stops.{RefusesText};
+ghost use Rattle.command_ends.specs.declared.cause.Cause.TheVariants as causes;
+ghost use Rattle.nest_spec.specs.Nests.{opportunities_of};
+ghost use Rattle.nest_command.specs.NestReading.{nest_refusal, refused_count, refused_horizon};
+
+use command_ends::{Cause, Limit, Refusal, WordsRefusal, first_taken};
+use nest_spec::{NestError, NestWords};
+use std::alloc::Global;
+use text_base::limits::{HOUR, MOST_OPPORTUNITIES};
+use text_base::{OutOfMemory, Text};
+use trace_reader::Trace;
+
+/// Why the words of the shells are no nest: the number, the place and the inner number of the error, or want of memory.
+pub fn nest_cause(error: NestError) -> Cause
+    ensures { (result ≡ causes.OutOfMemory)
+        ⊎ ((error ≢ NestError.OutOfMemory) × (result ≡ causes.Refused (nest_refusal error))) }
+{
+    match error {
+        NestError::OutOfMemory => Cause::OutOfMemory,
+        _ => Cause::Refused(Refusal::Words(WordsRefusal::Nest {
+            number: error.number(),
+            place: u64::from(error.place()),
+            inner: error.inner(),
+        })),
+    }
+}
+
+/// The names of these texts, and then one more. `OutOfMemory` is want of memory.
+pub fn names_of<'a>(
+    alloc: Global,
+    first: &'a [Text],
+    last: &'a str,
+) -> Result<Vec<&'a str>, OutOfMemory>
+    ensures { IfOk result (λ names. map (λ name. name.now) names.items ≡ first.now ++ last.now ∷ []) }
+{
+    let mut names = Vec::new(alloc);
+    for name in first {
+        names.push(name.as_str())?;
+    }
+    names.push(last)?;
+    Ok(names)
+}
+
+/// Refuses the first output that has the name of an input or of an output before it.
+pub fn check_outputs(alloc: Global, inputs: &[&str], outputs: &[&str]) -> Result<(), Cause>
+    ensures { MatchResult result
+        (λ _. refused_names (map (λ name. name.now) inputs.now) (map (λ name. name.now) outputs.now) ≡ None)
+        (λ cause. RefusesText
+        (refused_names (map (λ name. name.now) inputs.now) (map (λ name. name.now) outputs.now)) cause) }
+{
+    match first_taken(inputs, outputs) {
+        Some(name) => Err(Cause::taken(Text::from_text(alloc, name)?)),
+        None => Ok(()),
+    }
+}
+
+/// Refuses a horizon past an hour.
+pub fn check_horizon(until: u64) -> Result<(), Cause>
+    ensures refused { MatchResult result (λ _. refused_horizon until ≡ None)
+        (λ cause. RefusesText (refused_horizon until) cause) }
+    ensures small { OnOk result (until ≤ 3600000) }
+{
+    if until > HOUR {
+        return Err(Cause::limit(Limit::Horizon));
+    }
+    Ok(())
+}
+
+/// Refuses traces with too many opportunities up to the horizon.
+pub fn check_count(until: u64, words: &NestWords, traces: &[Trace]) -> Result<(), Cause>
+    requires horizon { until ≤ 3600000 }
+    requires count { length traces.now ≡ length words.now.traces }
+    ensures few { OnOk result (opportunities_of until words.now.shells traces.now ≤ 16000000) }
+    ensures refused { IfErr result (λ cause. RefusesText (refused_count until words.now.shells traces.now) cause) }
+{
+    if words.opportunities(traces, until) > MOST_OPPORTUNITIES {
+        return Err(Cause::limit(Limit::Opportunities));
+    }
+    Ok(())
+}

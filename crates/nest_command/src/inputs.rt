@@ -1,0 +1,141 @@
+// The inputs of runs, read from their files: traces, in order, an order, and a schedule.
+ghost use Rattle.std.specs.Prelude.{◌≡◌, ◌≢◌, ℕ, List, length, None, Some, IfOk, IfErr, MatchResult, OnOk, option_map};
+ghost use Rattle.mm_base.specs.Disk.{OnlyReads};
+ghost use Rattle.packet_record.specs.PartsRead.{HasRead};
+ghost use Rattle.text_base.specs.Lines.{lines_of};
+ghost use Rattle.packet_record.specs.Schedules.{IsScheduleText, first_fault};
+ghost use Rattle.trace_reader.specs.Reading.{trace_fault};
+ghost use Rattle.trace_reader.specs.TraceText.{IsTraceText};
+ghost use Rattle.command_ends.specs.Readings.{Done};
+ghost use Rattle.command_ends.specs.Stops.{IsInput, RefusesText, StopsAtFile, StopsReading};
+ghost use Rattle.nest_command.specs.Inputs.{reading_schedule, reading_trace, reading_traces, schedule_refusal};
+ghost use Rattle.nest_command.specs.Inputs.{trace_refusal};
+ghost use Rattle.nest_command.specs.Loaded.{HasSchedule, HasTrace, HaveTraces};
+ghost use Rattle.nest_command.specs.Loaded.{HasOrder, StopsAtOrder};
+
+use command_ends::{Cause, Limit, Refusal, input_size, read_input, read_pieces};
+use mm_base::Disk;
+use packet_record::{Schedule, ScheduleError, ScheduleText};
+use std::alloc::Global;
+use text_base::{Bytes, Text};
+use trace_reader::{Trace, TraceError, read_trace};
+
+// Why the text of the trace of this name isn't accepted.
+fn trace_cause(name: Text, error: TraceError) -> Cause
+    ensures { (text : List ℕ) → (error ≢ TraceError.OutOfMemory → trace_fault text ≡ Some error)
+        → RefusesText (trace_refusal name text) result }
+{
+    match error {
+        TraceError::TooManyLines => Cause::limit(Limit::Lines(name)),
+        TraceError::OutOfMemory => Cause::OutOfMemory,
+        _ => Cause::Refused(Refusal::BadInput {
+            name,
+            number: error.number(),
+            place: error.line(),
+        }),
+    }
+}
+
+/// Why the text of the schedule `name` isn't accepted: `error` as the refusal of that file, its limit of packets, or out
+/// of memory.
+pub fn schedule_cause(name: Text, error: ScheduleError) -> Cause
+    ensures { (text : List ℕ) → (error ≢ ScheduleError.OutOfMemory → first_fault 1 0 (lines_of text) ≡ Some error)
+        → RefusesText (schedule_refusal name text) result }
+{
+    match error {
+        ScheduleError::TooMany => Cause::limit(Limit::Packets(name)),
+        ScheduleError::OutOfMemory => Cause::OutOfMemory,
+        _ => Cause::Refused(Refusal::BadInput {
+            name,
+            number: error.number(),
+            place: error.line(),
+        }),
+    }
+}
+
+// The trace of a text.
+fn trace_of(alloc: Global, name: &str, text: &[u8]) -> Result<Trace, Cause>
+    ensures trace { IfOk result (λ trace. IsTraceText text.now trace) }
+    ensures refused { MatchResult result (λ _. trace_refusal name.now text.now ≡ None)
+        (λ cause. RefusesText (trace_refusal name.now text.now) cause) }
+{
+    match read_trace(alloc, text) {
+        Ok(trace) => Ok(trace),
+        Err(error) => Err(trace_cause(Text::from_text(alloc, name)?, error)),
+    }
+}
+
+// The trace of the file of this name.
+fn load_trace<D: Disk>(alloc: Global, disk: &mut D, name: &str) -> Result<Trace, Cause>
+    ensures found { IfOk result (λ trace. ((text : List ℕ) × HasTrace (D.view disk.old).files name.now text trace)) }
+    ensures stopped { IfErr result (λ cause. StopsReading (reading_trace name.now Done) (D.view disk.old)
+        (D.view disk.new) cause) }
+    ensures only_reads { OnlyReads (D.view disk.old) (D.view disk.new) }
+{
+    let bytes = read_input(alloc, disk, name)?;
+    trace_of(alloc, name, bytes.as_slice())
+}
+
+/// The traces of the files of these names, each read before the next. The cause of what isn't read is its refusal, a
+/// fault of the disk, or want of memory.
+pub fn load_traces<D: Disk>(
+    alloc: Global,
+    disk: &mut D,
+    names: &[Text],
+) -> Result<Vec<Trace>, Cause>
+    ensures found { IfOk result (λ traces. ((texts : List (List ℕ))
+        × HaveTraces (D.view disk.old).files names.now texts traces.items)) }
+    ensures count { IfOk result (λ traces. length traces.items ≡ length names.now) }
+    ensures stopped { IfErr result (λ cause. StopsReading (reading_traces names.now Done) (D.view disk.old)
+        (D.view disk.new) cause) }
+    ensures only_reads { OnlyReads (D.view disk.old) (D.view disk.new) }
+{
+    let mut traces = Vec::new(alloc);
+    for name in names {
+        let trace = load_trace(alloc, disk, name.as_str())?;
+        traces.push(trace)?;
+    }
+    Ok(traces)
+}
+
+// The text of the schedule of this name, read in pieces.
+fn read_schedule_file<D: Disk>(
+    alloc: Global,
+    disk: &mut D,
+    name: &str,
+) -> Result<ScheduleText, Cause>
+    ensures read { IfOk result (λ text. ((bytes : List ℕ) × IsInput (D.view disk.old).files name.now bytes
+        × HasRead bytes text)) }
+    ensures stopped { IfErr result (λ cause. StopsAtFile name.now (D.view disk.old) (D.view disk.new) cause) }
+    ensures only_reads { OnlyReads (D.view disk.old) (D.view disk.new) }
+{
+    let size = input_size(alloc, disk, name)?;
+    let mut text = ScheduleText::new(alloc, size as usize)?;
+    read_pieces(alloc, disk, name, size, &mut text)?;
+    Ok(text)
+}
+
+// The rows of a schedule's text that was read.
+fn schedule_of(alloc: Global, name: &str, text: ScheduleText) -> Result<Schedule, Cause>
+    ensures rows { (bytes : List ℕ) → HasRead bytes text → IfOk result (λ rows. IsScheduleText bytes rows) }
+    ensures refused { (bytes : List ℕ) → HasRead bytes text
+        → MatchResult result (λ _. schedule_refusal name.now bytes ≡ None)
+        (λ cause. RefusesText (schedule_refusal name.now bytes) cause) }
+{
+    match text.finish() {
+        Ok(schedule) => Ok(schedule),
+        Err(error) => Err(schedule_cause(Text::from_text(alloc, name)?, error)),
+    }
+}
+
+/// The schedule of the file of this name. The cause of what isn't read is its refusal, a fault of the disk, or want of
+/// memory.
+pub fn load_schedule<D: Disk>(alloc: Global, disk: &mut D, name: &str) -> Result<Schedule, Cause>
+    ensures found { IfOk result (λ rows. ((text : List ℕ) × HasSchedule (D.view disk.old).files name.now text rows)) }
+    ensures stopped { IfErr result (λ cause. StopsReading (reading_schedule name.now Done) (D.view disk.old)
+        (D.view disk.new) cause) }
+    ensures only_reads { OnlyReads (D.view disk.old) (D.view disk.new) }
+{
+    let text = read_schedule_file(alloc, disk, name)?;
+    schedule_of(alloc, name, text)
+}

@@ -1,0 +1,14 @@
+//! What the commands with a nest share: where their options end, what words, horizon and traces are refused for, the
+//! reading of traces and schedules, and the files of logs and fates.
+#![tactic(auto)]
+
+mod checks;
+mod inputs;
+mod run_files;
+mod whole_logs;
+mod words;
+
+pub use checks::{check_count, check_horizon, check_outputs, names_of, nest_cause};
+pub use inputs::{load_schedule, load_traces, schedule_cause};
+pub use run_files::{write_in_pieces, write_logs, write_whole};
+pub use words::end_of_options;

@@ -1,0 +1,161 @@
+// The files that a run writes: its logs, in order, and then its fates.
+ghost use Rattle.std.specs.Prelude.{◌≡◌, ◌⊎◌, ◌≤◌, ◌<◌, ◌-◌, ℕ, length, take, map, IfErr, OnOk, OnErr};
+ghost use Rattle.std.specs.List.{flat_map};
+ghost use Rattle.mm_base.specs.Disk.{OnlyWrites, HasWriteCause};
+ghost use Rattle.mm_base.specs.Files.{holding, lengthened};
+ghost use Rattle.shell_log.specs.LogText.{lines_text, log_text};
+ghost use Rattle.nest_plain.specs.Unwritten.{unwritten};
+ghost use Rattle.command_ends.specs.Outputs.{HoldsSome, holding_all, named_text};
+ghost use Rattle.command_ends.specs.Stops.{StopsAtOutput, StopsWriting};
+ghost use Rattle.nest_command.specs.RunFiles.{log_file, run_files};
+
+use crate::whole_logs::write_whole_logs;
+use command_ends::{Cause, file_written};
+use link_core::{LinkLog, LogPieces};
+use mm_base::{Disk, DiskError, append_lines, save, save_lines};
+use nest_plain::{NestRun, UnwrittenLog};
+use nest_spec::{Named, RunResult};
+use shell_log::HEADER;
+use std::alloc::Global;
+use text_base::{LineBuffer, PrintLine};
+
+// Adds a line for each entry that is to come at the end of a file, piece by piece as they are made. After a refusal a
+// front of their text was added: none of it, or not all.
+fn append_pieces<D: Disk>(
+    disk: &mut D,
+    name: &str,
+    lines: &mut LineBuffer,
+    pieces: &mut LogPieces,
+) -> Result<(), DiskError>
+    ensures ok { OnOk result
+        ((D.view disk.new).files ≡ lengthened name.now (lines_text pieces.old.rest) (D.view disk.old).files) }
+    ensures err { let text = lines_text pieces.old.rest in OnErr result ((n : ℕ) × (n < length text)
+        × ((D.view disk.new).files ≡ lengthened name.now (take n text) (D.view disk.old).files)) }
+    ensures only_writes { OnlyWrites (D.view disk.old) (D.view disk.new) }
+    ensures cause { HasWriteCause (D.view disk.old) (D.view disk.new) result }
+{
+    'pieces: while pieces.next()? {
+        append_lines(disk, name, lines, pieces.piece())?;
+    }
+    Ok(())
+}
+
+// Makes the file hold a log's text: its first line, and then a line for each entry, written piece by piece as the log
+// is made. After a refusal the file is as before, or it holds a front of the text: none, or not all.
+fn save_pieces<D: Disk>(
+    disk: &mut D,
+    name: &str,
+    lines: &mut LineBuffer,
+    log: LinkLog,
+) -> Result<(), DiskError>
+    ensures ok { OnOk result ((D.view disk.new).files ≡ holding name.now (log_text log) (D.view disk.old).files) }
+    ensures err { OnErr result (HoldsSome (named_text name.now (log_text log)) (D.view disk.old).files
+        (D.view disk.new).files) }
+    ensures only_writes { OnlyWrites (D.view disk.old) (D.view disk.new) }
+    ensures cause { HasWriteCause (D.view disk.old) (D.view disk.new) result }
+{
+    save(disk, name, HEADER)?;
+    let mut pieces = log.pieces();
+    append_pieces(disk, name, lines, &mut pieces)
+}
+
+// The same with a buffer of its own.
+fn save_log<D: Disk>(alloc: Global, disk: &mut D, name: &str, log: LinkLog) -> Result<(), DiskError>
+    ensures ok { OnOk result ((D.view disk.new).files ≡ holding name.now (log_text log) (D.view disk.old).files) }
+    ensures err { OnErr result (HoldsSome (named_text name.now (log_text log)) (D.view disk.old).files
+        (D.view disk.new).files) }
+    ensures only_writes { OnlyWrites (D.view disk.old) (D.view disk.new) }
+    ensures cause { HasWriteCause (D.view disk.old) (D.view disk.new) result }
+{
+    let mut lines = LineBuffer::new(alloc)?;
+    save_pieces(disk, name, &mut lines, log)
+}
+
+// Writes the file of a log, and lets the log go.
+fn write_log<D: Disk>(alloc: Global, disk: &mut D, log: UnwrittenLog) -> Result<(), Cause>
+    ensures ok { OnOk result ((D.view disk.new).files ≡ holding log.name (log_text log.log) (D.view disk.old).files) }
+    ensures partly { OnErr result (HoldsSome (named_text log.name (log_text log.log)) (D.view disk.old).files
+        (D.view disk.new).files) }
+    ensures stopped { IfErr result (λ cause. StopsAtOutput log.name (D.view disk.old) (D.view disk.new) cause) }
+    ensures only_writes { OnlyWrites (D.view disk.old) (D.view disk.new) }
+{
+    let Named { name, log } = log;
+    let written = save_log(alloc, disk, name.as_str(), log);
+    file_written(alloc, name.as_str(), written)
+}
+
+/// Writes the files of the logs in order, and lets each log go when its file is written. Where writing stops, the files
+/// before are whole, and this one is as before or has a front of its text; the cause is a fault of the disk or want of
+/// memory.
+pub fn write_logs<D: Disk>(
+    alloc: Global,
+    disk: &mut D,
+    logs: Vec<UnwrittenLog>,
+) -> Result<(), Cause>
+    ensures ok { OnOk result ((D.view disk.new).files ≡ holding_all (map log_file (unwritten logs.items))
+        (D.view disk.old).files) }
+    ensures stopped { IfErr result (λ cause. StopsWriting (map log_file (unwritten logs.items)) (D.view disk.old)
+        (D.view disk.new) cause) }
+    ensures only_writes { OnlyWrites (D.view disk.old) (D.view disk.new) }
+{
+    for log in logs {
+        write_log(alloc, disk, log)?;
+    }
+    Ok(())
+}
+
+// Writes the file of the fates, in any form that is printed.
+fn write_fates<D: Disk, F: PrintLine>(
+    alloc: Global,
+    disk: &mut D,
+    name: &str,
+    fates: &[F],
+) -> Result<(), Cause>
+    ensures ok { OnOk result ((D.view disk.new).files ≡ holding name.now (flat_map F.line fates.now)
+        (D.view disk.old).files) }
+    ensures partly { OnErr result (HoldsSome (named_text name.now (flat_map F.line fates.now)) (D.view disk.old).files
+        (D.view disk.new).files) }
+    ensures stopped { IfErr result (λ cause. StopsAtOutput name.now (D.view disk.old) (D.view disk.new) cause) }
+    ensures only_writes { OnlyWrites (D.view disk.old) (D.view disk.new) }
+{
+    let written = save_lines(alloc, disk, name, b"", fates);
+    file_written(alloc, name, written)
+}
+
+/// Writes the files of a run whose logs are made in pieces: its logs, in order, and then its fates. Where writing stops,
+/// the files before are whole, and this one is as before or has a front of its text; the cause is a fault of the disk or
+/// out of memory.
+pub fn write_in_pieces<D: Disk>(
+    alloc: Global,
+    disk: &mut D,
+    out: &str,
+    run: NestRun,
+) -> Result<(), Cause>
+    ensures ok { OnOk result ((D.view disk.new).files ≡ holding_all (run_files out.now run) (D.view disk.old).files) }
+    ensures stopped { IfErr result (λ cause. StopsWriting (run_files out.now run) (D.view disk.old) (D.view disk.new)
+        cause) }
+    ensures only_writes { OnlyWrites (D.view disk.old) (D.view disk.new) }
+{
+    let (fates, logs) = run.into_parts();
+    write_logs(alloc, disk, logs)?;
+    write_fates(alloc, disk, out, fates.as_slice())
+}
+
+/// Writes the files of a run whose logs are whole: its logs, in order, and then its fates. Where writing stops, the
+/// files before are whole, and this one is as before or has a front of its text; the cause is a fault of the disk or
+/// want of memory.
+pub fn write_whole<D: Disk>(
+    alloc: Global,
+    disk: &mut D,
+    out: &str,
+    run: &RunResult,
+) -> Result<(), Cause>
+    ensures ok { OnOk result ((D.view disk.new).files
+        ≡ holding_all (run_files out.now run.now) (D.view disk.old).files) }
+    ensures stopped { IfErr result (λ cause. StopsWriting (run_files out.now run.now) (D.view disk.old)
+        (D.view disk.new) cause) }
+    ensures only_writes { OnlyWrites (D.view disk.old) (D.view disk.new) }
+{
+    write_whole_logs(alloc, disk, run.logs())?;
+    write_fates(alloc, disk, out, run.fates())
+}
