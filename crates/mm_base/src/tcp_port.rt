@@ -16,7 +16,7 @@ const TRIES: u64 = u64::MAX;
 /// counts. A client that goes away before it is accepted is passed over. After an `accept` that was refused it doesn't
 /// listen any more, so that whoever connects then is refused and doesn't wait.
 #[derive(Drop)]
-pub struct TcpPort<R: Net<Stream = TcpStream, Listener = TcpListener> + Clock + Send + Copy + Drop> {
+pub struct TcpPort<R: Net<Stream = TcpStream, Listener = TcpListener> + Clock + Copy + Drop> {
     rt: R,
     limits: TcpLimits,
     listener: Option<TcpListener>,
@@ -24,7 +24,7 @@ pub struct TcpPort<R: Net<Stream = TcpStream, Listener = TcpListener> + Clock + 
     faults: u64,
 }
 
-impl<R: Net<Stream = TcpStream, Listener = TcpListener> + Clock + Send + Copy + Drop> TcpPort<R> {
+impl<R: Net<Stream = TcpStream, Listener = TcpListener> + Clock + Copy + Drop> TcpPort<R> {
     /// A port over the runtime's network, which doesn't listen yet.
     pub fn new(rt: R) -> Self
         ensures { (result.accepted ≡ 0) × (result.faults ≡ 0) }
