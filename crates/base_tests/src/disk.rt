@@ -167,12 +167,13 @@ fn is_read_from_any_place<D: Disk>(disk: &mut D, name: &str) -> bool {
     true
 }
 
-// Whether a file is saved and read, and saved anew and loaded.
+// Whether a file is saved anew and read, and isn't made then, since it was read.
 fn is_made_anew<D: Disk>(alloc: Global, disk: &mut D, name: &str) -> bool {
-    saves(disk, name, b"0123456789", Ok(()))
+    saves(disk, name, b"longer than ten", Ok(()))
+        && saves(disk, name, b"0123456789", Ok(()))
         && is_read_from_any_place(disk, name)
-        && saves(disk, name, b"ab", Ok(()))
-        && loads(alloc, disk, name, 10, Ok(b"ab"))
+        && creates(disk, name, Err(DiskError::Failed))
+        && loads(alloc, disk, name, 10, Ok(b"0123456789"))
 }
 
 #[test]

@@ -13,6 +13,8 @@ mod halting;
 #[cfg(test)]
 mod interrupted;
 #[cfg(test)]
+mod limits;
+#[cfg(test)]
 mod lines;
 #[cfg(test)]
 mod log;
@@ -22,6 +24,8 @@ mod loss;
 mod net;
 #[cfg(test)]
 mod packets;
+#[cfg(test)]
+mod pipes;
 #[cfg(test)]
 mod queue;
 #[cfg(test)]

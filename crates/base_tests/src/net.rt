@@ -160,7 +160,7 @@ fn connected(
     rt: &HostRuntime,
     port: &mut TcpPort<HostRuntime>,
     request: &str,
-) -> Option<(TcpStream, TcpLink)> {
+) -> Option<(TcpStream, TcpLink<HostRuntime>)> {
     let number = listen(port)?;
     if !is_taken(rt, number) {
         return None;
@@ -186,7 +186,7 @@ fn is_answered(alloc: Global, client: &TcpStream) -> io::Result<bool> {
 }
 
 // Whether a client is served, and then says no more.
-fn is_served(alloc: Global, client: &TcpStream, link: &mut TcpLink) -> io::Result<bool> {
+fn is_served(alloc: Global, client: &TcpStream, link: &mut TcpLink<HostRuntime>) -> io::Result<bool> {
     Ok(serves(link) && is_answered(alloc, client)? && reads(link, &mut [0u8], b""))
 }
 

@@ -16,7 +16,7 @@ use mm_base::{Disk, Pace, Port, Sink};
 use record_store::Store;
 use replay_server::{ServeError, Served, serve};
 use std::alloc::Global;
-use std::marker::Sync;
+use std::marker::{Send, Sync};
 use std::sync::Wait;
 use std::thread::Threads;
 use store_input::load_store;
@@ -32,7 +32,7 @@ fn cause_of(error: ServeError) -> Cause
 }
 
 // Serves the connections of a job from its store.
-fn serve_job<R: Threads + Wait + Sync, P: Port, Q: Pace + Sync>(
+fn serve_job<R: Threads + Wait + Sync, P: Port + Send, Q: Pace + Sync>(
     rt: &R,
     alloc: Global,
     job: &ReplayJob<'_>,
@@ -62,7 +62,7 @@ fn serve_job<R: Threads + Wait + Sync, P: Port, Q: Pace + Sync>(
 }
 
 // Does the job: its store is read, connections are served, and then it is printed how they ended.
-fn replay<R: Threads + Wait + Sync, D: Disk, O: Sink, P: Port, Q: Pace + Sync>(
+fn replay<R: Threads + Wait + Sync, D: Disk, O: Sink, P: Port + Send, Q: Pace + Sync>(
     rt: &R,
     alloc: Global,
     job: &ReplayJob<'_>,
@@ -86,7 +86,7 @@ fn replay<R: Threads + Wait + Sync, D: Disk, O: Sink, P: Port, Q: Pace + Sync>(
 /// Does what the words after `replay` say: reads a store, listens at a port, serves so many connections side by side,
 /// and prints how they ended, as `closed C bad B broken K full F`. No file is written. `NetFault` comes where the port
 /// can't be listened at, or a connection can't be accepted or finished.
-pub fn answer_replay<R: Threads + Wait + Sync, D: Disk, O: Sink, P: Port, Q: Pace + Sync>(
+pub fn answer_replay<R: Threads + Wait + Sync, D: Disk, O: Sink, P: Port + Send, Q: Pace + Sync>(
     rt: &R,
     alloc: Global,
     words: &[String],

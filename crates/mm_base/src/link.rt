@@ -37,8 +37,9 @@ pub trait Link {
         ensures counts { CountsLinkFaults (view self.old) (view self.new) }
         ensures failed_cause { IsErrOf result EndError.Failed → Rose (view self.old).faults (view self.new).faults };
 
-    /// Says that nothing further will be given, so that the peer learns of the end at once. It changes nothing that
-    /// the link tells, and isn't counted where it fails.
+    /// Says that nothing further will be given, so that the peer learns of the end at once, and that nothing further
+    /// is wanted: a link that tells nothing may let go what still comes, and the call may wait for that. It changes
+    /// nothing that the link tells, and isn't counted where it fails.
     fn close_output(&mut self)
         ensures { view self.new ≡ view self.old };
 }

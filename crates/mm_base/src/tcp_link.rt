@@ -1,60 +1,108 @@
 // A connection over TCP. It tells no content.
-ghost use Rattle.std.specs.Prelude.{◌≡◌, ◌≤◌, None, false};
+ghost use Rattle.std.specs.Prelude.{◌≡◌, ◌≤◌, ◌<◌, length, None, false, IfOk};
 ghost use Rattle.mm_base.specs.Counts.{Rose};
 
+use crate::tcp_limits::TcpLimits;
 use crate::{EndError, Link};
 use interrupted_calls::{read_once, write_once};
 use std::io::{self, ErrorKind};
 use std::net::{Shutdown, TcpStream};
-use std::time::Duration;
+use std::time::{Clock, Duration, Instant};
 
-// For how many seconds a peer may take nothing of what is given to it.
-const PATIENCE: u64 = 300;
+// In how many waits the limit of giving is cut. A wait after which the system's buffer took a byte begins the limit
+// anew, and it may take some in the first few though the peer takes nothing.
+const GIVING_WAITS: u32 = 60;
 
-// How often, and for how many seconds each time, a peer is still heard after the last byte was given to it, and how
-// often it may say less than it is listened to.
-const LAST_READS: u32 = 1024;
+// How many bytes of a peer are let go at most, after the last byte was given to it.
+const MOST_LAST_BYTES: usize = 67_108_864;
 
-const LAST_WAIT: u64 = 1;
-
-const LAST_SHORT_READS: u32 = 16;
+const LAST_PIECE: usize = 16_384;
 
 /// A connection over TCP. It tells no content. Each error but want of memory is counted as a fault: a peer that resets
-/// the connection, or one that has taken nothing for five minutes while there was something to be given.
+/// the connection, one that takes nothing within the limit while there is something to be given, and one that says
+/// nothing within the limit, where there is one.
+///
+/// Closing its output hears the peer out, until it has ended its side, for at most 67,108,864 bytes and the limit of
+/// leaving: what it still says is let go, since a socket that is closed with bytes unread takes back what the peer
+/// hasn't read yet.
 #[derive(Drop)]
-pub struct TcpLink {
+pub struct TcpLink<K: Clock + Drop> {
+    clock: K,
     stream: TcpStream,
+    limits: TcpLimits,
+    has_left: bool,
     faults: u64,
 }
 
-impl TcpLink {
-    // A link over this stream, without a fault so far. What is given is sent at once.
-    pub fn new(stream: TcpStream) -> Self
-        ensures { result.faults ≡ 0 }
+// Gives bytes of the front of a piece, and waits for room up to the limit.
+fn give(stream: &mut TcpStream, piece: &[u8]) -> io::Result<usize>
+    ensures within { IfOk result (λ n. n ≤ length piece.now) }
+    ensures some { IfOk result (λ n. 0 < length piece.now → 0 < n) }
+{
+    'waits: for _ in 1..GIVING_WAITS {
+        match write_once(stream, piece) {
+            Err(error) if error.kind() == ErrorKind::WouldBlock => {}
+            answer => return answer,
+        }
+    }
+    write_once(stream, piece)
+}
+
+// Hears the next piece of a peer within what is left of a limit. None where it has ended, failed, or is over.
+fn hear<K: Clock>(
+    clock: &K,
+    stream: &mut TcpStream,
+    begun: &Instant,
+    limit: Duration,
+) -> Option<usize> {
+    let left = limit.checked_sub(begun.elapsed(clock).ok()?)?;
+    stream.set_read_timeout(Some(left)).ok()?;
+    match read_once(stream, &mut [0u8; LAST_PIECE]) {
+        Ok(count @ 1..) => Some(count),
+        _ => None,
+    }
+}
+
+// Hears a peer out: until it has ended its side, for so long and so many bytes at most.
+fn hear_out<K: Clock>(clock: &K, stream: &mut TcpStream, limit: Duration) {
+    let Ok(begun) = Instant::now(clock) else {
+        return;
+    };
+    let mut bytes = 0usize;
+    for _ in 0..MOST_LAST_BYTES {
+        let Some(count) = hear(clock, stream, &begun, limit) else {
+            return;
+        };
+        bytes = bytes.saturating_add(count);
+        if bytes >= MOST_LAST_BYTES {
+            return;
+        }
+    }
+}
+
+impl<K: Clock + Drop> TcpLink<K> {
+    /// A link over this stream, without a fault so far. What is given is sent at once. An error where the limits can't
+    /// be set.
+    pub fn new(clock: K, stream: TcpStream, limits: TcpLimits) -> io::Result<Self>
+        ensures { IfOk result (λ link. link.faults ≡ 0) }
     {
         let _ = stream.set_nodelay(true);
-        let _ = stream.set_write_timeout(Some(Duration::from_secs(PATIENCE)));
-        TcpLink { stream, faults: 0 }
+        stream.set_write_timeout(Some(limits.giving / GIVING_WAITS))?;
+        stream.set_read_timeout(limits.reading)?;
+        Ok(TcpLink {
+            clock,
+            stream,
+            limits,
+            has_left: false,
+            faults: 0,
+        })
     }
 
-    // Ends the connection once the peer has ended its side, says nothing for a second, or says little again and again.
-    // What it still says is let go: a socket that is closed with bytes unread takes back what the peer hasn't read yet.
+    /// Ends the connection. Where its output wasn't closed before, it is closed first.
     pub fn end(self) {
-        let mut stream = self.stream;
-        let _ = stream.shutdown(Shutdown::Write);
-        let _ = stream.set_read_timeout(Some(Duration::from_secs(LAST_WAIT)));
-        let mut unheard = [0u8; 4096];
-        let mut short_reads = 0u32;
-        for _ in 0..LAST_READS {
-            let Ok(count @ 1..) = read_once(&mut stream, &mut unheard) else {
-                return;
-            };
-            if count < unheard.len() {
-                short_reads = short_reads.saturating_add(1);
-            }
-            if short_reads == LAST_SHORT_READS {
-                return;
-            }
+        let mut link = self;
+        if !link.has_left {
+            link.close_output();
         }
     }
 
@@ -71,7 +119,7 @@ impl TcpLink {
     }
 }
 
-impl Link for TcpLink {
+impl<K: Clock + Drop> Link for TcpLink<K> {
     ghost view = { λ l. record { told = None; faults = l.faults; never_fails = false } };
 
     fn read(&mut self, buf: &mut [u8]) -> Result<usize, EndError> {
@@ -82,13 +130,16 @@ impl Link for TcpLink {
     }
 
     fn write(&mut self, piece: &[u8]) -> Result<usize, EndError> {
-        match write_once(&mut self.stream, piece) {
+        match give(&mut self.stream, piece) {
             Ok(count) => Ok(count),
             Err(error) => Err(self.refuse(error)),
         }
     }
 
     fn close_output(&mut self) {
+        self.has_left = true;
         let _ = self.stream.shutdown(Shutdown::Write);
+        hear_out(&self.clock, &mut self.stream, self.limits.leaving);
+        let _ = self.stream.set_read_timeout(self.limits.reading);
     }
 }

@@ -1,32 +1,44 @@
 // A port of TCP on this machine alone. It tells no content.
-ghost use Rattle.std.specs.Prelude.{◌≡◌, ◌≤◌, ◌<◌, ◌-◌, ◌^◌, None, false, OnOk};
+ghost use Rattle.std.specs.Prelude.{◌≡◌, ◌≤◌, ◌<◌, ◌-◌, ◌^◌, None, false, IfOk, OnOk};
 ghost use Rattle.mm_base.specs.Counts.{Rose};
 
-use crate::{EndError, Link, Port, TcpLink};
+use crate::{EndError, Link, Port, TcpLimits, TcpLink};
 use std::io::{self, ErrorKind};
+use std::marker::Send;
 use std::net::{Ipv4Addr, Net, SocketAddr, TcpListener, TcpStream};
+use std::time::Clock;
 
 // How many connections in a row may break before they are accepted. No run meets it.
 const TRIES: u64 = u64::MAX;
 
 /// A port of TCP at the address 127.0.0.1. It tells no content, and is never drained. Each error but want of memory is
 /// counted as a fault: a port that can't be had, an `accept` before `listen`, or one more connection than a `u64`
-/// counts. A client that goes away before it is accepted is passed over.
+/// counts. A client that goes away before it is accepted is passed over. After an `accept` that was refused it doesn't
+/// listen any more, so that whoever connects then is refused and doesn't wait.
 #[derive(Drop)]
-pub struct TcpPort<R: Net<Stream = TcpStream, Listener = TcpListener> + Drop> {
+pub struct TcpPort<R: Net<Stream = TcpStream, Listener = TcpListener> + Clock + Copy + Drop> {
     rt: R,
+    limits: TcpLimits,
     listener: Option<TcpListener>,
     accepted: u64,
     faults: u64,
 }
 
-impl<R: Net<Stream = TcpStream, Listener = TcpListener> + Drop> TcpPort<R> {
+impl<R: Net<Stream = TcpStream, Listener = TcpListener> + Clock + Copy + Drop> TcpPort<R> {
     /// A port over the runtime's network, which doesn't listen yet.
     pub fn new(rt: R) -> Self
         ensures { (result.accepted ≡ 0) × (result.faults ≡ 0) }
     {
+        Self::with_limits(rt, TcpLimits::accepted())
+    }
+
+    /// A port whose connections have these limits.
+    pub fn with_limits(rt: R, limits: TcpLimits) -> Self
+        ensures { (result.accepted ≡ 0) × (result.faults ≡ 0) }
+    {
         TcpPort {
             rt,
+            limits,
             listener: None,
             accepted: 0,
             faults: 0,
@@ -52,6 +64,14 @@ impl<R: Net<Stream = TcpStream, Listener = TcpListener> + Drop> TcpPort<R> {
         EndError::Failed
     }
 
+    // The next connection, where it can still be counted.
+    fn next_link(&self) -> io::Result<TcpLink<R>>
+        ensures ok { IfOk result (λ link. link.faults ≡ 0) }
+        ensures room { OnOk result (self.now.accepted < 2 ^ 64 - 1) }
+    {
+        TcpLink::new(self.rt, self.next_stream()?, self.limits)
+    }
+
     // The next stream, where it can still be counted.
     fn next_stream(&self) -> io::Result<TcpStream>
         ensures { OnOk result (self.now.accepted < 2 ^ 64 - 1) }
@@ -73,8 +93,8 @@ impl<R: Net<Stream = TcpStream, Listener = TcpListener> + Drop> TcpPort<R> {
     }
 }
 
-impl<R: Net<Stream = TcpStream, Listener = TcpListener> + Drop> Port for TcpPort<R> {
-    type Conn = TcpLink;
+impl<R: Net<Stream = TcpStream, Listener = TcpListener> + Clock + Send + Copy + Drop> Port for TcpPort<R> {
+    type Conn = TcpLink<R>;
 
     ghost view = { λ p. record {
       finished = None;
@@ -97,17 +117,20 @@ impl<R: Net<Stream = TcpStream, Listener = TcpListener> + Drop> Port for TcpPort
         }
     }
 
-    fn accept(&mut self) -> Result<Option<TcpLink>, EndError> {
-        match self.next_stream() {
-            Ok(stream) => {
+    fn accept(&mut self) -> Result<Option<TcpLink<R>>, EndError> {
+        match self.next_link() {
+            Ok(link) => {
                 self.accepted += 1;
-                Ok(Some(TcpLink::new(stream)))
+                Ok(Some(link))
             }
-            Err(error) => Err(self.refuse(error)),
+            Err(error) => {
+                self.listener = None;
+                Err(self.refuse(error))
+            }
         }
     }
 
-    fn finish(&mut self, conn: TcpLink) -> Result<(), EndError> {
+    fn finish(&mut self, conn: TcpLink<R>) -> Result<(), EndError> {
         conn.end();
         Ok(())
     }

@@ -1,28 +1,39 @@
 // A dialer of TCP on this machine alone. It tells no content.
-ghost use Rattle.std.specs.Prelude.{◌≡◌, ◌≤◌, ◌<◌, ◌-◌, ◌^◌, None, OnOk};
+ghost use Rattle.std.specs.Prelude.{◌≡◌, ◌≤◌, ◌<◌, ◌-◌, ◌^◌, None, IfOk, OnOk};
 ghost use Rattle.mm_base.specs.Counts.{Rose};
 
 use crate::dialer::Dialer;
-use mm_base::{EndError, TcpLink};
+use mm_base::{EndError, TcpLimits, TcpLink};
 use std::io::{self, ErrorKind};
 use std::net::{Ipv4Addr, Net, SocketAddr, TcpListener, TcpStream};
+use std::time::Clock;
 
 /// A dialer of TCP at the address 127.0.0.1. It tells no content. Each error but want of memory is counted as a
-/// fault: a port at which nobody listens, or one more connection than a `u64` counts.
+/// fault: a port at which nobody listens, or one more connection than a `u64` counts. A connection that it gives waits
+/// for a byte no longer than a minute; then its read is a fault of that connection.
 #[derive(Drop)]
-pub struct TcpDialer<R: Net<Stream = TcpStream, Listener = TcpListener> + Drop> {
+pub struct TcpDialer<R: Net<Stream = TcpStream, Listener = TcpListener> + Clock + Copy + Drop> {
     rt: R,
+    limits: TcpLimits,
     dialed: u64,
     faults: u64,
 }
 
-impl<R: Net<Stream = TcpStream, Listener = TcpListener> + Drop> TcpDialer<R> {
+impl<R: Net<Stream = TcpStream, Listener = TcpListener> + Clock + Copy + Drop> TcpDialer<R> {
     /// A dialer over the runtime's network, which has given no connection.
     pub fn new(rt: R) -> Self
         ensures { (result.dialed ≡ 0) × (result.faults ≡ 0) }
     {
+        Self::with_limits(rt, TcpLimits::dialed())
+    }
+
+    /// A dialer whose connections have these limits.
+    pub fn with_limits(rt: R, limits: TcpLimits) -> Self
+        ensures { (result.dialed ≡ 0) × (result.faults ≡ 0) }
+    {
         TcpDialer {
             rt,
+            limits,
             dialed: 0,
             faults: 0,
         }
@@ -41,6 +52,14 @@ impl<R: Net<Stream = TcpStream, Listener = TcpListener> + Drop> TcpDialer<R> {
         EndError::Failed
     }
 
+    // A connection to a port of this machine, where it can still be counted.
+    fn link_to(&self, number: u16) -> io::Result<TcpLink<R>>
+        ensures ok { IfOk result (λ link. link.faults ≡ 0) }
+        ensures room { OnOk result (self.now.dialed < 2 ^ 64 - 1) }
+    {
+        TcpLink::new(self.rt, self.stream_to(number)?, self.limits)
+    }
+
     // A stream to a port of this machine, where it can still be counted.
     fn stream_to(&self, number: u16) -> io::Result<TcpStream>
         ensures { OnOk result (self.now.dialed < 2 ^ 64 - 1) }
@@ -52,22 +71,22 @@ impl<R: Net<Stream = TcpStream, Listener = TcpListener> + Drop> TcpDialer<R> {
     }
 }
 
-impl<R: Net<Stream = TcpStream, Listener = TcpListener> + Drop> Dialer for TcpDialer<R> {
-    type Conn = TcpLink;
+impl<R: Net<Stream = TcpStream, Listener = TcpListener> + Clock + Copy + Drop> Dialer for TcpDialer<R> {
+    type Conn = TcpLink<R>;
 
     ghost view = { λ d. record { finished = None; dialed = d.dialed; faults = d.faults } };
 
-    fn dial(&mut self, number: u16) -> Result<TcpLink, EndError> {
-        match self.stream_to(number) {
-            Ok(stream) => {
+    fn dial(&mut self, number: u16) -> Result<TcpLink<R>, EndError> {
+        match self.link_to(number) {
+            Ok(link) => {
                 self.dialed += 1;
-                Ok(TcpLink::new(stream))
+                Ok(link)
             }
             Err(error) => Err(self.refuse(error)),
         }
     }
 
-    fn finish(&mut self, conn: TcpLink) -> Result<(), EndError> {
+    fn finish(&mut self, conn: TcpLink<R>) -> Result<(), EndError> {
         conn.end();
         Ok(())
     }

@@ -13,7 +13,7 @@ use crate::source::Source;
 use mm_base::{EndError, Link, Pace, Port};
 use record_store::Store;
 use std::alloc::Global;
-use std::marker::Sync;
+use std::marker::{Send, Sync};
 use std::sync::Wait;
 use std::thread::{Threads, join_mut};
 
@@ -117,7 +117,7 @@ fn serve_fresh<C: Link, Q: Pace, R: Wait>(
 
 /// Accepts up to `most` connections, and serves each beside accepting the next. They are finished in the other order.
 #[cycle(serve)]
-fn serve_from<P: Port, Q: Pace + Sync, R: Threads + Wait + Sync>(
+fn serve_from<P: Port + Send, Q: Pace + Sync, R: Threads + Wait + Sync>(
     rt: &R,
     alloc: Global,
     source: &Source<'_>,
@@ -146,9 +146,10 @@ fn serve_from<P: Port, Q: Pace + Sync, R: Threads + Wait + Sync>(
     tally(done, count_end(end, rest, most - 1))
 }
 
-/// Serves a connection beside accepting up to `most` further ones.
+/// Serves a connection beside accepting up to `most` further ones. Where no thread can be made, what stands first in
+/// the join runs last: the connection is served, and then the next one is accepted.
 #[cycle(serve)]
-fn serve_beside<P: Port, Q: Pace + Sync, R: Threads + Wait + Sync>(
+fn serve_beside<P: Port + Send, Q: Pace + Sync, R: Threads + Wait + Sync>(
     rt: &R,
     alloc: Global,
     source: &Source<'_>,
@@ -166,13 +167,8 @@ fn serve_beside<P: Port, Q: Pace + Sync, R: Threads + Wait + Sync>(
     ensures within { IsTally most result.2 }
 {
     let mut conn = conn;
-    let (end, rest) = join_mut(
+    let (rest, end) = join_mut(
         rt,
-        &mut || -> ConnEnd
-            requires { IsFresh (P.Conn.view conn) × IsSync R.row × IsSync Q.row }
-            ensures { IsConnServed source.entry.now.store.now source.entry.now.index.port
-                (P.Conn.view conn.exit) result }
-        { serve_fresh(rt, alloc, source, &mut conn, number, pace) },
         &mut || -> Result<Served, ServeError>
             requires { (most < 64) × IsSync R.row × IsSync Q.row }
             ensures serving { IsServing source.entry.now.store.now source.entry.now.index.port P.Conn.view most
@@ -189,6 +185,11 @@ fn serve_beside<P: Port, Q: Pace + Sync, R: Threads + Wait + Sync>(
                 pace,
             )
         },
+        &mut || -> ConnEnd
+            requires { IsFresh (P.Conn.view conn) × IsSync R.row × IsSync Q.row }
+            ensures { IsConnServed source.entry.now.store.now source.entry.now.index.port
+                (P.Conn.view conn.exit) result }
+        { serve_fresh(rt, alloc, source, &mut conn, number, pace) },
     );
     (conn, end, rest)
 }
@@ -199,7 +200,7 @@ fn serve_beside<P: Port, Q: Pace + Sync, R: Threads + Wait + Sync>(
 ///
 /// `Listen` comes where the port can't be listened at, and `Accept` where a connection can't be accepted or finished,
 /// each only where a fault of the port was counted. Those accepted before are served to their end.
-pub fn serve<P: Port, Q: Pace + Sync, R: Threads + Wait + Sync>(
+pub fn serve<P: Port + Send, Q: Pace + Sync, R: Threads + Wait + Sync>(
     rt: &R,
     alloc: Global,
     store: &Store,

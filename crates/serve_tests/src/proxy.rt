@@ -3,6 +3,7 @@ ghost use Rattle.std.specs.Prelude.{◌≤◌};
 
 mod commands;
 mod limits;
+mod limits;
 mod tcp;
 mod watched;
 

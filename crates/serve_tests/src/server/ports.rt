@@ -8,7 +8,7 @@ use crate::store::paired;
 use mm_base::{EndError, MemLink, MemPort, NoPace, Pace, Port, Role};
 use replay_server::{ServeError, Served, serve};
 use std::alloc::Global;
-use std::marker::Sync;
+use std::marker::{Send, Sync};
 use std::sync::Wait;
 use std::sync::atomic::{AtomicU64, Ordering};
 use std::thread::{self, Threads};
@@ -16,7 +16,7 @@ use text_base::OutOfMemory;
 
 /// What `serve` answers with the store of one request. No test needs what its contract says of that, and so this has
 /// none.
-fn served<R: Threads + Wait + Sync, P: Port, Q: Pace + Sync>(
+fn served<R: Threads + Wait + Sync, P: Port + Send, Q: Pace + Sync>(
     rt: &R,
     alloc: Global,
     port: &mut P,

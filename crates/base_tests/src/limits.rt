@@ -1,0 +1,108 @@
+// How long a connection over TCP waits, and where a port listens.
+use mm_base::{EndError, Link, Port, TcpLimits, TcpLink, TcpPort};
+use std::io::{self, Write};
+use std::net::{Ipv4Addr, SocketAddr, TcpStream};
+use std::time::{Duration, Instant};
+
+const SHORT: u64 = 300;
+
+const LONG: u64 = 20;
+
+// Limits of which each is 300 ms.
+fn short_limits() -> TcpLimits {
+    TcpLimits {
+        giving: Duration::from_millis(SHORT),
+        reading: Some(Duration::from_millis(SHORT)),
+        leaving: Duration::from_millis(SHORT),
+    }
+}
+
+// Whether a moment was a limit of 300 ms ago, and no limit of the machine's programs.
+fn is_a_limit_ago(rt: &HostRuntime, begun: &Instant) -> io::Result<bool> {
+    let passed = begun.elapsed(rt)?;
+    Ok(Duration::from_millis(SHORT) <= passed && passed < Duration::from_secs(LONG))
+}
+
+// A port that listens at a number that is free.
+fn listening(rt: &HostRuntime) -> Option<(TcpPort<HostRuntime>, u16)> {
+    let mut port = TcpPort::with_limits(*rt, short_limits());
+    port.listen(0).ok()?;
+    let number = port.number()?;
+    Some((port, number))
+}
+
+fn client_at(rt: &HostRuntime, address: Ipv4Addr, number: u16) -> io::Result<TcpStream> {
+    TcpStream::connect(rt, SocketAddr::from((address, number)))
+}
+
+// A client, and the link on which it comes in.
+fn connected(rt: &HostRuntime) -> Option<(TcpStream, TcpLink<HostRuntime>)> {
+    let (mut port, number) = listening(rt)?;
+    let client = client_at(rt, Ipv4Addr::LOCALHOST, number).ok()?;
+    let link = port.accept().ok()??;
+    Some((client, link))
+}
+
+// How giving ends that goes on for ever.
+fn give_on<L: Link>(link: &mut L) -> Option<EndError> {
+    for _ in 0..1_000_000 {
+        if let Err(error) = link.write(&[0u8; 4_096]) {
+            return Some(error);
+        }
+    }
+    None
+}
+
+// A client that takes nothing is cut at the limit, whatever the system's buffers take.
+#[test]
+fn a_client_that_takes_nothing_is_cut(rt: HostRuntime) {
+    let (client, mut link) = connected(&rt).expect(&rt, "a link");
+    let begun = Instant::now(&rt).expect(&rt, "a clock");
+    assert!(rt; give_on(&mut link) == Some(EndError::Failed));
+    assert!(rt; is_a_limit_ago(&rt, &begun).expect(&rt, "a clock"));
+    drop(client);
+}
+
+// A peer that says nothing is a fault at the limit.
+#[test]
+fn a_peer_that_says_nothing_is_a_fault(rt: HostRuntime) {
+    let (client, mut link) = connected(&rt).expect(&rt, "a link");
+    let begun = Instant::now(&rt).expect(&rt, "a clock");
+    assert!(rt; link.read(&mut [0u8; 1]) == Err(EndError::Failed));
+    assert!(rt; is_a_limit_ago(&rt, &begun).expect(&rt, "a clock"));
+    drop(client);
+}
+
+// A client that neither says more nor ends is heard out for the limit.
+#[test]
+fn a_client_that_stays_is_left_at_the_limit(rt: HostRuntime) {
+    let (mut client, mut link) = connected(&rt).expect(&rt, "a link");
+    client.write_all(b"more").expect(&rt, "a client");
+    let begun = Instant::now(&rt).expect(&rt, "a clock");
+    link.close_output();
+    assert!(rt; is_a_limit_ago(&rt, &begun).expect(&rt, "a clock"));
+    link.end();
+    assert!(rt; begun.elapsed(&rt).expect(&rt, "a clock") < Duration::from_secs(LONG));
+    drop(client);
+}
+
+// Whether nobody listens at another address of this machine.
+fn is_alone(rt: &HostRuntime) -> Option<bool> {
+    let (_port, number) = listening(rt)?;
+    let here = client_at(rt, Ipv4Addr::LOCALHOST, number);
+    let there = client_at(rt, Ipv4Addr::new(127, 0, 0, 2), number);
+    Some(here.is_ok() && there.is_err())
+}
+
+#[test]
+fn a_port_is_open_to_this_machine_alone(rt: HostRuntime) {
+    assert!(rt; is_alone(&rt) == Some(true));
+}
+
+// A port that couldn't accept listens no more.
+#[test]
+fn a_port_that_is_refused_listens_no_more(rt: HostRuntime) {
+    let mut port = TcpPort::new(rt);
+    assert!(rt; matches!(port.accept(), Err(EndError::Failed)));
+    assert!(rt; port.number().is_none());
+}

@@ -1,0 +1,128 @@
+// Real files that are pipes, that are replaced while they are read, or that are to be input and output at once.
+use mm_base::{Disk, DiskError, FileDisk};
+use std::alloc::Global;
+use std::fs::{self, Files};
+use std::io;
+use std::os::fd::AsRawFd;
+
+fn disk_of(rt: &HostRuntime) -> FileDisk<HostRuntime> {
+    FileDisk::new(*rt)
+}
+
+// A path that leads to an open descriptor of this process.
+fn path_of(alloc: Global, descriptor: i32) -> io::Result<String> {
+    Ok(format!(in alloc; "/proc/self/fd/{descriptor}")?)
+}
+
+// Whether an output is made and added to twice.
+fn is_written<D: Disk>(disk: &mut D, name: &str) -> bool {
+    disk.create(name) == Ok(())
+        && disk.append(name, b"one") == Ok(3)
+        && disk.append(name, b"two") == Ok(3)
+}
+
+// Whether a pipe that is an output has all in it, and is open until the disk is gone.
+fn is_one_stream(rt: &HostRuntime) -> io::Result<bool> {
+    let (reader, writer) = io::pipe(rt)?;
+    let path = path_of(rt.alloc(), writer.as_raw_fd())?;
+    let mut disk = disk_of(rt);
+    let is_written = is_written(&mut disk, path.as_str());
+    drop(writer);
+    let is_added = disk.append(path.as_str(), b"end") == Ok(3);
+    drop(disk);
+    Ok(is_written && is_added && io::read_to_string(rt.alloc(), reader)?.as_str() == "onetwoend")
+}
+
+#[test]
+fn a_pipe_is_one_output(rt: HostRuntime) {
+    assert!(rt; is_one_stream(&rt).expect(&rt, "a pipe"));
+}
+
+// Whether adding to a pipe whose reader has gone is a fault.
+fn is_broken(rt: &HostRuntime) -> io::Result<bool> {
+    let (reader, writer) = io::pipe(rt)?;
+    let path = path_of(rt.alloc(), writer.as_raw_fd())?;
+    let mut disk = disk_of(rt);
+    let is_made = disk.create(path.as_str()) == Ok(());
+    drop(reader);
+    Ok(is_made && disk.append(path.as_str(), b"one") == Err(DiskError::Failed))
+}
+
+#[test]
+fn a_reader_that_has_gone_is_a_fault(rt: HostRuntime) {
+    assert!(rt; is_broken(&rt).expect(&rt, "a pipe"));
+}
+
+// Whether a file's length is answered, and its bytes after it was replaced.
+fn is_read_on(rt: &HostRuntime, name: &str, other: &str) -> io::Result<bool> {
+    fs::write(rt, name, "old")?;
+    fs::write(rt, other, "new!")?;
+    let mut disk = disk_of(rt);
+    let mut buf = [0u8; 4];
+    let is_sized = disk.size(name) == Ok(3);
+    fs::rename(rt, other, name)?;
+    let is_old = disk.read_at(name, 0, &mut buf) == Ok(3) && buf.starts_with(b"old");
+    Ok(is_sized && is_old && disk.size(name) == Ok(4))
+}
+
+#[test]
+fn an_input_that_is_replaced_is_read_through_one_open(rt: HostRuntime) {
+    let name = "base_tests_replaced";
+    assert!(rt; is_read_on(&rt, name, "base_tests_replacing").expect(&rt, "a file"));
+    fs::remove_file(&rt, name).expect(&rt, "a file");
+}
+
+// Whether an output that is renamed gets all.
+fn is_written_on(rt: &HostRuntime, name: &str, other: &str) -> io::Result<bool> {
+    let mut disk = disk_of(rt);
+    let is_begun = disk.create(name) == Ok(()) && disk.append(name, b"one") == Ok(3);
+    fs::rename(rt, name, other)?;
+    let is_ended = disk.append(name, b"two") == Ok(3);
+    Ok(is_begun && is_ended && fs::read_to_string(rt, other)?.as_str() == "onetwo")
+}
+
+#[test]
+fn an_output_that_is_renamed_gets_all(rt: HostRuntime) {
+    let other = "base_tests_renamed";
+    assert!(rt; is_written_on(&rt, "base_tests_renaming", other).expect(&rt, "a file"));
+    fs::remove_file(&rt, other).expect(&rt, "a file");
+}
+
+// A file of the system that says that it is empty, and isn't, is refused; one that is empty isn't.
+#[test]
+fn a_file_that_is_not_as_empty_as_it_says_is_refused(rt: HostRuntime) {
+    let name = "base_tests_empty";
+    fs::write(&rt, name, "").expect(&rt, "a file");
+    let mut disk = disk_of(&rt);
+    assert!(rt; disk.size("/proc/cpuinfo") == Err(DiskError::Failed));
+    assert!(rt; disk.size(name) == Ok(0));
+    fs::remove_file(&rt, name).expect(&rt, "a file");
+}
+
+// Whether a file that was read isn't made under another name, and is as it was.
+fn is_no_output(rt: &HostRuntime, disk: &mut FileDisk<HostRuntime>, name: &str) -> bool {
+    disk.create(name) == Err(DiskError::Failed)
+        && matches!(fs::read_to_string(rt, name), Ok(text) if text.as_str() == "held")
+}
+
+// Whether a file whose length was asked for isn't made by any path that leads to it.
+fn is_never_both(rt: &HostRuntime, name: &str) -> io::Result<bool> {
+    fs::write(rt, name, "held")?;
+    fs::hard_link(rt, name, "base_tests_hard")?;
+    rt.symlink(name, "base_tests_symbolic")?;
+    let mut disk = disk_of(rt);
+    let is_sized = disk.size(name) == Ok(4);
+    Ok(is_sized
+        && is_no_output(rt, &mut disk, name)
+        && is_no_output(rt, &mut disk, "./base_tests_input")
+        && is_no_output(rt, &mut disk, "base_tests_hard")
+        && is_no_output(rt, &mut disk, "base_tests_symbolic"))
+}
+
+#[test]
+fn an_output_is_never_an_input(rt: HostRuntime) {
+    assert!(rt; is_never_both(&rt, "base_tests_input").expect(&rt, "a file"));
+    fs::remove_file(&rt, "base_tests_input").expect(&rt, "a file");
+    fs::remove_file(&rt, "base_tests_hard").expect(&rt, "a link");
+    fs::remove_file(&rt, "base_tests_symbolic").expect(&rt, "a link");
+}
