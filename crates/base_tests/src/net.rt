@@ -186,7 +186,11 @@ fn is_answered(alloc: Global, client: &TcpStream) -> io::Result<bool> {
 }
 
 // Whether a client is served, and then says no more.
-fn is_served(alloc: Global, client: &TcpStream, link: &mut TcpLink<HostRuntime>) -> io::Result<bool> {
+fn is_served(
+    alloc: Global,
+    client: &TcpStream,
+    link: &mut TcpLink<HostRuntime>,
+) -> io::Result<bool> {
     Ok(serves(link) && is_answered(alloc, client)? && reads(link, &mut [0u8], b""))
 }
 

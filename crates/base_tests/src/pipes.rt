@@ -112,11 +112,13 @@ fn is_never_both(rt: &HostRuntime, name: &str) -> io::Result<bool> {
     rt.symlink(name, "base_tests_symbolic")?;
     let mut disk = disk_of(rt);
     let is_sized = disk.size(name) == Ok(4);
-    Ok(is_sized
-        && is_no_output(rt, &mut disk, name)
-        && is_no_output(rt, &mut disk, "./base_tests_input")
-        && is_no_output(rt, &mut disk, "base_tests_hard")
-        && is_no_output(rt, &mut disk, "base_tests_symbolic"))
+    Ok(
+        is_sized
+            && is_no_output(rt, &mut disk, name)
+            && is_no_output(rt, &mut disk, "./base_tests_input")
+            && is_no_output(rt, &mut disk, "base_tests_hard")
+            && is_no_output(rt, &mut disk, "base_tests_symbolic"),
+    )
 }
 
 #[test]

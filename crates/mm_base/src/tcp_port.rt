@@ -93,7 +93,8 @@ impl<R: Net<Stream = TcpStream, Listener = TcpListener> + Clock + Copy + Drop> T
     }
 }
 
-impl<R: Net<Stream = TcpStream, Listener = TcpListener> + Clock + Send + Copy + Drop> Port for TcpPort<R> {
+impl<R: Net<Stream = TcpStream, Listener = TcpListener> + Clock + Send + Copy + Drop> Port
+    for TcpPort<R> {
     type Conn = TcpLink<R>;
 
     ghost view = { λ p. record {

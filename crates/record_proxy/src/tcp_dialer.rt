@@ -71,7 +71,8 @@ impl<R: Net<Stream = TcpStream, Listener = TcpListener> + Clock + Copy + Drop> T
     }
 }
 
-impl<R: Net<Stream = TcpStream, Listener = TcpListener> + Clock + Copy + Drop> Dialer for TcpDialer<R> {
+impl<R: Net<Stream = TcpStream, Listener = TcpListener> + Clock + Copy + Drop> Dialer
+    for TcpDialer<R> {
     type Conn = TcpLink<R>;
 
     ghost view = { λ d. record { finished = None; dialed = d.dialed; faults = d.faults } };
