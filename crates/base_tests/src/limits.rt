@@ -35,12 +35,19 @@ fn client_at(rt: &HostRuntime, address: Ipv4Addr, number: u16) -> io::Result<Tcp
     TcpStream::connect(rt, SocketAddr::from((address, number)))
 }
 
-// A client, and the link on which it comes in.
-fn connected(rt: &HostRuntime) -> Option<(TcpStream, TcpLink<HostRuntime>)> {
+// A client, the link on which it comes in, and its port.
+#[derive(Drop)]
+struct Connected {
+    port: TcpPort<HostRuntime>,
+    client: TcpStream,
+    link: TcpLink<HostRuntime>,
+}
+
+fn connected(rt: &HostRuntime) -> Option<Connected> {
     let (mut port, number) = listening(rt)?;
     let client = client_at(rt, Ipv4Addr::LOCALHOST, number).ok()?;
     let link = port.accept().ok()??;
-    Some((client, link))
+    Some(Connected { port, client, link })
 }
 
 // How giving ends that goes on for ever.
@@ -56,34 +63,47 @@ fn give_on<L: Link>(link: &mut L) -> Option<EndError> {
 // A client that takes nothing is cut at the limit, whatever the system's buffers take.
 #[test]
 fn a_client_that_takes_nothing_is_cut(rt: HostRuntime) {
-    let (client, mut link) = connected(&rt).expect(&rt, "a link");
+    let mut both = connected(&rt).expect(&rt, "a link");
     let begun = Instant::now(&rt).expect(&rt, "a clock");
-    assert!(rt; give_on(&mut link) == Some(EndError::Failed));
+    assert!(rt; give_on(&mut both.link) == Some(EndError::Failed));
     assert!(rt; is_a_limit_ago(&rt, &begun).expect(&rt, "a clock"));
-    drop(client);
 }
 
 // A peer that says nothing is a fault at the limit.
 #[test]
 fn a_peer_that_says_nothing_is_a_fault(rt: HostRuntime) {
-    let (client, mut link) = connected(&rt).expect(&rt, "a link");
+    let mut both = connected(&rt).expect(&rt, "a link");
     let begun = Instant::now(&rt).expect(&rt, "a clock");
-    assert!(rt; link.read(&mut [0u8; 1]) == Err(EndError::Failed));
+    assert!(rt; both.link.read(&mut [0u8; 1]) == Err(EndError::Failed));
     assert!(rt; is_a_limit_ago(&rt, &begun).expect(&rt, "a clock"));
-    drop(client);
 }
 
-// A client that neither says more nor ends is heard out for the limit.
+// A client that says more and then stays is heard out for the limit, when its output is closed.
 #[test]
 fn a_client_that_stays_is_left_at_the_limit(rt: HostRuntime) {
-    let (mut client, mut link) = connected(&rt).expect(&rt, "a link");
-    client.write_all(b"more").expect(&rt, "a client");
+    let mut both = connected(&rt).expect(&rt, "a link");
+    both.client.write_all(b"more").expect(&rt, "a client");
     let begun = Instant::now(&rt).expect(&rt, "a clock");
-    link.close_output();
+    both.link.close_output();
     assert!(rt; is_a_limit_ago(&rt, &begun).expect(&rt, "a clock"));
-    link.end();
-    assert!(rt; begun.elapsed(&rt).expect(&rt, "a clock") < Duration::from_secs(LONG));
+    assert!(rt; both.link.read(&mut [0u8; 1]) == Err(EndError::Failed));
+}
+
+// Whether finishing a connection whose output wasn't closed hears the client out.
+fn is_finished_so(rt: &HostRuntime, both: Connected) -> io::Result<bool> {
+    let Connected { port, client, link } = both;
+    let mut port = port;
+    let begun = Instant::now(rt)?;
+    let is_finished = port.finish(link).is_ok();
+    let has_passed = is_a_limit_ago(rt, &begun)?;
     drop(client);
+    Ok(is_finished && has_passed)
+}
+
+#[test]
+fn finishing_hears_a_client_out(rt: HostRuntime) {
+    let both = connected(&rt).expect(&rt, "a link");
+    assert!(rt; is_finished_so(&rt, both).expect(&rt, "a clock"));
 }
 
 // Whether nobody listens at another address of this machine.
@@ -99,10 +119,25 @@ fn a_port_is_open_to_this_machine_alone(rt: HostRuntime) {
     assert!(rt; is_alone(&rt) == Some(true));
 }
 
-// A port that couldn't accept listens no more.
+// Limits of which one can't be set.
+fn wrong_limits() -> TcpLimits {
+    let mut limits = short_limits();
+    limits.giving = Duration::from_millis(0);
+    limits
+}
+
+// Whether a connection whose limits can't be set is a fault, and the port then listens no more.
+fn is_closed_then(rt: &HostRuntime) -> Option<bool> {
+    let mut port = TcpPort::with_limits(*rt, wrong_limits());
+    port.listen(0).ok()?;
+    let number = port.number()?;
+    let _client = client_at(rt, Ipv4Addr::LOCALHOST, number).ok()?;
+    let is_fault = matches!(port.accept(), Err(EndError::Failed));
+    let later = client_at(rt, Ipv4Addr::LOCALHOST, number);
+    Some(is_fault && port.number().is_none() && later.is_err())
+}
+
 #[test]
-fn a_port_that_is_refused_listens_no_more(rt: HostRuntime) {
-    let mut port = TcpPort::new(rt);
-    assert!(rt; matches!(port.accept(), Err(EndError::Failed)));
-    assert!(rt; port.number().is_none());
+fn a_port_that_could_not_accept_listens_no_more(rt: HostRuntime) {
+    assert!(rt; is_closed_then(&rt) == Some(true));
 }

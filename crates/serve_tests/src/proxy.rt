@@ -3,7 +3,7 @@ ghost use Rattle.std.specs.Prelude.{◌≤◌};
 
 mod commands;
 mod limits;
-mod limits;
+mod silent;
 mod tcp;
 mod watched;
 

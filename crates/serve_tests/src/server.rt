@@ -1,6 +1,7 @@
 // Sessions over links in memory.
 ghost use Rattle.std.specs.Prelude.{◌≤◌};
 
+mod leaving;
 mod order;
 mod ports;
 mod watched;
