@@ -4,10 +4,10 @@ use Rattle.std.specs.Prelude.{option_to_list}
 use Rattle.nest_spec.specs.Words.{NestPlan, nest_of}
 use Rattle.command_ends.specs.Causes.{Text}
 use Rattle.command_ends.specs.Names.{refused_names}
-use Rattle.command_ends.specs.Readings.{Reading, Done, asked, unless}
+use Rattle.command_ends.specs.Readings.{Reading, Done, Reads, asked, unless}
 use Rattle.command_ends.specs.declared.cause.Refusal.{Refusal}
 use Rattle.nest_command.specs.Inputs.{reading_schedule, reading_traces}
-use Rattle.command_run.specs.RunReading.{reading_order}
+use Rattle.nest_command.specs.NestReading.{refused_count, refused_horizon, with_nest}
 use Rattle.command_run.specs.Run.{RunJob, RunTask, run_of}
 use Rattle.trace_reader.specs.TraceIn.{trace_in}
 
