@@ -11,6 +11,7 @@ use Rattle.command_ends.specs.Causes.{Text}
 use Rattle.command_ends.specs.Stops.{IsInput, StopsAtFile}
 use Rattle.command_ends.specs.declared.cause.Cause.{Cause}
 use Rattle.command_ends.specs.declared.cause.Cause.TheVariants.{OutOfMemory}
+use Rattle.nest_command.specs.Loaded.{HasSchedule, HaveTraces}
 use Rattle.command_run.specs.Run.{RunJob, nest_with}
 
 -- the file of the order is an input, where there is one

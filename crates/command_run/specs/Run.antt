@@ -13,6 +13,8 @@ use Rattle.option_words.specs.RunApp.{RunTexts, run_texts}
 use Rattle.command_ends.specs.Causes.{Text}
 use Rattle.command_ends.specs.Outputs.{Output, writes}
 use Rattle.nest_command.specs.Inputs.{AreTraceTexts}
+use Rattle.nest_command.specs.RunFiles.{run_files}
+use Rattle.nest_command.specs.Words.{ends_options}
 
 infixl 10 ◌>>=◌
 abbrev pub ◌>>=◌ : {A B : Type 0} → Option A → (A → Option B) → Option B
