@@ -1,10 +1,9 @@
 -- Words as texts.
-use Rattle.std.proofs.Common.{◌≡◌, ℕ, ◌+◌, Bool, not, cond, List, [], ◌∷◌, Some, None, length, map, take, drop, nat_lt}
-use Rattle.std.proofs.Common.{refl, ap, ◌∙◌}
-use Rattle.std.specs.List.{position, prefix_len}
+use Rattle.std.proofs.Common.{◌≡◌, ℕ, ◌+◌, List, Some, None, map, take, drop}
+use Rattle.std.proofs.Common.{ap, ◌∙◌}
+use Rattle.std.specs.List.{position}
 use Rattle.std.specs.Prelude.{option_and_then}
 use Rattle.std.specs.List.{drop-map, take-map}
-use Rattle.std.proofs.lemmas.List.{length-map}
 use Rattle.command_ends.specs.Causes.{Text}
 use Rattle.option_words.specs.RunApp.{run_texts}
 use Rattle.nest_command.specs.Words.{ends_options}

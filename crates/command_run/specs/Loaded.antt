@@ -1,10 +1,8 @@
 -- For proofs: what reading the inputs of a run leaves, for the bodies that read them.
-use Rattle.std.specs.Prelude.{◌≡◌, ◌≤◌, ℕ, List, [], ◌∷◌, Option, Some, None}
+use Rattle.std.specs.Prelude.{◌≡◌, ◌≤◌, ℕ, List, Option, Some, None}
 use Rattle.mm_base.specs.Disk.{DiskView}
 use Rattle.mm_base.specs.Files.{Files}
-use Rattle.packet_record.specs.Schedules.{IsScheduleText}
 use Rattle.packet_record.specs.declared.packet.Row.{Row}
-use Rattle.trace_reader.specs.TraceText.{IsTraceText}
 use Rattle.trace_reader.specs.Traces.{TraceView}
 use Rattle.nest_spec.specs.Nests.{NestParts, RunLists, opportunities_of, result_of}
 use Rattle.nest_spec.specs.Once.{HaveOneFate}
@@ -13,7 +11,7 @@ use Rattle.command_ends.specs.Causes.{Text}
 use Rattle.command_ends.specs.Stops.{IsInput, StopsAtFile}
 use Rattle.command_ends.specs.declared.cause.Cause.{Cause}
 use Rattle.command_ends.specs.declared.cause.Cause.TheVariants.{OutOfMemory}
-use Rattle.nest_command.specs.Inputs.{schedule_refusal, trace_refusal}
+use Rattle.nest_command.specs.Loaded.{HasSchedule, HaveTraces}
 use Rattle.command_run.specs.Run.{RunJob, nest_with}
 
 -- the file of the order is an input, where there is one

@@ -1,22 +1,20 @@
 -- What `run` is asked for, and what it gives.
-use Rattle.std.specs.Prelude.{◌≡◌, ℕ, ◌+◌, Bool, List, [], ◌∷◌, ◌++◌, Option, Some, None, codes, map, position, take}
+use Rattle.std.specs.Prelude.{◌≡◌, ℕ, ◌+◌, Bool, List, Option, Some, None, position, take}
 use Rattle.std.specs.Prelude.{drop, option_and_then, is_some, ◌&&◌, if◌then◌else◌}
-use Rattle.std.specs.Str.{bytes_eq}
 use Rattle.text_base.specs.Numbers.{decimal_of}
 use Rattle.packet_record.specs.Schedules.{IsScheduleText}
 use Rattle.packet_record.specs.declared.packet.Row.{Row}
-use Rattle.shell_log.specs.LogText.{log_text}
 use Rattle.trace_reader.specs.Traces.{TraceView}
-use Rattle.nest_spec.specs.FateTexts.{fates_text}
-use Rattle.nest_spec.specs.Nests.{NestParts, RunLists, built, result_of}
+use Rattle.nest_spec.specs.Nests.{NestParts, built, result_of}
 use Rattle.nest_spec.specs.Once.{HaveOneFate}
-use Rattle.nest_spec.specs.Walk.{NamedEntries}
 use Rattle.nest_spec.specs.Words.{NestPlan}
 use Rattle.option_words.specs.Numbers.{seed_of}
 use Rattle.option_words.specs.RunApp.{RunTexts, run_texts}
 use Rattle.command_ends.specs.Causes.{Text}
-use Rattle.command_ends.specs.Outputs.{NamedText, Output, named_text, writes}
+use Rattle.command_ends.specs.Outputs.{Output, writes}
 use Rattle.nest_command.specs.Inputs.{AreTraceTexts}
+use Rattle.nest_command.specs.RunFiles.{run_files}
+use Rattle.nest_command.specs.Words.{ends_options}
 
 infixl 10 ◌>>=◌
 abbrev pub ◌>>=◌ : {A B : Type 0} → Option A → (A → Option B) → Option B

@@ -1,21 +1,13 @@
 -- What `run` reads and refuses, in order.
-use Rattle.std.specs.Prelude.{ℕ, List, [], ◌∷◌, ◌++◌, Option, Some, None, Result, Ok, Err, map, nat_lt, if◌then◌else◌}
+use Rattle.std.specs.Prelude.{List, [], ◌∷◌, ◌++◌, Option, Some, None, map}
 use Rattle.std.specs.Prelude.{option_to_list}
-use Rattle.trace_reader.specs.Traces.{TraceView}
-use Rattle.nest_spec.specs.NestFaults.{number_of, place_of, inner_of}
-use Rattle.nest_spec.specs.Nests.{opportunities_of}
 use Rattle.nest_spec.specs.Words.{NestPlan, nest_of}
-use Rattle.nest_spec.specs.declared.error.NestError.{NestError}
-use Rattle.nest_spec.specs.declared.shell_words.ShellWords.{ShellWords}
 use Rattle.command_ends.specs.Causes.{Text}
 use Rattle.command_ends.specs.Names.{refused_names}
-use Rattle.command_ends.specs.Readings.{Reading, Done, Refuses, asked, unless}
-use Rattle.command_ends.specs.declared.cause.Limit.TheVariants.{Horizon, Opportunities}
+use Rattle.command_ends.specs.Readings.{Reading, Done, Reads, asked, unless}
 use Rattle.command_ends.specs.declared.cause.Refusal.{Refusal}
-use Rattle.command_ends.specs.declared.cause.Refusal.TheVariants.{Words, Limit}
-use Rattle.command_ends.specs.declared.cause.WordsRefusal.TheVariants.{Nest}
 use Rattle.nest_command.specs.Inputs.{reading_schedule, reading_traces}
-use Rattle.command_run.specs.RunReading.{reading_order}
+use Rattle.nest_command.specs.NestReading.{refused_count, refused_horizon, with_nest}
 use Rattle.command_run.specs.Run.{RunJob, RunTask, run_of}
 use Rattle.trace_reader.specs.TraceIn.{trace_in}
 

@@ -1,8 +1,7 @@
 // What `run` is asked for, by its words.
-ghost use Rattle.std.specs.Prelude.{◌≡◌, ◌<◌, IfOk, IfSome, map, string_bytes, position, length};
+ghost use Rattle.std.specs.Prelude.{◌≡◌, ◌<◌, IfOk, map, string_bytes};
 ghost use Rattle.std.specs.Option.{option_map};
 ghost use Rattle.option_words.specs.View.{texts_of};
-ghost use Rattle.nest_command.specs.Words.{ends_options};
 ghost use Rattle.command_run.specs.Run.{run_numbers, run_with, run_of};
 ghost use Rattle.command_run.specs.View.{run_values};
 

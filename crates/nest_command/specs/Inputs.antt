@@ -10,7 +10,7 @@ use Rattle.trace_reader.specs.Traces.{TraceView}
 use Rattle.trace_reader.specs.declared.reading.TraceError.{TraceError}
 use Rattle.trace_reader.specs.declared.reading.TraceError.TheVariants as trace_errors
 use Rattle.command_ends.specs.Causes.{Text}
-use Rattle.command_ends.specs.Readings.{Reading, Reads, reading_text}
+use Rattle.command_ends.specs.Readings.{Reading, reading_text}
 use Rattle.command_ends.specs.declared.cause.Limit.TheVariants.{Lines, Packets}
 use Rattle.command_ends.specs.declared.cause.Refusal.{Refusal}
 use Rattle.command_ends.specs.declared.cause.Refusal.TheVariants.{BadInput, Limit}

@@ -1,5 +1,5 @@
-// The inputs of runs, read from their files: traces, in order, an order, and a schedule.
-ghost use Rattle.std.specs.Prelude.{◌≡◌, ◌≢◌, ℕ, List, length, None, Some, IfOk, IfErr, MatchResult, OnOk, option_map};
+// The inputs of runs, read from their files: traces, in order, and a schedule.
+ghost use Rattle.std.specs.Prelude.{◌≡◌, ◌≢◌, ℕ, List, length, None, Some, IfOk, IfErr, MatchResult};
 ghost use Rattle.mm_base.specs.Disk.{OnlyReads};
 ghost use Rattle.packet_record.specs.PartsRead.{HasRead};
 ghost use Rattle.text_base.specs.Lines.{lines_of};
@@ -11,13 +11,12 @@ ghost use Rattle.command_ends.specs.Stops.{IsInput, RefusesText, StopsAtFile, St
 ghost use Rattle.nest_command.specs.Inputs.{reading_schedule, reading_trace, reading_traces, schedule_refusal};
 ghost use Rattle.nest_command.specs.Inputs.{trace_refusal};
 ghost use Rattle.nest_command.specs.Loaded.{HasSchedule, HasTrace, HaveTraces};
-ghost use Rattle.nest_command.specs.Loaded.{HasOrder, StopsAtOrder};
 
 use command_ends::{Cause, Limit, Refusal, input_size, read_input, read_pieces};
 use mm_base::Disk;
 use packet_record::{Schedule, ScheduleError, ScheduleText};
 use std::alloc::Global;
-use text_base::{Bytes, Text};
+use text_base::Text;
 use trace_reader::{Trace, TraceError, read_trace};
 
 // Why the text of the trace of this name isn't accepted.

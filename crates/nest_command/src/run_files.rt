@@ -1,5 +1,5 @@
 // The files that a run writes: its logs, in order, and then its fates.
-ghost use Rattle.std.specs.Prelude.{◌≡◌, ◌⊎◌, ◌≤◌, ◌<◌, ◌-◌, ℕ, length, take, map, IfErr, OnOk, OnErr};
+ghost use Rattle.std.specs.Prelude.{◌≡◌, ◌<◌, ◌-◌, ℕ, length, take, map, IfErr, OnOk, OnErr};
 ghost use Rattle.std.specs.List.{flat_map};
 ghost use Rattle.mm_base.specs.Disk.{OnlyWrites, HasWriteCause};
 ghost use Rattle.mm_base.specs.Files.{holding, lengthened};
