@@ -1,8 +1,7 @@
-// Reports of logs, and of their texts in pieces.
+// Reports of whole logs, and of their texts in pieces.
 use log_report::{EMPTY, ReportError, ReportText, print_report, report};
 use shell_log::{Log, LogError, read_log};
 use std::alloc::Global;
-use std::process::Abort;
 use text_base::{Bytes, OutOfMemory, PieceReader};
 
 const QUEUED: &[u8] =
@@ -17,7 +16,7 @@ const LATE: &[u8] =
     b"# base timestamp: 0\n65535 - 10 65535\n65536 - 10 65536\n9999999999 - 10 9999999999\n";
 
 // A text, and what is printed of it.
-const TEXTS: [(&[u8], &[u8]); 5] = [
+static TEXTS: [(&[u8], &[u8]); 5] = [
     (
         QUEUED,
         b"entries 13\nspan 0 3\narrived 5 4300\noffered 3 4512\ndeparted 4 3500\ndropped 1 800\n\
@@ -40,14 +39,6 @@ used 0\ndelay none\n",
     (b"# base timestamp: 0\n", EMPTY),
 ];
 
-// What is printed of what was read.
-fn finished(alloc: Global, reader: ReportText) -> Result<Bytes, LogError> {
-    Ok(match reader.finish()? {
-        Some(report) => print_report(alloc, &report)?,
-        None => Bytes::from_slice(alloc, EMPTY)?,
-    })
-}
-
 // What is printed of a text that is read in pieces of so many bytes.
 fn printed(alloc: Global, text: &[u8], size: usize) -> Result<Bytes, LogError> {
     let mut reader = ReportText::new(alloc)?;
@@ -55,6 +46,27 @@ fn printed(alloc: Global, text: &[u8], size: usize) -> Result<Bytes, LogError> {
         reader.push(piece);
     }
     finished(alloc, reader)
+}
+
+// What is printed of what was read.
+fn finished(alloc: Global, reader: ReportText) -> Result<Bytes, LogError> {
+    match reader.finish()? {
+        Some(report) => Ok(print_report(alloc, &report)?),
+        None => Ok(Bytes::from_slice(alloc, EMPTY)?),
+    }
+}
+
+static SIZES: [usize; 3] = [1, 7, 65536];
+
+// Whether this is printed of a text that is read in pieces of any size.
+fn is_printed_of_pieces(alloc: Global, text: &[u8], said: &[u8]) -> bool {
+    for &size in &SIZES {
+        match printed(alloc, text, size) {
+            Ok(report) if report.as_slice() == said => {}
+            _ => return false,
+        }
+    }
+    true
 }
 
 // What is printed of a log.
@@ -69,26 +81,8 @@ fn printed_whole(alloc: Global, log: &Log) -> Result<Bytes, OutOfMemory> {
     }
 }
 
-static SIZES: [usize; 3] = [1, 7, 65536];
-
-// Whether this is printed of a text that is read in pieces of so many bytes.
-fn prints(alloc: Global, text: &[u8], size: usize, said: &[u8]) -> Result<bool, LogError> {
-    let report = printed(alloc, text, size)?;
-    Ok(report.as_slice() == said)
-}
-
-// Whether this is printed of a text that is read in pieces of any size.
-fn prints_in_pieces(alloc: Global, text: &[u8], said: &[u8]) -> Result<bool, LogError> {
-    for &size in &SIZES {
-        if !prints(alloc, text, size, said)? {
-            return Ok(false);
-        }
-    }
-    Ok(true)
-}
-
 // Whether this is printed of the log of a text.
-fn prints_whole(alloc: Global, text: &[u8], said: &[u8]) -> Result<bool, LogError> {
+fn is_printed_whole(alloc: Global, text: &[u8], said: &[u8]) -> Result<bool, LogError> {
     let log = read_log(alloc, text)?;
     let report = printed_whole(alloc, &log)?;
     Ok(report.as_slice() == said)
@@ -97,65 +91,7 @@ fn prints_whole(alloc: Global, text: &[u8], said: &[u8]) -> Result<bool, LogErro
 #[test]
 fn a_log_has_its_report(rt: HostRuntime) {
     for &(text, said) in &TEXTS {
-        assert!(rt; prints_in_pieces(rt.alloc(), text, said).expect(&rt, "a report"));
-        assert!(rt; prints_whole(rt.alloc(), text, said).expect(&rt, "a report"));
+        assert!(rt; is_printed_of_pieces(rt.alloc(), text, said));
+        assert!(rt; matches!(is_printed_whole(rt.alloc(), text, said), Ok(true)));
     }
-}
-
-// How a text is refused that is read in pieces of so many bytes.
-fn refusal(alloc: Global, text: &[u8], size: usize) -> Option<LogError> {
-    match printed(alloc, text, size) {
-        Ok(_) => None,
-        Err(fault) => Some(fault),
-    }
-}
-
-// A text, and how it is refused.
-static REFUSED: [(&[u8], LogError); 3] = [
-    (b"# base timestamp: 0", LogError::BadHeader),
-    (
-        b"# base timestamp: 0\n5 + 100\n4 # 1504\n",
-        LogError::Backwards { line: 3 },
-    ),
-    (
-        b"# base timestamp: 0\n5 + 100\n5 - 100 6\n",
-        LogError::BadLine { line: 3 },
-    ),
-];
-
-static SHORT: [usize; 3] = [1, 7, 64];
-
-fn is_refused(rt: &impl Abort, alloc: Global, text: &[u8], said: LogError) {
-    for &size in &SHORT {
-        assert!(rt; refusal(alloc, text, size) == Some(said));
-    }
-}
-
-#[test]
-fn a_text_is_refused_as_by_read_log(rt: HostRuntime) {
-    for &(text, said) in &REFUSED {
-        is_refused(&rt, rt.alloc(), text, said);
-    }
-}
-
-const TWO_ENTRIES: &[u8] = b"70000 - 1000 7\n70000 - 500 69999\n";
-
-const SUMMED: &[u8] =
-    b"entries 10000\nspan 70000 70000\narrived 0 0\noffered 0 0\ndeparted 10000 7500000\ndropped 0 0\nused none\n\
-delay 7 69999 69999\n";
-
-// What is printed of ten thousand entries.
-fn summed(alloc: Global) -> Result<Bytes, LogError> {
-    let mut reader = ReportText::new(alloc)?;
-    reader.push(b"# base timestamp: 0\n");
-    for _ in 0..5000 {
-        reader.push(TWO_ENTRIES);
-    }
-    finished(alloc, reader)
-}
-
-#[test]
-fn ten_thousand_entries_are_summed(rt: HostRuntime) {
-    let summed = summed(rt.alloc()).expect(&rt, "a report");
-    assert!(rt; summed.as_slice() == SUMMED);
 }

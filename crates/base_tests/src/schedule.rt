@@ -45,34 +45,6 @@ fn prints_what_it_read(rt: HostRuntime) {
     assert!(rt; rows_of_nothing(rt.alloc()).expect(&rt, "a schedule") == 0);
 }
 
-// The number of a text's refusal, and the line that it names.
-fn refusal(alloc: Global, text: &[u8]) -> Option<(u32, u64)> {
-    match read_schedule(alloc, text) {
-        Ok(_) => None,
-        Err(fault) => Some((fault.number(), fault.line())),
-    }
-}
-
-// A text, the number of its refusal, and the line that it names.
-static REFUSED: [(&[u8], u32, u64); 9] = [
-    (b"0 up 1505", 2, 1),
-    (b"0 up 0", 2, 1),
-    (b"5 up 1\n\n", 1, 2),
-    (b"5 up 1\r\n", 1, 1),
-    (b"5  up 1", 1, 1),
-    (b"5 up 1 ", 1, 1),
-    (b"12345678901 up 1", 1, 1),
-    (b"5 up 1\n4 up 0\n", 2, 2),
-    (b"5 up 1\n4 down 7\n3 up\n", 3, 2),
-];
-
-#[test]
-fn refuses_the_first(rt: HostRuntime) {
-    for &(text, number, line) in &REFUSED {
-        assert!(rt; refusal(rt.alloc(), text) == Some((number, line)));
-    }
-}
-
 // Reads a piece. It says nothing of it, so that a test has only what it looks at.
 fn push(reading: &mut ScheduleText, piece: &[u8]) {
     reading.push(piece);
