@@ -6,7 +6,6 @@ use crate::case::{Case, leaves_at, status_at};
 use mm_base::{MemLink, MemPort};
 use std::alloc::Global;
 use std::marker::Sync;
-use std::process::Abort;
 use std::sync::Wait;
 use std::thread::Threads;
 use test_outside::{TestOutside, words_of};
