@@ -6,6 +6,8 @@
 #[cfg(test)]
 mod case;
 #[cfg(test)]
+mod exchange;
+#[cfg(test)]
 mod failing;
 #[cfg(test)]
 mod program;

@@ -1,22 +1,12 @@
 // What each command does where memory is ample, and lines of which `out` takes a front.
 use crate::case::{Case, pass};
+use crate::exchange::{CLIENT, OLD, SERVER, STORE};
 use std::alloc::Global;
 use std::marker::Sync;
 use std::process::Abort;
 use std::sync::Wait;
 use std::thread::Threads;
 use test_outside::ABSENT;
-
-const CLIENT: &str = "GET / HTTP/1.1\r\nHost: a\r\n\r\n";
-
-const SERVER: &str = "HTTP/1.1 200 OK\r\nContent-Length: 2\r\n\r\nhi";
-
-// The store of the two, and the same in form 1.
-const STORE: &str =
-    "MMSTORE 2\nrecord http 0 27 40\nGET / HTTP/1.1\r\nHost: a\r\n\r\nHTTP/1.1 200 OK\r\nContent-Length: 2\r\n\r\nhi\n";
-
-const OLD: &str =
-    "MMSTORE 1\nrecord 27 40\nGET / HTTP/1.1\r\nHost: a\r\n\r\nHTTP/1.1 200 OK\r\nContent-Length: 2\r\n\r\nhi\n";
 
 // The log of five packets through a queue of two, and its report.
 const LOG: &str =

@@ -3,6 +3,7 @@ ghost use Rattle.std.specs.Prelude.{IfOk};
 ghost use Rattle.mm_base.specs.MemLink.{IsUnused};
 
 use crate::case::{Case, leaves_at, status_at};
+use crate::exchange::{CLIENT, OLD, SERVER};
 use mm_base::{MemLink, MemPort};
 use std::alloc::Global;
 use std::marker::Sync;
@@ -11,18 +12,13 @@ use std::thread::Threads;
 use test_outside::{TestOutside, words_of};
 use text_base::{Bytes, OutOfMemory};
 
-// A store of one record, of any port, and the same recorded from port 80.
-const STORE: &str =
-    "MMSTORE 1\nrecord 27 40\nGET / HTTP/1.1\r\nHost: a\r\n\r\nHTTP/1.1 200 OK\r\nContent-Length: 2\r\n\r\nhi\n";
-
+// The store of an exchange that was recorded from port 80.
 const STORE_OF_80: &str =
     "MMSTORE 2\nrecord http 80 27 40\nGET / HTTP/1.1\r\nHost: a\r\n\r\nHTTP/1.1 200 OK\r\nContent-Length: 2\r\n\r\n\
         hi\n";
 
 // Two requests, of which the store answers the first.
 const TWO: &str = "GET / HTTP/1.1\r\nHost: a\r\n\r\nGET /x HTTP/1.1\r\nHost: a\r\n\r\n";
-
-const FOUND: &str = "HTTP/1.1 200 OK\r\nContent-Length: 2\r\n\r\nhi";
 
 const MISSING: &str = "HTTP/1.1 404 Not Found\r\nContent-Length: 0\r\n\r\n";
 
@@ -55,11 +51,11 @@ fn replays<R: Threads + Wait + Sync>(
     let (words, fails, port_fails, status, printed) = *row;
     let case = Case {
         words,
-        files: &[("s", STORE)],
+        files: &[("s", OLD)],
         fails,
         status,
         printed,
-        left: &[("s", STORE)],
+        left: &[("s", OLD)],
     };
     let mut port = port_of_two(alloc, port_fails)?;
     leaves_at(rt, alloc, &case, &mut port)
@@ -107,7 +103,7 @@ fn a_serving_prints_how_connections_ended(rt: HostRuntime) {
 
 // A port with a link that asks once.
 fn port_of_one(alloc: Global) -> Result<MemPort, OutOfMemory> {
-    let only = link(alloc, "GET / HTTP/1.1\r\nHost: a\r\n\r\n", &[])?;
+    let only = link(alloc, CLIENT, &[])?;
     let links = vec![in alloc; only]?;
     Ok(MemPort::new(alloc, links, Vec::new(alloc)))
 }
@@ -136,11 +132,11 @@ fn gives<R: Threads + Wait + Sync>(
 
 // The words, and what is answered.
 static SITES: [(&str, &str); 4] = [
-    ("replay --store s --port 80 --connections 1", FOUND),
+    ("replay --store s --port 80 --connections 1", SERVER),
     ("replay --store s --port 8080 --connections 1", MISSING),
     (
         "replay --store s --port 8080 --connections 1 --site-port 80",
-        FOUND,
+        SERVER,
     ),
     (
         "replay --store s --port 80 --connections 1 --site-port 443",

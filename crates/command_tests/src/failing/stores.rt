@@ -1,16 +1,7 @@
 // Reports, recordings, matches and migrations.
 use super::{Failing, Files, Job, fails_in_turn};
+use crate::exchange::{CLIENT, OLD, SERVER, STORE};
 use test_outside::ABSENT;
-
-const CLIENT: &str = "GET / HTTP/1.1\r\nHost: a\r\n\r\n";
-
-const SERVER: &str = "HTTP/1.1 200 OK\r\nContent-Length: 2\r\n\r\nhi";
-
-const STORE: &str =
-    "MMSTORE 2\nrecord http 0 27 40\nGET / HTTP/1.1\r\nHost: a\r\n\r\nHTTP/1.1 200 OK\r\nContent-Length: 2\r\n\r\nhi\n";
-
-const OLD: &str =
-    "MMSTORE 1\nrecord 27 40\nGET / HTTP/1.1\r\nHost: a\r\n\r\nHTTP/1.1 200 OK\r\nContent-Length: 2\r\n\r\nhi\n";
 
 const LOG: &str = "# base timestamp: 0\n7 + 40\n";
 
