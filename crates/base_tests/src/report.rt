@@ -16,7 +16,7 @@ const LATE: &[u8] =
     b"# base timestamp: 0\n65535 - 10 65535\n65536 - 10 65536\n9999999999 - 10 9999999999\n";
 
 // A text, and what is printed of it.
-static TEXTS: [(&[u8], &[u8]); 5] = [
+const TEXTS: [(&[u8], &[u8]); 5] = [
     (
         QUEUED,
         b"entries 13\nspan 0 3\narrived 5 4300\noffered 3 4512\ndeparted 4 3500\ndropped 1 800\n\
@@ -39,6 +39,14 @@ used 0\ndelay none\n",
     (b"# base timestamp: 0\n", EMPTY),
 ];
 
+// What is printed of what was read.
+fn finished(alloc: Global, reader: ReportText) -> Result<Bytes, LogError> {
+    Ok(match reader.finish()? {
+        Some(report) => print_report(alloc, &report)?,
+        None => Bytes::from_slice(alloc, EMPTY)?,
+    })
+}
+
 // What is printed of a text that is read in pieces of so many bytes.
 fn printed(alloc: Global, text: &[u8], size: usize) -> Result<Bytes, LogError> {
     let mut reader = ReportText::new(alloc)?;
@@ -46,27 +54,6 @@ fn printed(alloc: Global, text: &[u8], size: usize) -> Result<Bytes, LogError> {
         reader.push(piece);
     }
     finished(alloc, reader)
-}
-
-// What is printed of what was read.
-fn finished(alloc: Global, reader: ReportText) -> Result<Bytes, LogError> {
-    match reader.finish()? {
-        Some(report) => Ok(print_report(alloc, &report)?),
-        None => Ok(Bytes::from_slice(alloc, EMPTY)?),
-    }
-}
-
-static SIZES: [usize; 3] = [1, 7, 65536];
-
-// Whether this is printed of a text that is read in pieces of any size.
-fn is_printed_of_pieces(alloc: Global, text: &[u8], said: &[u8]) -> bool {
-    for &size in &SIZES {
-        match printed(alloc, text, size) {
-            Ok(report) if report.as_slice() == said => {}
-            _ => return false,
-        }
-    }
-    true
 }
 
 // What is printed of a log.
@@ -81,8 +68,26 @@ fn printed_whole(alloc: Global, log: &Log) -> Result<Bytes, OutOfMemory> {
     }
 }
 
+static SIZES: [usize; 3] = [1, 7, 65536];
+
+// Whether this is printed of a text that is read in pieces of so many bytes.
+fn prints(alloc: Global, text: &[u8], size: usize, said: &[u8]) -> Result<bool, LogError> {
+    let report = printed(alloc, text, size)?;
+    Ok(report.as_slice() == said)
+}
+
+// Whether this is printed of a text that is read in pieces of any size.
+fn prints_in_pieces(alloc: Global, text: &[u8], said: &[u8]) -> Result<bool, LogError> {
+    for &size in &SIZES {
+        if !prints(alloc, text, size, said)? {
+            return Ok(false);
+        }
+    }
+    Ok(true)
+}
+
 // Whether this is printed of the log of a text.
-fn is_printed_whole(alloc: Global, text: &[u8], said: &[u8]) -> Result<bool, LogError> {
+fn prints_whole(alloc: Global, text: &[u8], said: &[u8]) -> Result<bool, LogError> {
     let log = read_log(alloc, text)?;
     let report = printed_whole(alloc, &log)?;
     Ok(report.as_slice() == said)
@@ -91,7 +96,7 @@ fn is_printed_whole(alloc: Global, text: &[u8], said: &[u8]) -> Result<bool, Log
 #[test]
 fn a_log_has_its_report(rt: HostRuntime) {
     for &(text, said) in &TEXTS {
-        assert!(rt; is_printed_of_pieces(rt.alloc(), text, said));
-        assert!(rt; matches!(is_printed_whole(rt.alloc(), text, said), Ok(true)));
+        assert!(rt; prints_in_pieces(rt.alloc(), text, said).expect(&rt, "a report"));
+        assert!(rt; prints_whole(rt.alloc(), text, said).expect(&rt, "a report"));
     }
 }

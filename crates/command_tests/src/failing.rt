@@ -22,17 +22,23 @@ struct Job {
     calls: &'static [Failing],
 }
 
-// A job leaves at each failing call what is stated.
+// A job leaves at a failing call what is stated.
+fn fails_at<R: Abort + Threads + Wait + Sync>(rt: &R, alloc: Global, job: &Job, failing: &Failing) {
+    let (call, status, printed, left) = *failing;
+    let case = Case {
+        words: job.words,
+        files: job.files,
+        fails: (call, 0),
+        status,
+        printed,
+        left,
+    };
+    pass(rt, alloc, &case);
+}
+
+// The same at each of its calls.
 fn fails_in_turn<R: Abort + Threads + Wait + Sync>(rt: &R, alloc: Global, job: &Job) {
-    for &(call, status, printed, left) in job.calls {
-        let case = Case {
-            words: job.words,
-            files: job.files,
-            fails: (call, 0),
-            status,
-            printed,
-            left,
-        };
-        pass(rt, alloc, &case);
+    for failing in job.calls {
+        fails_at(rt, alloc, job, failing);
     }
 }

@@ -34,19 +34,18 @@ const FILES: &[(&str, &str)] = &[
 // The words, which call of `out` fails, the status, what is printed, and what `f` holds.
 type Row = (&'static str, u64, u8, &'static str, &'static str);
 
-// Each command line leaves what its row states.
-fn leave<R: Abort + Threads + Wait + Sync>(rt: &R, alloc: Global, rows: &[Row]) {
-    for &(words, call, status, printed, made) in rows {
-        let case = Case {
-            words,
-            files: FILES,
-            fails: (0, call),
-            status,
-            printed,
-            left: &[("f", made)],
-        };
-        pass(rt, alloc, &case);
-    }
+// A command line leaves what a row states.
+fn leaves<R: Abort + Threads + Wait + Sync>(rt: &R, alloc: Global, row: &Row) {
+    let (words, call, status, printed, made) = *row;
+    let case = Case {
+        words,
+        files: FILES,
+        fails: (0, call),
+        status,
+        printed,
+        left: &[("f", made)],
+    };
+    pass(rt, alloc, &case);
 }
 
 const DEPARTED: &str = "1 up departed 25\n";
@@ -93,7 +92,9 @@ static JOBS: [Row; 13] = [
 
 #[test]
 fn each_command_does_its_job(rt: HostRuntime) {
-    leave(&rt, rt.alloc(), &JOBS);
+    for row in &JOBS {
+        leaves(&rt, rt.alloc(), row);
+    }
 }
 
 const TOO_LONG: &str = "run --until 9 --schedule x --out f -- mm-delay 20";
@@ -116,5 +117,7 @@ static FRONTS: [Row; 10] = [
 
 #[test]
 fn each_call_of_the_sink_fails_in_turn(rt: HostRuntime) {
-    leave(&rt, rt.alloc(), &FRONTS);
+    for row in &FRONTS {
+        leaves(&rt, rt.alloc(), row);
+    }
 }

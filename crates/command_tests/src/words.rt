@@ -1,6 +1,6 @@
 // Words that spell the options of a run, and words that don't.
 use option_words::{RunWords, parse_run};
-use std::alloc::Global;
+use std::alloc::{AllocError, Global};
 use test_outside::words_of;
 use text_base::OutOfMemory;
 
@@ -9,17 +9,25 @@ fn are_given(run: &RunWords<'_>) -> bool {
     run.until == "100" && run.schedule == "s" && run.out == "f"
 }
 
-// Whether words are the options of a run, with those values.
-fn is_run(alloc: Global, line: &str) -> Result<bool, OutOfMemory> {
-    let words = words_of(alloc, line)?;
-    match parse_run(alloc, &words)? {
-        Some(run) => Ok(are_given(&run)),
-        None => Ok(false),
+// Whether words are the options of a run, with those values, where they should be, and aren't where they shouldn't.
+fn is_read_so(alloc: Global, words: &[String], is_read: bool) -> Result<bool, AllocError> {
+    match parse_run(alloc, words)? {
+        Some(run) => Ok(is_read && are_given(&run)),
+        None => Ok(!is_read),
     }
 }
 
-// Words, and whether they are the options of a run. That two of them exclude each other is no matter of spelling.
-static LINES: [(&str, bool); 5] = [
+// Words, and whether they are the options of a run.
+type Row = (&'static str, bool);
+
+// Whether a row holds.
+fn holds(alloc: Global, row: &Row) -> Result<bool, OutOfMemory> {
+    let words = words_of(alloc, row.0)?;
+    Ok(is_read_so(alloc, &words, row.1)?)
+}
+
+// That two options exclude each other is no matter of their spelling.
+static LINES: [Row; 5] = [
     ("--until 100 --schedule s --out f --plain", true),
     ("--plain --out=f --schedule=s --until=100 --seed=7", true),
     ("--out f --schedule s --until 100 --order o", true),
@@ -29,8 +37,11 @@ static LINES: [(&str, bool); 5] = [
 
 #[test]
 fn options_are_read(rt: HostRuntime) {
-    for &(line, is_read) in &LINES {
-        let is_said = is_run(rt.alloc(), line).expect(&rt, "memory") == is_read;
-        assert!(rt; is_said, "at {line}");
+    for row in &LINES {
+        assert!(rt;
+            holds(rt.alloc(), row).expect(&rt, "memory"),
+            "at {}",
+            row.0
+        );
     }
 }

@@ -159,13 +159,13 @@ fn is_kept<R: Threads + Wait + Sync>(
 }
 
 // A run of this schedule, and a trace of one line, leaves these fates while these turns are held.
-fn keeps<R: Abort + Threads + Wait + Sync>(
+fn keeps<'a, R: Abort + Threads + Wait + Sync>(
     rt: &R,
     alloc: Global,
-    words: &str,
-    schedule: &str,
+    words: &'static str,
+    schedule: &'a str,
     holds: &[Hold],
-    fates: &str,
+    fates: &'a str,
 ) {
     let case = Case {
         words,

@@ -61,13 +61,17 @@ static FAULTS: [Fault; 6] = [
     (20_000, &[1], 5, 4, "mm: bad input s 1 1\n"),
 ];
 
-// A run of many lines is answered as it is stated, and leaves no fates.
-fn is_answered<R: Abort + Threads + Wait + Sync>(rt: &R, alloc: Global, fault: &Fault) {
-    let (count, refused, call, status, printed) = *fault;
-    let text = many_lines(alloc, count, refused).expect(rt, "memory");
+// A run of this schedule is answered as it is stated, and leaves no fates.
+fn is_answered<R: Abort + Threads + Wait + Sync>(
+    rt: &R,
+    alloc: Global,
+    schedule: &str,
+    fault: &Fault,
+) {
+    let (_, _, call, status, printed) = *fault;
     let case = Case {
         words: "run --until 1 --schedule s --out f -- mm-delay 1",
-        files: &[("s", text.as_str())],
+        files: &[("s", schedule)],
         fails: (call, 0),
         status,
         printed,
@@ -76,10 +80,16 @@ fn is_answered<R: Abort + Threads + Wait + Sync>(rt: &R, alloc: Global, fault: &
     pass(rt, alloc, &case);
 }
 
+// The same of as many lines as are stated.
+fn are_answered<R: Abort + Threads + Wait + Sync>(rt: &R, alloc: Global, fault: &Fault) {
+    let text = many_lines(alloc, fault.0, fault.1).expect(rt, "memory");
+    is_answered(rt, alloc, text.as_str(), fault);
+}
+
 #[test]
 fn a_schedule_is_read_to_its_end(rt: HostRuntime) {
     for fault in &FAULTS {
-        is_answered(&rt, rt.alloc(), fault);
+        are_answered(&rt, rt.alloc(), fault);
     }
 }
 
