@@ -1,9 +1,7 @@
-// Files in memory and real ones: read, written, loaded and saved whole.
-use mm_base::{Disk, DiskError, FileDisk, LoadError, MemDisk, load, save};
+// Files in memory: read, written, loaded and saved whole.
+use mm_base::{Disk, DiskError, LoadError, MemDisk, load, save};
 use std::alloc::Global;
-use std::os::fd::AsRawFd;
 use std::process::Abort;
-use std::{fs, io};
 use text_base::{Bytes, OutOfMemory, Text};
 
 // A disk in memory with one file, whose calls of these numbers fail.
@@ -130,78 +128,4 @@ fn files_are_loaded_and_saved_whole(rt: HostRuntime) {
     let mut disk = disk_with(rt.alloc(), "s", b"abc", &[5, 9]).expect(&rt, "memory");
     are_loaded(&rt, rt.alloc(), &mut disk);
     assert!(rt; saves_twice(&mut disk));
-}
-
-// Whether a file is saved, added to and loaded.
-fn is_kept<D: Disk>(alloc: Global, disk: &mut D, name: &str) -> bool {
-    saves(disk, name, b"held\n", Ok(()))
-        && adds(disk, name, b"more\n", Ok(5))
-        && loads(alloc, disk, name, 10, Ok(b"held\nmore\n"))
-}
-
-// Whether a file isn't there, and one without a name can't be made.
-fn is_gone<D: Disk>(alloc: Global, disk: &mut D, name: &str) -> bool {
-    loads(alloc, disk, name, 10, Err(LoadError::Absent))
-        && creates(disk, "", Err(DiskError::Failed))
-}
-
-#[test]
-fn real_files_are_saved_and_loaded(rt: HostRuntime) {
-    let name = "base_tests_file";
-    let mut disk = FileDisk::new(rt.clone().expect(&rt, "memory"));
-    assert!(rt; is_kept(rt.alloc(), &mut disk, name));
-    fs::remove_file(&rt, name).expect(&rt, "a file");
-    assert!(rt; is_gone(rt.alloc(), &mut disk, name));
-}
-
-// Where a file of ten digits is read, and what four bytes at most bring.
-static PLACES: [(u64, &[u8]); 4] = [(0, b"0123"), (4, b"4567"), (8, b"89"), (10, b"")];
-
-// Whether a file is read so from each place.
-fn is_read_from_any_place<D: Disk>(disk: &mut D, name: &str) -> bool {
-    for &(at, bytes) in &PLACES {
-        if !reads(disk, name, at, &mut [0u8; 4], bytes) {
-            return false;
-        }
-    }
-    true
-}
-
-// Whether a file is saved anew and read, and isn't made then, since it was read.
-fn is_made_anew<D: Disk>(alloc: Global, disk: &mut D, name: &str) -> bool {
-    saves(disk, name, b"longer than ten", Ok(()))
-        && saves(disk, name, b"0123456789", Ok(()))
-        && is_read_from_any_place(disk, name)
-        && creates(disk, name, Err(DiskError::Failed))
-        && loads(alloc, disk, name, 10, Ok(b"0123456789"))
-}
-
-#[test]
-fn real_files_are_read_from_any_place_and_made_anew(rt: HostRuntime) {
-    let name = "base_tests_places";
-    let mut disk = FileDisk::new(rt.clone().expect(&rt, "memory"));
-    assert!(rt; is_made_anew(rt.alloc(), &mut disk, name));
-    fs::remove_file(&rt, name).expect(&rt, "a file");
-}
-
-// Whether what stands at a path is refused, as it isn't a regular file.
-fn is_refused<D: Disk>(disk: &mut D, name: &str) -> bool {
-    let size = disk.size(name);
-    let read = disk.read_at(name, 0, &mut [0u8; 1]);
-    size == Err(DiskError::Failed) && read == Err(DiskError::Failed)
-}
-
-// Whether a pipe is refused.
-fn refuses_a_pipe<D: Disk>(rt: &HostRuntime, disk: &mut D) -> io::Result<bool> {
-    let (reader, writer) = io::pipe(rt)?;
-    drop(writer);
-    let pipe = format!(in rt.alloc(); "/proc/self/fd/{}", reader.as_raw_fd())?;
-    Ok(is_refused(disk, pipe.as_str()))
-}
-
-#[test]
-fn only_regular_files_are_read(rt: HostRuntime) {
-    let mut disk = FileDisk::new(rt.clone().expect(&rt, "memory"));
-    assert!(rt; refuses_a_pipe(&rt, &mut disk).expect(&rt, "a pipe"));
-    assert!(rt; is_refused(&mut disk, "/") && is_refused(&mut disk, "/dev/zero"));
 }

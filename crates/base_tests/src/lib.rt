@@ -1,9 +1,8 @@
-//! Tests of the outside, of schedules, traces, queues, logs and reports, and of losses and delays, through the public
-//! calls of the crates below. They stand apart from these, so that each of these is proved once, without tests.
+//! Tests of the outside, of schedules, traces, logs and reports, and of losses, through the public calls of the crates
+//! below. They stand apart from these, so that each of these is proved once, without tests. Texts that a command reads
+//! are tried by the cases of `checks/case`.
 #![tactic(auto)]
 
-#[cfg(test)]
-mod delay;
 #[cfg(test)]
 mod disk;
 #[cfg(test)]
@@ -28,8 +27,6 @@ mod net;
 mod packets;
 #[cfg(test)]
 mod pipes;
-#[cfg(test)]
-mod queue;
 #[cfg(test)]
 mod report;
 #[cfg(test)]

@@ -6,43 +6,6 @@ use text_base::OutOfMemory;
 
 fn is_shared<T: Send + Sync>(_: &T) {}
 
-fn refusal(alloc: Global, text: &[u8]) -> Option<LogError> {
-    match read_log(alloc, text) {
-        Ok(_) => None,
-        Err(fault) => Some(fault),
-    }
-}
-
-// A text, and how it is refused.
-static TEXTS: [(&[u8], Option<LogError>); 7] = [
-    (b"# base timestamp: 0", Some(LogError::BadHeader)),
-    (b"", Some(LogError::BadHeader)),
-    (b"# base timestamp: 0\n", None),
-    (
-        b"# base timestamp: 0\n5 + 100\n4 # 1504\n",
-        Some(LogError::Backwards { line: 3 }),
-    ),
-    (
-        b"# base timestamp: 0\n05 + 100\n",
-        Some(LogError::BadLine { line: 2 }),
-    ),
-    (
-        b"# base timestamp: 0\n5 + 100",
-        Some(LogError::BadLine { line: 2 }),
-    ),
-    (
-        b"# base timestamp: 0\n1 # 0\n",
-        Some(LogError::BadLine { line: 2 }),
-    ),
-];
-
-#[test]
-fn texts_are_refused_by_their_first_fault(rt: HostRuntime) {
-    for &(text, said) in &TEXTS {
-        assert!(rt; refusal(rt.alloc(), text) == said);
-    }
-}
-
 // Whether a log is printed so.
 fn prints(alloc: Global, log: &Log, said: &[u8]) -> Result<bool, OutOfMemory> {
     let text = print_log(alloc, log)?;

@@ -4,8 +4,7 @@ ghost use Rattle.mm_base.specs.MemLink.{IsUnused};
 
 use mm_base::{EndError, Link, MemLink, MemPort, Port, TcpLink, TcpPort};
 use std::alloc::Global;
-use std::io::{self, Write};
-use std::net::{Ipv4Addr, Shutdown, SocketAddr, TcpStream};
+use std::net::{Ipv4Addr, SocketAddr, TcpStream};
 use text_base::{Bytes, OutOfMemory};
 
 fn goes_between_threads<T: Send>(_: &T) {}
@@ -127,11 +126,6 @@ fn a_port_in_memory_gives_its_links_in_order(rt: HostRuntime) {
     goes_between_threads(&port);
 }
 
-const REQUEST: &str =
-    "GET /index.html HTTP/1.1\r\nHost: 127.0.0.1:8080\r\nUser-Agent: curl/8.5.0\r\nAccept: */*\r\n\r\n";
-
-const ANSWER: &str = "HTTP/1.1 200 OK\r\n\r\n";
-
 // Listens at a port that is free, and answers its number.
 fn listen(port: &mut TcpPort<HostRuntime>) -> Option<u16> {
     if port.number().is_some() || !listens(port, 0, Ok(())) {
@@ -148,60 +142,19 @@ fn is_taken(rt: &HostRuntime, number: u16) -> bool {
     }
 }
 
-// A client's connection to a port of this machine, on which it has sent this.
-fn asking_client(rt: &HostRuntime, number: u16, request: &str) -> io::Result<TcpStream> {
-    let mut client = TcpStream::connect(rt, SocketAddr::from((Ipv4Addr::LOCALHOST, number)))?;
-    client.write_all(request.as_bytes())?;
-    Ok(client)
-}
-
-// A client that has sent this, and the link on which it comes in, at a port at which no other one can listen.
+// A client, and the link on which it comes in, at a port at which no other one can listen.
 fn connected(
     rt: &HostRuntime,
     port: &mut TcpPort<HostRuntime>,
-    request: &str,
 ) -> Option<(TcpStream, TcpLink<HostRuntime>)> {
     let number = listen(port)?;
     if !is_taken(rt, number) {
         return None;
     }
-    let client = asking_client(rt, number, request).ok()?;
+    let address = SocketAddr::from((Ipv4Addr::LOCALHOST, number));
+    let client = TcpStream::connect(rt, address).ok()?;
     let link = accepted(port)?;
     Some((client, link))
-}
-
-// Whether the request is read and answered.
-fn serves<L: Link>(link: &mut L) -> bool {
-    let is_answered = reads(link, &mut [0u8; 256], REQUEST.as_bytes())
-        && writes(link, ANSWER.as_bytes(), Ok(19));
-    link.close_output();
-    is_answered
-}
-
-// Whether a client reads the answer. It says no more then.
-fn is_answered(alloc: Global, client: &TcpStream) -> io::Result<bool> {
-    let answer = io::read_to_string(alloc, client)?;
-    client.shutdown(Shutdown::Write)?;
-    Ok(answer.as_str() == ANSWER)
-}
-
-// Whether a client is served, and then says no more.
-fn is_served(
-    alloc: Global,
-    client: &TcpStream,
-    link: &mut TcpLink<HostRuntime>,
-) -> io::Result<bool> {
-    Ok(serves(link) && is_answered(alloc, client)? && reads(link, &mut [0u8], b""))
-}
-
-#[test]
-fn a_client_is_served_over_tcp(rt: HostRuntime) {
-    let mut port = TcpPort::new(rt.clone().expect(&rt, "memory"));
-    assert!(rt; matches!(port.accept(), Err(EndError::Failed)));
-    let (client, mut link) = connected(&rt, &mut port, REQUEST).expect(&rt, "a link");
-    assert!(rt; is_served(rt.alloc(), &client, &mut link).expect(&rt, "an answer"));
-    goes_between_threads(&link);
-    assert!(rt; finishes(&mut port, link, Ok(())));
 }
 
 // Whether one of a hundred writes failed.
@@ -217,7 +170,9 @@ fn fails<L: Link>(link: &mut L) -> bool {
 #[test]
 fn a_client_that_goes_away_is_a_fault(rt: HostRuntime) {
     let mut port = TcpPort::new(rt.clone().expect(&rt, "memory"));
-    let (client, mut link) = connected(&rt, &mut port, "").expect(&rt, "a link");
+    assert!(rt; matches!(port.accept(), Err(EndError::Failed)));
+    let (client, mut link) = connected(&rt, &mut port).expect(&rt, "a link");
+    goes_between_threads(&link);
     assert!(rt; writes(&mut link, b"unread", Ok(6)));
     drop(client);
     assert!(rt; fails(&mut link));

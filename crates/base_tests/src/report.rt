@@ -1,8 +1,7 @@
-// Reports of logs, and of their texts in pieces.
+// Reports of whole logs, and of their texts in pieces.
 use log_report::{EMPTY, ReportError, ReportText, print_report, report};
 use shell_log::{Log, LogError, read_log};
 use std::alloc::Global;
-use std::process::Abort;
 use text_base::{Bytes, OutOfMemory, PieceReader};
 
 const QUEUED: &[u8] =
@@ -100,62 +99,4 @@ fn a_log_has_its_report(rt: HostRuntime) {
         assert!(rt; prints_in_pieces(rt.alloc(), text, said).expect(&rt, "a report"));
         assert!(rt; prints_whole(rt.alloc(), text, said).expect(&rt, "a report"));
     }
-}
-
-// How a text is refused that is read in pieces of so many bytes.
-fn refusal(alloc: Global, text: &[u8], size: usize) -> Option<LogError> {
-    match printed(alloc, text, size) {
-        Ok(_) => None,
-        Err(fault) => Some(fault),
-    }
-}
-
-// A text, and how it is refused.
-static REFUSED: [(&[u8], LogError); 3] = [
-    (b"# base timestamp: 0", LogError::BadHeader),
-    (
-        b"# base timestamp: 0\n5 + 100\n4 # 1504\n",
-        LogError::Backwards { line: 3 },
-    ),
-    (
-        b"# base timestamp: 0\n5 + 100\n5 - 100 6\n",
-        LogError::BadLine { line: 3 },
-    ),
-];
-
-static SHORT: [usize; 3] = [1, 7, 64];
-
-fn is_refused(rt: &impl Abort, alloc: Global, text: &[u8], said: LogError) {
-    for &size in &SHORT {
-        assert!(rt; refusal(alloc, text, size) == Some(said));
-    }
-}
-
-#[test]
-fn a_text_is_refused_as_by_read_log(rt: HostRuntime) {
-    for &(text, said) in &REFUSED {
-        is_refused(&rt, rt.alloc(), text, said);
-    }
-}
-
-const TWO_ENTRIES: &[u8] = b"70000 - 1000 7\n70000 - 500 69999\n";
-
-const SUMMED: &[u8] =
-    b"entries 10000\nspan 70000 70000\narrived 0 0\noffered 0 0\ndeparted 10000 7500000\ndropped 0 0\nused none\n\
-delay 7 69999 69999\n";
-
-// What is printed of ten thousand entries.
-fn summed(alloc: Global) -> Result<Bytes, LogError> {
-    let mut reader = ReportText::new(alloc)?;
-    reader.push(b"# base timestamp: 0\n");
-    for _ in 0..5000 {
-        reader.push(TWO_ENTRIES);
-    }
-    finished(alloc, reader)
-}
-
-#[test]
-fn ten_thousand_entries_are_summed(rt: HostRuntime) {
-    let summed = summed(rt.alloc()).expect(&rt, "a report");
-    assert!(rt; summed.as_slice() == SUMMED);
 }

@@ -45,39 +45,6 @@ fn prints_what_it_read(rt: HostRuntime) {
     assert!(rt; rows_of_nothing(rt.alloc()).expect(&rt, "a schedule") == 0);
 }
 
-// The number of a text's refusal, and the line that it names.
-fn refusal(alloc: Global, text: &[u8]) -> Option<(u32, u64)> {
-    match read_schedule(alloc, text) {
-        Ok(_) => None,
-        Err(fault) => Some((fault.number(), fault.line())),
-    }
-}
-
-// A text, the number of its refusal, and the line that it names.
-static REFUSED: [(&[u8], u32, u64); 9] = [
-    (b"0 up 1505", 2, 1),
-    (b"0 up 0", 2, 1),
-    (b"5 up 1\n\n", 1, 2),
-    (b"5 up 1\r\n", 1, 1),
-    (b"5  up 1", 1, 1),
-    (b"5 up 1 ", 1, 1),
-    (b"12345678901 up 1", 1, 1),
-    (b"5 up 1\n4 up 0\n", 2, 2),
-    (b"5 up 1\n4 down 7\n3 up\n", 3, 2),
-];
-
-#[test]
-fn refuses_the_first(rt: HostRuntime) {
-    for &(text, number, line) in &REFUSED {
-        assert!(rt; refusal(rt.alloc(), text) == Some((number, line)));
-    }
-}
-
-// Reads a piece. It says nothing of it, so that a test has only what it looks at.
-fn push(reading: &mut ScheduleText, piece: &[u8]) {
-    reading.push(piece);
-}
-
 // Whether the rows of a text that was read are printed so, or its refusal has this number and names this line.
 fn ends_as(
     alloc: Global,
@@ -93,46 +60,30 @@ fn ends_as(
     }
 }
 
-// Whether a text in three pieces is read so.
-fn is_read_in_three(
+// Whether a text is read so in pieces of so many bytes.
+fn is_read_in_pieces(
     alloc: Global,
-    first: &[u8],
-    second: &[u8],
-    third: &[u8],
+    text: &[u8],
+    size: usize,
     said: Result<&[u8], (u32, u64)>,
 ) -> Result<bool, OutOfMemory> {
-    let mut reading = ScheduleText::new(alloc, 0)?;
-    push(&mut reading, first);
-    push(&mut reading, second);
-    push(&mut reading, third);
+    let mut reading = ScheduleText::new(alloc, text.len())?;
+    for piece in text.chunks(size.max(1)) {
+        reading.push(piece);
+    }
     ends_as(alloc, reading, said)
 }
 
-// Whether a text of a front and a rest is read so, wherever the rest is cut in two.
-fn is_read_behind(
-    alloc: Global,
-    front: &[u8],
-    rest: &[u8],
-    said: Result<&[u8], (u32, u64)>,
-) -> Result<bool, OutOfMemory> {
-    for cut in 0..rest.len() + 1 {
-        let (second, third) = rest.split_at(cut);
-        if !is_read_in_three(alloc, front, second, third, said)? {
-            return Ok(false);
-        }
-    }
-    Ok(true)
-}
+static SIZES: [usize; 5] = [1, 2, 13, 27, 65_536];
 
-// Whether a text is read so, wherever it is cut in three.
+// Whether a text is read so in pieces of any size.
 fn is_read(
     alloc: Global,
     text: &[u8],
     said: Result<&[u8], (u32, u64)>,
 ) -> Result<bool, OutOfMemory> {
-    for cut in 0..text.len() + 1 {
-        let (front, rest) = text.split_at(cut);
-        if !is_read_behind(alloc, front, rest, said)? {
+    for &size in &SIZES {
+        if !is_read_in_pieces(alloc, text, size, said)? {
             return Ok(false);
         }
     }
@@ -161,7 +112,7 @@ static READ: [(&[u8], Result<&[u8], (u32, u64)>); 8] = [
 ];
 
 #[test]
-fn reads_a_text_wherever_it_is_cut(rt: HostRuntime) {
+fn reads_a_text_in_pieces(rt: HostRuntime) {
     for &(text, said) in &READ {
         assert!(rt; is_read(rt.alloc(), text, said).expect(&rt, "memory"));
     }
@@ -176,43 +127,10 @@ fn load_text(alloc: Global, number: u64, packets: u32) -> Result<Bytes, OutOfMem
     print_schedule(alloc, &load)
 }
 
-// How many rows a text has.
-fn count_rows(alloc: Global, text: &[u8]) -> Result<usize, ScheduleError> {
-    let schedule = read_schedule(alloc, text)?;
-    Ok(schedule.rows().len())
-}
-
-// Whether a text is read in pieces of so many bytes, and printed as it was.
-fn is_read_in_pieces(alloc: Global, text: &[u8], size: usize) -> Result<bool, OutOfMemory> {
-    let mut reading = ScheduleText::new(alloc, text.len())?;
-    for piece in text.chunks(size.max(1)) {
-        reading.push(piece);
-    }
-    ends_as(alloc, reading, Ok(text))
-}
-
-static SIZES: [usize; 5] = [1, 2, 13, 27, 65_536];
-
-// Whether a text is read and printed as it was in pieces of any size.
-fn is_read_in_any_pieces(alloc: Global, text: &[u8]) -> Result<bool, OutOfMemory> {
-    for &size in &SIZES {
-        if !is_read_in_pieces(alloc, text, size)? {
-            return Ok(false);
-        }
-    }
-    Ok(true)
-}
-
-// Whether a text has ten thousand rows, and is printed as it was.
-fn has_ten_thousand(alloc: Global, text: &[u8]) -> Result<bool, ScheduleError> {
-    Ok(count_rows(alloc, text)? == 10_000 && is_printed(alloc, text, text)?)
-}
-
 #[test]
-fn ten_thousand_rows_are_read_in_pieces_of_any_size(rt: HostRuntime) {
+fn ten_thousand_rows_are_read_in_pieces(rt: HostRuntime) {
     let text = load_text(rt.alloc(), 7, 10_000).expect(&rt, "memory");
-    assert!(rt; has_ten_thousand(rt.alloc(), text.as_slice()).expect(&rt, "a schedule"));
-    assert!(rt; is_read_in_any_pieces(rt.alloc(), text.as_slice()).expect(&rt, "memory"));
+    assert!(rt; is_read(rt.alloc(), text.as_slice(), Ok(text.as_slice())).expect(&rt, "memory"));
 }
 
 // A line, and how it is refused after those before it.

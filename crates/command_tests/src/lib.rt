@@ -1,26 +1,19 @@
-//! Tests of the commands, of their option words, of a made run and of whole command lines, through the public calls of
-//! the crates below. They stand apart from these, so that each of these is proved once, without tests.
+//! Tests of whole command lines over files and a port in memory, of calls that fail, of threads whose turns are held,
+//! and of option words, through the public calls of the crates below. They stand apart from these, so that each of
+//! these is proved once, without tests. What a command does with files alone is tried by the cases of `checks/case`.
 #![tactic(auto)]
 
 #[cfg(test)]
 mod case;
 #[cfg(test)]
-mod command;
+mod exchange;
 #[cfg(test)]
-mod made;
-#[cfg(test)]
-mod make;
-#[cfg(test)]
-mod merge;
+mod failing;
 #[cfg(test)]
 mod program;
 #[cfg(test)]
-mod replay;
-#[cfg(test)]
-mod report;
-#[cfg(test)]
 mod run;
 #[cfg(test)]
-mod stores;
+mod serving;
 #[cfg(test)]
 mod words;

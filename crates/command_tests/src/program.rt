@@ -1,65 +1,54 @@
-// Whole command lines over files and a port in memory.
+// What each command does where memory is ample, and lines of which `out` takes a front.
 use crate::case::{Case, pass};
-use crate::command::Command;
-use mm_base::{MemPort, NoPace};
-use mm_program::mm_main;
+use crate::exchange::{CLIENT, OLD, SERVER, STORE};
 use std::alloc::Global;
 use std::marker::Sync;
 use std::process::Abort;
 use std::sync::Wait;
 use std::thread::Threads;
-use test_outside::{ABSENT, TestOutside};
+use test_outside::ABSENT;
 
-// The files that are there: a trace, a schedule whose packet is too long, another, a log of one entry, and a list of
-// two senders.
+// The log of five packets through a queue of two, and its report.
+const LOG: &str =
+    "# base timestamp: 0\n0 + 1000\n0 + 1000\n1 # 1504\n1 - 1000 1\n1 + 800\n1 + 800\n1 + 700\n1 d 1 800\n2 # 1504\n\
+        2 - 1000 2\n2 - 800 1\n3 # 1504\n3 - 700 2\n";
+
+const REPORT: &str =
+    "entries 13\nspan 0 3\narrived 5 4300\noffered 3 4512\ndeparted 4 3500\ndropped 1 800\nused 775\ndelay 1 2 2\n";
+
+const SUMMARY: &str = "packets 3\ndeparted 3\ndropped 0\ninside 0\nunsent 0\nbytes 2524\nlast 26\n";
+
+// A schedule whose packet is too long, another one, a list of two senders, a log, both streams of a connection, and
+// their stores.
 const FILES: &[(&str, &str)] = &[
-    ("t", "1\n"),
     ("x", "0 up 1505\n"),
     ("s", "5 up 100\n"),
-    ("l", "# base timestamp: 0\n7 + 40\n"),
     ("m", "s\ns\n"),
+    ("l", LOG),
+    ("c", CLIENT),
+    ("r", SERVER),
+    ("k", STORE),
+    ("old", OLD),
 ];
-
-// The status of a command line, without what the contract of `mm_main` says of it.
-pub(crate) fn status_of<R: Threads + Wait + Sync>(
-    rt: &R,
-    alloc: Global,
-    words: &[String],
-    outside: &mut TestOutside,
-) -> u8 {
-    let mut port = MemPort::new(alloc, Vec::new(alloc), Vec::new(alloc));
-    mm_main(
-        rt,
-        alloc,
-        words,
-        &mut outside.disk,
-        &mut outside.out,
-        &mut port,
-        &NoPace,
-    )
-}
 
 // The words, which call of `out` fails, the status, what is printed, and what `f` holds.
 type Row = (&'static str, u64, u8, &'static str, &'static str);
 
 // A command line leaves what a row states.
-fn runs<R: Abort + Threads + Wait + Sync>(rt: &R, alloc: Global, row: &Row) {
-    let (words, call, status, printed, fates) = *row;
+fn leaves<R: Abort + Threads + Wait + Sync>(rt: &R, alloc: Global, row: &Row) {
+    let (words, call, status, printed, made) = *row;
     let case = Case {
-        words: &[words],
+        words,
         files: FILES,
-        fails: (0, call, 0),
+        fails: (0, call),
         status,
         printed,
-        left: &[("f", fates)],
+        left: &[("f", made)],
     };
-    pass(rt, alloc, Command::Mm, &case);
+    pass(rt, alloc, &case);
 }
 
-const REPORT: &str =
-    "entries 1\nspan 7 7\narrived 1 40\noffered 0 0\ndeparted 0 0\ndropped 0 0\nused none\ndelay none\n";
-
-const SUMMARY: &str = "packets 3\ndeparted 3\ndropped 0\ninside 0\nunsent 0\nbytes 2524\nlast 26\n";
+const DEPARTED: &str = "1 up departed 25\n";
 
 static JOBS: [Row; 13] = [
     (
@@ -67,14 +56,21 @@ static JOBS: [Row; 13] = [
         0,
         0,
         "",
-        "1 up departed 25\n",
+        DEPARTED,
     ),
     (
         "run --until 100 --schedule s --out f --plain -- mm-delay 20",
         0,
         0,
         "",
-        "1 up departed 25\n",
+        DEPARTED,
+    ),
+    (
+        "run --until 100 --schedule s --out f --order s -- mm-delay 20",
+        0,
+        0,
+        "",
+        DEPARTED,
     ),
     (
         "merge --until 100 --senders m --out f -- mm-delay 20",
@@ -83,34 +79,21 @@ static JOBS: [Row; 13] = [
         "",
         "1 1 up departed 25\n2 1 up departed 25\n",
     ),
-    (
-        "merge --until 100 --senders m --out s -- mm-delay 20",
-        0,
-        2,
-        "mm: name s\n",
-        ABSENT,
-    ),
+    ("record --client c --server r --out f", 0, 0, "", STORE),
+    ("migrate --store old --out f", 0, 0, "", STORE),
+    ("match --store k --request c", 0, 0, "1\n", ABSENT),
+    ("match --store k --request c", 1, 7, "", ABSENT),
+    ("match --store k --request c", 2, 0, "1\n", ABSENT),
     ("report --log l", 0, 0, REPORT, ABSENT),
     ("report --log l", 1, 7, "", ABSENT),
     ("make --number 1 --packets 3", 0, 0, SUMMARY, ABSENT),
     ("make --number 1 --packets 3", 1, 7, "", ABSENT),
-    ("", 0, 2, "mm: usage\n", ABSENT),
-    ("--help", 0, 2, "mm: usage\n", ABSENT),
-    ("makes --number 1 --packets 3", 0, 2, "mm: usage\n", ABSENT),
-    ("report --log n", 0, 3, "mm: absent n\n", ABSENT),
-    (
-        "run --until 3600001 --schedule s --out f -- mm-delay 20",
-        0,
-        5,
-        "mm: limit horizon\n",
-        ABSENT,
-    ),
 ];
 
 #[test]
 fn each_command_does_its_job(rt: HostRuntime) {
     for row in &JOBS {
-        runs(&rt, rt.alloc(), row);
+        leaves(&rt, rt.alloc(), row);
     }
 }
 
@@ -135,6 +118,6 @@ static FRONTS: [Row; 10] = [
 #[test]
 fn each_call_of_the_sink_fails_in_turn(rt: HostRuntime) {
     for row in &FRONTS {
-        runs(&rt, rt.alloc(), row);
+        leaves(&rt, rt.alloc(), row);
     }
 }

@@ -1,5 +1,8 @@
-// `run` over files in memory.
-use crate::case::{Case, is_left, outside_of, words_in};
+// `run` at a pace, and over disks of the tests' own.
+mod paced;
+mod streamed;
+
+use crate::case::{Case, is_left, outside_of};
 use command_ends::{Cause, conclude};
 use command_run::answer_run;
 use mm_base::{Disk, MemSink, Pace};
@@ -8,18 +11,8 @@ use std::fmt::Write;
 use std::marker::Sync;
 use std::sync::Wait;
 use std::thread::Threads;
+use test_outside::words_of;
 use text_base::OutOfMemory;
-
-mod failing;
-mod large;
-mod orders;
-mod paced;
-mod refused;
-mod streamed;
-mod written;
-
-// The options of each way in which packets pass a nest, the last of which takes the schedule's bytes for an order.
-static WAYS: [&str; 3] = ["", "--plain", "--order s"];
 
 // The answer of `run`, without what its contract says of it.
 fn answered<R: Threads + Wait + Sync, D: Disk, Q: Pace + Sync>(
@@ -38,31 +31,25 @@ fn concludes(alloc: Global, answer: Result<(), Cause>, status: u8, line: &str) -
     conclude(answer, &mut out) == status && out.written() == line.as_bytes()
 }
 
-// Whether a run at a pace leaves what it is to leave.
+// Whether a run at a pace leaves what it is to leave. The words of the case are those after `run`.
 fn leaves_by<R: Threads + Wait + Sync, Q: Pace + Sync>(
     rt: &R,
     alloc: Global,
-    case: &Case<'_, '_, '_>,
+    case: &Case<'_>,
     pace: &Q,
 ) -> Result<bool, OutOfMemory> {
-    let words = words_in(alloc, case.words)?;
+    let words = words_of(alloc, case.words)?;
     let mut outside = outside_of(alloc, case)?;
     let answer = answered(rt, alloc, &words, &mut outside.disk, pace);
     let status = conclude(answer, &mut outside.out);
     Ok(is_left(case, status, &outside))
 }
 
-// Adds so many lines, each a number from 1 on and this text.
-fn push_numbered(lines: &mut String, count: u32, text: &str) -> Result<(), AllocError> {
+// So many lines, each a number from 1 on and this text.
+fn numbered(alloc: Global, count: u32, text: &str) -> Result<String, AllocError> {
+    let mut lines = String::new(alloc);
     for number in 1..=count {
         write!(lines, "{number}{text}")?;
     }
-    Ok(())
-}
-
-// So many lines, each a number from 1 on and this text, after a first line.
-fn numbered(alloc: Global, first: &str, count: u32, text: &str) -> Result<String, AllocError> {
-    let mut lines = String::from_str(alloc, first)?;
-    push_numbered(&mut lines, count, text)?;
     Ok(lines)
 }

@@ -3,14 +3,9 @@ use crate::clocks::{Times, clock_of};
 use command_relay::relay_main;
 use live_relay::{MemClock, MemWire, Side};
 use std::alloc::Global;
-use test_outside::{TestOutside, words_of};
+use std::process::Abort;
+use test_outside::{ABSENT, TestOutside, words_of};
 use text_base::{Bytes, OutOfMemory};
-
-mod done;
-mod refused;
-
-// The text of the trace `t`, of one opportunity each 4 ms.
-const TRACE: (&str, &str) = ("t", "4\n");
 
 // A datagram of the client, of so many bytes.
 fn datagram(alloc: Global, size: usize) -> Result<Option<(Side, Bytes)>, OutOfMemory> {
@@ -18,13 +13,13 @@ fn datagram(alloc: Global, size: usize) -> Result<Option<(Side, Bytes)>, OutOfMe
     Ok(Some((Side::Client, bytes)))
 }
 
-// A wire whose client sends datagrams of these sizes, one each turn.
-fn wire_of(alloc: Global, sizes: &[usize], fails: &[u64]) -> Result<MemWire, OutOfMemory> {
+// A wire whose client sends datagrams of these sizes, one each turn. Its call of this number fails; none has 0.
+fn wire_of(alloc: Global, sizes: &[usize], fails: u64) -> Result<MemWire, OutOfMemory> {
     let mut answers = Vec::new(alloc);
     for size in sizes {
         answers.push(datagram(alloc, *size)?)?;
     }
-    Ok(MemWire::new(alloc, answers, Vec::from_slice(alloc, fails)?))
+    Ok(MemWire::new(alloc, answers, Vec::from_slice(alloc, &[fails])?))
 }
 
 // The status of a program, without what the contract of `relay_main` says of it.
@@ -45,45 +40,213 @@ fn status_of(
     )
 }
 
-// The same of a line of words, by a clock of these times.
-fn status_by(
-    alloc: Global,
-    words: &str,
-    times: &Times,
-    outside: &mut TestOutside,
-    wire: &mut MemWire,
-) -> Result<u8, OutOfMemory> {
-    let words = words_of(alloc, words)?;
-    let mut clock = clock_of(alloc, times)?;
-    Ok(status_of(alloc, &words, outside, &mut clock, wire))
+// How a wire was used: the ports that it opened, and how many datagrams were received, and sent to the server.
+#[derive(Clone, Copy)]
+struct Used {
+    opened: (u16, u16),
+    received: usize,
+    sent: usize,
 }
 
-// What is left: a status, what is on `out`, and files.
+// The words of a relay over the trace `t`, its clock, the sizes of what the client sends, and the calls of the disk, of
+// `out` and of the wire that fail, or 0 for none. Then its status, what is printed, what files hold, and, where that is
+// looked at, how its wire was used.
 #[derive(Clone, Copy)]
-struct Left<'a> {
+struct Case {
+    words: &'static str,
+    times: &'static Times,
+    sizes: &'static [usize],
+    fails: (u64, u64, u64),
     status: u8,
-    printed: &'a str,
-    files: &'a [(&'a str, &'a str)],
+    printed: &'static str,
+    files: &'static [(&'static str, &'static str)],
+    used: Option<Used>,
 }
 
-// The words of a program, by which clock it goes, the files before it, and which calls of the disk and of `out` fail.
-#[derive(Clone, Copy)]
-struct Job<'a> {
-    words: &'a str,
-    times: &'a Times,
-    files: &'a [(&'a str, &'a str)],
-    disk_fails: &'a [u64],
-    out_fails: &'a [u64],
+// Whether a wire was used as it is stated, if that is looked at.
+fn is_used(wire: &MemWire, used: Option<Used>) -> bool {
+    match used {
+        Some(used) => {
+            wire.opened() == Some(used.opened)
+                && wire.received().len() == used.received
+                && wire.sent(Side::Server).len() == used.sent
+        }
+        None => true,
+    }
 }
 
-// Whether a job over this wire leaves this.
-fn leaves(
-    alloc: Global,
-    job: &Job<'_>,
-    wire: &mut MemWire,
-    left: &Left<'_>,
-) -> Result<bool, OutOfMemory> {
-    let mut outside = TestOutside::new(alloc, job.files, job.disk_fails, job.out_fails)?;
-    let status = status_by(alloc, job.words, job.times, &mut outside, wire)?;
-    Ok(status == left.status && outside.is_left(left.printed, left.files))
+// Whether a case's relay over this wire leaves what it is to leave.
+fn leaves(alloc: Global, case: &Case, wire: &mut MemWire) -> Result<bool, OutOfMemory> {
+    let words = words_of(alloc, case.words)?;
+    let mut clock = clock_of(alloc, case.times)?;
+    let mut outside = TestOutside::new(alloc, &[("t", "4\n")], &[case.fails.0], &[case.fails.1])?;
+    let status = status_of(alloc, &words, &mut outside, &mut clock, wire);
+    Ok(status == case.status && outside.is_left(case.printed, case.files))
+}
+
+// A case's relay, whose client sends datagrams of these sizes, leaves what it is to leave.
+fn passes(rt: &impl Abort, alloc: Global, case: &Case, sizes: &[usize]) {
+    let mut wire = wire_of(alloc, sizes, case.fails.2).expect(rt, "memory");
+    let is_left = leaves(alloc, case, &mut wire).expect(rt, "memory");
+    assert!(rt;
+        is_left && is_used(&wire, case.used),
+        "at {}: {}",
+        case.words,
+        case.printed
+    );
+}
+
+// A delay lets a datagram pass.
+const DELAYED: Case = Case {
+    words: "--until 20 --listen 7 --to 9 --turns 10 --out f -- mm-delay 5",
+    times: &Times::ThreeTurns,
+    sizes: &[100],
+    fails: (0, 0, 0),
+    status: 0,
+    printed: "packets 1 refused 0 end horizon\n",
+    files: &[("f", "1 up departed 6\n")],
+    used: Some(Used {
+        opened: (7, 9),
+        received: 3,
+        sent: 1,
+    }),
+};
+
+const BUSY: &str = "# base timestamp: 0\n4 # 1504\n4 + 100\n8 # 1504\n8 - 100 4\n";
+
+// A link writes its log.
+const LINKED: Case = Case {
+    words: "--turns=9 --until=10 --listen=65535 --to=1 --out=f --seed=7 -- mm-link t t --uplink-log=u",
+    times: &Times::OneTurn,
+    files: &[("f", "1 up departed 8\n"), ("u", BUSY)],
+    used: Some(Used {
+        opened: (65_535, 1),
+        received: 1,
+        sent: 1,
+    }),
+    ..DELAYED
+};
+
+// The two, a datagram that is too long, and all turns where the clock stands.
+static DONE: [Case; 4] = [
+    DELAYED,
+    LINKED,
+    Case {
+        sizes: &[1_505],
+        printed: "packets 0 refused 1 end horizon\n",
+        files: &[
+            ("f", ""),
+            ("u", "# base timestamp: 0\n4 # 1504\n8 # 1504\n"),
+        ],
+        used: Some(Used {
+            opened: (65_535, 1),
+            received: 1,
+            sent: 0,
+        }),
+        ..LINKED
+    },
+    Case {
+        words: "--until 20 --listen 7 --to 9 --turns 4 --out f -- mm-delay 0",
+        times: &Times::Standing,
+        sizes: &[1, 0, 1_504],
+        printed: "packets 2 refused 1 end turns\n",
+        files: &[("f", "1 up departed 5\n2 up departed 5\n")],
+        used: Some(Used {
+            opened: (7, 9),
+            received: 4,
+            sent: 2,
+        }),
+        ..DELAYED
+    },
+];
+
+#[test]
+fn datagrams_pass(rt: HostRuntime) {
+    for case in &DONE {
+        passes(&rt, rt.alloc(), case, case.sizes);
+    }
+}
+
+static THOUSANDS: Case = Case {
+    words: "--until 20 --listen 7 --to 9 --turns 4000 --out f -- mm-delay 1",
+    times: &Times::Standing,
+    printed: "packets 4000 refused 0 end turns\n",
+    files: &[],
+    used: Some(Used {
+        opened: (7, 9),
+        received: 4_000,
+        sent: 0,
+    }),
+    ..DELAYED
+};
+
+#[test]
+fn some_thousand_datagrams_pass(rt: HostRuntime) {
+    passes(&rt, rt.alloc(), &THOUSANDS, &[9; 4_000]);
+}
+
+// A link, whose trace is read, and whose log and fates are written.
+const FAILING: Case = Case {
+    words: "--until 10 --listen 7 --to 9 --turns 9 --out f -- mm-link t t --uplink-log=u",
+    files: &[("f", ABSENT), ("u", ABSENT)],
+    used: None,
+    ..LINKED
+};
+
+// A delay whose wire fails as it opens, receives, or sends.
+const NET_FAULT: Case = Case {
+    status: 8,
+    printed: "mm: net fault\n",
+    files: &[("f", ABSENT)],
+    used: None,
+    ..DELAYED
+};
+
+static FAULTS: [Case; 8] = [
+    Case {
+        fails: (1, 0, 0),
+        status: 6,
+        printed: "mm: read fault t\n",
+        ..FAILING
+    },
+    Case {
+        fails: (5, 0, 0),
+        status: 7,
+        printed: "mm: write fault u\n",
+        ..FAILING
+    },
+    Case {
+        fails: (0, 1, 0),
+        status: 7,
+        printed: "",
+        files: &[("f", "1 up departed 8\n"), ("u", BUSY)],
+        ..FAILING
+    },
+    Case {
+        fails: (0, 0, 1),
+        ..NET_FAULT
+    },
+    Case {
+        fails: (0, 0, 2),
+        ..NET_FAULT
+    },
+    Case {
+        fails: (0, 0, 3),
+        ..NET_FAULT
+    },
+    Case {
+        fails: (0, 0, 4),
+        ..NET_FAULT
+    },
+    Case {
+        fails: (0, 0, 5),
+        ..NET_FAULT
+    },
+];
+
+#[test]
+fn each_fault_is_explained(rt: HostRuntime) {
+    for case in &FAULTS {
+        passes(&rt, rt.alloc(), case, case.sizes);
+    }
 }

@@ -6,14 +6,12 @@ mod order;
 mod ports;
 mod watched;
 
-use crate::links::{REQUEST, RESPONSE, link, listening};
+use crate::links::{REQUEST, RESPONSE, link};
 use crate::store::paired;
 use crate::texts::{copies, long_field, long_messages};
-use mm_base::{Link, MemLink, NoPace, Pace, Port, TcpPort};
+use mm_base::{Link, MemLink, NoPace, Pace};
 use replay_server::{ConnEnd, serve_conn};
 use std::alloc::Global;
-use std::io::{self, Write};
-use std::net::{Ipv4Addr, Net, Shutdown, SocketAddr, TcpListener, TcpStream};
 use std::sync::Wait;
 use text_base::OutOfMemory;
 
@@ -155,54 +153,6 @@ fn gives_chunks_twice<R: Wait>(rt: &R, alloc: Global) -> Result<bool, OutOfMemor
 #[test]
 fn recorded_chunks_come_as_they_are(rt: HostRuntime) {
     assert!(rt; gives_chunks_twice(&rt, rt.alloc()) == Ok(true));
-}
-
-/// A client's connection to a port of this machine, which has sent a request and sends no more.
-fn asking_client<R: Net<Stream = TcpStream, Listener = TcpListener>>(
-    rt: &R,
-    number: u16,
-) -> io::Result<TcpStream> {
-    let mut client = TcpStream::connect(rt, SocketAddr::from((Ipv4Addr::LOCALHOST, number)))?;
-    client.write_all(CURL.as_bytes())?;
-    client.shutdown(Shutdown::Write)?;
-    Ok(client)
-}
-
-/// Whether a client's answer is the recorded one.
-fn is_answered(alloc: Global, client: &TcpStream) -> bool {
-    match io::read_to_string(alloc, client) {
-        Ok(answer) => answer.as_bytes() == CHUNKS.as_bytes(),
-        Err(_) => false,
-    }
-}
-
-/// Whether a client gets the recorded answer over the next connection of a port.
-fn is_served<R: Wait, P: Port>(rt: &R, alloc: Global, port: &mut P, client: &TcpStream) -> bool {
-    let Ok(Some(mut link)) = port.accept() else {
-        return false;
-    };
-    let is_closed = end_of(rt, alloc, &CURLED, &mut link, 1, &NoPace) == ConnEnd::Closed;
-    let is_answered = is_answered(alloc, client);
-    port.finish(link).is_ok() && is_closed && is_answered
-}
-
-/// Whether a client of a port of TCP is served. `None`: the port or the client couldn't be had.
-fn serves_over_tcp<R: Wait + Net<Stream = TcpStream, Listener = TcpListener>>(
-    rt: &R,
-    alloc: Global,
-    port: &mut TcpPort<HostRuntime>,
-) -> Option<bool> {
-    let number = port.number()?;
-    match asking_client(rt, number) {
-        Ok(client) => Some(is_served(rt, alloc, port, &client)),
-        Err(_) => None,
-    }
-}
-
-#[test]
-fn a_client_over_tcp_gets_the_recorded_bytes(rt: HostRuntime) {
-    let mut port = listening(&rt).expect(&rt, "a port");
-    assert!(rt; serves_over_tcp(&rt, rt.alloc(), &mut port) == Some(true));
 }
 
 const BAD_REQUEST: &str =

@@ -147,7 +147,7 @@ impl Pace for Held<'_> {
 fn is_kept<R: Threads + Wait + Sync>(
     rt: &R,
     alloc: Global,
-    case: &Case<'_, '_, '_>,
+    case: &Case<'_>,
     holds: &[Hold],
 ) -> Result<bool, OutOfMemory> {
     let pace = Held {
@@ -159,18 +159,18 @@ fn is_kept<R: Threads + Wait + Sync>(
 }
 
 // A run of this schedule, and a trace of one line, leaves these fates while these turns are held.
-fn keeps<R: Abort + Threads + Wait + Sync>(
+fn keeps<'a, R: Abort + Threads + Wait + Sync>(
     rt: &R,
     alloc: Global,
     words: &'static str,
-    schedule: &str,
+    schedule: &'a str,
     holds: &[Hold],
-    fates: &str,
+    fates: &'a str,
 ) {
     let case = Case {
-        words: &["--schedule s --out f --until", words],
+        words,
         files: &[("t", "5\n"), ("s", schedule)],
-        fails: (0, 0, 0),
+        fails: (0, 0),
         status: 0,
         printed: "",
         left: &[("f", fates)],
@@ -213,7 +213,7 @@ fn four_workers_run_beside_each_other(rt: HostRuntime) {
     let holds = beginnings(alloc).expect(&rt, "memory");
     let schedule = "5 up 100\n6 up 100\n";
     let fates = "1 up departed 25\n2 up departed 26\n";
-    let words = "100 -- mm-delay 20";
+    let words = "--schedule s --out f --until 100 -- mm-delay 20";
     keeps(&rt, alloc, words, schedule, holds.as_slice(), fates);
 }
 
@@ -228,7 +228,7 @@ static THIRD_LINE: [Hold; 1] = [Hold {
 
 #[test]
 fn a_mark_lets_a_link_go_on(rt: HostRuntime) {
-    let words = "20 -- mm-link t t";
+    let words = "--schedule s --out f --until 20 -- mm-link t t";
     let schedule = "0 up 100\n10 down 100\n15 down 100\n";
     let fates = "1 up departed 5\n2 down departed 15\n3 down departed 20\n";
     keeps(&rt, rt.alloc(), words, schedule, &THIRD_LINE, fates);
@@ -273,12 +273,12 @@ fn thousand_fates(alloc: Global) -> Result<String, AllocError> {
 #[test]
 fn channels_hold_sixty_four_items(rt: HostRuntime) {
     let alloc = rt.alloc();
-    let lines = numbered(alloc, "", 1_000, " up 100\n").expect(&rt, "memory");
+    let lines = numbered(alloc, 1_000, " up 100\n").expect(&rt, "memory");
     let fates = thousand_fates(alloc).expect(&rt, "memory");
     keeps(
         &rt,
         alloc,
-        "2000 -- mm-delay 20",
+        "--schedule s --out f --until 2000 -- mm-delay 20",
         lines.as_str(),
         &FULL_CHANNELS,
         fates.as_str(),

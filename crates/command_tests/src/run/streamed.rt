@@ -2,9 +2,8 @@
 ghost use Rattle.std.specs.Prelude.{◌^◌, ◌-◌, None, false};
 
 use super::paced::{Held, Hold, Turns, UP_COLLECTOR};
-use super::{WAYS, answered, concludes, numbered};
+use super::{answered, concludes, numbered};
 use crate::case::{Case, pass};
-use crate::command::Command;
 use mm_base::{Disk, DiskError, NoPace, Role};
 use std::alloc::{AllocError, Global};
 use std::marker::Sync;
@@ -30,7 +29,7 @@ fn many_lines(alloc: Global, count: u32, refused: &[u32]) -> Result<String, Allo
 
 // The fates of 10,000 packets that depart at 1.
 fn many_fates(alloc: Global) -> Result<String, AllocError> {
-    numbered(alloc, "", 10_000, " up departed 1\n")
+    numbered(alloc, 10_000, " up departed 1\n")
 }
 
 const MANY: &str = "--until 1 --schedule s --out f -- mm-delay 1";
@@ -48,105 +47,49 @@ fn ten_thousand(alloc: Global) -> Result<Many, AllocError> {
     Ok(Many { lines, fates })
 }
 
-// A run of this schedule in this way leaves these fates.
-fn passes<R: Abort + Threads + Wait + Sync>(
-    rt: &R,
-    alloc: Global,
-    way: &'static str,
-    schedule: &str,
-    fates: &str,
-) {
-    let case = Case {
-        words: &[way, MANY],
-        files: &[("s", schedule)],
-        fails: (0, 0, 0),
-        status: 0,
-        printed: "",
-        left: &[("f", fates)],
-    };
-    pass(rt, alloc, Command::Run, &case);
-}
+// How many lines there are, which of them are refused, which call of the disk fails, the status and the line.
+type Fault = (u32, &'static [u32], u64, u8, &'static str);
 
-// A run of this schedule, whose call of this number fails, is answered so, and leaves no fates.
-fn refuses<'a, R: Abort + Threads + Wait + Sync>(
+// The calls are a size, and a read for each piece: two of ten thousand lines, three of twenty thousand. A schedule is
+// read to its end, and a fault of reading is answered before a refusal.
+static FAULTS: [Fault; 6] = [
+    (10_000, &[], 3, 6, "mm: read fault s\n"),
+    (10_000, &[1, 2], 3, 6, "mm: read fault s\n"),
+    (20_000, &[1], 2, 6, "mm: read fault s\n"),
+    (20_000, &[1], 3, 6, "mm: read fault s\n"),
+    (20_000, &[1], 4, 6, "mm: read fault s\n"),
+    (20_000, &[1], 5, 4, "mm: bad input s 1 1\n"),
+];
+
+// A run of this schedule is answered as it is stated, and leaves no fates.
+fn is_answered<R: Abort + Threads + Wait + Sync>(
     rt: &R,
     alloc: Global,
-    schedule: &'a str,
-    fails: u64,
-    status: u8,
-    line: &'a str,
+    schedule: &str,
+    fault: &Fault,
 ) {
+    let (_, _, call, status, printed) = *fault;
     let case = Case {
-        words: &[MANY],
+        words: "run --until 1 --schedule s --out f -- mm-delay 1",
         files: &[("s", schedule)],
-        fails: (fails, 0, 0),
+        fails: (call, 0),
         status,
-        printed: line,
+        printed,
         left: &[("f", ABSENT)],
     };
-    pass(rt, alloc, Command::Run, &case);
+    pass(rt, alloc, &case);
 }
 
-// The lines that are refused, which call fails, the status and the line.
-type Fault = (&'static [u32], u64, u8, &'static str);
-
-// The calls are: a size, and two reads. A fault of reading is answered before a refusal.
-static FAULTS: [Fault; 4] = [
-    (&[9_999], 0, 4, "mm: bad input s 1 9999\n"),
-    (&[1, 2], 0, 4, "mm: bad input s 1 1\n"),
-    (&[], 3, 6, "mm: read fault s\n"),
-    (&[1, 2], 3, 6, "mm: read fault s\n"),
-];
-
-// A run of ten thousand lines is answered as it is stated.
-fn is_answered<R: Abort + Threads + Wait + Sync>(rt: &R, alloc: Global, fault: &Fault) {
-    let (refused, fails, status, line) = *fault;
-    let text = many_lines(alloc, 10_000, refused).expect(rt, "memory");
-    refuses(rt, alloc, text.as_str(), fails, status, line);
+// The same of as many lines as are stated.
+fn are_answered<R: Abort + Threads + Wait + Sync>(rt: &R, alloc: Global, fault: &Fault) {
+    let text = many_lines(alloc, fault.0, fault.1).expect(rt, "memory");
+    is_answered(rt, alloc, text.as_str(), fault);
 }
 
 #[test]
-fn many_lines_are_streamed(rt: HostRuntime) {
-    let many = ten_thousand(rt.alloc()).expect(&rt, "memory");
-    passes(
-        &rt,
-        rt.alloc(),
-        "",
-        many.lines.as_str(),
-        many.fates.as_str(),
-    );
+fn a_schedule_is_read_to_its_end(rt: HostRuntime) {
     for fault in &FAULTS {
-        is_answered(&rt, rt.alloc(), fault);
-    }
-}
-
-// Which call fails, the status and the line. The calls are: a size, and three reads. A fifth call isn't made.
-static CALLS: [(u64, u8, &str); 4] = [
-    (2, 6, "mm: read fault s\n"),
-    (3, 6, "mm: read fault s\n"),
-    (4, 6, "mm: read fault s\n"),
-    (5, 4, "mm: bad input s 1 1\n"),
-];
-
-#[test]
-fn a_refused_schedule_is_read_to_its_end(rt: HostRuntime) {
-    let text = many_lines(rt.alloc(), 20_000, &[1]).expect(&rt, "memory");
-    for &(fails, status, line) in &CALLS {
-        refuses(&rt, rt.alloc(), text.as_str(), fails, status, line);
-    }
-}
-
-#[test]
-fn many_lines_pass_in_each_way(rt: HostRuntime) {
-    let many = ten_thousand(rt.alloc()).expect(&rt, "memory");
-    for &way in &WAYS {
-        passes(
-            &rt,
-            rt.alloc(),
-            way,
-            many.lines.as_str(),
-            many.fates.as_str(),
-        );
+        are_answered(&rt, rt.alloc(), fault);
     }
 }
 

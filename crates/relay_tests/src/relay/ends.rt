@@ -25,22 +25,7 @@ macro_rules! silent {
     };
 }
 
-static SILENT: [Case; 5] = [
-    silent!(5, Times::Late, RelayEnd::Horizon, 21, &[]),
-    silent!(5, Times::LastThenLate, RelayEnd::Horizon, 21, &[0]),
-    silent!(2, Times::FirstThenLate, RelayEnd::Horizon, 21, &[0]),
-    silent!(1, Times::FirstThenLate, RelayEnd::Turns, 1, &[0]),
-    silent!(3, Times::Last, RelayEnd::Turns, 20, &[0, 0, 0]),
-];
-
-#[test]
-fn it_ends_past_the_horizon_or_after_its_turns(rt: HostRuntime) {
-    for case in &SILENT {
-        passes(&rt, rt.alloc(), case);
-    }
-}
-
-static STANDING: Case = Case {
+const STANDING: Case = Case {
     nest: "mm-delay 0",
     horizon: 20,
     turns: 4,
@@ -61,7 +46,19 @@ static STANDING: Case = Case {
     to_client: &[],
 };
 
+// No datagrams, and at last a clock that stands and lets all turns pass.
+static CASES: [Case; 6] = [
+    silent!(5, Times::Late, RelayEnd::Horizon, 21, &[]),
+    silent!(5, Times::LastThenLate, RelayEnd::Horizon, 21, &[0]),
+    silent!(2, Times::FirstThenLate, RelayEnd::Horizon, 21, &[0]),
+    silent!(1, Times::FirstThenLate, RelayEnd::Turns, 1, &[0]),
+    silent!(3, Times::Last, RelayEnd::Turns, 20, &[0, 0, 0]),
+    STANDING,
+];
+
 #[test]
-fn a_clock_that_stands_lets_all_turns_pass(rt: HostRuntime) {
-    passes(&rt, rt.alloc(), &STANDING);
+fn it_ends_past_the_horizon_or_after_its_turns(rt: HostRuntime) {
+    for case in &CASES {
+        passes(&rt, rt.alloc(), case);
+    }
 }

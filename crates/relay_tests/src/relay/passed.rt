@@ -37,8 +37,8 @@ fn a_datagram_is_sent_in_the_first_turn_that_reaches_its_moment(rt: HostRuntime)
     assert!(rt; is_first(&done.wire));
 }
 
-// The same datagram, and a turn at 7.
-static ONE_AND_A_TURN: Case = Case {
+// The same datagram, and a turn at 7: it is sent before the next receive.
+const ONE_AND_A_TURN: Case = Case {
     nest: "mm-delay 5",
     horizon: 20,
     turns: 10,
@@ -54,11 +54,6 @@ static ONE_AND_A_TURN: Case = Case {
     to_server: &[100],
     to_client: &[],
 };
-
-#[test]
-fn it_is_sent_before_the_next_receive(rt: HostRuntime) {
-    passes(&rt, rt.alloc(), &ONE_AND_A_TURN);
-}
 
 // What passes a link whose trace is 4, up to 10, where the client sends so many bytes at 4.
 macro_rules! linked {
@@ -87,20 +82,7 @@ const BUSY: &[u8] =
 
 const IDLE: &[u8] = b"# base timestamp: 0\n4 # 1504\n8 # 1504\n";
 
-static LINKED: [Case; 3] = [
-    linked!(100, BUSY, 1, 0, &[100]),
-    linked!(1_505, IDLE, 0, 1, &[]),
-    linked!(0, IDLE, 0, 1, &[]),
-];
-
-#[test]
-fn a_link_has_its_log(rt: HostRuntime) {
-    for case in &LINKED {
-        passes(&rt, rt.alloc(), case);
-    }
-}
-
-static LONG_OR_EMPTY: Case = Case {
+const LONG_OR_EMPTY: Case = Case {
     nest: "mm-delay 0",
     horizon: 20,
     turns: 4,
@@ -122,12 +104,7 @@ static LONG_OR_EMPTY: Case = Case {
     to_client: &[1_504],
 };
 
-#[test]
-fn a_datagram_that_is_too_long_or_empty_is_refused(rt: HostRuntime) {
-    passes(&rt, rt.alloc(), &LONG_OR_EMPTY);
-}
-
-static DUE_LATE: Case = Case {
+const DUE_LATE: Case = Case {
     nest: "mm-link t t",
     horizon: 10,
     turns: 10,
@@ -144,7 +121,19 @@ static DUE_LATE: Case = Case {
     to_client: &[100],
 };
 
+// A link has its log, a datagram that is too long or empty is refused, and what is due past the horizon is sent at it.
+static CASES: [Case; 6] = [
+    ONE_AND_A_TURN,
+    linked!(100, BUSY, 1, 0, &[100]),
+    linked!(1_505, IDLE, 0, 1, &[]),
+    linked!(0, IDLE, 0, 1, &[]),
+    LONG_OR_EMPTY,
+    DUE_LATE,
+];
+
 #[test]
-fn what_is_due_past_the_horizon_is_sent_at_it(rt: HostRuntime) {
-    passes(&rt, rt.alloc(), &DUE_LATE);
+fn rows_logs_and_datagrams_are_as_stated(rt: HostRuntime) {
+    for case in &CASES {
+        passes(&rt, rt.alloc(), case);
+    }
 }

@@ -47,8 +47,8 @@ macro_rules! stopped {
     };
 }
 
-// The relay receives at 1, 3 (and sends), 6 (and sends) and 7, and sends the last at 21.
-static STOPS: [Stop; 7] = [
+// The relay receives at 1, 3 (and sends), 6 (and sends) and 7, and sends the last at 21. An eighth call isn't made.
+static STOPS: [Stop; 8] = [
     stopped!(1, &[], &[]),
     stopped!(2, &[], &[]),
     stopped!(3, &[], &[]),
@@ -56,6 +56,12 @@ static STOPS: [Stop; 7] = [
     stopped!(5, &[10], &[]),
     stopped!(6, &[10], &[20]),
     stopped!(7, &[10], &[20]),
+    Stop {
+        call: 8,
+        error: None,
+        to_server: &[10, 30],
+        to_client: &[20],
+    },
 ];
 
 #[test]
@@ -63,18 +69,6 @@ fn a_relay_stops_at_a_call_that_fails(rt: HostRuntime) {
     for stop in &STOPS {
         stops(&rt, rt.alloc(), stop);
     }
-}
-
-static PAST: Stop = Stop {
-    call: 8,
-    error: None,
-    to_server: &[10, 30],
-    to_client: &[20],
-};
-
-#[test]
-fn a_call_past_its_end_stops_no_relay(rt: HostRuntime) {
-    stops(&rt, rt.alloc(), &PAST);
 }
 
 // Opens a wire, without what its contract says.

@@ -242,52 +242,6 @@ fn each_fault_has_its_status(rt: HostRuntime) {
     are_left(&rt, rt.alloc(), &FAULTS);
 }
 
-// Words that are refused.
-const REFUSED: Case = Case {
-    words: "",
-    status: 2,
-    printed: "mm: usage\n",
-    store: ABSENT,
-    ..DONE
-};
-
-static OTHER_WORDS: [Case; 8] = [
-    REFUSED,
-    Case {
-        words: "--port 80 --to 8080 --connections 1",
-        ..REFUSED
-    },
-    Case {
-        words: "--port 0 --to 8080 --connections 1 --out s",
-        ..REFUSED
-    },
-    Case {
-        words: "--port 80 --to 65536 --connections 1 --out s",
-        ..REFUSED
-    },
-    Case {
-        words: "--port 80 --to 8080 --connections 65 --out s",
-        ..REFUSED
-    },
-    Case {
-        words: "--port 80 --to 8080 --connections one --out s",
-        ..REFUSED
-    },
-    Case {
-        words: "--port 80 --to 8080 --connections 1 --out s more",
-        ..REFUSED
-    },
-    Case {
-        words: "--port 80 --port 81 --to 8080 --connections 1 --out s",
-        ..REFUSED
-    },
-];
-
-#[test]
-fn other_words_ask_for_nothing(rt: HostRuntime) {
-    are_left(&rt, rt.alloc(), &OTHER_WORDS);
-}
-
 // Two clients that ask the same, and one server alone.
 static TWO_CLIENTS: [Case; 1] = [Case {
     words: "--port 80 --to 8080 --connections 2 --out s",

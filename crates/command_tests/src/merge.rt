@@ -1,6 +1,0 @@
-// `merge` over files in memory.
-mod failing;
-mod large;
-mod lists;
-mod refused;
-mod written;
