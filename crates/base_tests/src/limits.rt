@@ -43,7 +43,7 @@ struct Connected {
     link: TcpLink<HostRuntime>,
 }
 
-fn connected(rt: &HostRuntime) -> Option<Connected> {
+fn connect(rt: &HostRuntime) -> Option<Connected> {
     let (mut port, number) = listening(rt)?;
     let client = client_at(rt, Ipv4Addr::LOCALHOST, number).ok()?;
     let link = port.accept().ok()??;
@@ -63,7 +63,7 @@ fn give_on<L: Link>(link: &mut L) -> Option<EndError> {
 // A client that takes nothing is cut at the limit, whatever the system's buffers take.
 #[test]
 fn a_client_that_takes_nothing_is_cut(rt: HostRuntime) {
-    let mut both = connected(&rt).expect(&rt, "a link");
+    let mut both = connect(&rt).expect(&rt, "a link");
     let begun = Instant::now(&rt).expect(&rt, "a clock");
     assert!(rt; give_on(&mut both.link) == Some(EndError::Failed));
     assert!(rt; is_a_limit_ago(&rt, &begun).expect(&rt, "a clock"));
@@ -72,7 +72,7 @@ fn a_client_that_takes_nothing_is_cut(rt: HostRuntime) {
 // A peer that says nothing is a fault at the limit.
 #[test]
 fn a_peer_that_says_nothing_is_a_fault(rt: HostRuntime) {
-    let mut both = connected(&rt).expect(&rt, "a link");
+    let mut both = connect(&rt).expect(&rt, "a link");
     let begun = Instant::now(&rt).expect(&rt, "a clock");
     assert!(rt; both.link.read(&mut [0u8; 1]) == Err(EndError::Failed));
     assert!(rt; is_a_limit_ago(&rt, &begun).expect(&rt, "a clock"));
@@ -81,7 +81,7 @@ fn a_peer_that_says_nothing_is_a_fault(rt: HostRuntime) {
 // A client that says more and then stays is heard out for the limit, when its output is closed.
 #[test]
 fn a_client_that_stays_is_left_at_the_limit(rt: HostRuntime) {
-    let mut both = connected(&rt).expect(&rt, "a link");
+    let mut both = connect(&rt).expect(&rt, "a link");
     both.client.write_all(b"more").expect(&rt, "a client");
     let begun = Instant::now(&rt).expect(&rt, "a clock");
     both.link.close_output();
@@ -102,7 +102,7 @@ fn is_finished_so(rt: &HostRuntime, both: Connected) -> io::Result<bool> {
 
 #[test]
 fn finishing_hears_a_client_out(rt: HostRuntime) {
-    let both = connected(&rt).expect(&rt, "a link");
+    let both = connect(&rt).expect(&rt, "a link");
     assert!(rt; is_finished_so(&rt, both).expect(&rt, "a clock"));
 }
 

@@ -27,7 +27,7 @@ struct Connected {
     link: TcpLink<HostRuntime>,
 }
 
-fn connected(rt: &HostRuntime) -> Option<Connected> {
+fn connect(rt: &HostRuntime) -> Option<Connected> {
     let mut port = TcpPort::with_limits(*rt, limits());
     port.listen(0).ok()?;
     let address = SocketAddr::from((Ipv4Addr::LOCALHOST, port.number()?));
@@ -71,6 +71,6 @@ fn is_left<T: Threads>(threads: &T, rt: &HostRuntime, both: Connected) -> io::Re
 
 #[test]
 fn a_client_that_trickles_is_left(rt: HostRuntime) {
-    let both = connected(&rt).expect(&rt, "a link");
+    let both = connect(&rt).expect(&rt, "a link");
     assert!(rt; is_left(&rt, &rt, both).expect(&rt, "a clock"));
 }
