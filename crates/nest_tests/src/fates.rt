@@ -1,4 +1,5 @@
 // The text of each kind of fate, and the types that may cross threads.
+use crate::checks::check;
 use crate::inputs::is_text;
 use nest_spec::{Fate, FateRow, Nest, NestWords, RunResult, print_fates};
 use packet_record::Direction;
@@ -43,13 +44,17 @@ static ROWS: [FateRow; 4] = [
 
 const LINES: &[u8] = b"1 up departed 25\n2 down dropped 1 0\n3 up inside 8\n1000000 down unsent\n";
 
-// The text of these fates is this.
-fn are_printed(rt: &impl Abort, alloc: Global, fates: &[FateRow], said: &[u8]) {
-    assert!(rt; is_text(rt, print_fates(alloc, fates), said));
+// Whether the text of these fates is this.
+fn are_printed(rt: &impl Abort, alloc: Global, fates: &[FateRow], said: &[u8]) -> bool {
+    is_text(rt, print_fates(alloc, fates), said)
 }
 
 #[test]
 fn each_fate_has_its_line(rt: HostRuntime) {
-    are_printed(&rt, rt.alloc(), &ROWS, LINES);
-    are_printed(&rt, rt.alloc(), &[], b"");
+    check(
+        &rt,
+        are_printed(&rt, rt.alloc(), &ROWS, LINES),
+        "four lines",
+    );
+    check(&rt, are_printed(&rt, rt.alloc(), &[], b""), "no line");
 }

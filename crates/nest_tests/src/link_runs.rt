@@ -6,6 +6,7 @@ ghost use Rattle.trace_reader.specs.Opps.{opps};
 ghost use Rattle.link_core.specs.Promises.{count_to};
 ghost use Rattle.link_core.specs.View.{Link, opps_of};
 
+use crate::checks::check;
 use crate::packets::in_order;
 use link_core::{LinkCore, LinkLog, LogPieces, Passage, run_link};
 use packet_queue::QueueSpec;
@@ -82,7 +83,8 @@ fn new_link(rt: &impl Abort, alloc: Global, trial: &Trial) -> LinkCore
 // The link after the packets, one by one.
 pub fn run_singly(rt: &impl Abort, alloc: Global, trial: &Trial) -> LinkCore {
     let mut link = new_link(rt, alloc, trial);
-    assert!(rt; feed(&mut link, trial.horizon, &trial.packets).expect(rt, "memory"));
+    let fed = feed(&mut link, trial.horizon, &trial.packets).expect(rt, "memory");
+    check(rt, fed, "packets in order");
     link.burn(trial.horizon, u32::MAX).expect(rt, "memory");
     link
 }

@@ -1,4 +1,5 @@
 // Worked cases of a link, and generated ones beside a plain slow program: one by one and over whole lists.
+use crate::checks::check;
 use crate::directions::log_of;
 use crate::generated::{Numbers, opportunities_to, some_packets, some_queue, some_trace};
 use crate::inputs::{is_text, packets_of, queue_of, trace_of};
@@ -23,6 +24,7 @@ struct Link {
 
 // What must become of the packets of a link, and the text of its log.
 struct Case {
+    name: &'static str,
     link: Link,
     ways: Ways,
     log: &'static [u8],
@@ -74,6 +76,7 @@ fn is_as_said_singly(rt: &impl Abort, alloc: Global, case: &Case) -> bool {
 
 static CASES: [Case; 8] = [
     Case {
+        name: "nothing comes",
         link: Link {
             trace: b"0\n5\n",
             once: false,
@@ -89,6 +92,7 @@ static CASES: [Case; 8] = [
         log: b"# base timestamp: 0\n0 # 1504\n5 # 1504\n5 # 1504\n10 # 1504\n10 # 1504\n15 # 1504\n15 # 1504\n",
     },
     Case {
+        name: "a packet of a whole opportunity",
         link: Link {
             trace: b"1\n",
             once: false,
@@ -104,6 +108,7 @@ static CASES: [Case; 8] = [
         log: b"# base timestamp: 0\n1 # 1504\n1 + 1504\n2 # 1504\n2 - 1504 1\n",
     },
     Case {
+        name: "four packets in two opportunities",
         link: Link {
             trace: b"1\n",
             once: false,
@@ -120,6 +125,7 @@ static CASES: [Case; 8] = [
             1 - 500 1\n2 # 1504\n2 - 500 2\n",
     },
     Case {
+        name: "a trace that is played once",
         link: Link {
             trace: b"3\n3\n",
             once: true,
@@ -135,6 +141,7 @@ static CASES: [Case; 8] = [
         log: b"# base timestamp: 0\n0 + 1504\n0 + 1504\n0 + 1504\n3 # 1504\n3 - 1504 3\n3 # 1504\n3 - 1504 3\n",
     },
     Case {
+        name: "droptail by bytes",
         link: Link {
             trace: b"10\n",
             once: false,
@@ -150,6 +157,7 @@ static CASES: [Case; 8] = [
         log: b"# base timestamp: 0\n0 + 100\n0 + 200\n0 d 1 200\n0 + 150\n10 # 1504\n10 - 100 10\n10 - 150 10\n",
     },
     Case {
+        name: "drophead by packets",
         link: Link {
             trace: b"1\n",
             once: false,
@@ -166,6 +174,7 @@ static CASES: [Case; 8] = [
             1 d 1 800\n2 # 1504\n2 - 1000 2\n2 - 800 1\n3 # 1504\n3 - 700 2\n",
     },
     Case {
+        name: "drophead that drops all",
         link: Link {
             trace: b"10\n",
             once: false,
@@ -181,6 +190,7 @@ static CASES: [Case; 8] = [
         log: b"# base timestamp: 0\n0 + 100\n0 + 200\n0 d 1 100\n0 + 300\n0 d 2 500\n10 # 1504\n",
     },
     Case {
+        name: "opportunities of other sizes",
         link: Link {
             trace: b"# mm-trace 2\n1 500\n2 3000\n",
             once: false,
@@ -198,15 +208,15 @@ static CASES: [Case; 8] = [
     },
 ];
 
-// Both runs of a link give what is said.
-fn are_as_said(rt: &impl Abort, alloc: Global, case: &Case) {
-    assert!(rt; is_as_said(rt, alloc, case) && is_as_said_singly(rt, alloc, case));
+// Whether both runs of a link give what is said.
+fn are_as_said(rt: &impl Abort, alloc: Global, case: &Case) -> bool {
+    is_as_said(rt, alloc, case) && is_as_said_singly(rt, alloc, case)
 }
 
 #[test]
 fn worked_cases(rt: HostRuntime) {
     for case in &CASES {
-        are_as_said(&rt, rt.alloc(), case);
+        check(&rt, are_as_said(&rt, rt.alloc(), case), case.name);
     }
 }
 
@@ -250,24 +260,28 @@ fn agrees_with_log(rt: &impl Abort, alloc: Global, trial: &Trial, slow: &Slow) -
     pieces.entries.as_slice() == slow.log.as_slice()
 }
 
-// Both runs of a trial give what the slow program says.
-fn agrees(rt: &impl Abort, alloc: Global, trial: &Trial, slow: &Slow) {
-    assert!(rt; agrees_singly(&run_singly(rt, alloc, trial), slow));
-    assert!(rt; agrees_over_all(&run_over(rt, alloc, trial), trial.packets.len(), slow));
-    assert!(rt; agrees_with_log(rt, alloc, trial, slow));
+// Whether both runs of a trial give what the slow program says.
+fn agrees(rt: &impl Abort, alloc: Global, trial: &Trial, slow: &Slow) -> bool {
+    agrees_singly(&run_singly(rt, alloc, trial), slow)
+        && agrees_over_all(&run_over(rt, alloc, trial), trial.packets.len(), slow)
+        && agrees_with_log(rt, alloc, trial, slow)
 }
 
-// Both runs of a generated link give what the slow program says.
-fn try_one(rt: &impl Abort, alloc: Global, numbers: &mut Numbers) {
+// Whether both runs of a generated link give what the slow program says.
+fn agrees_once(rt: &impl Abort, alloc: Global, numbers: &mut Numbers) -> bool {
     let trial = draw_trial(rt, alloc, numbers);
-    agrees(rt, alloc, &trial, &slow_of(rt, alloc, &trial));
+    agrees(rt, alloc, &trial, &slow_of(rt, alloc, &trial))
 }
 
 #[test]
 fn generated_cases_are_as_the_slow_program_says(rt: HostRuntime) {
     let mut numbers = Numbers::new(7);
     for _ in 0..120 {
-        try_one(&rt, rt.alloc(), &mut numbers);
+        check(
+            &rt,
+            agrees_once(&rt, rt.alloc(), &mut numbers),
+            "a generated link",
+        );
     }
 }
 
@@ -316,22 +330,26 @@ fn is_in_pieces(pieces: &Pieces, entries: &[Entry]) -> bool {
         && count_opportunities(entries) == 30_000
 }
 
-// A log is the same in pieces and written out.
-fn is_same_in_pieces(rt: &impl Abort, alloc: Global) {
+// Whether a log is the same in pieces and written out.
+fn is_same_in_pieces(rt: &impl Abort, alloc: Global) -> bool {
     let pieces = pieces_of(rt, alloc, over_gap(rt, alloc));
     let log = log_of(rt, over_gap(rt, alloc));
-    assert!(rt; is_in_pieces(&pieces, log.entries()));
+    is_in_pieces(&pieces, log.entries())
 }
 
-// Packets with a gap between them go their ways.
-fn pass_gap(rt: &impl Abort, alloc: Global) {
-    assert!(rt; have_gone(&over_gap(rt, alloc), &OVER_GAP));
+// Whether packets with a gap between them go their ways.
+fn pass_gap(rt: &impl Abort, alloc: Global) -> bool {
+    have_gone(&over_gap(rt, alloc), &OVER_GAP)
 }
 
 #[test]
 fn a_log_in_pieces_is_the_whole_log(rt: HostRuntime) {
-    pass_gap(&rt, rt.alloc());
-    is_same_in_pieces(&rt, rt.alloc());
+    check(
+        &rt,
+        pass_gap(&rt, rt.alloc()),
+        "the ways of packets with a gap",
+    );
+    check(&rt, is_same_in_pieces(&rt, rt.alloc()), "the log in pieces");
 }
 
 // Whether a log in pieces has so many entries, all of them opportunities, and a log of none has no piece.
@@ -341,14 +359,18 @@ fn are_opportunities(pieces: &Pieces, count: usize) -> bool {
         && (pieces.number == 0) == (count == 0)
 }
 
-// A link over which nothing goes logs so many opportunities.
-fn logs_opportunities(rt: &impl Abort, alloc: Global, horizon: u64, count: usize) {
+// Whether a link over which nothing goes logs so many opportunities.
+fn logs_opportunities(rt: &impl Abort, alloc: Global, horizon: u64, count: usize) -> bool {
     let link = each_millisecond(horizon, b"");
-    assert!(rt; are_opportunities(&pieces_of(rt, alloc, over_all(rt, alloc, link)), count));
+    are_opportunities(&pieces_of(rt, alloc, over_all(rt, alloc, link)), count)
 }
 
 #[test]
 fn a_link_without_arrivals_has_its_opportunities(rt: HostRuntime) {
-    logs_opportunities(&rt, rt.alloc(), 3_000, 3_000);
-    logs_opportunities(&rt, rt.alloc(), 0, 0);
+    check(
+        &rt,
+        logs_opportunities(&rt, rt.alloc(), 3_000, 3_000),
+        "3,000 opportunities",
+    );
+    check(&rt, logs_opportunities(&rt, rt.alloc(), 0, 0), "none");
 }

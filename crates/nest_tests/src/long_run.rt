@@ -1,4 +1,5 @@
 // One run of eight shells of all kinds in both directions, and a count of it that knows no shell's rule.
+use crate::checks::check;
 use crate::nests::{Coming, Prepared, Trip, plain_run, prepare, stepped_run};
 use nest_spec::{Fate, FateRow, NamedLog, RunResult};
 use packet_record::{Direction, Row};
@@ -273,14 +274,19 @@ fn agree(this: &RunResult, that: &RunResult) -> bool {
     this.fates() == that.fates() && are_same(this.logs(), that.logs())
 }
 
-// A run has one fate for each row, and a run by steps gives the same.
-fn has_one_fate_each(rt: &impl Abort, alloc: Global, prepared: &Prepared) {
+// Whether a run has one fate for each row, and a run by steps gives the same.
+fn has_one_fate_each(rt: &impl Abort, alloc: Global, prepared: &Prepared) -> bool {
     let run = plain_run(rt, alloc, prepared);
-    assert!(rt; is_as_said(prepared.schedule.rows(), &run));
-    assert!(rt; agree(&stepped_run(rt, alloc, prepared, &[]), &run));
+    is_as_said(prepared.schedule.rows(), &run)
+        && agree(&stepped_run(rt, alloc, prepared, &[]), &run)
 }
 
 #[test]
 fn each_packet_of_a_long_run_has_one_fate(rt: HostRuntime) {
-    has_one_fate_each(&rt, rt.alloc(), &prepare(&rt, rt.alloc(), &TRIP));
+    let prepared = prepare(&rt, rt.alloc(), &TRIP);
+    check(
+        &rt,
+        has_one_fate_each(&rt, rt.alloc(), &prepared),
+        "one fate each",
+    );
 }

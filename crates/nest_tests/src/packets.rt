@@ -1,6 +1,7 @@
 // Lists of packets for tests.
 ghost use Rattle.packet_record.specs.Moments.{AreUpTo, Rise};
 
+use crate::checks::check;
 use packet_record::{Packet, Timed};
 use std::alloc::Global;
 use std::process::Abort;
@@ -40,7 +41,7 @@ pub fn in_order(rt: &impl Abort, alloc: Global, horizon: u64, packets: &[Timed])
         list.push(*t).expect(rt, "memory");
         last = t.moment;
     }
-    assert!(rt; list.len() == packets.len());
+    check(rt, list.len() == packets.len(), "packets in order");
     list
 }
 

@@ -1,4 +1,5 @@
 // Runs of small nests, each at once over whole lists and by states: their fates and logs.
+use crate::checks::check;
 use crate::inputs::is_text;
 use crate::link_runs::{Pieces, put_together};
 use crate::nests::{Coming, Prepared, Trip, plain_run, prepare, stepped_run};
@@ -48,14 +49,9 @@ fn are_as_said(rt: &impl Abort, alloc: Global, case: &Case, prepared: &Prepared)
         && is_as_said(rt, alloc, case, &stepped_run(rt, alloc, prepared, &[]))
 }
 
-// A small nest gives what is said.
-fn gives(rt: &impl Abort, alloc: Global, case: &Case) {
-    let prepared = prepare(rt, alloc, &case.trip);
-    assert!(rt;
-        are_as_said(rt, alloc, case, &prepared),
-        "of {}",
-        case.trip.nest
-    );
+// Whether a small nest gives what is said.
+fn gives(rt: &impl Abort, alloc: Global, case: &Case) -> bool {
+    are_as_said(rt, alloc, case, &prepare(rt, alloc, &case.trip))
 }
 
 static CASES: [Case; 6] = [
@@ -145,7 +141,7 @@ static CASES: [Case; 6] = [
 #[test]
 fn small_nests_give_what_is_said(rt: HostRuntime) {
     for case in &CASES {
-        gives(&rt, rt.alloc(), case);
+        check(&rt, gives(&rt, rt.alloc(), case), case.trip.nest);
     }
 }
 
@@ -202,13 +198,14 @@ static LOGGED: Trip = Trip {
     coming: Coming::Rows(b"0 up 1000\n1 down 700\n"),
 };
 
-// A run whose logs aren't written out gives what one gives that writes them out.
-fn makes_logs(rt: &impl Abort, alloc: Global, prepared: &Prepared) {
+// Whether a run whose logs aren't written out gives what one gives that writes them out.
+fn makes_logs(rt: &impl Abort, alloc: Global, prepared: &Prepared) -> bool {
     let whole = plain_run(rt, alloc, prepared);
-    assert!(rt; is_unwritten(rt, alloc, unwritten_run(rt, alloc, prepared), &whole));
+    is_unwritten(rt, alloc, unwritten_run(rt, alloc, prepared), &whole)
 }
 
 #[test]
 fn makes_the_logs_that_are_written_out(rt: HostRuntime) {
-    makes_logs(&rt, rt.alloc(), &prepare(&rt, rt.alloc(), &LOGGED));
+    let prepared = prepare(&rt, rt.alloc(), &LOGGED);
+    check(&rt, makes_logs(&rt, rt.alloc(), &prepared), "the logs");
 }

@@ -1,4 +1,5 @@
 // A whole list of packets through a shell of each kind.
+use crate::checks::check;
 use crate::directions::{Kind, direction_of, log_of};
 use crate::packets::{Ways, in_order, timed, went};
 use shell_core::{Passage, run_whole};
@@ -8,6 +9,7 @@ use std::process::Abort;
 
 // What three packets through a direction, up to 100 ms, must give.
 struct Case {
+    name: &'static str,
     kind: Kind,
     ways: Ways,
 }
@@ -26,62 +28,59 @@ fn is_as_said(passage: &Passage, case: &Case) -> bool {
         && went(&passage.departed, &passage.lost, &passage.held, &case.ways)
 }
 
-// The packets go through a direction as is said.
-fn passes(rt: &impl Abort, alloc: Global, case: &Case) {
-    assert!(rt; is_as_said(&pass(rt, alloc, case.kind), case));
-}
-
-static ALL: Case = Case {
-    kind: Kind::Pass,
-    ways: Ways {
-        departed: &[(1, 5), (2, 80), (3, 81)],
-        lost: &[],
-        inside: &[],
-    },
-};
-
-#[test]
-fn lets_all_pass(rt: HostRuntime) {
-    passes(&rt, rt.alloc(), &ALL);
-}
-
-static LATE: Case = Case {
-    kind: Kind::Delay(20),
-    ways: Ways {
-        departed: &[(1, 25), (2, 100)],
-        lost: &[],
-        inside: &[3],
-    },
-};
-
-#[test]
-fn delays_up_to_the_horizon(rt: HostRuntime) {
-    passes(&rt, rt.alloc(), &LATE);
-}
-
-static NONE: Case = Case {
-    kind: Kind::Loss("1", 7, 0),
-    ways: Ways {
-        departed: &[],
-        lost: &[(1, 5), (2, 80), (3, 81)],
-        inside: &[],
-    },
-};
-
-#[test]
-fn loses_all(rt: HostRuntime) {
-    passes(&rt, rt.alloc(), &NONE);
+// Whether the packets go through a direction as is said.
+fn passes(rt: &impl Abort, alloc: Global, case: &Case) -> bool {
+    is_as_said(&pass(rt, alloc, case.kind), case)
 }
 
 // A link with an opportunity for each packet of 1504 bytes every 4 ms.
-static FULL: Case = Case {
-    kind: Kind::Link(b"4\n", "droptail", "packets=1"),
-    ways: Ways {
-        departed: &[(1, 8), (2, 84)],
-        lost: &[(3, 81)],
-        inside: &[],
+const FULL: Kind = Kind::Link(b"4\n", "droptail", "packets=1");
+
+static CASES: [Case; 4] = [
+    Case {
+        name: "all pass",
+        kind: Kind::Pass,
+        ways: Ways {
+            departed: &[(1, 5), (2, 80), (3, 81)],
+            lost: &[],
+            inside: &[],
+        },
     },
-};
+    Case {
+        name: "a delay up to the horizon",
+        kind: Kind::Delay(20),
+        ways: Ways {
+            departed: &[(1, 25), (2, 100)],
+            lost: &[],
+            inside: &[3],
+        },
+    },
+    Case {
+        name: "a loss of all",
+        kind: Kind::Loss("1", 7, 0),
+        ways: Ways {
+            departed: &[],
+            lost: &[(1, 5), (2, 80), (3, 81)],
+            inside: &[],
+        },
+    },
+    Case {
+        name: "no room at a link",
+        kind: FULL,
+        ways: Ways {
+            departed: &[(1, 8), (2, 84)],
+            lost: &[(3, 81)],
+            inside: &[],
+        },
+    },
+];
+
+#[test]
+fn packets_pass_each_kind(rt: HostRuntime) {
+    for case in &CASES {
+        check(&rt, passes(&rt, rt.alloc(), case), case.name);
+    }
+}
 
 const START: &[u8] = b"# base timestamp: 0\n4 # 1504\n5 + 1000\n8 # 1504\n8 - 1000 3\n";
 
@@ -91,13 +90,16 @@ fn starts(rt: &impl Abort, alloc: Global, log: &Log, start: &[u8]) -> bool {
     text.as_slice().starts_with(start)
 }
 
-// The log of the packets through a direction starts so.
-fn logs(rt: &impl Abort, alloc: Global, kind: Kind, start: &[u8]) {
-    assert!(rt; starts(rt, alloc, &log_of(rt, pass(rt, alloc, kind)), start));
+// Whether the log of the packets through a direction starts so.
+fn logs(rt: &impl Abort, alloc: Global, kind: Kind, start: &[u8]) -> bool {
+    starts(rt, alloc, &log_of(rt, pass(rt, alloc, kind)), start)
 }
 
 #[test]
-fn drops_what_finds_no_room_at_a_link(rt: HostRuntime) {
-    passes(&rt, rt.alloc(), &FULL);
-    logs(&rt, rt.alloc(), FULL.kind, START);
+fn a_full_link_logs_its_packets(rt: HostRuntime) {
+    check(
+        &rt,
+        logs(&rt, rt.alloc(), FULL, START),
+        "the start of the log",
+    );
 }

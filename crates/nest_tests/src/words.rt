@@ -1,4 +1,5 @@
 // The words for nests, and each refusal.
+use crate::checks::check;
 use crate::nests::{nest_words_of, words_of};
 use nest_spec::{NestError, NestWords, read_nest};
 use std::alloc::Global;
@@ -21,14 +22,10 @@ fn are_three_shells(words: &NestWords) -> bool {
     words.shells().len() == 3 && are(words.traces(), "a", "b") && are(words.logs(), "u", "d")
 }
 
-// The words of three shells are read as these.
-fn read_three_shells(rt: &impl Abort, alloc: Global) {
-    assert!(rt; are_three_shells(&nest_words_of(rt, alloc, THREE_SHELLS)));
-}
-
 #[test]
 fn reads_a_nest(rt: HostRuntime) {
-    read_three_shells(&rt, rt.alloc());
+    let words = nest_words_of(&rt, rt.alloc(), THREE_SHELLS);
+    check(&rt, are_three_shells(&words), "three shells");
 }
 
 // Why words are refused.
@@ -38,7 +35,8 @@ fn refusal(alloc: Global, words: &[String]) -> Option<NestError> {
 
 #[test]
 fn refuses_no_words(rt: HostRuntime) {
-    assert!(rt; refusal(rt.alloc(), &[]) == Some(NestError::NoShell));
+    let refused = refusal(rt.alloc(), &[]) == Some(NestError::NoShell);
+    check(&rt, refused, "no shell");
 }
 
 const NINE: &str =
@@ -90,14 +88,13 @@ fn is_refused(rt: &impl Abort, alloc: Global, text: &str, said: (u32, u32, Optio
     }
 }
 
-// These words are refused so.
-fn refuse(rt: &impl Abort, alloc: Global, text: &str, said: (u32, u32, Option<u32>)) {
-    assert!(rt; is_refused(rt, alloc, text, said), "at {text}");
-}
-
 #[test]
 fn refuses_the_first(rt: HostRuntime) {
     for &(text, number, place, inner) in &REFUSED {
-        refuse(&rt, rt.alloc(), text, (number, place, inner));
+        check(
+            &rt,
+            is_refused(&rt, rt.alloc(), text, (number, place, inner)),
+            text,
+        );
     }
 }

@@ -14,18 +14,15 @@ use shell_state::{DirSpec, ShellState, Taken};
 use std::alloc::Global;
 use std::process::Abort;
 use std::sync::Wait;
-use std::test::Fail;
 use text_base::OutOfMemory;
 use trace_reader::read_trace;
 
 // A link with the trace 5, 5, 9 and no limit on its queue.
 #[tactic(auto, unfolding(shell_core::specs::Shells::opportunities))]
-fn link(rt: &impl Abort, alloc: Global) -> Result<ShellState, Fail>
-    ensures { IfOk result (λ s. (s.fed ≡ no_items) × (s.taken ≡ no_items) × (s.horizon ≡ 20)) }
+fn link(rt: &impl Abort, alloc: Global) -> ShellState
+    ensures { (result.fed ≡ no_items) × (result.taken ≡ no_items) × (result.horizon ≡ 20) }
 {
-    let Ok(trace) = read_trace(alloc, b"5\n5\n9\n") else {
-        return Err(Fail::from("no trace"));
-    };
+    let trace = read_trace(alloc, b"5\n5\n9\n").expect(rt, "a trace");
     assert!(rt; trace.count_to(20, false) <= 16_000_000);
     let queue = QueueSpec {
         kind: QueueKind::Infinite,
@@ -37,7 +34,15 @@ fn link(rt: &impl Abort, alloc: Global) -> Result<ShellState, Fail>
         once: false,
         queue,
     };
-    Ok(ShellState::new(alloc, spec, 20)?)
+    ShellState::new(alloc, spec, 20).expect(rt, "memory")
+}
+
+// A delay of one millisecond.
+#[tactic(auto, unfolding(shell_core::specs::Shells::opportunities))]
+fn delay(rt: &impl Abort, alloc: Global) -> ShellState
+    ensures { (result.fed ≡ no_items) × (result.taken ≡ no_items) × (result.horizon ≡ 2000) }
+{
+    ShellState::new(alloc, DirSpec::Delay { ms: 1 }, 2000).expect(rt, "memory")
 }
 
 // A cell, with its seats.
@@ -49,42 +54,14 @@ struct Seated {
 }
 
 // A cell of a new state.
-fn seat(alloc: Global, state: ShellState) -> Result<Seated, OutOfMemory>
+fn seat(rt: &impl Abort, alloc: Global, state: ShellState) -> Seated
     requires { (state.fed ≡ no_items) × (state.taken ≡ no_items) }
-    ensures cells { IfOk result (λ s. (s.feed.cell ≡ s.cell) × (s.drain.cell ≡ s.cell)) }
-    ensures flows { IfOk result (λ s. (s.feed.flow ≡ no_items) × (s.drain.flow ≡ no_items)) }
-    ensures horizon { IfOk result (λ s. s.feed.horizon ≡ state.horizon) }
+    ensures cells { (result.feed.cell ≡ result.cell) × (result.drain.cell ≡ result.cell) }
+    ensures flows { (result.feed.flow ≡ no_items) × (result.drain.flow ≡ no_items) }
+    ensures horizon { result.feed.horizon ≡ state.horizon }
 {
-    let (cell, feed, drain) = open(alloc, state)?;
-    Ok(Seated { cell, feed, drain })
-}
-
-// A cell of that link, with its seats.
-fn link_cell(rt: &impl Abort, alloc: Global) -> Result<Seated, Fail>
-    ensures cells { IfOk result (λ s. (s.feed.cell ≡ s.cell) × (s.drain.cell ≡ s.cell)) }
-    ensures flows { IfOk result (λ s. (s.feed.flow ≡ no_items) × (s.drain.flow ≡ no_items)) }
-    ensures horizon { IfOk result (λ s. s.feed.horizon ≡ 20) }
-{
-    let state = link(rt, alloc)?;
-    Ok(seat(alloc, state)?)
-}
-
-// A delay of one millisecond.
-#[tactic(auto, unfolding(shell_core::specs::Shells::opportunities))]
-fn delay(alloc: Global) -> Result<ShellState, Fail>
-    ensures { IfOk result (λ s. (s.fed ≡ no_items) × (s.taken ≡ no_items) × (s.horizon ≡ 2000)) }
-{
-    Ok(ShellState::new(alloc, DirSpec::Delay { ms: 1 }, 2000)?)
-}
-
-// A cell of that delay, with its seats.
-fn delay_cell(alloc: Global) -> Result<Seated, Fail>
-    ensures cells { IfOk result (λ s. (s.feed.cell ≡ s.cell) × (s.drain.cell ≡ s.cell)) }
-    ensures flows { IfOk result (λ s. (s.feed.flow ≡ no_items) × (s.drain.flow ≡ no_items)) }
-    ensures horizon { IfOk result (λ s. s.feed.horizon ≡ 2000) }
-{
-    let state = delay(alloc)?;
-    Ok(seat(alloc, state)?)
+    let (cell, feed, drain) = open(alloc, state).expect(rt, "memory");
+    Seated { cell, feed, drain }
 }
 
 // Feeds the cell. It says of the seat only what a next feed needs.

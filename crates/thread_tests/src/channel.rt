@@ -1,5 +1,6 @@
 //! A channel in one thread and between two, and the types that may cross threads.
-ghost use Rattle.std.specs.Prelude.{◌≡◌, ◌≤◌, OnOk};
+ghost use Rattle.std.specs.Prelude.{◌≡◌, ◌≤◌};
+ghost use Rattle.std.specs.Bool.{OnTrue};
 ghost use Rattle.packet_record.specs.declared.item.FlowEnd.TheVariants.{Open};
 ghost use Rattle.packet_record.specs.Streams.{IsUpTo, MayFollow, after, no_items};
 ghost use Rattle.mark_channel.specs.Ends.{IsSameEnd};
@@ -7,6 +8,7 @@ ghost use Rattle.mark_channel.specs.Ends.{IsSameEnd};
 mod begun;
 mod fed;
 
+use crate::checks::check;
 use crate::packets::timed;
 use crate::waiting::{give_way, reached};
 use mark_channel::{Receiver, Sender, open, settle};
@@ -15,9 +17,7 @@ use std::alloc::Global;
 use std::process::Abort;
 use std::sync::Wait;
 use std::sync::atomic::{AtomicU64, Ordering};
-use std::test::Fail;
 use std::thread::{Threads, join_mut};
-use text_base::OutOfMemory;
 
 // An end may be sent to another thread.
 fn moves<T: Send>(_end: &T) {}
@@ -32,34 +32,30 @@ fn send_to<R: Wait>(rt: &R, sender: &mut Sender, item: Item)
     sender.send(rt, item);
 }
 
-// Receives an item. The end is refused.
-fn receive_one<R: Wait>(rt: &R, receiver: &mut Receiver) -> Result<Item, Fail>
+// Whether this item is received. False at the end.
+fn receives<R: Wait>(rt: &R, receiver: &mut Receiver, wanted: Item) -> bool
     requires { receiver.old.flow.end ≡ Open }
-    ensures open { OnOk result (receiver.new.flow.end ≡ Open) }
+    ensures open { OnTrue result (receiver.new.flow.end ≡ Open) }
     ensures same { IsSameEnd receiver.old receiver.new }
 {
     let item = receiver.recv(rt);
     match item {
-        Item::Packet(_) | Item::Mark(_) => Ok(item),
-        Item::End | Item::Broken => Err(Fail::from("the end came early")),
+        Item::Packet(_) | Item::Mark(_) => item == wanted,
+        Item::End | Item::Broken => false,
     }
 }
 
-// Receives items and then the last one, and compares each.
-fn receive_each<R: Wait + Abort>(
-    rt: &R,
-    receiver: &mut Receiver,
-    items: &[Item],
-    last: Item,
-) -> Result<(), Fail>
+// Whether these items are received, and then the last one.
+fn receives_each<R: Wait>(rt: &R, receiver: &mut Receiver, items: &[Item], last: Item) -> bool
     requires { receiver.old.flow.end ≡ Open }
-    ensures same { OnOk result (IsSameEnd receiver.old receiver.new) }
+    ensures same { IsSameEnd receiver.old receiver.new }
 {
     for item in items {
-        assert!(rt; receive_one(rt, receiver)? == *item);
+        if !receives(rt, receiver, *item) {
+            return false;
+        }
     }
-    assert!(rt; receiver.recv(rt) == last);
-    Ok(())
+    receiver.recv(rt) == last
 }
 
 const FIRST: [Item; 1] = [Item::Packet(Timed {
@@ -67,16 +63,21 @@ const FIRST: [Item; 1] = [Item::Packet(Timed {
     packet: Packet { id: 1, size: 100 },
 })];
 
-#[test]
-fn carries_two(rt: HostRuntime) -> Result<(), Fail> {
-    let (mut sender, mut receiver) = open(rt.alloc(), 2, 20)?;
+// Whether a channel carries a packet and the end.
+fn carries_packet<R: Wait + Abort>(rt: &R, alloc: Global) -> bool {
+    let (mut sender, mut receiver) = open(alloc, 2, 20).expect(rt, "memory");
     moves(&sender);
     moves(&receiver);
-    send_to(&rt, &mut sender, Item::Packet(timed(1, 0)));
-    send_to(&rt, &mut sender, Item::End);
-    receive_each(&rt, &mut receiver, &FIRST, Item::End)?;
+    send_to(rt, &mut sender, Item::Packet(timed(1, 0)));
+    send_to(rt, &mut sender, Item::End);
+    let carried = receives_each(rt, &mut receiver, &FIRST, Item::End);
     settle(sender, receiver);
-    Ok(())
+    carried
+}
+
+#[test]
+fn carries_two(rt: HostRuntime) {
+    check(&rt, carries_packet(&rt, rt.alloc()), "a packet and the end");
 }
 
 // Sends two marks at one moment, and a packet at it.
@@ -100,14 +101,23 @@ const MARKS: [Item; 3] = [
     }),
 ];
 
+// Whether a channel carries both marks and the packet.
+fn carries_marks<R: Wait + Abort>(rt: &R, alloc: Global) -> bool {
+    let (mut sender, mut receiver) = open(alloc, 4, 20).expect(rt, "memory");
+    send_marks(rt, &mut sender);
+    let carried = receives_each(rt, &mut receiver, &MARKS, Item::Broken);
+    settle(sender, receiver);
+    carried
+}
+
 // A mark at the moment of the one before is an item of its own.
 #[test]
-fn carries_each_mark_once(rt: HostRuntime) -> Result<(), Fail> {
-    let (mut sender, mut receiver) = open(rt.alloc(), 4, 20)?;
-    send_marks(&rt, &mut sender);
-    receive_each(&rt, &mut receiver, &MARKS, Item::Broken)?;
-    settle(sender, receiver);
-    Ok(())
+fn carries_each_mark_once(rt: HostRuntime) {
+    check(
+        &rt,
+        carries_marks(&rt, rt.alloc()),
+        "two marks and a packet",
+    );
 }
 
 // Sends packets at the moments below `count`, and then the end. `begun` counts the sends that have begun.
@@ -190,24 +200,27 @@ fn meet<R: Threads + Wait + Sync>(
 }
 
 // Sends a thousand packets: how many sends begin while nothing is received, and how many packets come then.
-fn hold<R: Threads + Wait + Sync>(
-    rt: &R,
-    alloc: Global,
-    capacity: u32,
-) -> Result<(u64, u32), OutOfMemory>
+fn hold<R: Threads + Wait + Sync + Abort>(rt: &R, alloc: Global, capacity: u32) -> (u64, u32)
     requires some { 1 ≤ capacity }
     requires most { capacity ≤ 64 }
 {
-    let (mut sender, mut receiver) = open(alloc, capacity, 1000)?;
+    let (mut sender, mut receiver) = open(alloc, capacity, 1000).expect(rt, "memory");
     let seen = meet(rt, &mut sender, &mut receiver, u64::from(capacity) + 1);
     settle(sender, receiver);
-    Ok(seen)
+    seen
 }
 
 // As many items as the channel holds are sent while nothing is received, and one send more waits.
 #[test]
-fn holds_its_capacity_and_one_waits(rt: HostRuntime) -> Result<(), Fail> {
-    assert!(rt; hold(&rt, rt.alloc(), 2)? == (3, 1000));
-    assert!(rt; hold(&rt, rt.alloc(), 64)? == (65, 1000));
-    Ok(())
+fn holds_its_capacity_and_one_waits(rt: HostRuntime) {
+    check(
+        &rt,
+        hold(&rt, rt.alloc(), 2) == (3, 1000),
+        "room for two items",
+    );
+    check(
+        &rt,
+        hold(&rt, rt.alloc(), 64) == (65, 1000),
+        "room for 64 items",
+    );
 }

@@ -7,6 +7,8 @@ mod cell;
 #[cfg(test)]
 mod channel;
 #[cfg(test)]
+mod checks;
+#[cfg(test)]
 mod packets;
 #[cfg(test)]
 mod runner;

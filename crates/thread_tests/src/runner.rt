@@ -1,63 +1,84 @@
 //! Runs over threads, with paces that hold some turns until others have begun.
+ghost use Rattle.std.specs.Prelude.{◌≡◌, ◌≤◌, length};
+ghost use Rattle.std.specs.Bool.{OnTrue};
+ghost use Rattle.nest_spec.specs.Nests.{opportunities_of};
+
 mod fed;
 mod paced;
 mod parts;
 
-use fed::feeds;
+use crate::checks::check;
+use fed::run_from_feeds;
 use mm_base::{MemDisk, NoPace, Pace};
 use nest_runner::{run_stream, run_threads};
 use nest_spec::{Nest, NestWords, RunResult, build, print_fates, read_nest};
-use packet_record::read_schedule;
+use packet_record::{Schedule, read_schedule};
 use std::alloc::{AllocError, Global};
 use std::marker::Sync;
 use std::process::Abort;
 use std::sync::Wait;
-use std::test::Fail;
 use std::thread::Threads;
-use text_base::{Bytes, OutOfMemory, Text};
+use text_base::limits::{HOUR, MOST_OPPORTUNITIES};
+use text_base::{Bytes, Text};
 use trace_reader::{Trace, read_trace};
 
 // The words between the spaces of a text.
-fn words_of(alloc: Global, text: &str) -> Result<Vec<String>, AllocError> {
+fn words_of(rt: &impl Abort, alloc: Global, text: &str) -> Vec<String> {
     let mut words = Vec::new(alloc);
     for word in text.split(' ') {
-        words.push(String::from_str(alloc, word)?)?;
+        let word = String::from_str(alloc, word).expect(rt, "memory");
+        words.push(word).expect(rt, "memory");
     }
-    Ok(words)
+    words
 }
 
 // A nest's words.
-fn nest_words_of(alloc: Global, nest: &str) -> Result<NestWords, Fail> {
-    let words = words_of(alloc, nest)?;
-    Ok(read_nest(alloc, words.as_slice())?)
+fn nest_words_of(rt: &impl Abort, alloc: Global, nest: &str) -> NestWords {
+    read_nest(alloc, words_of(rt, alloc, nest).as_slice()).expect(rt, "a nest")
 }
 
 // So many times this trace.
-fn traces_of(alloc: Global, trace: &[u8], count: usize) -> Result<Vec<Trace>, Fail> {
+fn traces_of(rt: &impl Abort, alloc: Global, trace: &[u8], count: usize) -> Vec<Trace> {
     let mut traces = Vec::new(alloc);
     for _ in 0..count {
-        let trace = read_trace(alloc, trace)?;
-        traces.push(trace).map_err(AllocError::from)?;
+        let trace = read_trace(alloc, trace).expect(rt, "a trace");
+        traces.push(trace).expect(rt, "memory");
     }
-    Ok(traces)
+    traces
+}
+
+// Whether these are as many traces as the words have, and have few enough opportunities up to the horizon.
+fn fit(words: &NestWords, traces: &[Trace], horizon: u64) -> bool
+    ensures traces { OnTrue result (length traces.now ≡ length words.now.traces) }
+    ensures horizon { OnTrue result (horizon ≤ 3600000) }
+    ensures few { OnTrue result (opportunities_of horizon words.now.shells traces.now ≤ 16000000) }
+{
+    horizon <= HOUR
+        && traces.len() == words.traces().len()
+        && words.opportunities(traces, horizon) <= MOST_OPPORTUNITIES
+}
+
+// The nest of these words with these traces.
+fn built(
+    rt: &impl Abort,
+    alloc: Global,
+    words: NestWords,
+    traces: Vec<Trace>,
+    horizon: u64,
+) -> Nest {
+    assert!(rt; fit(&words, &traces, horizon));
+    build(alloc, words, traces, 0, horizon).expect(rt, "memory")
 }
 
 // The nest of these words, each of whose traces is this one.
-fn nest_of(
-    rt: &impl Abort,
-    alloc: Global,
-    nest: &str,
-    trace: &[u8],
-    horizon: u64,
-) -> Result<Nest, Fail> {
-    let words = nest_words_of(alloc, nest)?;
-    let traces = traces_of(alloc, trace, words.traces().len())?;
-    assert!(rt; horizon <= 3_600_000);
-    assert!(rt; traces.len() == words.traces().len());
-    let opportunities = words.opportunities(traces.as_slice(), horizon);
-    assert!(rt; opportunities <= 16_000_000);
-    let nest = build(alloc, words, traces, 0, horizon)?;
-    Ok(nest)
+fn nest_of(rt: &impl Abort, alloc: Global, nest: &str, trace: &[u8], horizon: u64) -> Nest {
+    let words = nest_words_of(rt, alloc, nest);
+    let traces = traces_of(rt, alloc, trace, words.traces().len());
+    built(rt, alloc, words, traces, horizon)
+}
+
+fn schedule_of(rt: &impl Abort, alloc: Global, text: &[u8]) -> Schedule {
+    read_schedule(alloc, text).expect(rt, "a schedule")
 }
 
 // Which call runs a schedule.
@@ -67,59 +88,64 @@ enum Call {
     Threads,
     // It is read from a file.
     Stream,
+    // Its rows are fed.
+    Feeds,
 }
 
 // The result of a schedule in memory.
-fn run_from_memory<Q: Pace + Sync, R: Threads + Wait + Sync>(
+fn run_from_memory<Q: Pace + Sync, R: Threads + Wait + Abort + Sync>(
     rt: &R,
     alloc: Global,
     nest: &Nest,
     schedule: &[u8],
     pace: &Q,
-) -> Result<RunResult, Fail> {
-    let schedule = read_schedule(alloc, schedule)?;
-    Ok(run_threads(rt, alloc, nest, &schedule, pace)?)
+) -> RunResult {
+    let schedule = schedule_of(rt, alloc, schedule);
+    run_threads(rt, alloc, nest, &schedule, pace).expect(rt, "memory")
 }
 
 // A disk whose one file is `s`.
-fn disk_of(alloc: Global, bytes: &[u8]) -> Result<MemDisk, Fail> {
-    let name = Text::from_text(alloc, "s")?;
-    let bytes = Bytes::from_slice(alloc, bytes)?;
+fn disk_of(rt: &impl Abort, alloc: Global, bytes: &[u8]) -> MemDisk {
+    let name = Text::from_text(alloc, "s").expect(rt, "memory");
+    let bytes = Bytes::from_slice(alloc, bytes).expect(rt, "memory");
     let mut files = Vec::new(alloc);
-    files.push((name, bytes)).map_err(AllocError::from)?;
-    Ok(MemDisk::new(alloc, files, Vec::new(alloc)))
+    files.push((name, bytes)).expect(rt, "memory");
+    MemDisk::new(alloc, files, Vec::new(alloc))
 }
 
 // The result of a schedule in the file `s`.
-fn run_from_file<Q: Pace + Sync, R: Threads + Wait + Sync>(
+fn run_from_file<Q: Pace + Sync, R: Threads + Wait + Abort + Sync>(
     rt: &R,
     alloc: Global,
     nest: &Nest,
     schedule: &[u8],
     pace: &Q,
-) -> Result<RunResult, Fail> {
-    let mut disk = disk_of(alloc, schedule)?;
-    Ok(run_stream(rt, alloc, nest, &mut disk, "s", pace)?)
+) -> RunResult {
+    let mut disk = disk_of(rt, alloc, schedule);
+    run_stream(rt, alloc, nest, &mut disk, "s", pace).expect(rt, "a run")
 }
 
-fn run_by<Q: Pace + Sync, R: Threads + Wait + Sync>(
+fn run_by<Q: Pace + Sync, R: Threads + Wait + Abort + Sync>(
     rt: &R,
     alloc: Global,
     call: Call,
     nest: &Nest,
     schedule: &[u8],
     pace: &Q,
-) -> Result<RunResult, Fail> {
+) -> RunResult {
     match call {
         Call::Threads => run_from_memory(rt, alloc, nest, schedule, pace),
         Call::Stream => run_from_file(rt, alloc, nest, schedule, pace),
+        Call::Feeds => run_from_feeds(rt, alloc, nest, schedule, pace),
     }
 }
 
 // Whether this is the text of the fates of a run.
-fn has_fates(alloc: Global, run: &RunResult, fates: &[u8]) -> Result<bool, OutOfMemory> {
-    let text = print_fates(alloc, run.fates())?;
-    Ok(text.as_slice() == fates)
+fn has_fates(rt: &impl Abort, alloc: Global, run: &RunResult, fates: &[u8]) -> bool {
+    print_fates(alloc, run.fates())
+        .expect(rt, "memory")
+        .as_slice()
+        == fates
 }
 
 // A nest, the trace of its links, its horizon, a schedule, and the fates that the composition of the shells gives.
@@ -163,47 +189,48 @@ const CASES: [Case<'static>; 4] = [
     },
 ];
 
-fn nest_in(rt: &impl Abort, alloc: Global, case: &Case<'_>) -> Result<Nest, Fail> {
+fn nest_in(rt: &impl Abort, alloc: Global, case: &Case<'_>) -> Nest {
     nest_of(rt, alloc, case.nest, case.trace, case.horizon)
 }
 
-// Runs a case over threads at this pace.
+// Whether a case over threads at this pace gives its fates.
 fn agrees_at<Q: Pace + Sync, R: Threads + Wait + Abort + Sync>(
     rt: &R,
     alloc: Global,
     call: Call,
     case: &Case<'_>,
     pace: &Q,
-) -> Result<(), Fail> {
-    let nest = nest_in(rt, alloc, case)?;
-    let result = run_by(rt, alloc, call, &nest, case.schedule, pace)?;
-    assert!(rt; has_fates(alloc, &result, case.fates)?);
-    Ok(())
+) -> bool {
+    let nest = nest_in(rt, alloc, case);
+    let result = run_by(rt, alloc, call, &nest, case.schedule, pace);
+    has_fates(rt, alloc, &result, case.fates)
 }
 
-fn agrees<R: Threads + Wait + Abort + Sync>(
+// Each case gives its fates by this call.
+fn all_agree<R: Threads + Wait + Abort + Sync>(
     rt: &R,
     alloc: Global,
     call: Call,
-    case: &Case<'_>,
-) -> Result<(), Fail> {
-    agrees_at(rt, alloc, call, case, &NoPace)
+    cases: &[Case<'_>],
+) {
+    for case in cases {
+        check(rt, agrees_at(rt, alloc, call, case, &NoPace), case.nest);
+    }
 }
 
 #[test]
-fn threads_give_the_composition(rt: HostRuntime) -> Result<(), Fail> {
-    for case in &CASES {
-        agrees(&rt, rt.alloc(), Call::Threads, case)?;
-    }
-    Ok(())
+fn threads_give_the_composition(rt: HostRuntime) {
+    all_agree(&rt, rt.alloc(), Call::Threads, &CASES);
 }
 
 #[test]
-fn a_schedule_in_a_file_gives_the_composition(rt: HostRuntime) -> Result<(), Fail> {
-    for case in &CASES {
-        agrees(&rt, rt.alloc(), Call::Stream, case)?;
-    }
-    Ok(())
+fn a_schedule_in_a_file_gives_the_composition(rt: HostRuntime) {
+    all_agree(&rt, rt.alloc(), Call::Stream, &CASES);
+}
+
+#[test]
+fn fed_rows_give_the_composition(rt: HostRuntime) {
+    all_agree(&rt, rt.alloc(), Call::Feeds, &CASES);
 }
 
 // So many rows, one a millisecond.
@@ -232,11 +259,11 @@ struct Many {
     fates: String,
 }
 
-fn many_of(alloc: Global, count: u32) -> Result<Many, AllocError> {
-    Ok(Many {
-        schedule: rows_of(alloc, count)?,
-        fates: fates_of(alloc, count)?,
-    })
+fn many_of(rt: &impl Abort, alloc: Global, count: u32) -> Many {
+    Many {
+        schedule: rows_of(alloc, count).expect(rt, "memory"),
+        fates: fates_of(alloc, count).expect(rt, "memory"),
+    }
 }
 
 // The case of many rows up to a horizon.
@@ -250,20 +277,17 @@ fn case_of(many: &Many, horizon: u64) -> Case<'_> {
     }
 }
 
-// Runs a case in each of the three ways.
-fn agrees_throughout<R: Threads + Wait + Abort + Sync>(
-    rt: &R,
-    alloc: Global,
-    case: &Case<'_>,
-) -> Result<(), Fail> {
-    agrees(rt, alloc, Call::Threads, case)?;
-    agrees(rt, alloc, Call::Stream, case)?;
-    feeds(rt, alloc, case)
+// A case gives its fates by each call.
+fn agrees_throughout<R: Threads + Wait + Abort + Sync>(rt: &R, alloc: Global, case: Case<'_>) {
+    let cases = [case];
+    all_agree(rt, alloc, Call::Threads, &cases);
+    all_agree(rt, alloc, Call::Stream, &cases);
+    all_agree(rt, alloc, Call::Feeds, &cases);
 }
 
 // More rows than fit in a piece of a file.
 #[test]
-fn many_rows_pass(rt: HostRuntime) -> Result<(), Fail> {
-    let many = many_of(rt.alloc(), 10_000)?;
-    agrees_throughout(&rt, rt.alloc(), &case_of(&many, 20_000))
+fn many_rows_pass(rt: HostRuntime) {
+    let many = many_of(&rt, rt.alloc(), 10_000);
+    agrees_throughout(&rt, rt.alloc(), case_of(&many, 20_000));
 }

@@ -10,40 +10,39 @@ mod feeds;
 mod merges;
 mod paced;
 
+use crate::checks::check;
 use crate::ways::{open_ways, settle_ways};
-use mark_channel::{FeedEnd, Feeds, Receiver, Sender};
+use mark_channel::{Begun, FeedEnd, Feeds, Receiver, Sender};
 use mm_base::{NoPace, Pace, Role};
 use packet_record::{Item, Schedule, read_schedule};
 use sender_merge::{Senders, count_rows};
-use std::alloc::{AllocError, Global};
+use std::alloc::Global;
 use std::marker::Sync;
 use std::process::Abort;
 use std::sync::Wait;
-use std::test::Fail;
 use std::thread::{Threads, join_mut};
 
 // Senders of these schedules.
-fn senders_of<R: Abort>(rt: &R, alloc: Global, schedules: Vec<Schedule>) -> Result<Senders, Fail> {
+fn senders_of(rt: &impl Abort, alloc: Global, schedules: Vec<Schedule>) -> Senders {
     assert!(rt; !schedules.is_empty() && schedules.len() <= 16);
     let lines = count_rows(schedules.as_slice());
     assert!(rt; lines <= 1_000_000);
-    Ok(Senders::new(alloc, schedules)?)
+    Senders::new(alloc, schedules).expect(rt, "memory")
 }
 
 // The schedules that these texts are.
-fn schedules_of(alloc: Global, texts: &[&[u8]]) -> Result<Vec<Schedule>, Fail> {
+fn schedules_of(rt: &impl Abort, alloc: Global, texts: &[&[u8]]) -> Vec<Schedule> {
     let mut schedules = Vec::new(alloc);
     for text in texts {
-        let schedule = read_schedule(alloc, text)?;
-        schedules.push(schedule).map_err(AllocError::from)?;
+        let schedule = read_schedule(alloc, text).expect(rt, "a schedule");
+        schedules.push(schedule).expect(rt, "memory");
     }
-    Ok(schedules)
+    schedules
 }
 
 // Senders of them.
-fn senders_from<R: Abort>(rt: &R, alloc: Global, texts: &[&[u8]]) -> Result<Senders, Fail> {
-    let schedules = schedules_of(alloc, texts)?;
-    senders_of(rt, alloc, schedules)
+fn senders_from(rt: &impl Abort, alloc: Global, texts: &[&[u8]]) -> Senders {
+    senders_of(rt, alloc, schedules_of(rt, alloc, texts))
 }
 
 // What came out of the two channels.
@@ -51,13 +50,6 @@ fn senders_from<R: Abort>(rt: &R, alloc: Global, texts: &[&[u8]]) -> Result<Send
 struct Fed {
     pub ups: Vec<Item>,
     pub downs: Vec<Item>,
-}
-
-fn nothing_fed(alloc: Global) -> Fed {
-    Fed {
-        ups: Vec::new(alloc),
-        downs: Vec::new(alloc),
-    }
 }
 
 // Receives what goes up, or what goes down, until the end, and gathers the items. The pace is asked after each.
@@ -84,31 +76,63 @@ fn receive_all<Q: Pace, R: Wait>(
 }
 
 // Receives from both channels beside each other.
-fn receive_both<R: Threads + Wait + Sync>(
+fn receive_both<Q: Pace + Sync, R: Threads + Wait + Sync>(
     rt: &R,
     up: &mut Receiver,
     down: &mut Receiver,
-    ups: &mut Vec<Item>,
-    downs: &mut Vec<Item>,
+    fed: &mut Fed,
+    pace: &Q,
 )
     requires { (up.old.flow.end ≡ Open) × (down.old.flow.end ≡ Open) }
     ensures same { IsSameEnd up.old up.new × IsSameEnd down.old down.new }
 {
+    let ups = &mut fed.ups;
+    let downs = &mut fed.downs;
     join_mut(
         rt,
         &mut ||
-            requires { (up.now.flow.end ≡ Open) × IsSync R.row }
+            requires { (up.now.flow.end ≡ Open) × IsSync R.row × IsSync Q.row }
             ensures same { IsSameEnd up.entry.now up.exit.now }
-        { receive_all(rt, up, ups, true, &NoPace) },
+        { receive_all(rt, up, ups, true, pace) },
         &mut ||
-            requires { (down.now.flow.end ≡ Open) × IsSync R.row }
+            requires { (down.now.flow.end ≡ Open) × IsSync R.row × IsSync Q.row }
             ensures same { IsSameEnd down.entry.now down.exit.now }
-        { receive_all(rt, down, downs, false, &NoPace) },
+        { receive_all(rt, down, downs, false, pace) },
     );
 }
 
+// Which call feeds: that of all who feed, or the one at a pace that each sender asks before a row.
+#[derive(Clone, Copy)]
+enum Call {
+    Feed,
+    FeedAt,
+}
+
+// Feeds two channels by this call. It says of them only what closing them needs.
+fn feed_by<Q: Pace + Sync, R: Threads + Wait + Sync>(
+    rt: &R,
+    senders: &mut Senders,
+    horizon: u64,
+    up: &mut Sender,
+    down: &mut Sender,
+    call: Call,
+    pace: &Q,
+) -> FeedEnd
+    requires empty { (up.old.flow ≡ no_items) × (down.old.flow ≡ no_items) }
+    requires within { (up.old.horizon ≡ horizon) × (down.old.horizon ≡ horizon) }
+    ensures same { IsSameEnd up.old up.new × IsSameEnd down.old down.new }
+{
+    match call {
+        Call::Feed => senders.feed(rt, horizon, up, down),
+        Call::FeedAt => {
+            let begun = Begun::new(senders.threads());
+            senders.feed_at(rt, horizon, begun, up, down, pace)
+        }
+    }
+}
+
 // Feeds two channels beside two threads that receive.
-fn feed_beside<R: Threads + Wait + Sync>(
+fn feed_beside<Q: Pace + Sync, R: Threads + Wait + Sync>(
     rt: &R,
     senders: &mut Senders,
     horizon: u64,
@@ -116,8 +140,9 @@ fn feed_beside<R: Threads + Wait + Sync>(
     down: &mut Sender,
     up_end: &mut Receiver,
     down_end: &mut Receiver,
-    ups: &mut Vec<Item>,
-    downs: &mut Vec<Item>,
+    fed: &mut Fed,
+    call: Call,
+    pace: &Q,
 ) -> FeedEnd
     requires empty { (up.old.flow ≡ no_items) × (down.old.flow ≡ no_items) }
     requires within { (up.old.horizon ≡ horizon) × (down.old.horizon ≡ horizon) }
@@ -129,27 +154,32 @@ fn feed_beside<R: Threads + Wait + Sync>(
         rt,
         &mut || -> FeedEnd
             requires { (up.now.flow ≡ no_items) × (down.now.flow ≡ no_items) × (up.now.horizon ≡ horizon)
-                × (down.now.horizon ≡ horizon) × IsSync R.row }
+                × (down.now.horizon ≡ horizon) × IsSync R.row × IsSync Q.row }
             ensures same { IsSameEnd up.entry.now up.exit.now × IsSameEnd down.entry.now down.exit.now }
-        { senders.feed(rt, horizon, up, down) },
+        { feed_by(rt, senders, horizon, up, down, call, pace) },
         &mut ||
-            requires { (up_end.now.flow.end ≡ Open) × (down_end.now.flow.end ≡ Open) × IsSync R.row }
+            requires { (up_end.now.flow.end ≡ Open) × (down_end.now.flow.end ≡ Open) × IsSync R.row × IsSync Q.row }
             ensures same { IsSameEnd up_end.entry.now up_end.exit.now
                 × IsSameEnd down_end.entry.now down_end.exit.now }
-        { receive_both(rt, up_end, down_end, ups, downs) },
+        { receive_both(rt, up_end, down_end, fed, pace) },
     );
     end
 }
 
 // Feeds two channels up to a horizon: what came out, where all was fed.
-fn feed_all<R: Threads + Wait + Sync + Abort>(
+fn feed_all<Q: Pace + Sync, R: Threads + Wait + Sync + Abort>(
     rt: &R,
     alloc: Global,
     senders: &mut Senders,
     horizon: u64,
-) -> Result<Fed, Fail> {
-    let mut ways = open_ways(alloc, 64, horizon)?;
-    let mut fed = nothing_fed(alloc);
+    call: Call,
+    pace: &Q,
+) -> Fed {
+    let mut ways = open_ways(alloc, 64, horizon).expect(rt, "memory");
+    let mut fed = Fed {
+        ups: Vec::new(alloc),
+        downs: Vec::new(alloc),
+    };
     let end = feed_beside(
         rt,
         senders,
@@ -158,12 +188,13 @@ fn feed_all<R: Threads + Wait + Sync + Abort>(
         &mut ways.down,
         &mut ways.up_end,
         &mut ways.down_end,
-        &mut fed.ups,
-        &mut fed.downs,
+        &mut fed,
+        call,
+        pace,
     );
     settle_ways(ways);
-    assert!(rt; end == FeedEnd::Ended);
-    Ok(fed)
+    check(rt, end == FeedEnd::Ended, "all fed");
+    fed
 }
 
 // Whether the packets among items have these numbers.
@@ -202,7 +233,7 @@ fn feed_texts<R: Threads + Wait + Sync + Abort>(
     alloc: Global,
     texts: &[&[u8]],
     horizon: u64,
-) -> Result<Fed, Fail> {
-    let mut senders = senders_from(rt, alloc, texts)?;
-    feed_all(rt, alloc, &mut senders, horizon)
+) -> Fed {
+    let mut senders = senders_from(rt, alloc, texts);
+    feed_all(rt, alloc, &mut senders, horizon, Call::Feed, &NoPace)
 }

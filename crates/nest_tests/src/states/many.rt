@@ -2,6 +2,7 @@
 ghost use Rattle.std.specs.Prelude.{◌≡◌, ◌≤◌};
 
 use super::{feed, is_over, state_of, take_one};
+use crate::checks::check;
 use crate::directions::{Kind, direction_of};
 use crate::packets::{in_order, many_packets};
 use packet_record::{Item, Timed};
@@ -75,7 +76,7 @@ fn pass_all(rt: &impl Abort, alloc: Global, state: &mut ShellState, most: u32) -
 // The packets through a state, from which is taken at most so often after each.
 fn one_by_one(rt: &impl Abort, alloc: Global, kind: Kind, most: u32) -> Passage {
     let mut state = state_of(rt, alloc, kind, 1000);
-    assert!(rt; pass_all(rt, alloc, &mut state, most));
+    check(rt, pass_all(rt, alloc, &mut state, most), "no refusal");
     assert!(rt; is_over(state.taken().end()));
     state.into_passage().expect(rt, "memory")
 }
@@ -123,9 +124,13 @@ fn counts(passage: &Passage) -> [usize; 3] {
 fn totals(rt: &impl Abort, alloc: Global, kind: Kind, most: u32) -> [usize; 3] {
     let singly = one_by_one(rt, alloc, kind, most);
     let whole = at_once(rt, alloc, kind);
-    assert!(rt; are_same(&singly, &whole));
+    check(
+        rt,
+        are_same(&singly, &whole),
+        "the same one by one and at once",
+    );
     let counts = counts(&whole);
-    assert!(rt; have_same_log(rt, alloc, singly, whole));
+    check(rt, have_same_log(rt, alloc, singly, whole), "the same log");
     counts
 }
 
@@ -139,14 +144,15 @@ static TOTALS: [(Kind, [usize; 3]); 3] = [
 // The packets through each of these directions come to what is said.
 fn go_through(rt: &impl Abort, alloc: Global, most: u32, cases: &[(Kind, [usize; 3])]) {
     for &(kind, counts) in cases {
-        assert!(rt; totals(rt, alloc, kind, most) == counts);
+        check(rt, totals(rt, alloc, kind, most) == counts, "the totals");
     }
 }
 
 // Of ten packets through a loss some seven depart, and the others are lost.
 fn lose_some(rt: &impl Abort, alloc: Global, most: u32) {
     let [departed, lost, inside] = totals(rt, alloc, Kind::Loss("0.3", 1, 2), most);
-    assert!(rt; departed > 6_500 && lost > 2_500 && inside == 0);
+    let some = departed > 6_500 && lost > 2_500 && inside == 0;
+    check(rt, some, "some losses");
 }
 
 // All is taken after each packet, or nothing before the end.

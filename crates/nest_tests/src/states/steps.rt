@@ -2,6 +2,7 @@
 ghost use Rattle.std.specs.Prelude.{◌≡◌, ◌≤◌};
 
 use super::{feed, is_open, is_over, state_of, take_one};
+use crate::checks::check;
 use crate::directions::Kind;
 use crate::packets::timed;
 use packet_record::{FlowEnd, Item};
@@ -78,6 +79,7 @@ fn play(
 
 // A state's kind, its horizon and how much a take burns at most, its steps, and what is left of it after them.
 struct Case {
+    name: &'static str,
     kind: Kind,
     horizon: u64,
     most: u32,
@@ -138,116 +140,106 @@ fn goes_through(rt: &impl Abort, state: &mut ShellState, case: &Case) -> bool
     played.expect(rt, "memory") && is_left(rt, state, case)
 }
 
-// A state of the case's kind does and leaves what is said.
-fn is_as_said(rt: &impl Abort, alloc: Global, case: &Case) {
+// Whether a state of the case's kind does and leaves what is said.
+fn is_as_said(rt: &impl Abort, alloc: Global, case: &Case) -> bool {
     assert!(rt; case.horizon <= HOUR);
-    assert!(rt; goes_through(rt, &mut state_of(rt, alloc, case.kind, case.horizon), case));
+    goes_through(rt, &mut state_of(rt, alloc, case.kind, case.horizon), case)
 }
 
-static PASSED: Case = Case {
-    kind: Kind::Pass,
-    horizon: 100,
-    most: 1,
-    steps: &[
-        Step::Wait(0),
-        Step::Feed(What::Packet(5, 1)),
-        Step::Give(What::Packet(5, 1)),
-        Step::Feed(What::Mark(7)),
-        Step::Give(What::Mark(7)),
-        Step::Wait(7),
-        Step::Feed(What::End),
-        Step::Give(What::End),
-    ],
-    counts: [1, 1, 0],
-    inside: &[],
-    bound: 7,
-    lines: 0,
-};
+static CASES: [Case; 4] = [
+    Case {
+        name: "a direction that passes",
+        kind: Kind::Pass,
+        horizon: 100,
+        most: 1,
+        steps: &[
+            Step::Wait(0),
+            Step::Feed(What::Packet(5, 1)),
+            Step::Give(What::Packet(5, 1)),
+            Step::Feed(What::Mark(7)),
+            Step::Give(What::Mark(7)),
+            Step::Wait(7),
+            Step::Feed(What::End),
+            Step::Give(What::End),
+        ],
+        counts: [1, 1, 0],
+        inside: &[],
+        bound: 7,
+        lines: 0,
+    },
+    Case {
+        name: "a delay",
+        kind: Kind::Delay(20),
+        horizon: 100,
+        most: 4,
+        steps: &[
+            Step::Give(What::Mark(20)),
+            Step::Feed(What::Packet(80, 1)),
+            Step::Feed(What::Packet(81, 2)),
+            Step::Give(What::Packet(100, 1)),
+            Step::Give(What::Mark(101)),
+            Step::Wait(81),
+            Step::Feed(What::End),
+            Step::Give(What::End),
+        ],
+        counts: [2, 1, 0],
+        inside: &[2],
+        bound: 101,
+        lines: 0,
+    },
+    // The words of seed 0 and stream 0 begin with 0.679 and 0.563 of all 32-bit words.
+    Case {
+        name: "a loss",
+        kind: Kind::Loss("0.6", 0, 0),
+        horizon: 9,
+        most: 4,
+        steps: &[
+            Step::Feed(What::Packet(4, 1)),
+            Step::Give(What::Packet(4, 1)),
+            Step::Feed(What::Packet(7, 2)),
+            Step::Give(What::Mark(7)),
+            Step::Feed(What::Mark(10)),
+            Step::Give(What::Mark(10)),
+            Step::Wait(10),
+            Step::Feed(What::End),
+            Step::Give(What::End),
+        ],
+        counts: [2, 1, 1],
+        inside: &[],
+        bound: 10,
+        lines: 0,
+    },
+    Case {
+        name: "a link",
+        kind: Kind::Link(b"5\n5\n9\n", "infinite", ""),
+        horizon: 20,
+        most: 1,
+        steps: &[
+            Step::Give(What::Mark(5)),
+            Step::Wait(0),
+            Step::Feed(What::Mark(7)),
+            Step::Burn(1),
+            Step::Give(What::Mark(9)),
+            Step::Wait(7),
+            Step::Feed(What::Packet(9, 1)),
+            Step::Give(What::Mark(14)),
+            Step::Feed(What::End),
+            Step::Give(What::Packet(14, 1)),
+            Step::Give(What::Mark(18)),
+            Step::Give(What::End),
+        ],
+        counts: [1, 1, 0],
+        inside: &[],
+        bound: 18,
+        lines: 8,
+    },
+];
 
 #[test]
-fn a_direction_that_passes(rt: HostRuntime) {
-    is_as_said(&rt, rt.alloc(), &PASSED);
-}
-
-static DELAYED: Case = Case {
-    kind: Kind::Delay(20),
-    horizon: 100,
-    most: 4,
-    steps: &[
-        Step::Give(What::Mark(20)),
-        Step::Feed(What::Packet(80, 1)),
-        Step::Feed(What::Packet(81, 2)),
-        Step::Give(What::Packet(100, 1)),
-        Step::Give(What::Mark(101)),
-        Step::Wait(81),
-        Step::Feed(What::End),
-        Step::Give(What::End),
-    ],
-    counts: [2, 1, 0],
-    inside: &[2],
-    bound: 101,
-    lines: 0,
-};
-
-#[test]
-fn a_delay(rt: HostRuntime) {
-    is_as_said(&rt, rt.alloc(), &DELAYED);
-}
-
-// The words of seed 0 and stream 0 begin with 0.679 and 0.563 of all 32-bit words.
-static LOST: Case = Case {
-    kind: Kind::Loss("0.6", 0, 0),
-    horizon: 9,
-    most: 4,
-    steps: &[
-        Step::Feed(What::Packet(4, 1)),
-        Step::Give(What::Packet(4, 1)),
-        Step::Feed(What::Packet(7, 2)),
-        Step::Give(What::Mark(7)),
-        Step::Feed(What::Mark(10)),
-        Step::Give(What::Mark(10)),
-        Step::Wait(10),
-        Step::Feed(What::End),
-        Step::Give(What::End),
-    ],
-    counts: [2, 1, 1],
-    inside: &[],
-    bound: 10,
-    lines: 0,
-};
-
-#[test]
-fn a_loss(rt: HostRuntime) {
-    is_as_said(&rt, rt.alloc(), &LOST);
-}
-
-static LINKED: Case = Case {
-    kind: Kind::Link(b"5\n5\n9\n", "infinite", ""),
-    horizon: 20,
-    most: 1,
-    steps: &[
-        Step::Give(What::Mark(5)),
-        Step::Wait(0),
-        Step::Feed(What::Mark(7)),
-        Step::Burn(1),
-        Step::Give(What::Mark(9)),
-        Step::Wait(7),
-        Step::Feed(What::Packet(9, 1)),
-        Step::Give(What::Mark(14)),
-        Step::Feed(What::End),
-        Step::Give(What::Packet(14, 1)),
-        Step::Give(What::Mark(18)),
-        Step::Give(What::End),
-    ],
-    counts: [1, 1, 0],
-    inside: &[],
-    bound: 18,
-    lines: 8,
-};
-
-#[test]
-fn a_link(rt: HostRuntime) {
-    is_as_said(&rt, rt.alloc(), &LINKED);
+fn states_go_through_their_steps(rt: HostRuntime) {
+    for case in &CASES {
+        check(&rt, is_as_said(&rt, rt.alloc(), case), case.name);
+    }
 }
 
 static BEFORE_BREAKING: [Step; 3] = [
@@ -273,12 +265,16 @@ fn is_broken_after(rt: &impl Abort, state: &mut ShellState, steps: &[Step]) -> b
     play(state, 9, 4, steps).expect(rt, "memory") && breaks_off(rt, state)
 }
 
-// A state that lets all pass goes through these steps, and is then broken off.
-fn break_after(rt: &impl Abort, alloc: Global, steps: &[Step]) {
-    assert!(rt; is_broken_after(rt, &mut state_of(rt, alloc, Kind::Pass, 9), steps));
+// Whether a state that lets all pass goes through these steps, and is then broken off.
+fn breaks_after(rt: &impl Abort, alloc: Global, steps: &[Step]) -> bool {
+    is_broken_after(rt, &mut state_of(rt, alloc, Kind::Pass, 9), steps)
 }
 
 #[test]
 fn a_broken_state(rt: HostRuntime) {
-    break_after(&rt, rt.alloc(), &BEFORE_BREAKING);
+    check(
+        &rt,
+        breaks_after(&rt, rt.alloc(), &BEFORE_BREAKING),
+        "a broken state",
+    );
 }

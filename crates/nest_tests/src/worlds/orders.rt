@@ -1,4 +1,5 @@
 // Runs by orders, against the fates that the composition of the shells gives.
+use crate::checks::check;
 use crate::nests::{Coming, Prepared, Trip, prepare, stepped_run};
 use crate::runs::{Case, is_as_said};
 use nest_core::{World, Worlds, run_worlds};
@@ -56,19 +57,15 @@ fn run_by(rt: &impl Abort, alloc: Global, trip: &Trip, order: &[u8]) -> RunResul
     stepped_run(rt, alloc, &prepare(rt, alloc, trip), order)
 }
 
-// A run by an order gives what is said.
-fn gives(rt: &impl Abort, alloc: Global, case: &Case, order: &[u8]) {
-    assert!(rt;
-        is_as_said(rt, alloc, case, &run_by(rt, alloc, &case.trip, order)),
-        "of {}",
-        case.trip.nest
-    );
+// Whether a run by an order gives what is said.
+fn gives(rt: &impl Abort, alloc: Global, case: &Case, order: &[u8]) -> bool {
+    is_as_said(rt, alloc, case, &run_by(rt, alloc, &case.trip, order))
 }
 
 // Each case by an order gives what is said.
 fn gives_the_composition(rt: &impl Abort, alloc: Global, order: &[u8]) {
     for case in &CASES {
-        gives(rt, alloc, case, order);
+        check(rt, gives(rt, alloc, case, order), case.trip.nest);
     }
 }
 
@@ -114,18 +111,18 @@ fn worlds_of<'a>(
     run_worlds(alloc, &prepared.nest, &prepared.schedule, order).expect(rt, "memory")
 }
 
-// By this order two packets go through a delay and a link.
-fn go_by(rt: &impl Abort, alloc: Global, prepared: &Prepared, order: &[u8]) {
-    assert!(rt; are_finished(&worlds_of(rt, alloc, prepared, order), 20, 14, 12));
+// Whether two packets go by this order through a delay and a link.
+fn go_by(rt: &impl Abort, alloc: Global, prepared: &Prepared, order: &[u8]) -> bool {
+    are_finished(&worlds_of(rt, alloc, prepared, order), 20, 14, 12)
 }
 
 #[test]
 fn the_worlds_of_an_order_are_finished(rt: HostRuntime) {
-    go_by(
+    let prepared = prepare(&rt, rt.alloc(), &DELAY_AND_LINK);
+    check(
         &rt,
-        rt.alloc(),
-        &prepare(&rt, rt.alloc(), &DELAY_AND_LINK),
-        &[7, 250],
+        go_by(&rt, rt.alloc(), &prepared, &[7, 250]),
+        "finished worlds",
     );
 }
 
@@ -146,12 +143,12 @@ static LONG: Trip = Trip {
     coming: Coming::Load(1, 10_000),
 };
 
-// All packets of a long trip depart.
-fn depart(rt: &impl Abort, alloc: Global, trip: &Trip, order: &[u8]) {
-    assert!(rt; all_depart(run_by(rt, alloc, trip, order).fates()));
+// Whether all packets of a long trip depart.
+fn depart(rt: &impl Abort, alloc: Global, trip: &Trip, order: &[u8]) -> bool {
+    all_depart(run_by(rt, alloc, trip, order).fates())
 }
 
 #[test]
 fn ten_thousand_packets_depart(rt: HostRuntime) {
-    depart(&rt, rt.alloc(), &LONG, &[7]);
+    check(&rt, depart(&rt, rt.alloc(), &LONG, &[7]), "departures");
 }

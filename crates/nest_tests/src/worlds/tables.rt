@@ -1,5 +1,6 @@
 // Worlds by tables of steps.
 use super::step;
+use crate::checks::check;
 use crate::nests::{Coming, Prepared, Trip, prepare};
 use nest_core::World;
 use packet_record::{Direction, FlowEnd};
@@ -48,9 +49,9 @@ fn passes(rt: &impl Abort, world: &mut World<'_>) -> bool {
         && !world.finished()
 }
 
-// A packet of this trip passes a delay.
-fn pass_delay(rt: &impl Abort, alloc: Global, prepared: &Prepared) {
-    assert!(rt; passes(rt, &mut world_of(rt, alloc, prepared)));
+// Whether a packet of this trip passes a delay.
+fn pass_delay(rt: &impl Abort, alloc: Global, prepared: &Prepared) -> bool {
+    passes(rt, &mut world_of(rt, alloc, prepared))
 }
 
 static DELAY: Trip = Trip {
@@ -62,7 +63,12 @@ static DELAY: Trip = Trip {
 
 #[test]
 fn a_packet_passes_a_delay(rt: HostRuntime) {
-    pass_delay(&rt, rt.alloc(), &prepare(&rt, rt.alloc(), &DELAY));
+    let prepared = prepare(&rt, rt.alloc(), &DELAY);
+    check(
+        &rt,
+        pass_delay(&rt, rt.alloc(), &prepared),
+        "a packet behind a delay",
+    );
 }
 
 // Whether a link goes on by the mark of the first row, and then by the packet and the end.
@@ -89,9 +95,9 @@ fn passes_link(rt: &impl Abort, world: &mut World<'_>) -> bool {
     goes_on(rt, world) && ends(rt, world)
 }
 
-// Marks let the link of this trip go on to its end.
-fn pass_link(rt: &impl Abort, alloc: Global, prepared: &Prepared) {
-    assert!(rt; passes_link(rt, &mut world_of(rt, alloc, prepared)));
+// Whether marks let the link of this trip go on to its end.
+fn pass_link(rt: &impl Abort, alloc: Global, prepared: &Prepared) -> bool {
+    passes_link(rt, &mut world_of(rt, alloc, prepared))
 }
 
 static LINK: Trip = Trip {
@@ -103,5 +109,10 @@ static LINK: Trip = Trip {
 
 #[test]
 fn marks_let_a_link_go_on(rt: HostRuntime) {
-    pass_link(&rt, rt.alloc(), &prepare(&rt, rt.alloc(), &LINK));
+    let prepared = prepare(&rt, rt.alloc(), &LINK);
+    check(
+        &rt,
+        pass_link(&rt, rt.alloc(), &prepared),
+        "a link that goes on",
+    );
 }

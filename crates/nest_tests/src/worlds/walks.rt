@@ -1,6 +1,7 @@
 // Worlds that are stepped by drawn numbers, against what leaves the last shell when all packets pass one shell after
 // the other.
 use super::step;
+use crate::checks::check;
 use crate::nests::{Coming, Prepared, Trip, prepare};
 use crate::packets::{are, are_first};
 use nest_core::World;
@@ -89,7 +90,11 @@ fn wander(rt: &impl Abort, world: &mut World<'_>, number: u64, departed: &[(u32,
     for _ in 0..400 {
         let actor = draws.draw() % world.actors();
         step(rt, world, actor);
-        assert!(rt; are_first(world.collected().packets(), departed));
+        check(
+            rt,
+            are_first(world.collected().packets(), departed),
+            "a front of what departs",
+        );
     }
 }
 
@@ -100,12 +105,17 @@ fn round(rt: &impl Abort, world: &mut World<'_>) {
     }
 }
 
+// Whether a world is finished, and these are collected.
+fn has_all(world: &World<'_>, departed: &[(u32, u64)]) -> bool {
+    world.finished() && world.quiet() && are(world.collected().packets(), departed)
+}
+
 // Takes rounds of all actors, which are many enough. Then these are collected.
 fn finish(rt: &impl Abort, world: &mut World<'_>, departed: &[(u32, u64)]) {
     for _ in 0..100 {
         round(rt, world);
     }
-    assert!(rt; world.finished() && world.quiet() && are(world.collected().packets(), departed));
+    check(rt, has_all(world, departed), "all that departs");
 }
 
 // The world of a direction, each of whose channels holds so many items.

@@ -4,16 +4,17 @@ ghost use Rattle.packet_record.specs.declared.item.FlowEnd.TheVariants.{Open};
 ghost use Rattle.packet_record.specs.Streams.{no_items};
 ghost use Rattle.shell_cell.specs.Seats.{IsSameSeat};
 
-use super::{close, delay_cell, feed_to, take_from};
+use super::{close, delay, feed_to, seat, take_from};
+use crate::checks::check;
 use crate::packets::timed;
 use crate::waiting::{give_way, reached};
 use packet_record::{FlowEnd, Item, Timed};
 use shell_cell::{DrainSeat, FeedSeat, ShellCell};
 use shell_state::{ShellState, Taken};
 use std::alloc::Global;
+use std::process::Abort;
 use std::sync::Wait;
 use std::sync::atomic::{AtomicU64, Ordering};
-use std::test::Fail;
 use std::thread::{Threads, join_mut};
 
 // A cell may be shared and sent, and a seat may be sent.
@@ -108,17 +109,14 @@ fn pass_all<R: Threads + Wait + Sync>(
 }
 
 // A feeder and a drain in two threads, over a delay of one millisecond.
-fn run_both<R: Threads + Wait + Sync>(rt: &R, alloc: Global, count: u32) -> Result<ShellState, Fail>
+fn run_both<R: Threads + Wait + Sync + Abort>(rt: &R, alloc: Global, count: u32) -> ShellState
     requires { count ≤ 2000 }
 {
-    let mut seated = delay_cell(alloc)?;
+    let mut seated = seat(rt, alloc, delay(rt, alloc));
     cross(&seated.cell, &seated.feed, &seated.drain);
     let passed = pass_all(rt, &seated.cell, &mut seated.feed, &mut seated.drain, count);
-    let state = close(seated);
-    if !passed {
-        return Err(Fail::from("a thread found no memory, or a broken state"));
-    }
-    Ok(state)
+    check(rt, passed, "memory, and no broken state");
+    close(seated)
 }
 
 // Whether the packets are numbered from 1 on, each a millisecond after the one before, and the first at 2.
@@ -140,10 +138,12 @@ fn has_passed(state: &ShellState, count: usize) -> bool {
 }
 
 #[test]
-fn two_threads_pass_all_through(rt: HostRuntime) -> Result<(), Fail> {
-    let state = run_both(&rt, rt.alloc(), 1000)?;
-    assert!(rt; has_passed(&state, 1000));
-    Ok(())
+fn two_threads_pass_all_through(rt: HostRuntime) {
+    check(
+        &rt,
+        has_passed(&run_both(&rt, rt.alloc(), 1000), 1000),
+        "a thousand packets",
+    );
 }
 
 // Feeds the end long after the other thread has begun to wait. False where it finds no memory, or nobody waits.
@@ -182,20 +182,22 @@ fn end_late<R: Threads + Wait + Sync>(
     )
 }
 
-fn wait_in_turns<R: Threads + Wait + Sync>(rt: &R, alloc: Global) -> Result<Option<u64>, Fail> {
-    let mut seated = delay_cell(alloc)?;
+// How many takes there were where the other thread waits for one that waits.
+fn wait_in_turns<R: Threads + Wait + Sync + Abort>(rt: &R, alloc: Global) -> Option<u64> {
+    let mut seated = seat(rt, alloc, delay(rt, alloc));
     let (fed, takes) = end_late(rt, &seated.cell, &mut seated.feed, &mut seated.drain);
+    check(rt, fed, "one who waits");
     close(seated);
-    if !fed {
-        return Err(Fail::from("nobody waits"));
-    }
-    Ok(takes)
+    takes
 }
 
 // The drain takes a mark, nothing and the end. It sleeps while nothing is fed, so its takes are few, and it wakes.
 #[test]
-fn a_wait_sleeps_until_a_feed(rt: HostRuntime) -> Result<(), Fail> {
-    let takes = wait_in_turns(&rt, rt.alloc())?.ok_or("no end")?;
-    assert!(rt; 3 <= takes && takes <= 100, "{takes} takes");
-    Ok(())
+fn a_wait_sleeps_until_a_feed(rt: HostRuntime) {
+    let takes = wait_in_turns(&rt, rt.alloc()).unwrap_or(0);
+    check(
+        &rt,
+        3 <= takes && takes <= 100,
+        "3 to 100 takes, and the end",
+    );
 }

@@ -3,17 +3,17 @@ ghost use Rattle.std.specs.Prelude.{◌≡◌};
 ghost use Rattle.std.specs.Thread.{IsSync};
 ghost use Rattle.packet_record.specs.declared.item.FlowEnd.TheVariants.{Open};
 
+use crate::checks::check;
 use crate::waiting::give_way;
 use crate::ways::open_ways;
 use mark_channel::{Begun, Sender};
 use packet_record::Item;
 use std::alloc::Global;
 use std::marker::Sync;
+use std::process::Abort;
 use std::sync::Wait;
 use std::sync::atomic::{AtomicU64, Ordering};
-use std::test::Fail;
 use std::thread::{Threads, join_mut};
-use text_base::OutOfMemory;
 
 // Counts two workers, of which the second one begins late. Whether the wait had ended before.
 fn begin_late(begun: &Begun, waited: &AtomicU64) -> bool {
@@ -48,52 +48,58 @@ fn wait_beside<R: Threads + Wait + Sync>(
 }
 
 // Waits for two workers in two channels.
-fn wait_for_two<R: Threads + Wait + Sync>(
-    rt: &R,
-    alloc: Global,
-) -> Result<(bool, bool), OutOfMemory> {
-    let mut ways = open_ways(alloc, 1, 10)?;
+fn wait_for_two<R: Threads + Wait + Sync + Abort>(rt: &R, alloc: Global) -> (bool, bool) {
+    let mut ways = open_ways(alloc, 1, 10).expect(rt, "memory");
     let begun = Begun::new(2);
     let waited = AtomicU64::new(0);
-    Ok(wait_beside(rt, &begun, &waited, &mut ways.up, &mut ways.down))
+    wait_beside(rt, &begun, &waited, &mut ways.up, &mut ways.down)
 }
 
 #[test]
-fn the_first_sender_waits_for_all_workers(rt: HostRuntime) -> Result<(), Fail> {
-    assert!(rt; wait_for_two(&rt, rt.alloc())? == (false, true));
-    Ok(())
+fn the_first_sender_waits_for_all_workers(rt: HostRuntime) {
+    check(
+        &rt,
+        wait_for_two(&rt, rt.alloc()) == (false, true),
+        "a wait for both workers",
+    );
 }
 
 // Waits in two channels, in which nothing was sent. Whether all began, and what comes out of both where they didn't.
-fn wait_once<R: Wait>(
-    rt: &R,
-    alloc: Global,
-    begun: &Begun,
-) -> Result<Option<(Item, Item)>, OutOfMemory> {
-    let mut ways = open_ways(alloc, 1, 10)?;
+fn wait_once<R: Wait + Abort>(rt: &R, alloc: Global, begun: &Begun) -> Option<(Item, Item)> {
+    let mut ways = open_ways(alloc, 1, 10).expect(rt, "memory");
     if begun.wait(rt, &mut ways.up, &mut ways.down).is_ok() {
-        return Ok(None);
+        return None;
     }
-    Ok(Some((ways.up_end.recv(rt), ways.down_end.recv(rt))))
+    Some((ways.up_end.recv(rt), ways.down_end.recv(rt)))
 }
 
 const BROKEN: Option<(Item, Item)> = Some((Item::Broken, Item::Broken));
 
 // At the limit both directions are broken off, and at once for whoever waits later, though all have begun then.
 #[test]
-fn a_wait_at_its_limit_breaks_both_directions_off(rt: HostRuntime) -> Result<(), Fail> {
+fn a_wait_at_its_limit_breaks_both_directions_off(rt: HostRuntime) {
     let begun = Begun::with_looks(2, 100);
     begun.raise();
-    assert!(rt; wait_once(&rt, rt.alloc(), &begun)? == BROKEN);
+    check(
+        &rt,
+        wait_once(&rt, rt.alloc(), &begun) == BROKEN,
+        "broken off at the limit",
+    );
     begun.raise();
-    assert!(rt; wait_once(&rt, rt.alloc(), &begun)? == BROKEN);
-    Ok(())
+    check(
+        &rt,
+        wait_once(&rt, rt.alloc(), &begun) == BROKEN,
+        "broken off after it",
+    );
 }
 
 #[test]
-fn nobody_waits_where_all_have_begun(rt: HostRuntime) -> Result<(), Fail> {
+fn nobody_waits_where_all_have_begun(rt: HostRuntime) {
     let begun = Begun::with_looks(1, 1);
     begun.raise();
-    assert!(rt; wait_once(&rt, rt.alloc(), &begun)?.is_none());
-    Ok(())
+    check(
+        &rt,
+        wait_once(&rt, rt.alloc(), &begun).is_none(),
+        "nothing broken off",
+    );
 }

@@ -5,6 +5,7 @@ ghost use Rattle.mark_channel.specs.Ends.{IsSameEnd};
 ghost use Rattle.mark_channel.specs.Feedings.{HasSentRows};
 
 use super::receive_all;
+use crate::checks::check;
 use crate::packets::timed;
 use crate::ways::{open_ways, settle_ways};
 use mark_channel::{FeedEnd, Feeds, Sender};
@@ -13,9 +14,7 @@ use std::alloc::Global;
 use std::process::Abort;
 use std::slice;
 use std::sync::Wait;
-use std::test::Fail;
 use std::thread::Threads;
-use text_base::OutOfMemory;
 
 // Sends the row's packet where it goes in this direction and enters up to the horizon, and then the end.
 fn send_row<R: Wait>(rt: &R, to: &mut Sender, direction: Direction, horizon: u64, row: &Row)
@@ -79,39 +78,38 @@ fn feed_both<F: Feeds, R: Threads + Wait + Sync>(
 }
 
 // Feeds two channels, and counts what each of them carried before its end.
-fn feed_two<F: Feeds, R: Threads + Wait + Sync>(
+fn feed_two<F: Feeds, R: Threads + Wait + Abort + Sync>(
     rt: &R,
     alloc: Global,
     feeds: &mut F,
-) -> Result<(FeedEnd, u32, u32), OutOfMemory> {
-    let mut ways = open_ways(alloc, 64, 20)?;
+) -> (FeedEnd, u32, u32) {
+    let mut ways = open_ways(alloc, 64, 20).expect(rt, "memory");
     let end = feed_both(rt, feeds, 20, &mut ways.up, &mut ways.down);
     let went_up = receive_all(rt, &mut ways.up_end);
     let went_down = receive_all(rt, &mut ways.down_end);
     settle_ways(ways);
-    Ok((end, went_up, went_down))
+    (end, went_up, went_down)
 }
 
-// Feeds a row in this direction: so many packets go up, and so many down.
-fn is_fed<R: Threads + Wait + Abort + Sync>(
+// Feeds one row in this direction: how that ends, and how many packets go up and down.
+fn feed_row<R: Threads + Wait + Abort + Sync>(
     rt: &R,
     alloc: Global,
     direction: Direction,
-    up: u32,
-    down: u32,
-) -> Result<(), Fail> {
+) -> (FeedEnd, u32, u32) {
     let row = Row {
         direction,
         timed: timed(0, 20),
     };
     let mut feeds = OneRow { row };
-    assert!(rt; count_rows(&feeds) == 1);
-    assert!(rt; feed_two(rt, alloc, &mut feeds)? == (FeedEnd::Ended, up, down));
-    Ok(())
+    check(rt, count_rows(&feeds) == 1, "one row");
+    feed_two(rt, alloc, &mut feeds)
 }
 
 #[test]
-fn feeds_its_row_in_its_direction(rt: HostRuntime) -> Result<(), Fail> {
-    is_fed(&rt, rt.alloc(), Direction::Up, 1, 0)?;
-    is_fed(&rt, rt.alloc(), Direction::Down, 0, 1)
+fn feeds_its_row_in_its_direction(rt: HostRuntime) {
+    let up = feed_row(&rt, rt.alloc(), Direction::Up);
+    check(&rt, up == (FeedEnd::Ended, 1, 0), "a row up");
+    let down = feed_row(&rt, rt.alloc(), Direction::Down);
+    check(&rt, down == (FeedEnd::Ended, 0, 1), "a row down");
 }

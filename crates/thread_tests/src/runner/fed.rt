@@ -6,17 +6,17 @@ ghost use Rattle.packet_record.specs.Rows.{Rises, entering};
 ghost use Rattle.packet_record.specs.Streams.{no_items};
 ghost use Rattle.mark_channel.specs.Ends.{IsSameEnd};
 
-use super::{CASES, Case, has_fates, nest_in};
+use super::{CASES, Case, nest_in, schedule_of};
+use crate::checks::check;
 use mark_channel::{FeedEnd, Feeds, Sender};
-use mm_base::NoPace;
+use mm_base::{NoPace, Pace};
 use nest_runner::run_feeds;
 use nest_spec::{Nest, RunResult};
-use packet_record::{Direction, Item, Row, Schedule, read_schedule, source_item};
+use packet_record::{Direction, Item, Row, Schedule, source_item};
 use std::alloc::Global;
 use std::marker::Sync;
 use std::process::Abort;
 use std::sync::Wait;
-use std::test::Fail;
 use std::thread::Threads;
 use text_base::OutOfMemory;
 
@@ -151,74 +151,60 @@ impl Feeds for FedSchedule {
     }
 }
 
-fn fed_of(alloc: Global, case: &Case<'_>, ending: Ending) -> Result<FedSchedule, Fail> {
-    let schedule = read_schedule(alloc, case.schedule)?;
-    Ok(FedSchedule {
-        schedule,
+fn fed_of(rt: &impl Abort, alloc: Global, schedule: &[u8], ending: Ending) -> FedSchedule {
+    FedSchedule {
+        schedule: schedule_of(rt, alloc, schedule),
         ending,
         calls: 0,
-    })
+    }
 }
 
 // The result of a run that is fed. It says nothing of it.
-fn run_fed<R: Threads + Wait + Sync>(
+fn run_fed<Q: Pace + Sync, R: Threads + Wait + Sync>(
     rt: &R,
     alloc: Global,
     nest: &Nest,
     fed: &mut FedSchedule,
+    pace: &Q,
 ) -> Result<RunResult, OutOfMemory> {
-    run_feeds(rt, alloc, nest, fed, &NoPace)
+    run_feeds(rt, alloc, nest, fed, pace)
 }
 
-// The result of a case that is fed and ends so. The feeding is called once.
-fn result_of<R: Threads + Wait + Abort + Sync>(
+// The result of a schedule whose rows are fed, which is done once.
+pub(super) fn run_from_feeds<Q: Pace + Sync, R: Threads + Wait + Abort + Sync>(
     rt: &R,
     alloc: Global,
-    case: &Case<'_>,
-    ending: Ending,
-) -> Result<Result<RunResult, OutOfMemory>, Fail> {
-    let nest = nest_in(rt, alloc, case)?;
-    let mut fed = fed_of(alloc, case, ending)?;
-    let result = run_fed(rt, alloc, &nest, &mut fed);
-    assert!(rt; fed.calls == 1);
-    Ok(result)
+    nest: &Nest,
+    schedule: &[u8],
+    pace: &Q,
+) -> RunResult {
+    let mut fed = fed_of(rt, alloc, schedule, Ending::Whole);
+    let result = run_fed(rt, alloc, nest, &mut fed, pace).expect(rt, "memory");
+    check(rt, fed.calls == 1, "one feeding");
+    result
 }
 
-// Feeds a run, and compares the text of the fates.
-pub(super) fn feeds<R: Threads + Wait + Abort + Sync>(
-    rt: &R,
-    alloc: Global,
-    case: &Case<'_>,
-) -> Result<(), Fail> {
-    let result = result_of(rt, alloc, case, Ending::Whole)??;
-    assert!(rt; has_fates(alloc, &result, case.fates)?);
-    Ok(())
-}
-
-#[test]
-fn fed_rows_give_the_composition(rt: HostRuntime) -> Result<(), Fail> {
-    for case in &CASES {
-        feeds(&rt, rt.alloc(), case)?;
-    }
-    Ok(())
-}
-
-// A feeding that ends so gives no result.
+// Whether a case that is fed once, and ends so, has no result.
 fn wants<R: Threads + Wait + Abort + Sync>(
     rt: &R,
     alloc: Global,
     case: &Case<'_>,
     ending: Ending,
-) -> Result<(), Fail> {
-    assert!(rt; result_of(rt, alloc, case, ending)?.is_err());
-    Ok(())
+) -> bool {
+    let nest = nest_in(rt, alloc, case);
+    let mut fed = fed_of(rt, alloc, case.schedule, ending);
+    run_fed(rt, alloc, &nest, &mut fed, &NoPace).is_err() && fed.calls == 1
+}
+
+// No case that is fed and ends so has a result.
+fn all_want<R: Threads + Wait + Abort + Sync>(rt: &R, alloc: Global, ending: Ending) {
+    for case in &CASES {
+        check(rt, wants(rt, alloc, case, ending), case.nest);
+    }
 }
 
 #[test]
-fn want_of_memory_while_feeding_is_answered(rt: HostRuntime) -> Result<(), Fail> {
-    for case in &CASES {
-        wants(&rt, rt.alloc(), case, Ending::Wanting)?;
-        wants(&rt, rt.alloc(), case, Ending::Cut)?;
-    }
-    Ok(())
+fn want_of_memory_while_feeding_is_answered(rt: HostRuntime) {
+    all_want(&rt, rt.alloc(), Ending::Wanting);
+    all_want(&rt, rt.alloc(), Ending::Cut);
 }

@@ -1,5 +1,6 @@
 // Paces that hold some turns until others have begun.
 use super::{Call, Case, agrees_at, case_of, many_of};
+use crate::checks::check;
 use crate::waiting::{give_way, is_at, reached};
 use mm_base::{Pace, Role};
 use std::alloc::Global;
@@ -7,7 +8,6 @@ use std::marker::Sync;
 use std::process::Abort;
 use std::sync::Wait;
 use std::sync::atomic::{AtomicU64, Ordering};
-use std::test::Fail;
 use std::thread::Threads;
 
 // The first turns of the four workers of one shell wait until all four have begun.
@@ -38,24 +38,27 @@ const TWO_ROWS: Case<'static> = Case {
     fates: b"1 up departed 25\n2 up departed 26\n",
 };
 
-fn runs_together<R: Threads + Wait + Abort + Sync>(
-    rt: &R,
-    alloc: Global,
-    call: Call,
-) -> Result<(), Fail> {
+// Whether all four are there before one goes on.
+fn runs_together<R: Threads + Wait + Abort + Sync>(rt: &R, alloc: Global, call: Call) -> bool {
     let pace = Together {
         begun: AtomicU64::new(0),
         limits: AtomicU64::new(0),
     };
-    agrees_at(rt, alloc, call, &TWO_ROWS, &pace)?;
-    assert!(rt; is_at(&pace.begun, 4) && is_at(&pace.limits, 0));
-    Ok(())
+    agrees_at(rt, alloc, call, &TWO_ROWS, &pace) && is_at(&pace.begun, 4) && is_at(&pace.limits, 0)
 }
 
 #[test]
-fn four_workers_run_beside_each_other(rt: HostRuntime) -> Result<(), Fail> {
-    runs_together(&rt, rt.alloc(), Call::Threads)?;
-    runs_together(&rt, rt.alloc(), Call::Stream)
+fn four_workers_run_beside_each_other(rt: HostRuntime) {
+    check(
+        &rt,
+        runs_together(&rt, rt.alloc(), Call::Threads),
+        "four from memory",
+    );
+    check(
+        &rt,
+        runs_together(&rt, rt.alloc(), Call::Stream),
+        "four from a file",
+    );
 }
 
 // The source waits at its third row until the up collector has a packet.
@@ -87,24 +90,27 @@ const ONE_UP_TWO_DOWN: Case<'static> = Case {
     fates: b"1 up departed 5\n2 down departed 15\n3 down departed 20\n",
 };
 
-fn goes_on_by_marks<R: Threads + Wait + Abort + Sync>(
-    rt: &R,
-    alloc: Global,
-    call: Call,
-) -> Result<(), Fail> {
+// Whether a packet is collected while the source is held.
+fn goes_on_by_marks<R: Threads + Wait + Abort + Sync>(rt: &R, alloc: Global, call: Call) -> bool {
     let pace = HeldSource {
         collected: AtomicU64::new(0),
         limits: AtomicU64::new(0),
     };
-    agrees_at(rt, alloc, call, &ONE_UP_TWO_DOWN, &pace)?;
-    assert!(rt; is_at(&pace.limits, 0));
-    Ok(())
+    agrees_at(rt, alloc, call, &ONE_UP_TWO_DOWN, &pace) && is_at(&pace.limits, 0)
 }
 
 #[test]
-fn a_mark_lets_a_link_go_on(rt: HostRuntime) -> Result<(), Fail> {
-    goes_on_by_marks(&rt, rt.alloc(), Call::Threads)?;
-    goes_on_by_marks(&rt, rt.alloc(), Call::Stream)
+fn a_mark_lets_a_link_go_on(rt: HostRuntime) {
+    check(
+        &rt,
+        goes_on_by_marks(&rt, rt.alloc(), Call::Threads),
+        "from memory",
+    );
+    check(
+        &rt,
+        goes_on_by_marks(&rt, rt.alloc(), Call::Stream),
+        "from a file",
+    );
 }
 
 // The up feeder begins once the source has begun the row after those that the channel and its own hands hold; the up
@@ -170,22 +176,19 @@ impl Pace for FullChannels {
     }
 }
 
-// A thousand rows over a delay, at this pace.
+// Whether a thousand rows over a delay, at this pace, have their fates.
 fn agrees_with_thousand<Q: Pace + Sync, R: Threads + Wait + Abort + Sync>(
     rt: &R,
     alloc: Global,
     call: Call,
     pace: &Q,
-) -> Result<(), Fail> {
-    let many = many_of(alloc, 1_000)?;
+) -> bool {
+    let many = many_of(rt, alloc, 1_000);
     agrees_at(rt, alloc, call, &case_of(&many, 2_000), pace)
 }
 
-fn fills_channels<R: Threads + Wait + Abort + Sync>(
-    rt: &R,
-    alloc: Global,
-    call: Call,
-) -> Result<(), Fail> {
+// Whether each channel is filled, and nobody goes on past that.
+fn fills_channels<R: Threads + Wait + Abort + Sync>(rt: &R, alloc: Global, call: Call) -> bool {
     let pace = FullChannels {
         source: AtomicU64::new(0),
         feeder: AtomicU64::new(0),
@@ -193,15 +196,21 @@ fn fills_channels<R: Threads + Wait + Abort + Sync>(
         limits: AtomicU64::new(0),
         early: AtomicU64::new(0),
     };
-    agrees_with_thousand(rt, alloc, call, &pace)?;
-    assert!(rt; is_at(&pace.limits, 0) && is_at(&pace.early, 0));
-    Ok(())
+    agrees_with_thousand(rt, alloc, call, &pace) && is_at(&pace.limits, 0) && is_at(&pace.early, 0)
 }
 
 #[test]
-fn channels_hold_sixty_four_items(rt: HostRuntime) -> Result<(), Fail> {
-    fills_channels(&rt, rt.alloc(), Call::Threads)?;
-    fills_channels(&rt, rt.alloc(), Call::Stream)
+fn channels_hold_sixty_four_items(rt: HostRuntime) {
+    check(
+        &rt,
+        fills_channels(&rt, rt.alloc(), Call::Threads),
+        "from memory",
+    );
+    check(
+        &rt,
+        fills_channels(&rt, rt.alloc(), Call::Stream),
+        "from a file",
+    );
 }
 
 // Notes which shells' feeders have had a turn in a nest of two, and counts the turns of a second shell that come before
@@ -250,26 +259,29 @@ const TWO_SHELLS: Case<'static> = Case {
     fates: b"1 up departed 5\n2 down departed 5\n",
 };
 
-fn has_numbers<R: Threads + Wait + Abort + Sync>(
-    rt: &R,
-    alloc: Global,
-    call: Call,
-) -> Result<(), Fail> {
+// Whether each second shell is fed a packet, perhaps marks, and the end, and none before the first one.
+fn has_numbers<R: Threads + Wait + Abort + Sync>(rt: &R, alloc: Global, call: Call) -> bool {
     let pace = PassingOrder {
         first_up: AtomicU64::new(0),
         first_down: AtomicU64::new(0),
         seconds: AtomicU64::new(0),
         early: AtomicU64::new(0),
     };
-    agrees_at(rt, alloc, call, &TWO_SHELLS, &pace)?;
-    // Each second shell is fed a packet, perhaps marks, and the end.
-    assert!(rt; pace.seconds.load(Ordering::SeqCst) >= 4);
-    assert!(rt; is_at(&pace.early, 0));
-    Ok(())
+    agrees_at(rt, alloc, call, &TWO_SHELLS, &pace)
+        && pace.seconds.load(Ordering::SeqCst) >= 4
+        && is_at(&pace.early, 0)
 }
 
 #[test]
-fn shells_have_their_numbers(rt: HostRuntime) -> Result<(), Fail> {
-    has_numbers(&rt, rt.alloc(), Call::Threads)?;
-    has_numbers(&rt, rt.alloc(), Call::Stream)
+fn shells_have_their_numbers(rt: HostRuntime) {
+    check(
+        &rt,
+        has_numbers(&rt, rt.alloc(), Call::Threads),
+        "from memory",
+    );
+    check(
+        &rt,
+        has_numbers(&rt, rt.alloc(), Call::Stream),
+        "from a file",
+    );
 }

@@ -5,12 +5,13 @@ ghost use Rattle.shell_core.specs.Shells.{IsInRange, opportunities};
 ghost use Rattle.nest_spec.specs.Nests.{AllFit};
 ghost use Rattle.shell_workers.specs.Stages.{AllFresh, IsFresh};
 
-use super::nest_of;
+use super::{nest_of, schedule_of};
+use crate::checks::check;
 use crate::ways::{Ways, open_ways};
 use mark_channel::{Receiver, Sender, open};
 use mm_base::{NoPace, Role};
 use nest_spec::Nest;
-use packet_record::{Direction, Schedule, read_schedule};
+use packet_record::{Direction, Schedule};
 use row_source::source;
 use shell_state::{DirSpec, ShellState};
 use shell_workers::{Stage, WorkEnd, collector, stages};
@@ -18,7 +19,6 @@ use std::alloc::Global;
 use std::marker::Sync;
 use std::process::Abort;
 use std::sync::Wait;
-use std::test::Fail;
 use std::thread::Threads;
 use text_base::OutOfMemory;
 
@@ -105,62 +105,53 @@ fn end_way<R: Threads + Wait + Abort + Sync>(
     direction: Direction,
     first: u32,
     from: Receiver,
-) -> Result<bool, Fail>
+) -> bool
     requires { (from.flow ≡ no_items) × (from.horizon ≡ nest.now.horizon) }
 {
-    let specs = nest.directions(direction)?;
-    let (mut list, mut last) = open_path(alloc, nest.horizon(), specs, from)?;
+    let specs = nest.directions(direction).expect(rt, "memory");
+    let (mut list, mut last) = open_path(alloc, nest.horizon(), specs, from).expect(rt, "memory");
     assert!(rt; list.len() <= 8);
     let up = direction == Direction::Up;
-    let ends = run_parts(rt, list.as_mut_slice(), &mut last, up, first);
-    Ok(ends == (WorkEnd::Ended, WorkEnd::Ended))
+    run_parts(rt, list.as_mut_slice(), &mut last, up, first) == (WorkEnd::Ended, WorkEnd::Ended)
 }
 
-// Runs the parts of both directions, whose packets are in these channels.
-fn end_ways<R: Threads + Wait + Abort + Sync>(
-    rt: &R,
-    alloc: Global,
-    nest: &Nest,
-    up: Receiver,
-    down: Receiver,
-) -> Result<bool, Fail>
-    requires up { (up.flow ≡ no_items) × (up.horizon ≡ nest.now.horizon) }
-    requires down { (down.flow ≡ no_items) × (down.horizon ≡ nest.now.horizon) }
-{
-    let up_ends = end_way(rt, alloc, nest, Direction::Up, nest.shells(), up)?;
-    let down_ends = end_way(rt, alloc, nest, Direction::Down, 1, down)?;
-    Ok(up_ends && down_ends)
-}
-
-// Sends a schedule, and then runs the parts of both directions.
+// Sends a schedule, and then runs the parts of both directions. Whether all come to their ends.
 fn end_both<R: Threads + Wait + Abort + Sync>(
     rt: &R,
     alloc: Global,
     nest: &Nest,
     schedule: &Schedule,
-) -> Result<bool, Fail> {
+) -> bool {
     let horizon = nest.horizon();
     let Ways {
         mut up,
         up_end,
         mut down,
         down_end,
-    } = open_ways(alloc, CAPACITY, horizon)?;
+    } = open_ways(alloc, CAPACITY, horizon).expect(rt, "memory");
     send_all(rt, schedule, horizon, &mut up, &mut down);
-    end_ways(rt, alloc, nest, up_end, down_end)
+    let ended = end_way(rt, alloc, nest, Direction::Up, nest.shells(), up_end);
+    end_way(rt, alloc, nest, Direction::Down, 1, down_end) && ended
+}
+
+// Whether the parts of a nest of a delay and a link come to their ends.
+fn parts_end<R: Threads + Wait + Abort + Sync>(rt: &R, alloc: Global) -> bool {
+    let nest = nest_of(rt, alloc, "mm-delay 10 mm-link t t", b"4\n", 100);
+    end_both(
+        rt,
+        alloc,
+        &nest,
+        &schedule_of(rt, alloc, b"0 up 100\n0 down 100\n"),
+    )
 }
 
 #[test]
-fn the_parts_of_a_run_come_to_their_ends(rt: HostRuntime) -> Result<(), Fail> {
-    let alloc = rt.alloc();
-    let nest = nest_of(&rt, alloc, "mm-delay 10 mm-link t t", b"4\n", 100)?;
-    let schedule = read_schedule(alloc, b"0 up 100\n0 down 100\n")?;
-    assert!(rt; end_both(&rt, alloc, &nest, &schedule)?);
-    Ok(())
+fn the_parts_of_a_run_come_to_their_ends(rt: HostRuntime) {
+    check(&rt, parts_end(&rt, rt.alloc()), "parts that have ended");
 }
 
 #[test]
 fn no_stages_have_ended(rt: HostRuntime) {
     let end = stages(&rt, &mut [], true, 1, 256, &NoPace);
-    assert!(rt; end == WorkEnd::Ended);
+    check(&rt, end == WorkEnd::Ended, "stages that have ended");
 }

@@ -1,22 +1,33 @@
 //! Merges of flows whose items are added when the merge needs them.
-use packet_record::{FlowEnd, Item, Packet, Timed};
+use crate::checks::check;
+use crate::packets::timed;
+use packet_record::{FlowEnd, Item};
 use sender_merge::{MergeCore, MergeStep};
 use std::alloc::Global;
 use std::process::Abort;
-use std::test::Fail;
 use text_base::OutOfMemory;
 
+// An item: a packet's number and moment, a mark's moment, or an end.
+#[derive(Clone, Copy)]
+enum What {
+    Packet(u32, u64),
+    Mark(u64),
+    End,
+    Broken,
+}
+
+fn item_of(what: What) -> Item {
+    match what {
+        What::Packet(id, moment) => packet(id, moment),
+        What::Mark(moment) => Item::Mark(moment),
+        What::End => Item::End,
+        What::Broken => Item::Broken,
+    }
+}
+
 // A packet of 100 bytes.
-macro_rules! packet {
-    ($id:expr, $moment:expr) => {
-        Item::Packet(Timed {
-            moment: $moment,
-            packet: Packet {
-                id: $id,
-                size: 100,
-            },
-        })
-    };
+fn packet(id: u32, moment: u64) -> Item {
+    Item::Packet(timed(id, moment))
 }
 
 // What a merge does next. None where it is over.
@@ -59,128 +70,116 @@ fn add_some(core: &mut MergeCore, sender: u32, item: Option<Item>) -> Result<boo
 }
 
 // The item at a place, one more place in front of it, or none.
-fn advance(flow: &[Item], place: &mut usize) -> Option<Item> {
-    let item = flow.get(*place).copied()?;
+fn advance(flow: &[What], place: &mut usize) -> Option<Item> {
+    let what = flow.get(*place).copied()?;
     *place = place.saturating_add(1);
-    Some(item)
+    Some(item_of(what))
+}
+
+// Three flows, and what a merge of them gives.
+struct Case {
+    name: &'static str,
+    first: &'static [What],
+    second: &'static [What],
+    third: &'static [What],
+    given: &'static [What],
 }
 
 // What that sender of three sends next, where these are the places of the items that come next.
-fn next_of(
-    sender: u32,
-    first: &[Item],
-    second: &[Item],
-    third: &[Item],
-    places: &mut (usize, usize, usize),
-) -> Option<Item> {
+fn next_of(case: &Case, sender: u32, places: &mut (usize, usize, usize)) -> Option<Item> {
     match sender {
-        1 => advance(first, &mut places.0),
-        2 => advance(second, &mut places.1),
-        3 => advance(third, &mut places.2),
+        1 => advance(case.first, &mut places.0),
+        2 => advance(case.second, &mut places.1),
+        3 => advance(case.third, &mut places.2),
         _ => None,
     }
 }
 
-// All that a merge gives of three flows, each item of which is added when it is needed.
-fn merge_three(
-    alloc: Global,
-    first: &[Item],
-    second: &[Item],
-    third: &[Item],
-) -> Result<Vec<Item>, OutOfMemory> {
-    let mut core = MergeCore::new(alloc, 3)?;
-    let mut given = Vec::new(alloc);
+// Adds each item of three flows when it is needed. All that the merge gives.
+fn merge_all(core: &mut MergeCore, given: &mut Vec<Item>, case: &Case) -> Result<(), OutOfMemory> {
     let mut places = (0, 0, 0);
     for _ in 0..10_000 {
-        let sender = take_given(&mut core, &mut given)?;
-        let item = next_of(sender, first, second, third, &mut places);
-        if !add_some(&mut core, sender, item)? {
-            return Ok(given);
+        let sender = take_given(core, given)?;
+        let item = next_of(case, sender, &mut places);
+        if !add_some(core, sender, item)? {
+            break;
         }
     }
-    Ok(given)
+    Ok(())
 }
 
-// Whether the merge of three flows gives this.
-fn gives(
-    alloc: Global,
-    first: &[Item],
-    second: &[Item],
-    third: &[Item],
-    wanted: &[Item],
-) -> Result<bool, OutOfMemory> {
-    let given = merge_three(alloc, first, second, third)?;
-    Ok(given.as_slice() == wanted)
+// Whether items are those.
+fn are(items: &[Item], said: &[What]) -> bool {
+    for (item, what) in items.iter().zip(said.iter()) {
+        if *item != item_of(*what) {
+            return false;
+        }
+    }
+    items.len() == said.len()
 }
 
-const END: [Item; 1] = [Item::End];
+// Whether the merge of three flows gives what is said.
+fn gives(rt: &impl Abort, alloc: Global, case: &Case) -> bool {
+    let mut core = MergeCore::new(alloc, 3).expect(rt, "memory");
+    let mut given = Vec::new(alloc);
+    merge_all(&mut core, &mut given, case).expect(rt, "memory");
+    are(&given, case.given)
+}
 
-const BROKEN: [Item; 1] = [Item::Broken];
-
-const TWO_PACKETS: [Item; 3] = [packet!(1, 0), packet!(17, 5), Item::End];
-
-const PACKET_AND_MARK: [Item; 3] = [packet!(2, 0), Item::Mark(3), Item::End];
-
-const ONE_MARK: [Item; 2] = [Item::Mark(4), Item::End];
-
-// What these three give.
-const CLEARED: [Item; 5] = [
-    packet!(1, 0),
-    packet!(2, 0),
-    Item::Mark(4),
-    packet!(17, 5),
-    Item::End,
+static CASES: [Case; 4] = [
+    Case {
+        name: "a packet waits until all clear it",
+        first: &[What::Packet(1, 0), What::Packet(17, 5), What::End],
+        second: &[What::Packet(2, 0), What::Mark(3), What::End],
+        third: &[What::Mark(4), What::End],
+        given: &[
+            What::Packet(1, 0),
+            What::Packet(2, 0),
+            What::Mark(4),
+            What::Packet(17, 5),
+            What::End,
+        ],
+    },
+    Case {
+        name: "packets of one moment go by sender",
+        first: &[What::Mark(4), What::Packet(1, 4), What::End],
+        second: &[What::Packet(2, 4), What::Packet(18, 4), What::End],
+        third: &[What::Packet(3, 4), What::End],
+        given: &[
+            What::Packet(1, 4),
+            What::Packet(2, 4),
+            What::Packet(18, 4),
+            What::Packet(3, 4),
+            What::End,
+        ],
+    },
+    Case {
+        name: "one broken flow breaks the merge",
+        first: &[What::Packet(1, 7), What::End],
+        second: &[What::Broken],
+        third: &[What::End],
+        given: &[What::Broken],
+    },
+    Case {
+        name: "flows without packets only end",
+        first: &[What::End],
+        second: &[What::End],
+        third: &[What::End],
+        given: &[What::End],
+    },
 ];
 
 #[test]
-fn a_packet_waits_until_all_clear_it(rt: HostRuntime) -> Result<(), Fail> {
-    let alloc = rt.alloc();
-    let agrees = gives(alloc, &TWO_PACKETS, &PACKET_AND_MARK, &ONE_MARK, &CLEARED)?;
-    assert!(rt; agrees);
-    Ok(())
-}
-
-const AFTER_A_MARK: [Item; 3] = [Item::Mark(4), packet!(1, 4), Item::End];
-
-const TWO_AT_ONCE: [Item; 3] = [packet!(2, 4), packet!(18, 4), Item::End];
-
-const ONE_PACKET: [Item; 2] = [packet!(3, 4), Item::End];
-
-// What these three give.
-const BY_SENDER: [Item; 5] = [
-    packet!(1, 4),
-    packet!(2, 4),
-    packet!(18, 4),
-    packet!(3, 4),
-    Item::End,
-];
-
-#[test]
-fn packets_of_one_moment_go_by_sender(rt: HostRuntime) -> Result<(), Fail> {
-    let alloc = rt.alloc();
-    let agrees = gives(alloc, &AFTER_A_MARK, &TWO_AT_ONCE, &ONE_PACKET, &BY_SENDER)?;
-    assert!(rt; agrees);
-    Ok(())
-}
-
-const LATE_PACKET: [Item; 2] = [packet!(1, 7), Item::End];
-
-#[test]
-fn one_broken_flow_breaks_the_merge(rt: HostRuntime) -> Result<(), Fail> {
-    assert!(rt; gives(rt.alloc(), &LATE_PACKET, &BROKEN, &END, &BROKEN)?);
-    Ok(())
-}
-
-#[test]
-fn flows_without_packets_only_end(rt: HostRuntime) -> Result<(), Fail> {
-    assert!(rt; gives(rt.alloc(), &END, &END, &END, &END)?);
-    Ok(())
+fn three_flows_give_what_is_said(rt: HostRuntime) {
+    for case in &CASES {
+        check(&rt, gives(&rt, rt.alloc(), case), case.name);
+    }
 }
 
 // Adds so many packets of a sender, all at one moment, numbered from 0.
 fn add_packets(core: &mut MergeCore, sender: u32, count: u32) -> Result<bool, OutOfMemory> {
     for id in 0..count {
-        if !add_next(core, sender, packet!(id, 1))? {
+        if !add_next(core, sender, packet(id, 1))? {
             return Ok(false);
         }
     }
@@ -190,7 +189,7 @@ fn add_packets(core: &mut MergeCore, sender: u32, count: u32) -> Result<bool, Ou
 // How many packets of that moment, numbered from 0, the merge gives next, up to so many.
 fn count_given(core: &mut MergeCore, most: u32) -> u32 {
     for id in 0..most {
-        if next_step(core) != Some(MergeStep::Item(packet!(id, 1))) {
+        if next_step(core) != Some(MergeStep::Item(packet(id, 1))) {
             return id;
         }
     }
@@ -199,41 +198,48 @@ fn count_given(core: &mut MergeCore, most: u32) -> u32 {
 
 const COUNT: u32 = 200_000;
 
-// Many packets of the second sender wait while the first one says nothing.
-fn wait_for_first(
-    rt: &impl Abort,
-    core: &mut MergeCore,
-    given: &mut Vec<Item>,
-) -> Result<(), Fail> {
-    assert!(rt; add_packets(core, 2, COUNT)?);
-    assert!(rt; take_given(core, given)? == 1);
-    assert!(rt; given.is_empty());
-    Ok(())
+// Whether many packets of the second sender wait while the first one says nothing.
+fn wait_for_first(core: &mut MergeCore, given: &mut Vec<Item>) -> Result<bool, OutOfMemory> {
+    Ok(add_packets(core, 2, COUNT)? && take_given(core, given)? == 1 && given.is_empty())
 }
 
-// They are given once it has ended, and then the end, once both have.
-fn give_rest(rt: &impl Abort, core: &mut MergeCore, given: &mut Vec<Item>) -> Result<(), Fail> {
-    assert!(rt; add_next(core, 1, Item::End)?);
-    assert!(rt; count_given(core, COUNT) == COUNT);
-    assert!(rt; add_next(core, 2, Item::End)?);
-    assert!(rt; take_given(core, given)? == 0);
-    assert!(rt; given.as_slice() == END.as_slice());
-    Ok(())
+// Whether they are given once it has ended.
+fn give_many(core: &mut MergeCore) -> Result<bool, OutOfMemory> {
+    Ok(add_next(core, 1, Item::End)? && count_given(core, COUNT) == COUNT)
+}
+
+// Whether the end is given once both have ended.
+fn give_end(core: &mut MergeCore, given: &mut Vec<Item>) -> Result<bool, OutOfMemory> {
+    Ok(add_next(core, 2, Item::End)? && take_given(core, given)? == 0 && is_end(given))
+}
+
+// Whether this is the end alone.
+fn is_end(given: &[Item]) -> bool {
+    match given {
+        [only] => *only == Item::End,
+        _ => false,
+    }
+}
+
+// Whether many packets wait, and come then, and the end.
+fn many_wait(rt: &impl Abort, alloc: Global) -> bool {
+    let mut core = MergeCore::new(alloc, 2).expect(rt, "memory");
+    let mut given = Vec::new(alloc);
+    wait_for_first(&mut core, &mut given).expect(rt, "memory")
+        && give_many(&mut core).expect(rt, "memory")
+        && give_end(&mut core, &mut given).expect(rt, "memory")
 }
 
 #[test]
-fn many_packets_wait(rt: HostRuntime) -> Result<(), Fail> {
-    let mut core = MergeCore::new(rt.alloc(), 2)?;
-    let mut given = Vec::new(rt.alloc());
-    wait_for_first(&rt, &mut core, &mut given)?;
-    give_rest(&rt, &mut core, &mut given)
+fn many_packets_wait(rt: HostRuntime) {
+    check(&rt, many_wait(&rt, rt.alloc()), "many packets, and the end");
 }
 
 // Adds a packet, whose number is the sender's, and the end of each of sixteen, the last sender's first.
 fn add_sixteen(core: &mut MergeCore) -> Result<bool, OutOfMemory> {
     for before in 0..16u32 {
         let sender = 16u32.saturating_sub(before);
-        if !add_next(core, sender, packet!(sender, 3))? || !add_next(core, sender, Item::End)? {
+        if !add_next(core, sender, packet(sender, 3))? || !add_next(core, sender, Item::End)? {
             return Ok(false);
         }
     }
@@ -244,25 +250,22 @@ fn add_sixteen(core: &mut MergeCore) -> Result<bool, OutOfMemory> {
 fn sixteen_packets(alloc: Global) -> Result<Vec<Item>, OutOfMemory> {
     let mut items = Vec::new(alloc);
     for before in 0..16u32 {
-        items.push(packet!(before.saturating_add(1), 3))?;
+        items.push(packet(before.saturating_add(1), 3))?;
     }
     items.push(Item::End)?;
     Ok(items)
 }
 
-// What the merge of them gives.
-fn given_of_sixteen(rt: &impl Abort, alloc: Global) -> Result<Vec<Item>, Fail> {
-    let mut core = MergeCore::new(alloc, 16)?;
+// Whether the merge of them gives these.
+fn give_by_sender(rt: &impl Abort, alloc: Global) -> bool {
+    let mut core = MergeCore::new(alloc, 16).expect(rt, "memory");
     let mut given = Vec::new(alloc);
-    assert!(rt; add_sixteen(&mut core)?);
-    assert!(rt; take_given(&mut core, &mut given)? == 0);
-    Ok(given)
+    add_sixteen(&mut core).expect(rt, "memory")
+        && take_given(&mut core, &mut given).expect(rt, "memory") == 0
+        && given.as_slice() == sixteen_packets(alloc).expect(rt, "memory").as_slice()
 }
 
 #[test]
-fn sixteen_heads_go_by_sender(rt: HostRuntime) -> Result<(), Fail> {
-    let given = given_of_sixteen(&rt, rt.alloc())?;
-    let wanted = sixteen_packets(rt.alloc())?;
-    assert!(rt; given.as_slice() == wanted.as_slice());
-    Ok(())
+fn sixteen_heads_go_by_sender(rt: HostRuntime) {
+    check(&rt, give_by_sender(&rt, rt.alloc()), "sixteen packets");
 }
