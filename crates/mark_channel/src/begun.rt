@@ -11,7 +11,7 @@ use std::sync::atomic::{AtomicU64, Ordering};
 use std::thread::yield_now;
 use text_base::OutOfMemory;
 
-// How often one who waits looks for the others before it gives the run up.
+// How often all who wait look for the others, together, before the run is given up.
 const LOOKS: u32 = 10_000_000;
 
 // The count of a run that is given up, above that of any run's workers.
@@ -23,21 +23,25 @@ const GIVEN_UP: u64 = 1 << 63;
 pub struct Begun {
     count: AtomicU64,
     workers: u64,
-    looks: u32,
+    // How often those who wait have looked, and how often they may.
+    looked: AtomicU64,
+    looks: u64,
 }
 
 impl Begun {
-    /// A run of so many workers, none of which has begun. One who waits for them looks 10,000,000 times, some seconds.
+    /// A run of so many workers, none of which has begun. All who wait for them look 10,000,000 times together, some
+    /// seconds.
     pub fn new(workers: u64) -> Begun {
         Begun::with_looks(workers, LOOKS)
     }
 
-    /// The same where one who waits looks so many times.
+    /// The same where all who wait look so many times together.
     pub fn with_looks(workers: u64, looks: u32) -> Begun {
         Begun {
             count: AtomicU64::new(0),
             workers,
-            looks,
+            looked: AtomicU64::new(0),
+            looks: looks as u64,
         }
     }
 
@@ -46,9 +50,9 @@ impl Begun {
         self.count.fetch_add(1, Ordering::SeqCst);
     }
 
-    /// Waits until all workers have begun. Where they haven't at the last look it gives the run up: it breaks both
-    /// directions off and answers `OutOfMemory`, as everyone does who waits from then on. It gives way to other threads
-    /// between looks, and takes no memory.
+    /// Waits until all workers have begun. Where they haven't at the last look of all who wait it gives the run up: it
+    /// breaks both directions off and answers `OutOfMemory`, as everyone does who waits then or later. It gives way to
+    /// other threads between looks, and takes no memory.
     pub fn wait<R: Wait>(
         &self,
         rt: &R,
@@ -75,6 +79,9 @@ impl Begun {
             let count = self.count.load(Ordering::SeqCst);
             if count >= self.workers {
                 return count < GIVEN_UP;
+            }
+            if self.looked.fetch_add(1, Ordering::SeqCst) >= self.looks {
+                break;
             }
             yield_now();
         }

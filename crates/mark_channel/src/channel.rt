@@ -8,6 +8,7 @@ ghost use Rattle.crossbeam_channel.specs.Ends.{sends_on};
 ghost use Rattle.mark_channel.specs.Carrying.{nothing};
 ghost use Rattle.mark_channel.specs.Rules.{opening, sending, getting};
 
+use crate::bells::open_bells;
 use crate::rule::{InOrder, Limit, Roles, Together, Total, View};
 use crate::{Receiver, Sender};
 use crossbeam_channel::{Pass, RuledSender, bounded_with};
@@ -28,12 +29,18 @@ pub fn open(alloc: Global, capacity: u32, horizon: u64) -> Result<(Sender, Recei
     ensures channel { IfOk result (λ ends. ends.0.channel ≡ ends.1.channel) }
 {
     let places = capacity as usize;
+    let (sending, receiving) = open_bells(alloc, capacity)?;
     let (to, from, mut pass) = bounded_with::<Item, View, InOrder, Global>(alloc, places)?;
     let other = split::<Brand>(&to, &mut pass, horizon);
-    let sender = Sender { end: to, pass };
+    let sender = Sender {
+        end: to,
+        pass,
+        bells: sending,
+    };
     let receiver = Receiver {
         end: from,
         pass: other,
+        bells: receiving,
     };
     Ok((sender, receiver))
 }
@@ -61,10 +68,15 @@ pub fn settle(sender: Sender, receiver: Receiver)
     ensures items { IsPrefix receiver.items sender.items }
     ensures whole { receiver.flow.end ≢ Open → (receiver.flow ≡ sender.flow) × (receiver.items ≡ sender.items) }
 {
-    let Sender { end, mut pass } = sender;
+    let Sender {
+        end,
+        mut pass,
+        bells: _,
+    } = sender;
     let Receiver {
         end: from,
         pass: other,
+        bells: _,
     } = receiver;
     end.absorb::<Together>(&mut pass, other);
     end.learn_as::<Total>(&mut pass);

@@ -6,6 +6,7 @@
 #![tactic(auto)]
 
 mod begun;
+mod bells;
 mod channel;
 mod feeds;
 mod receiver;
@@ -17,6 +18,3 @@ pub use channel::{open, settle};
 pub use feeds::{FeedEnd, Feeds};
 pub use receiver::Receiver;
 pub use sender::Sender;
-
-// How often a call that finds no room, or no item, gives way and looks again before it sleeps.
-const LOOKS: u32 = 30;

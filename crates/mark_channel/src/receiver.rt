@@ -4,13 +4,14 @@ ghost use Rattle.packet_record.specs.declared.item.FlowEnd.TheVariants.{Open};
 ghost use Rattle.packet_record.specs.Streams.{after, MayFollow, IsUpTo};
 ghost use Rattle.mark_channel.specs.Ends.{IsSameEnd, MayPass, with_item};
 
-use crate::LOOKS;
+use crate::bells::EndBells;
 use crate::rule::{Got, InOrder, View};
 use crossbeam_channel::{Pass, RuledReceiver};
 use packet_record::Item;
+use std::hint::spin_loop;
 use std::marker::Model;
 use std::sync::Wait;
-use std::thread::yield_now;
+use wake_bell::LOOKS;
 
 /// The receiving end of a channel. Contracts see the stream of what was received, its items, the horizon and the
 /// channel.
@@ -18,6 +19,7 @@ use std::thread::yield_now;
 pub struct Receiver {
     pub(crate) end: RuledReceiver<Item, View, InOrder>,
     pub(crate) pass: Pass<Item, View>,
+    pub(crate) bells: EndBells,
 }
 
 impl Model for Receiver {
@@ -48,29 +50,38 @@ impl Receiver {
             if let Some(item) = self.receive_at_once(rt) {
                 return item;
             }
-            yield_now();
+            spin_loop();
         }
         for _ in rt.forever() {
-            if let Some(item) = self.receive_asleep(rt) {
+            if let Some(item) = self.receive_or_sleep(rt) {
                 return item;
             }
         }
         unreachable!()
     }
 
-    // Takes the first item, where there is one now.
+    // Takes the first item, where there is one, and rings for the room.
     fn receive_at_once<R: Wait>(&mut self, rt: &R) -> Option<Item>
         ensures got { IfSome result (λ item. MayPass self.old item × (self.new ≡ with_item self.old item)) }
         ensures kept { IfNone result (self.new ≡ self.old) }
     {
-        self.end.try_recv_as::<Got, R>(rt, &mut self.pass).ok()
+        let item = self.end.try_recv_as::<Got, R>(rt, &mut self.pass).ok()?;
+        self.bells.ring_for_room();
+        Some(item)
     }
 
-    // Sleeps until there is an item, and takes it. None where the sender is gone and nothing is left.
-    fn receive_asleep<R: Wait>(&mut self, rt: &R) -> Option<Item>
+    // Takes the first item, where there is one, else sleeps until the sender has sent some.
+    fn receive_or_sleep<R: Wait>(&mut self, rt: &R) -> Option<Item>
         ensures got { IfSome result (λ item. MayPass self.old item × (self.new ≡ with_item self.old item)) }
         ensures kept { IfNone result (self.new ≡ self.old) }
     {
-        self.end.recv_as::<Got, R>(rt, &mut self.pass).ok()
+        let heard = self.bells.shared.sent.listen();
+        let item = self.receive_at_once(rt);
+        if item.is_some() {
+            self.bells.shared.sent.leave();
+        } else {
+            self.bells.shared.sent.sleep(rt, heard);
+        }
+        item
     }
 }

@@ -3,19 +3,21 @@ ghost use Rattle.std.specs.Prelude.{◌≡◌, ◌++◌, ◌∷◌, [], IsTrue, 
 ghost use Rattle.packet_record.specs.Streams.{after, MayFollow, IsUpTo};
 ghost use Rattle.mark_channel.specs.Ends.{IsSameEnd, MayPass, with_item};
 
-use crate::LOOKS;
+use crate::bells::EndBells;
 use crate::rule::{InOrder, Sent, View};
 use crossbeam_channel::{Pass, RuledSender};
 use packet_record::Item;
+use std::hint::spin_loop;
 use std::marker::Model;
 use std::sync::Wait;
-use std::thread::yield_now;
+use wake_bell::LOOKS;
 
 /// The sending end of a channel. Contracts see the stream of what was sent, its items, the horizon and the channel.
 #[derive(Drop)]
 pub struct Sender {
     pub(crate) end: RuledSender<Item, View, InOrder>,
     pub(crate) pass: Pass<Item, View>,
+    pub(crate) bells: EndBells,
 }
 
 impl Model for Sender {
@@ -46,35 +48,45 @@ impl Sender {
             if self.send_at_once(rt, item) {
                 return;
             }
-            yield_now();
+            spin_loop();
         }
         for _ in rt.forever() {
-            if self.send_asleep(rt, item) {
+            if self.send_or_sleep(rt, item) {
                 return;
             }
         }
         unreachable!()
     }
 
-    // Sends the item where there is room now. Whether it did.
+    // Sends the item where there is room, and rings for it. Whether it did.
     fn send_at_once<R: Wait>(&mut self, rt: &R, item: Item) -> bool
         requires { MayPass self.old item }
         ensures sent { IsTrue result → self.new ≡ with_item self.old item }
         ensures kept { IsFalse result → self.new ≡ self.old }
     {
-        self.end
+        let is_sent = self
+            .end
             .try_send_as::<Sent, R>(rt, &mut self.pass, item)
-            .is_ok()
+            .is_ok();
+        if is_sent {
+            self.bells.ring_for(&item);
+        }
+        is_sent
     }
 
-    // Sleeps until there is room, and sends the item. False where the receiver is gone.
-    fn send_asleep<R: Wait>(&mut self, rt: &R, item: Item) -> bool
+    // Sends the item where there is room, else sleeps until the receiver has made some. Whether it sent.
+    fn send_or_sleep<R: Wait>(&mut self, rt: &R, item: Item) -> bool
         requires { MayPass self.old item }
         ensures sent { IsTrue result → self.new ≡ with_item self.old item }
         ensures kept { IsFalse result → self.new ≡ self.old }
     {
-        self.end
-            .send_as::<Sent, R>(rt, &mut self.pass, item)
-            .is_ok()
+        let heard = self.bells.shared.received.listen();
+        let is_sent = self.send_at_once(rt, item);
+        if is_sent {
+            self.bells.shared.received.leave();
+        } else {
+            self.bells.shared.received.sleep(rt, heard);
+        }
+        is_sent
     }
 }

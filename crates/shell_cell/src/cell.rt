@@ -1,6 +1,7 @@
 //! The cell, and what each seat may do at it.
-ghost use Rattle.std.specs.Prelude.{◌≡◌, [], false, IfOk};
+ghost use Rattle.std.specs.Prelude.{◌≡◌, ℕ, [], false, IfOk};
 ghost use Rattle.packet_record.specs.Streams.{no_items};
+ghost use Rattle.shell_state.specs.declared.taken.Taken.TheVariants.{NotYet};
 
 use crate::rule::Part;
 use crate::turns::TurnTable;
@@ -14,6 +15,10 @@ use std::marker::{Brand, Model};
 use std::snapshot::Snapshot;
 use std::sync::Wait;
 use text_base::OutOfMemory;
+use wake_bell::{Bell, Ringer};
+
+// After how many feeds a drain is woken that waits for some.
+const BATCH: u32 = 32;
 
 /// A shell's state under a lock. Contracts see which cell it is, and the state that it was opened with.
 #[derive(Drop)]
@@ -61,14 +66,28 @@ pub fn open(
         seat: drain,
         seen: 0,
     };
-    Ok((cell, FeedSeat { seat }, taking))
+    let feeding = FeedSeat {
+        seat,
+        ringer: Ringer::new(BATCH),
+    };
+    Ok((cell, feeding, taking))
 }
 
 // The turn word that a seat keeps, which kept `seen`: this one where there was nothing to take.
-fn seen_after(answer: Taken, seen: u64, word: u64) -> u64 {
+fn seen_after(answer: Taken, seen: u64, word: u64) -> u64
+    ensures waits { (bound : ℕ) → answer ≡ NotYet bound → result ≡ word }
+{
     match answer {
         Taken::NotYet { .. } => word,
         Taken::Item(_) | Taken::Again { .. } => seen,
+    }
+}
+
+// An item was fed: rings for it, after a last one at once.
+fn ring_for(ringer: &mut Ringer, fed: &Bell, item: &Item) {
+    match item {
+        Item::Packet(_) | Item::Mark(_) => ringer.add(fed),
+        Item::End | Item::Broken => ringer.end(fed),
     }
 }
 
@@ -111,6 +130,7 @@ impl ShellCell {
             Ok(()) => {
                 let call = Call::Feeds(item);
                 self.turns.spend::<Brand>(&mut seat.seat, word, call);
+                ring_for(&mut seat.ringer, &self.turns.fed, &item);
                 Ok(())
             }
             Err(_) => {
@@ -195,8 +215,15 @@ impl ShellCell {
         ensures stands { Stands result }
     {
         let ShellCell { turns } = self;
-        let TurnTable { table, sleepers: _ } = turns;
-        let FeedSeat { seat: mut whole } = feed;
+        let TurnTable {
+            table,
+            sleepers: _,
+            fed: _,
+        } = turns;
+        let FeedSeat {
+            seat: mut whole,
+            ringer: _,
+        } = feed;
         let DrainSeat { seat, seen: _ } = drain;
         table.shared.join_seat::<Part>(&mut whole, seat);
         let mut closed = table.close_with(whole);

@@ -3,12 +3,15 @@ use crate::rule::Slot;
 use crate::view::View;
 use atomic_table::Seat;
 use std::marker::Model;
+use wake_bell::Ringer;
 
 /// The seat that feeds. Contracts see the turns that it has spent, the flow of the items that it has fed,
 /// whether it has found the state broken, the horizon and its cell. The program stores none of these.
 #[derive(Drop)]
 pub struct FeedSeat {
     pub(crate) seat: Seat<Slot, View>,
+    /// Wakes a drain that waits for feeds.
+    pub(crate) ringer: Ringer,
 }
 
 impl Model for FeedSeat {

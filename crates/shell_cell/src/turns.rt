@@ -7,20 +7,20 @@ use crate::rule::{Claim, GiveUp, Opening, Slot, Spend, Spending, Turns};
 use crate::view::{Call, View};
 use atomic_table::{Seat, Table};
 use std::alloc::Global;
+use std::hint::spin_loop;
 use std::sync::Wait;
 use std::sync::atomic::{AtomicU64, Ordering};
-use std::thread::yield_now;
-
-// How often a call that finds the turn taken, or nothing to take, gives way and looks again before it sleeps.
-const LOOKS: u32 = 30;
+use wake_bell::{Bell, LOOKS};
 
 /// Word 0 is the turn: twice the number of turns that were spent, and one more while a seat holds it.
 /// Slot 0 is the state, which the seat that holds the turn has.
 #[derive(Drop)]
 pub struct TurnTable {
     pub(crate) table: Table<Slot, View, Opening, Turns, Global>,
-    // How many threads sleep on the word, or are about to.
+    // How many threads sleep on the word until the turn is given back, or are about to.
     pub(crate) sleepers: AtomicU64,
+    // At it the drain sleeps until something was fed.
+    pub(crate) fed: Bell,
     ghost sized: { (table.shared.table_id.words ≡ 1) × (table.shared.table_id.slots ≡ 1) },
 }
 
@@ -40,6 +40,7 @@ impl TurnTable {
         TurnTable {
             table,
             sleepers: AtomicU64::new(0),
+            fed: Bell::new(),
         }
     }
 
@@ -57,7 +58,7 @@ impl TurnTable {
             if let Some(word) = self.claim_at_once(seat) {
                 return word;
             }
-            yield_now();
+            spin_loop();
         }
         for _ in rt.forever() {
             if let Some(word) = self.claim_at_once(seat) {
@@ -97,23 +98,38 @@ impl TurnTable {
         }
     }
 
-    // Waits until the word isn't this one, nor the next, which a turn has that isn't spent yet. It may return early.
+    // Waits until the word isn't this one, nor the next, which a turn has that isn't spent yet. Once it sleeps, it waits
+    // for some feeds, or about a millisecond after one.
     pub(crate) fn wait_past<R: Wait>(&self, rt: &R, seen: u64) {
         for _ in 0..LOOKS {
-            if self.table.shared.peek(0).wrapping_sub(seen) > 1 {
+            if self.is_past(seen) {
                 return;
             }
-            yield_now();
+            spin_loop();
         }
-        let word = self.table.shared.peek(0);
-        if word.wrapping_sub(seen) <= 1 {
-            self.sleep_at(rt, word);
+        for _ in rt.forever() {
+            let heard = self.fed.listen();
+            if self.is_past(seen) {
+                self.fed.leave();
+                return;
+            }
+            self.fed.sleep(rt, heard);
         }
+        unreachable!()
     }
 
-    // Sleeps while the word is this one, until the turn is given back. It may return early. The count is raised first,
-    // and whoever gives the turn back writes the word before it reads the count: so it sees this sleeper, or the word
-    // has changed before the sleep begins.
+    // Whether the word isn't this one, nor the next.
+    fn is_past(&self, seen: u64) -> bool {
+        self.table.shared.peek(0).wrapping_sub(seen) > 1
+    }
+
+    // Sleeps while the word is this one, until the turn is given back. It may return early.
+    //
+    // No wake is lost. The count is raised before the system compares the word, and whoever gives the turn back stores
+    // the word before it reads the count: so it sees this sleeper and wakes it, or the word has changed before the sleep
+    // begins. Each sleeper lowers the count itself, once it is awake. A flag that is cleared with a wake would lose one:
+    // a turn that is taken and given up leaves the word as it was, so a wake between the mark of a sleeper and its sleep
+    // wakes nobody, the sleep begins, and whoever spends the next turn finds the flag cleared.
     fn sleep_at<R: Wait>(&self, rt: &R, word: u64) {
         self.sleepers.fetch_add(1, Ordering::SeqCst);
         self.table.shared.park(rt, 0, (word % (1 << 32)) as u32);

@@ -1,6 +1,6 @@
 -- A stage before and after its workers ran. Each is said of a stage by itself: what ties it to the next one is learnt
 -- where their channel is settled.
-use Rattle.std.specs.Prelude.{◌≡◌, ◌≢◌, ◌⊎◌, List, [], ◌∷◌, false}
+use Rattle.std.specs.Prelude.{◌≡◌, ◌≢◌, ◌⊎◌, List, [], ◌∷◌, true}
 use Rattle.packet_record.specs.Streams.{no_items}
 use Rattle.packet_record.specs.declared.item.FlowEnd.TheVariants.{Open, Ended as IsOver, Broken as IsCut}
 use Rattle.mark_channel.specs.Ends.{IsSameEnd}
@@ -8,13 +8,12 @@ use Rattle.shell_cell.specs.Seats.{IsSameSeat}
 use Rattle.shell_workers.specs.declared.stage.Stage.{Stage}
 use Rattle.shell_workers.specs.Ends.{IsPassedOn}
 
--- Nothing went through it, its seats are its cell's, which nobody is known to have broken, and all have one horizon.
+-- Nothing went through it, its seats are its cell's, and all have one horizon.
 pub record IsFresh (s : Stage) : Type 0 where
   pub from_empty : s.from.flow ≡ no_items
   pub feed_empty : s.feed.flow ≡ no_items
   pub drain_empty : s.drain.flow ≡ no_items
   pub to_empty : s.to.flow ≡ no_items
-  pub whole : s.feed.broken ≡ false
   pub feeds : s.feed.cell ≡ s.cell
   pub drains : s.drain.cell ≡ s.cell
   pub from_horizon : s.from.horizon ≡ s.feed.horizon
@@ -27,9 +26,14 @@ pub record IsDone (s : Stage) : Type 0 where
   pub fed : s.feed.flow.end ≡ IsOver → s.feed.flow ≡ s.from.flow
   pub sent : IsPassedOn s.drain.flow s.to.flow
 
--- what it received, or what it took, was broken off
+-- what it received was broken off, and its state; or what it took, which was sent
 abbrev pub IsBroken : Stage → Type 0
-IsBroken s = (s.from.flow.end ≡ IsCut) ⊎ (s.drain.flow.end ≡ IsCut)
+IsBroken s = ((s.from.flow.end ≡ IsCut) × (s.feed.broken ≡ true))
+    ⊎ ((s.drain.flow.end ≡ IsCut) × (s.to.flow ≡ s.drain.flow))
+
+-- A worker found no memory and broke its state: the feeder, or the drain, which broke what it sent too.
+abbrev pub IsGivenUp : Stage → Type 0
+IsGivenUp s = (s.feed.broken ≡ true) ⊎ ((s.drain.broken ≡ true) × (s.to.flow.end ≡ IsCut))
 
 -- nothing more comes out of the channel before it, or goes into the one after it
 abbrev pub IsClosed : Stage → Type 0
@@ -54,6 +58,10 @@ AllDone (s ∷ stages) = IsDone s × AllDone stages
 abbrev pub SomeBroken : List Stage → Type 0
 SomeBroken [] = ⊥
 SomeBroken (s ∷ stages) = IsBroken s ⊎ SomeBroken stages
+
+abbrev pub SomeGivenUp : List Stage → Type 0
+SomeGivenUp [] = ⊥
+SomeGivenUp (s ∷ stages) = IsGivenUp s ⊎ SomeGivenUp stages
 
 abbrev pub AllClosed : List Stage → Type 0
 AllClosed [] = Unit {0}

@@ -1,10 +1,10 @@
 // The drain of a shell's direction: from its state to the channel after it.
-ghost use Rattle.std.specs.Prelude.{◌≡◌, ◌≢◌, ◌≤◌};
+ghost use Rattle.std.specs.Prelude.{◌≡◌, ◌≢◌, ◌≤◌, true};
 ghost use Rattle.packet_record.specs.declared.item.FlowEnd.TheVariants.{Open, Ended as IsOver, Broken as IsCut};
 ghost use Rattle.packet_record.specs.Streams.{no_items};
 ghost use Rattle.mark_channel.specs.Ends.{IsSameEnd};
 ghost use Rattle.shell_cell.specs.Seats.{IsSameSeat};
-ghost use Rattle.shell_workers.specs.Ends.{IfEnded, IfBroken, IsPassedOn};
+ghost use Rattle.shell_workers.specs.Ends.{IfEnded, IfBroken, IfWants, IsPassedOn};
 
 use crate::ends::WorkEnd;
 use mark_channel::Sender;
@@ -32,7 +32,8 @@ pub fn drain<Q: Pace, R: Wait>(
     requires most { 1 ≤ most }
     ensures over { to.new.flow.end ≢ Open }
     ensures ended { IfEnded result (IsPassedOn seat.new.flow to.new.flow) }
-    ensures broken { IfBroken result (seat.new.flow.end ≡ IsCut) }
+    ensures broken { IfBroken result ((seat.new.flow.end ≡ IsCut) × (to.new.flow ≡ seat.new.flow)) }
+    ensures wants { IfWants result ((seat.new.broken ≡ true) × (to.new.flow.end ≡ IsCut)) }
     ensures same { IsSameEnd to.old to.new × IsSameSeat seat.old seat.new }
 {
     let mut count = 0u64;

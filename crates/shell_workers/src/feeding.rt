@@ -1,10 +1,10 @@
 // The feeder of a shell's direction: from the channel before it to its state.
-ghost use Rattle.std.specs.Prelude.{◌≡◌, ◌≢◌, false};
+ghost use Rattle.std.specs.Prelude.{◌≡◌, ◌≢◌, true};
 ghost use Rattle.packet_record.specs.declared.item.FlowEnd.TheVariants.{Open, Ended as IsOver, Broken as IsCut};
 ghost use Rattle.packet_record.specs.Streams.{no_items};
 ghost use Rattle.mark_channel.specs.Ends.{IsSameEnd};
 ghost use Rattle.shell_cell.specs.Seats.{IsSameSeat};
-ghost use Rattle.shell_workers.specs.Ends.{IfEnded, IfBroken};
+ghost use Rattle.shell_workers.specs.Ends.{IfEnded, IfBroken, IfWants};
 
 use crate::ends::WorkEnd;
 use mark_channel::Receiver;
@@ -26,12 +26,12 @@ pub fn feeder<Q: Pace, R: Wait>(
 ) -> WorkEnd
     requires own { seat.old.cell ≡ cell.now }
     requires empty { (seat.old.flow ≡ no_items) × (from.old.flow ≡ no_items) }
-    requires whole { seat.old.broken ≡ false }
     requires horizon { from.old.horizon ≡ seat.old.horizon }
     ensures over { from.new.flow.end ≢ Open }
     ensures fed { seat.new.flow.end ≡ IsOver → seat.new.flow ≡ from.new.flow }
     ensures ended { IfEnded result (from.new.flow.end ≡ IsOver) }
-    ensures broken { IfBroken result (from.new.flow.end ≡ IsCut) }
+    ensures broken { IfBroken result ((from.new.flow.end ≡ IsCut) × (seat.new.broken ≡ true)) }
+    ensures wants { IfWants result (seat.new.broken ≡ true) }
     ensures same { IsSameEnd from.old from.new × IsSameSeat seat.old seat.new }
 {
     let mut count = 0u64;
@@ -60,6 +60,7 @@ fn break_fed<R: Wait>(rt: &R, cell: &ShellCell, seat: &mut FeedSeat)
     requires own { seat.old.cell ≡ cell.now }
     requires open { seat.old.flow.end ≡ Open }
     ensures over { seat.new.flow.end ≢ IsOver }
+    ensures broken { seat.new.broken ≡ true }
     ensures same { IsSameSeat seat.old seat.new }
 {
     let _ = cell.feed(rt, seat, Item::Broken);

@@ -1,9 +1,9 @@
 // All shells of one direction, with a thread for each worker.
-ghost use Rattle.std.specs.Prelude.{◌≡◌, ◌≤◌, length};
+ghost use Rattle.std.specs.Prelude.{◌≡◌, ◌≤◌, ◌<◌, ◌+◌, ◌-◌, ◌^◌, IsFalse, IsTrue, length};
 ghost use Rattle.std.specs.Thread.{IsSync};
-ghost use Rattle.shell_workers.specs.Ends.{IfEnded, IfBroken};
+ghost use Rattle.shell_workers.specs.Ends.{IfEnded, IfBroken, IfWants};
 ghost use Rattle.shell_workers.specs.Stages.{AllClosed, AllDone, AllFresh, AllSame, IsBroken, IsClosed, IsDone, IsFresh};
-ghost use Rattle.shell_workers.specs.Stages.{IsSame, SomeBroken};
+ghost use Rattle.shell_workers.specs.Stages.{IsGivenUp, IsSame, SomeBroken, SomeGivenUp};
 
 use crate::ends::WorkEnd;
 use crate::stage::{Stage, run_stage};
@@ -14,7 +14,10 @@ use std::sync::Wait;
 use std::thread::{Threads, join_mut};
 
 // The number of the next shell in passing order.
-fn next_shell(up: bool, shell: u32) -> u32 {
+fn next_shell(up: bool, shell: u32) -> u32
+    ensures up { IsTrue up → result ≡ shell - 1 }
+    ensures down { IsFalse up → shell + 1 < 2 ^ 32 → result ≡ shell + 1 }
+{
     if up {
         shell.saturating_sub(1)
     } else {
@@ -40,6 +43,7 @@ pub fn stages<Q: Pace + Sync, R: Threads + Wait + Sync>(
     requires most { 1 ≤ most }
     ensures ended { IfEnded result (AllDone list.new) }
     ensures broken { IfBroken result (SomeBroken list.new) }
+    ensures wants { IfWants result (SomeGivenUp list.new) }
     ensures closed { AllClosed list.new }
     ensures same { AllSame list.old list.new }
 {
@@ -61,12 +65,16 @@ pub fn run_stages<Q: Pace + Sync, R: Threads + Wait + Sync>(
     requires most { 1 ≤ most }
     ensures ended { IfEnded result (AllDone list.new) }
     ensures broken { IfBroken result (SomeBroken list.new) }
+    ensures wants { IfWants result (SomeGivenUp list.new) }
     ensures closed { AllClosed list.new }
     ensures same { AllSame list.old list.new }
 {
     let Some((first, rest)) = list.split_first_mut() else {
         return WorkEnd::Ended;
     };
+    if rest.is_empty() {
+        return run_stage(rt, first, up, shell, most, pace, begun);
+    }
     // The later stages stand first, since they go on only once the first one does.
     let (others, one) = join_mut(
         rt,
@@ -74,6 +82,7 @@ pub fn run_stages<Q: Pace + Sync, R: Threads + Wait + Sync>(
             requires { (length rest.now ≤ 8) × AllFresh rest.now × (1 ≤ most) × IsSync R.row × IsSync Q.row }
             ensures ended { IfEnded result (AllDone rest.exit.now) }
             ensures broken { IfBroken result (SomeBroken rest.exit.now) }
+            ensures wants { IfWants result (SomeGivenUp rest.exit.now) }
             ensures closed { AllClosed rest.exit.now }
             ensures same { AllSame rest.entry.now rest.exit.now }
         { run_stages(rt, rest, up, next_shell(up, shell), most, pace, begun) },
@@ -81,6 +90,7 @@ pub fn run_stages<Q: Pace + Sync, R: Threads + Wait + Sync>(
             requires { IsFresh first.now × (1 ≤ most) × IsSync R.row × IsSync Q.row }
             ensures ended { IfEnded result (IsDone first.exit.now) }
             ensures broken { IfBroken result (IsBroken first.exit.now) }
+            ensures wants { IfWants result (IsGivenUp first.exit.now) }
             ensures closed { IsClosed first.exit.now }
             ensures same { IsSame first.entry.now first.exit.now }
         { run_stage(rt, first, up, shell, most, pace, begun) },

@@ -1,12 +1,12 @@
 // One shell's direction between two channels, and its two workers.
-ghost use Rattle.std.specs.Prelude.{◌≡◌, ◌≢◌, ◌≤◌, false};
+ghost use Rattle.std.specs.Prelude.{◌≡◌, ◌≢◌, ◌≤◌, true};
 ghost use Rattle.std.specs.Thread.{IsSync};
 ghost use Rattle.packet_record.specs.declared.item.FlowEnd.TheVariants.{Open, Ended as IsOver, Broken as IsCut};
 ghost use Rattle.packet_record.specs.Streams.{no_items};
 ghost use Rattle.mark_channel.specs.Ends.{IsSameEnd};
 ghost use Rattle.shell_cell.specs.Seats.{IsSameSeat};
-ghost use Rattle.shell_workers.specs.Ends.{IfEnded, IfBroken, IsPassedOn};
-ghost use Rattle.shell_workers.specs.Stages.{IsBroken, IsClosed, IsDone, IsFresh, IsSame};
+ghost use Rattle.shell_workers.specs.Ends.{IfEnded, IfBroken, IfWants, IsPassedOn};
+ghost use Rattle.shell_workers.specs.Stages.{IsBroken, IsClosed, IsDone, IsFresh, IsGivenUp, IsSame};
 
 use crate::draining::drain;
 use crate::ends::WorkEnd;
@@ -43,6 +43,7 @@ pub(crate) fn run_stage<Q: Pace + Sync, R: Threads + Wait + Sync>(
     requires most { 1 ≤ most }
     ensures ended { IfEnded result (IsDone stage.new) }
     ensures broken { IfBroken result (IsBroken stage.new) }
+    ensures wants { IfWants result (IsGivenUp stage.new) }
     ensures closed { IsClosed stage.new }
     ensures same { IsSame stage.old stage.new }
 {
@@ -62,7 +63,8 @@ pub(crate) fn run_stage<Q: Pace + Sync, R: Threads + Wait + Sync>(
                 × (to.now.horizon ≡ take.now.horizon) × (1 ≤ most) }
             ensures over { to.exit.now.flow.end ≢ Open }
             ensures ended { IfEnded result (IsPassedOn take.exit.now.flow to.exit.now.flow) }
-            ensures broken { IfBroken result (take.exit.now.flow.end ≡ IsCut) }
+            ensures broken { IfBroken result ((take.exit.now.flow.end ≡ IsCut) × (to.exit.now.flow ≡ take.exit.now.flow)) }
+            ensures wants { IfWants result ((take.exit.now.broken ≡ true) × (to.exit.now.flow.end ≡ IsCut)) }
             ensures same { IsSameEnd to.entry.now to.exit.now × IsSameSeat take.entry.now take.exit.now }
         {
             begun.raise();
@@ -70,11 +72,12 @@ pub(crate) fn run_stage<Q: Pace + Sync, R: Threads + Wait + Sync>(
         },
         &mut || -> WorkEnd
             requires { (feed.now.cell ≡ cell.now) × (feed.now.flow ≡ no_items) × (from.now.flow ≡ no_items)
-                × (feed.now.broken ≡ false) × (from.now.horizon ≡ feed.now.horizon) }
+                × (from.now.horizon ≡ feed.now.horizon) }
             ensures over { from.exit.now.flow.end ≢ Open }
             ensures fed { feed.exit.now.flow.end ≡ IsOver → feed.exit.now.flow ≡ from.exit.now.flow }
             ensures ended { IfEnded result (from.exit.now.flow.end ≡ IsOver) }
-            ensures broken { IfBroken result (from.exit.now.flow.end ≡ IsCut) }
+            ensures broken { IfBroken result ((from.exit.now.flow.end ≡ IsCut) × (feed.exit.now.broken ≡ true)) }
+            ensures wants { IfWants result (feed.exit.now.broken ≡ true) }
             ensures same { IsSameEnd from.entry.now from.exit.now × IsSameSeat feed.entry.now feed.exit.now }
         {
             begun.raise();

@@ -17,7 +17,7 @@ by_end : End → Carried
 by_end e = carried e.flow e.items
 
 -- what was sent is what was received and what the channel held at the end
-told : (c : goal.After-drop-end) → (items : List Item)
+told : (c : goal.After-drop-sender-inside) → (items : List Item)
     × (by_end c.args.sender ≡ carrying_all (by_end c.args.receiver) items)
     × AllFollow c.args.sender.horizon c.args.receiver.flow items
 unfolding by_end
