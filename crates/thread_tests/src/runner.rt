@@ -2,6 +2,7 @@
 mod fed;
 mod paced;
 mod parts;
+mod rows;
 
 use fed::feeds;
 use mm_base::{MemDisk, NoPace, Pace};
