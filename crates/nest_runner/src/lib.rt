@@ -9,6 +9,7 @@ mod feeds;
 mod run;
 mod stream;
 mod stream_error;
+pub mod work;
 
 pub use feeds::{run_feeds, run_nest_feeds};
 pub use run::{run_nest_threads, run_threads};

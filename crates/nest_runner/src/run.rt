@@ -1,5 +1,5 @@
 // A run of a nest over threads.
-ghost use Rattle.std.specs.Prelude.{◌≡◌, ◌≢◌, ◌≤◌, [], length, OnOk, IfOk};
+ghost use Rattle.std.specs.Prelude.{◌≡◌, ◌≢◌, ◌≤◌, length, OnOk, IfOk};
 ghost use Rattle.std.specs.Thread.{IsSync};
 ghost use Rattle.packet_record.specs.declared.item.FlowEnd.TheVariants.{Open, Ended as IsOver};
 ghost use Rattle.packet_record.specs.declared.packet.Direction.TheVariants.{Up, Down};
@@ -123,7 +123,6 @@ fn run_lanes<Q: Pace + Sync, R: Threads + Wait + Sync>(
         { run_paths(rt, up_path, down_path, shells, pace, &begun) },
         &mut || -> WorkEnd
             requires { (up_head.now.flow ≡ no_items) × (down_head.now.flow ≡ no_items)
-                × (up_head.now.items ≡ []) × (down_head.now.items ≡ [])
                 × (up_head.now.horizon ≡ horizon) × (down_head.now.horizon ≡ horizon)
                 × Rises 0 rows.now × IsSync R.row × IsSync Q.row }
             ensures up { IfEnded result ((up_head.exit.now.flow.packets ≡ entering Up horizon rows.entry.now)
@@ -148,7 +147,6 @@ fn run_source<Q: Pace, R: Wait>(
     begun: &Begun,
 ) -> WorkEnd
     requires empty { (up.old.flow ≡ no_items) × (down.old.flow ≡ no_items) }
-    requires none { (up.old.items ≡ []) × (down.old.items ≡ []) }
     requires horizon { (up.old.horizon ≡ horizon) × (down.old.horizon ≡ horizon) }
     requires rises { Rises 0 rows.now }
     ensures up { IfEnded result ((up.new.flow.packets ≡ entering Up horizon rows.now) × (up.new.flow.end ≡ IsOver)) }

@@ -20,10 +20,10 @@ Rises-from a b [] le rises = tt
 Rises-from a b (r ∷ rs) le rises = ((let first = rises.0 in omega arith), rises.1)
 
 -- before the first row
-pub none_sent : (d : Direction) (h : ℕ) (to : End) → to.flow ≡ no_items → to.items ≡ [] → HasSent d h [] 0 to
-none_sent d h to empty none = record {
+pub none_sent : (d : Direction) (h : ℕ) (to : End) → to.flow ≡ no_items → HasSent d h to.items [] 0 to
+none_sent d h to empty = record {
   packets = ap (λ f. f.packets) empty;
-  items = λ more. ap (λ (l : List Item). l ++ items_from d h 0 more) none;
+  items = λ more. refl;
   rises = λ more rises. rises;
 }
 
@@ -34,9 +34,10 @@ pub record SendsOn (d : Direction) (h sent next : ℕ) (row : Row) (old new : En
   pub items : new.items ≡ old.items ++ option_to_list (source_item d h sent row)
   pub packets : new.flow.packets ≡ old.flow.packets ++ entering d h (row ∷ [])
 
-pub one_sent : (d : Direction) (h sent next : ℕ) (rows : List Row) (row : Row) (old new : End)
-    → SendsOn d h sent next row old new → HasSent d h rows sent old → HasSent d h (rows ++ row ∷ []) next new
-one_sent d h sent next rows row old new on has = record {
+pub one_sent : (d : Direction) (h sent next : ℕ) (first : List Item) (rows : List Row) (row : Row) (old new : End)
+    → SendsOn d h sent next row old new → HasSent d h first rows sent old
+    → HasSent d h first (rows ++ row ∷ []) next new
+one_sent d h sent next first rows row old new on has = record {
   packets = on.packets ∙ ap (λ l. l ++ entering d h (row ∷ [])) has.packets
       ∙ sym (entering-append d h rows (row ∷ []));
   items = λ more.
@@ -44,21 +45,22 @@ one_sent d h sent next rows row old new on has = record {
       ∙ ap (λ (n : ℕ). (old.items ++ option_to_list (source_item d h sent row)) ++ items_from d h n more) on.after
       ∙ append_assoc old.items (option_to_list (source_item d h sent row)) _
       ∙ has.items (row ∷ more)
-      ∙ ap (source_items d h) (sym (append_assoc rows (row ∷ []) more));
+      ∙ ap (λ (l : List Row). first ++ source_items d h l) (sym (append_assoc rows (row ∷ []) more));
   rises = λ more rises.
       Rises-from next row.timed.moment more on.rises
       (has.rises (row ∷ more) (subst (Rises 0) (append_assoc rows (row ∷ []) more) rises)).1;
 }
 
 -- no row more
-pub same_sent : (d : Direction) (h sent : ℕ) (rows : List Row) (to : End) → HasSent d h rows sent to
-    → HasSent d h (rows ++ []) sent to
-same_sent d h sent rows to has = subst (λ l. HasSent d h l sent to) (sym (append-nil rows)) has
+pub same_sent : (d : Direction) (h sent : ℕ) (first : List Item) (rows : List Row) (to : End)
+    → HasSent d h first rows sent to → HasSent d h first (rows ++ []) sent to
+same_sent d h sent first rows to has = subst (λ l. HasSent d h first l sent to) (sym (append-nil rows)) has
 
 -- and the end
-pub all_sent : (d : Direction) (h sent : ℕ) (rows : List Row) (old : End) (new : List Item) → HasSent d h rows sent old
-    → new ≡ old.items ++ Over ∷ [] → new ≡ source_items d h rows
-all_sent d h sent rows old new has is = is ∙ has.items [] ∙ ap (source_items d h) (append-nil rows)
+pub all_sent : (d : Direction) (h sent : ℕ) (first : List Item) (rows : List Row) (old : End) (new : List Item)
+    → HasSent d h first rows sent old → new ≡ old.items ++ Over ∷ [] → new ≡ first ++ source_items d h rows
+all_sent d h sent first rows old new has is =
+    is ∙ has.items [] ∙ ap (λ (l : List Row). first ++ source_items d h l) (append-nil rows)
 
 -- what is behind a front of a list
 pub rest_of : (old new : List Row) → IsPrefix old new → old ++ drop (length old) new ≡ new

@@ -35,7 +35,7 @@ after_is old new done rows d r =
 
 -- the rows that a piece gave rise from what was sent before
 pub piece_rises : (d : Direction) (h sent : ℕ) (old new done rows : List Row) (to : End) → done ≡ old → rows ≡ new
-    → HasSent d h old sent to → IsPrefix old new → IsSchedule new → Rises sent (rows_after done rows)
+    → HasSent d h [] old sent to → IsPrefix old new → IsSchedule new → Rises sent (rows_after done rows)
 piece_rises d h sent old new done rows to is_done is_new has prefix schedule =
     subst (Rises sent) (sym (after_is old new done rows is_done is_new))
     (has.rises (drop (length old) new)
@@ -43,17 +43,17 @@ piece_rises d h sent old new done rows to is_done is_new has prefix schedule =
 
 -- and where what they give was sent, what all rows give was
 pub piece_sent : (d : Direction) (h sent : ℕ) (old new done rows : List Row) (to : End) → done ≡ old → rows ≡ new
-    → IsPrefix old new → HasSent d h (old ++ rows_after done rows) sent to → HasSent d h new sent to
+    → IsPrefix old new → HasSent d h [] (old ++ rows_after done rows) sent to → HasSent d h [] new sent to
 piece_sent d h sent old new done rows to is_done is_new prefix has =
-    subst (λ l. HasSent d h l sent to)
+    subst (λ l. HasSent d h [] l sent to)
     (ap (λ (l : List Row). old ++ l) (after_is old new done rows is_done is_new) ∙ rest_of old new prefix) has
 
 -- and then the end
-pub end_sent : (d : Direction) (h sent : ℕ) (rows : List Row) (old new : End) → HasSent d h rows sent old
+pub end_sent : (d : Direction) (h sent : ℕ) (rows : List Row) (old new : End) → HasSent d h [] rows sent old
     → new.items ≡ old.items ++ Over ∷ [] → new.flow.packets ≡ old.flow.packets → new.flow.end ≡ IsOver
     → AllSent d h rows new
 end_sent d h sent rows old new has items packets over = record {
-  items = all_sent d h sent rows old new.items has items;
+  items = all_sent d h sent [] rows old new.items has items;
   packets = packets ∙ has.packets;
   over = over;
 }

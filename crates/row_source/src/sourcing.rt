@@ -1,6 +1,7 @@
 // The source: what the lines of a schedule send in both directions.
 ghost use Rattle.std.specs.Prelude.{◌≡◌, ◌≤◌, ◌++◌, ◌∷◌, List, [], option_to_list};
 ghost use Rattle.packet_record.specs.declared.item.FlowEnd.TheVariants.{Open, Ended as IsOver};
+ghost use Rattle.packet_record.specs.declared.item.Item.{Item as ItemValue};
 ghost use Rattle.packet_record.specs.declared.packet.Direction.TheVariants.{Up, Down};
 ghost use Rattle.packet_record.specs.declared.packet.Row.{Row as RowValue};
 ghost use Rattle.packet_record.specs.Rows.{Rises, entering};
@@ -46,11 +47,10 @@ pub fn source<Q: Pace, R: Wait>(
     pace: &Q,
 )
     requires empty { (up.old.flow ≡ no_items) × (down.old.flow ≡ no_items) }
-    requires none { (up.old.items ≡ []) × (down.old.items ≡ []) }
     requires horizon { (up.old.horizon ≡ horizon) × (down.old.horizon ≡ horizon) }
     requires rises { Rises 0 rows.now }
-    ensures up { up.new.items ≡ source_items Up horizon rows.now }
-    ensures down { down.new.items ≡ source_items Down horizon rows.now }
+    ensures up { up.new.items ≡ up.old.items ++ source_items Up horizon rows.now }
+    ensures down { down.new.items ≡ down.old.items ++ source_items Down horizon rows.now }
     ensures up_flow { (up.new.flow.packets ≡ entering Up horizon rows.now) × (up.new.flow.end ≡ IsOver) }
     ensures down_flow { (down.new.flow.packets ≡ entering Down horizon rows.now) × (down.new.flow.end ≡ IsOver) }
     ensures same { IsSameEnd up.old up.new × IsSameEnd down.old down.new }
@@ -86,10 +86,10 @@ pub(crate) fn send_rows<Q: Pace, R: Wait>(
     requires sent { (up.old.flow.bound ≡ sent.up) × (down.old.flow.bound ≡ sent.down) }
     requires horizon { (up.old.horizon ≡ horizon) × (down.old.horizon ≡ horizon) }
     requires rises { Rises sent.up rows.now × Rises sent.down rows.now }
-    ensures up { (before : List RowValue) → HasSent Up horizon before sent.up up.old
-        → HasSent Up horizon (before ++ rows.now) result.up up.new }
-    ensures down { (before : List RowValue) → HasSent Down horizon before sent.down down.old
-        → HasSent Down horizon (before ++ rows.now) result.down down.new }
+    ensures up { (first : List ItemValue) (before : List RowValue) → HasSent Up horizon first before sent.up up.old
+        → HasSent Up horizon first (before ++ rows.now) result.up up.new }
+    ensures down { (first : List ItemValue) (before : List RowValue) → HasSent Down horizon first before sent.down down.old
+        → HasSent Down horizon first (before ++ rows.now) result.down down.new }
     ensures open { (up.new.flow.end ≡ Open) × (down.new.flow.end ≡ Open) }
     ensures sent { (up.new.flow.bound ≡ result.up) × (down.new.flow.bound ≡ result.down) }
     ensures same { IsSameEnd up.old up.new × IsSameEnd down.old down.new }

@@ -51,14 +51,14 @@ fn stream_piece<D: Disk, Q: Pace, R: Wait>(
     requires open { (up.old.flow.end ≡ Open) × (down.old.flow.end ≡ Open) }
     requires bound { (up.old.flow.bound ≡ sent.up) × (down.old.flow.bound ≡ sent.down) }
     requires horizon { (up.old.horizon ≡ horizon) × (down.old.horizon ≡ horizon) }
-    requires up { HasSent Up horizon text.old.gathered.rows sent.up up.old }
-    requires down { HasSent Down horizon text.old.gathered.rows sent.down down.old }
+    requires up { HasSent Up horizon [] text.old.gathered.rows sent.up up.old }
+    requires down { HasSent Down horizon [] text.old.gathered.rows sent.down down.old }
     ensures short { IfOk result (λ r. at + r.0 ≤ size) }
     ensures piece { IfOk result (λ r. PieceIsRead HasRead (D.view disk.old).files name.now at r.0 text.old text.new) }
     ensures open { (up.new.flow.end ≡ Open) × (down.new.flow.end ≡ Open) }
     ensures bound { IfOk result (λ r. (up.new.flow.bound ≡ r.1.up) × (down.new.flow.bound ≡ r.1.down)) }
-    ensures up { IfOk result (λ r. HasSent Up horizon text.new.gathered.rows r.1.up up.new) }
-    ensures down { IfOk result (λ r. HasSent Down horizon text.new.gathered.rows r.1.down down.new) }
+    ensures up { IfOk result (λ r. HasSent Up horizon [] text.new.gathered.rows r.1.up up.new) }
+    ensures down { IfOk result (λ r. HasSent Down horizon [] text.new.gathered.rows r.1.down down.new) }
     ensures same { IsSameEnd up.old up.new × IsSameEnd down.old down.new }
     ensures absent { IsErrOf result DiskError.Absent → IsAbsent (D.view disk.old).files name.now }
     ensures only_reads { OnlyReads (D.view disk.old) (D.view disk.new) }
@@ -97,8 +97,8 @@ fn stream_pieces<D: Disk, Q: Pace, R: Wait>(
         → FrontIsRead HasRead (D.view disk.old).files name.now size text.old text.new) }
     ensures open { (up.new.flow.end ≡ Open) × (down.new.flow.end ≡ Open) }
     ensures bound { IfOk result (λ r. (up.new.flow.bound ≡ r.1.up) × (down.new.flow.bound ≡ r.1.down)) }
-    ensures up { IfOk result (λ r. HasSent Up horizon text.new.gathered.rows r.1.up up.new) }
-    ensures down { IfOk result (λ r. HasSent Down horizon text.new.gathered.rows r.1.down down.new) }
+    ensures up { IfOk result (λ r. HasSent Up horizon [] text.new.gathered.rows r.1.up up.new) }
+    ensures down { IfOk result (λ r. HasSent Down horizon [] text.new.gathered.rows r.1.down down.new) }
     ensures same { IsSameEnd up.old up.new × IsSameEnd down.old down.new }
     ensures absent { IsErrOf result DiskError.Absent → IsAbsent (D.view disk.old).files name.now }
     ensures only_reads { OnlyReads (D.view disk.old) (D.view disk.new) }
@@ -158,8 +158,8 @@ fn end_stream<Q: Pace, R: Wait>(
     requires open { (up.old.flow.end ≡ Open) × (down.old.flow.end ≡ Open) }
     requires bound { (up.old.flow.bound ≡ sent.up) × (down.old.flow.bound ≡ sent.down) }
     requires horizon { (up.old.horizon ≡ horizon) × (down.old.horizon ≡ horizon) }
-    requires up { HasSent Up horizon text.old.gathered.rows sent.up up.old }
-    requires down { HasSent Down horizon text.old.gathered.rows sent.down down.old }
+    requires up { HasSent Up horizon [] text.old.gathered.rows sent.up up.old }
+    requires down { HasSent Down horizon [] text.old.gathered.rows sent.down down.old }
     ensures all { (bytes : List ℕ) → HasRead bytes text.old → HasReadAll bytes text.new }
     ensures sent { text.new.gathered.refused ≡ None → AllSent Up horizon text.new.gathered.rows up.new
         × AllSent Down horizon text.new.gathered.rows down.new }

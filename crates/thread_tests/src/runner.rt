@@ -6,6 +6,7 @@ ghost use Rattle.nest_spec.specs.Nests.{opportunities_of};
 mod fed;
 mod paced;
 mod parts;
+mod rows;
 
 use crate::checks::check;
 use fed::run_from_feeds;

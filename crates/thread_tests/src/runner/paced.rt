@@ -285,3 +285,120 @@ fn shells_have_their_numbers(rt: HostRuntime) {
         "from a file",
     );
 }
+
+// The source waits at its second row until the up drain has had a turn, gives way for long, and notes the drain's last
+// turn.
+#[derive(Drop)]
+struct IdleDrain {
+    takes: AtomicU64,
+    idle: AtomicU64,
+    limits: AtomicU64,
+}
+
+impl Pace for IdleDrain {
+    fn turn<R: Wait>(&self, _rt: &R, role: Role, count: u64) {
+        match role {
+            Role::Source if count == 2 => {
+                if !reached(&self.takes, 1) {
+                    self.limits.fetch_add(1, Ordering::SeqCst);
+                }
+                give_way();
+                self.idle
+                    .store(self.takes.load(Ordering::SeqCst), Ordering::SeqCst);
+            }
+            Role::Drain { up: true, .. } => self.takes.store(count, Ordering::SeqCst),
+            _ => {}
+        }
+    }
+}
+
+// The most takes of a drain of which little was fed: of nothing, of the first row's packet, and some that found nothing.
+const FEW_TAKES: u64 = 10;
+
+fn drain_rests<R: Threads + Wait + Abort + Sync>(
+    rt: &R,
+    alloc: Global,
+    call: Call,
+) -> Result<(), Fail> {
+    let pace = IdleDrain {
+        takes: AtomicU64::new(0),
+        idle: AtomicU64::new(0),
+        limits: AtomicU64::new(0),
+    };
+    agrees_at(rt, alloc, call, &TWO_ROWS, &pace)?;
+    let idle = pace.idle.load(Ordering::SeqCst);
+    assert!(rt; 1 <= idle && idle <= FEW_TAKES, "{idle} takes");
+    assert!(rt; is_at(&pace.limits, 0));
+    Ok(())
+}
+
+#[test]
+fn a_drain_rests_while_nothing_is_fed(rt: HostRuntime) -> Result<(), Fail> {
+    drain_rests(&rt, rt.alloc(), Call::Threads)?;
+    drain_rests(&rt, rt.alloc(), Call::Stream)
+}
+
+// Notes the last turns of the up drain and of the source.
+#[derive(Drop)]
+struct LastTurns {
+    takes: AtomicU64,
+    rows: AtomicU64,
+}
+
+impl Pace for LastTurns {
+    fn turn<R: Wait>(&self, _rt: &R, role: Role, count: u64) {
+        match role {
+            Role::Source => self.rows.store(count, Ordering::SeqCst),
+            Role::Drain { up: true, .. } => self.takes.store(count, Ordering::SeqCst),
+            _ => {}
+        }
+    }
+}
+
+const NARROW_LINK: Case<'static> = Case {
+    nest: "mm-link t t",
+    trace: b"# mm-trace 2\n1 1\n",
+    horizon: 10_000,
+    schedule: b"0 up 1504\n0 up 1504\n0 up 1504\n0 up 1504\n",
+    fates: b"1 up departed 1504\n2 up departed 3008\n3 up departed 4512\n4 up departed 6016\n",
+};
+
+// A link of 10,000 opportunities, each of one byte, so that a packet takes 1,504 of them. The last turns of its drain and of the
+// source.
+fn last_turns<R: Threads + Wait + Abort + Sync>(
+    rt: &R,
+    alloc: Global,
+    call: Call,
+) -> Result<(u64, u64), Fail> {
+    let pace = LastTurns {
+        takes: AtomicU64::new(0),
+        rows: AtomicU64::new(0),
+    };
+    agrees_at(rt, alloc, call, &NARROW_LINK, &pace)?;
+    Ok((
+        pace.takes.load(Ordering::SeqCst),
+        pace.rows.load(Ordering::SeqCst),
+    ))
+}
+
+fn burns_in_parts<R: Threads + Wait + Abort + Sync>(
+    rt: &R,
+    alloc: Global,
+    call: Call,
+) -> Result<(), Fail> {
+    let (takes, rows) = last_turns(rt, alloc, call)?;
+    // Beside those that burn, a take for each packet and the end, and some that found nothing.
+    let burning = 10_000 / 256;
+    assert!(rt;
+        burning <= takes && takes <= burning + 2 * FEW_TAKES,
+        "{takes} takes"
+    );
+    assert!(rt; rows == 4, "{rows} rows");
+    Ok(())
+}
+
+#[test]
+fn a_take_burns_256_opportunities(rt: HostRuntime) -> Result<(), Fail> {
+    burns_in_parts(&rt, rt.alloc(), Call::Threads)?;
+    burns_in_parts(&rt, rt.alloc(), Call::Stream)
+}

@@ -1,5 +1,5 @@
 // The parts of a run, called one after another: what is in their channels fits there.
-ghost use Rattle.std.specs.Prelude.{◌≡◌, ◌≤◌, [], length, IfOk};
+ghost use Rattle.std.specs.Prelude.{◌≡◌, ◌≤◌, length, IfOk};
 ghost use Rattle.packet_record.specs.Streams.{no_items};
 ghost use Rattle.shell_core.specs.Shells.{IsInRange, opportunities};
 ghost use Rattle.nest_spec.specs.Nests.{AllFit};
@@ -10,11 +10,10 @@ use crate::checks::check;
 use crate::ways::{Ways, open_ways};
 use mark_channel::{Receiver, Sender, open};
 use mm_base::{NoPace, Role};
+use nest_runner::work::{Stage, WorkEnd, collector, source, stages};
 use nest_spec::Nest;
 use packet_record::{Direction, Schedule};
-use row_source::source;
 use shell_state::{DirSpec, ShellState};
-use shell_workers::{Stage, WorkEnd, collector, stages};
 use std::alloc::Global;
 use std::marker::Sync;
 use std::process::Abort;
@@ -73,9 +72,14 @@ fn open_path(
     Ok((list, last))
 }
 
-fn send_all<R: Wait>(rt: &R, schedule: &Schedule, horizon: u64, up: &mut Sender, down: &mut Sender)
+pub(super) fn send_all<R: Wait>(
+    rt: &R,
+    schedule: &Schedule,
+    horizon: u64,
+    up: &mut Sender,
+    down: &mut Sender,
+)
     requires empty { (up.old.flow ≡ no_items) × (down.old.flow ≡ no_items) }
-    requires none { (up.old.items ≡ []) × (down.old.items ≡ []) }
     requires horizon { (up.old.horizon ≡ horizon) × (down.old.horizon ≡ horizon) }
 {
     source(rt, schedule.rows(), horizon, up, down, &NoPace);

@@ -1,5 +1,6 @@
 use Rattle.std.proofs.Common.{◌≡◌, ◌+◌, ◌∙◌, ◌++◌, ◌∷◌, [], List, drop, take, subst, sym, ap, rules, append_assoc}
-use Rattle.std.proofs.lemmas.List.{drop_more, take_more}
+use Rattle.std.proofs.Common.{arith}
+use Rattle.std.proofs.lemmas.List.{drop_more, take_all, take_more}
 use Rattle.packet_record.specs.declared.packet.Row.{Row}
 use Rattle.packet_record.specs.declared.packet.Direction.TheVariants.{Up, Down}
 use Rattle.packet_record.specs.Rows.{Rises}
@@ -30,23 +31,37 @@ loop-row-preserved g c =
       sent.sent.1,
       Rises-from _ _ rest sent.rises.0 up.1,
       Rises-from _ _ rest sent.rises.1 down.1,
-      (λ before has. subst (λ l. HasSent Up h l c.send_both-sent.result.up c.send_both-sent.new.up) (longer before)
-          (one_sent Up h c.loop-row.sent.up _ _ row c.loop-row.up _
+      (λ first before has. subst (λ l. HasSent Up h first l c.send_both-sent.result.up c.send_both-sent.new.up) (longer before)
+          (one_sent Up h c.loop-row.sent.up _ first _ row c.loop-row.up _
           (record {
             after = sent.after.0;
             rises = sent.rises.0;
             items = sent.items.0;
             packets = sent.packets.0;
-          }) (i.6 before has))),
-      (λ before has. subst (λ l. HasSent Down h l c.send_both-sent.result.down c.send_both-sent.new.down)
+          }) (i.6 first before has))),
+      (λ first before has. subst (λ l. HasSent Down h first l c.send_both-sent.result.down c.send_both-sent.new.down)
           (longer before)
-          (one_sent Down h c.loop-row.sent.down _ _ row c.loop-row.down _
+          (one_sent Down h c.loop-row.sent.down _ first _ row c.loop-row.down _
           (record {
             after = sent.after.1;
             rises = sent.rises.1;
             items = sent.items.1;
             packets = sent.packets.1;
-          }) (i.7 before has))),
+          }) (i.7 first before has))),
       search rules,
       search rules,
     )
+
+pub returns-clause-up : goal.returns-clause-up
+returns-clause-up g c = λ first before has.
+    let rows = c.args.rows.now in
+    subst (λ l. HasSent Up c.args.horizon first (before ++ l) c.loop-row.sent.up c.loop-row.up)
+    (take_all c.loop-row.row-index rows (omega (arith, c.loop-row-test.false)))
+    (c.loop-row.invariant.6 first before has)
+
+pub returns-clause-down : goal.returns-clause-down
+returns-clause-down g c = λ first before has.
+    let rows = c.args.rows.now in
+    subst (λ l. HasSent Down c.args.horizon first (before ++ l) c.loop-row.sent.down c.loop-row.down)
+    (take_all c.loop-row.row-index rows (omega (arith, c.loop-row-test.false)))
+    (c.loop-row.invariant.7 first before has)

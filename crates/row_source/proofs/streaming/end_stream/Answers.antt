@@ -1,3 +1,4 @@
+use Rattle.std.proofs.Common.{[]}
 use Rattle.packet_record.specs.declared.packet.Direction.TheVariants.{Up, Down}
 use Rattle.row_source.proofs.Streamed.{end_sent, piece_rises, piece_sent}
 use Rattle.row_source.proofs.streaming.end_stream.Goals as goal
@@ -23,9 +24,9 @@ returns-else-is_refused-clause-sent g c = λ none.
     let sent = c.send_rows.ensures in
     let over = c.end_both.ensures in (
       end_sent Up h _ new c.send_rows.new.up c.end_both.new.up
-          (piece_sent Up h _ old new _ _ _ done now grows (sent.up old c.requires.up)) over.items.0 over.packets.0
+          (piece_sent Up h _ old new _ _ _ done now grows (sent.up [] old c.requires.up)) over.items.0 over.packets.0
           over.over.0,
       end_sent Down h _ new c.send_rows.new.down c.end_both.new.down
-          (piece_sent Down h _ old new _ _ _ done now grows (sent.down old c.requires.down)) over.items.1
+          (piece_sent Down h _ old new _ _ _ done now grows (sent.down [] old c.requires.down)) over.items.1
           over.packets.1 over.over.1,
     )

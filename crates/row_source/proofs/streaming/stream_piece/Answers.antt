@@ -1,3 +1,4 @@
+use Rattle.std.proofs.Common.{[]}
 use Rattle.packet_record.specs.declared.packet.Direction.TheVariants.{Up, Down}
 use Rattle.row_source.proofs.Streamed.{piece_rises, piece_sent}
 use Rattle.row_source.proofs.streaming.stream_piece.Goals as goal
@@ -16,10 +17,10 @@ pub returns-clause-up : goal.returns-clause-up
 returns-clause-up g c =
     let old = c.args.text.now.gathered.rows in
     piece_sent Up c.args.horizon _ old c.push.new.self.gathered.rows _ _ _ c.rows-done.ensures.rows
-    c.rows-rows.ensures.rows c.push.ensures.grows (c.send_rows-sent.ensures.up old c.requires.up)
+    c.rows-rows.ensures.rows c.push.ensures.grows (c.send_rows-sent.ensures.up [] old c.requires.up)
 
 pub returns-clause-down : goal.returns-clause-down
 returns-clause-down g c =
     let old = c.args.text.now.gathered.rows in
     piece_sent Down c.args.horizon _ old c.push.new.self.gathered.rows _ _ _ c.rows-done.ensures.rows
-    c.rows-rows.ensures.rows c.push.ensures.grows (c.send_rows-sent.ensures.down old c.requires.down)
+    c.rows-rows.ensures.rows c.push.ensures.grows (c.send_rows-sent.ensures.down [] old c.requires.down)

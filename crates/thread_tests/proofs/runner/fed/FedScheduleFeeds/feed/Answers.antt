@@ -3,6 +3,6 @@ use Rattle.packet_record.specs.Rows.{Rises}
 use Rattle.packet_record.proofs.RowsLemmas.{rises-in_order}
 use Rattle.thread_tests.proofs.runner.fed.FedScheduleFeeds.feed.Goals as goal
 
-pub send_packets-requires-clause-rises : goal.send_packets-requires-clause-rises
-send_packets-requires-clause-rises g c = subst (Rises 0) (sym c.rows.ensures.rows)
+pub source-requires-clause-rises : goal.source-requires-clause-rises
+source-requires-clause-rises g c = subst (Rises 0) (sym c.rows.ensures.rows)
     (rises-in_order 1 0 c.args.self.now.schedule c.rows.ensures.schedule.order)
