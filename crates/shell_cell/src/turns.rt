@@ -98,8 +98,8 @@ impl TurnTable {
         }
     }
 
-    // Waits until the word isn't this one, nor the next, which a turn has that isn't spent yet. Once it sleeps, it waits
-    // for some feeds, or about a millisecond after one.
+    // Waits until the word isn't this one, nor the next, which a turn has that isn't spent yet. Once it sleeps, it
+    // waits for some feeds, or about a millisecond after one.
     pub(crate) fn wait_past<R: Wait>(&self, rt: &R, seen: u64) {
         for _ in 0..LOOKS {
             if self.is_past(seen) {
@@ -126,10 +126,10 @@ impl TurnTable {
     // Sleeps while the word is this one, until the turn is given back. It may return early.
     //
     // No wake is lost. The count is raised before the system compares the word, and whoever gives the turn back stores
-    // the word before it reads the count: so it sees this sleeper and wakes it, or the word has changed before the sleep
-    // begins. Each sleeper lowers the count itself, once it is awake. A flag that is cleared with a wake would lose one:
-    // a turn that is taken and given up leaves the word as it was, so a wake between the mark of a sleeper and its sleep
-    // wakes nobody, the sleep begins, and whoever spends the next turn finds the flag cleared.
+    // the word before it reads the count: so it sees this sleeper and wakes it, or the word has changed before the
+    // sleep begins. Each sleeper lowers the count itself, once it is awake. A flag that is cleared with a wake would
+    // lose one: a turn that is taken and given up leaves the word as it was, so a wake between the mark of a sleeper
+    // and its sleep wakes nobody, the sleep begins, and whoever spends the next turn finds the flag cleared.
     fn sleep_at<R: Wait>(&self, rt: &R, word: u64) {
         self.sleepers.fetch_add(1, Ordering::SeqCst);
         self.table.shared.park(rt, 0, (word % (1 << 32)) as u32);

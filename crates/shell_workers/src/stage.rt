@@ -63,7 +63,8 @@ pub(crate) fn run_stage<Q: Pace + Sync, R: Threads + Wait + Sync>(
                 × (to.now.horizon ≡ take.now.horizon) × (1 ≤ most) }
             ensures over { to.exit.now.flow.end ≢ Open }
             ensures ended { IfEnded result (IsPassedOn take.exit.now.flow to.exit.now.flow) }
-            ensures broken { IfBroken result ((take.exit.now.flow.end ≡ IsCut) × (to.exit.now.flow ≡ take.exit.now.flow)) }
+            ensures broken { IfBroken result ((take.exit.now.flow.end ≡ IsCut)
+                × (to.exit.now.flow ≡ take.exit.now.flow)) }
             ensures wants { IfWants result ((take.exit.now.broken ≡ true) × (to.exit.now.flow.end ≡ IsCut)) }
             ensures same { IsSameEnd to.entry.now to.exit.now × IsSameSeat take.entry.now take.exit.now }
         {
