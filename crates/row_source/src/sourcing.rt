@@ -88,7 +88,8 @@ pub(crate) fn send_rows<Q: Pace, R: Wait>(
     requires rises { Rises sent.up rows.now × Rises sent.down rows.now }
     ensures up { (first : List ItemValue) (before : List RowValue) → HasSent Up horizon first before sent.up up.old
         → HasSent Up horizon first (before ++ rows.now) result.up up.new }
-    ensures down { (first : List ItemValue) (before : List RowValue) → HasSent Down horizon first before sent.down down.old
+    ensures down { (first : List ItemValue) (before : List RowValue)
+        → HasSent Down horizon first before sent.down down.old
         → HasSent Down horizon first (before ++ rows.now) result.down down.new }
     ensures open { (up.new.flow.end ≡ Open) × (down.new.flow.end ≡ Open) }
     ensures sent { (up.new.flow.bound ≡ result.up) × (down.new.flow.bound ≡ result.down) }

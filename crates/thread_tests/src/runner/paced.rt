@@ -312,7 +312,7 @@ impl Pace for IdleDrain {
     }
 }
 
-// The most takes of a drain of which little was fed: of nothing, of the first row's packet, and some that found nothing.
+// The most takes of a drain of which little was fed: of nothing, of a packet, and some that found nothing.
 const FEW_TAKES: u64 = 10;
 
 fn drain_rests<R: Threads + Wait + Abort + Sync>(
