@@ -315,27 +315,26 @@ impl Pace for IdleDrain {
 // The most takes of a drain of which little was fed: of nothing, of a packet, and some that found nothing.
 const FEW_TAKES: u64 = 10;
 
-fn drain_rests<R: Threads + Wait + Abort + Sync>(
-    rt: &R,
-    alloc: Global,
-    call: Call,
-) -> Result<(), Fail> {
+fn drain_rests<R: Threads + Wait + Abort + Sync>(rt: &R, alloc: Global, call: Call) {
     let pace = IdleDrain {
         takes: AtomicU64::new(0),
         idle: AtomicU64::new(0),
         limits: AtomicU64::new(0),
     };
-    agrees_at(rt, alloc, call, &TWO_ROWS, &pace)?;
+    check(
+        rt,
+        agrees_at(rt, alloc, call, &TWO_ROWS, &pace),
+        "the fates",
+    );
     let idle = pace.idle.load(Ordering::SeqCst);
-    assert!(rt; 1 <= idle && idle <= FEW_TAKES, "{idle} takes");
-    assert!(rt; is_at(&pace.limits, 0));
-    Ok(())
+    check(rt, 1 <= idle && idle <= FEW_TAKES, "few takes");
+    check(rt, is_at(&pace.limits, 0), "no limit met");
 }
 
 #[test]
-fn a_drain_rests_while_nothing_is_fed(rt: HostRuntime) -> Result<(), Fail> {
-    drain_rests(&rt, rt.alloc(), Call::Threads)?;
-    drain_rests(&rt, rt.alloc(), Call::Stream)
+fn a_drain_rests_while_nothing_is_fed(rt: HostRuntime) {
+    drain_rests(&rt, rt.alloc(), Call::Threads);
+    drain_rests(&rt, rt.alloc(), Call::Stream);
 }
 
 // Notes the last turns of the up drain and of the source.
@@ -363,42 +362,34 @@ const NARROW_LINK: Case<'static> = Case {
     fates: b"1 up departed 1504\n2 up departed 3008\n3 up departed 4512\n4 up departed 6016\n",
 };
 
-// A link of 10,000 opportunities, each of one byte, so that a packet takes 1,504 of them. The last turns of its drain and of the
-// source.
-fn last_turns<R: Threads + Wait + Abort + Sync>(
-    rt: &R,
-    alloc: Global,
-    call: Call,
-) -> Result<(u64, u64), Fail> {
+// How many opportunities a take burns at most, and how many takes burn those of the narrow link.
+const BURNT_AT_MOST: u64 = 256;
+
+const BURNING_TAKES: u64 = 10_000 / BURNT_AT_MOST;
+
+// Whether the drain of a link of 10,000 opportunities, each of one byte, takes as often as it has to burn them, beside a
+// take for each packet and the end and some that found nothing, and the source has a turn for each row.
+fn burns_in_parts<R: Threads + Wait + Abort + Sync>(rt: &R, alloc: Global, call: Call) {
     let pace = LastTurns {
         takes: AtomicU64::new(0),
         rows: AtomicU64::new(0),
     };
-    agrees_at(rt, alloc, call, &NARROW_LINK, &pace)?;
-    Ok((
-        pace.takes.load(Ordering::SeqCst),
-        pace.rows.load(Ordering::SeqCst),
-    ))
-}
-
-fn burns_in_parts<R: Threads + Wait + Abort + Sync>(
-    rt: &R,
-    alloc: Global,
-    call: Call,
-) -> Result<(), Fail> {
-    let (takes, rows) = last_turns(rt, alloc, call)?;
-    // Beside those that burn, a take for each packet and the end, and some that found nothing.
-    let burning = 10_000 / 256;
-    assert!(rt;
-        burning <= takes && takes <= burning + 2 * FEW_TAKES,
-        "{takes} takes"
+    check(
+        rt,
+        agrees_at(rt, alloc, call, &NARROW_LINK, &pace),
+        "the fates",
     );
-    assert!(rt; rows == 4, "{rows} rows");
-    Ok(())
+    let takes = pace.takes.load(Ordering::SeqCst);
+    check(
+        rt,
+        BURNING_TAKES <= takes && takes <= BURNING_TAKES + 2 * FEW_TAKES,
+        "as many takes as burn",
+    );
+    check(rt, is_at(&pace.rows, 4), "a turn for each row");
 }
 
 #[test]
-fn a_take_burns_256_opportunities(rt: HostRuntime) -> Result<(), Fail> {
-    burns_in_parts(&rt, rt.alloc(), Call::Threads)?;
-    burns_in_parts(&rt, rt.alloc(), Call::Stream)
+fn a_take_burns_256_opportunities(rt: HostRuntime) {
+    burns_in_parts(&rt, rt.alloc(), Call::Threads);
+    burns_in_parts(&rt, rt.alloc(), Call::Stream);
 }
