@@ -7,6 +7,7 @@ use Rattle.std.specs.List.{drop-map, take-map}
 use Rattle.command_ends.specs.Causes.{Text}
 use Rattle.option_words.specs.RunApp.{run_texts}
 use Rattle.nest_command.specs.Words.{ends_options}
+use Rattle.nest_command.proofs.WordLemmas.{position-map}
 use Rattle.command_run.specs.Run.{run_at, run_of, run_with}
 
 -- the job of words that have an end of options
