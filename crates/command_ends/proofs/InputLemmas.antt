@@ -11,7 +11,7 @@ use Rattle.mm_base.specs.declared.errors.LoadError.{LoadError}
 use Rattle.mm_base.specs.declared.errors.LoadError.TheVariants as load_errors
 use Rattle.mm_base.proofs.FilesLemmas.{is_held}
 use Rattle.command_ends.specs.Causes.{Text}
-use Rattle.command_ends.specs.Loads.{cause_of_disk, cause_of_load}
+use Rattle.command_ends.specs.inside.Loads.{cause_of_disk, cause_of_load}
 use Rattle.command_ends.specs.Readings.{Holds, input_of}
 use Rattle.command_ends.specs.Stops.{StopsAtFile, FileRefused, FileFault, FileWants}
 use Rattle.command_ends.specs.declared.cause.Limit.TheVariants.{File}

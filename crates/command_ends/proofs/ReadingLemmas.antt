@@ -6,12 +6,13 @@ use Rattle.mm_base.specs.Disk.{DiskView, OnlyReads}
 use Rattle.mm_base.proofs.Then.{Rose-later}
 use Rattle.mm_base.specs.Files.{Files}
 use Rattle.command_ends.specs.Causes.{Text, status_of_refusal}
-use Rattle.command_ends.specs.Readings.{Reading, Done, Refuses, Reads, Judges, Holds, Leads, Reaches, ReachesPast}
-use Rattle.command_ends.specs.Readings.{Stop, AtTask, AtRefusal, AtFile, input_of}
-use Rattle.command_ends.specs.Readings.{asked, reading_judged, reading_text, refused_first, unless}
-use Rattle.command_ends.specs.Stops.{IsInput, ReadsOn, RefusesBy, RefusesText, StopsAtFile, FileRefused, FileFault}
-use Rattle.command_ends.specs.Stops.{FileWants}
-use Rattle.command_ends.specs.Stops.{StopsReading, ReadingRefused, ReadingFault, ReadingWants}
+use Rattle.command_ends.specs.Readings.{Reading, Done, Refuses, Reads, Judges, Holds, Reaches, ReachesPast, Stop}
+use Rattle.command_ends.specs.Readings.{AtTask, AtRefusal, AtFile, input_of, asked, reading_judged, reading_text}
+use Rattle.command_ends.specs.Readings.{refused_first, unless}
+use Rattle.command_ends.specs.inside.Readings.{Leads}
+use Rattle.command_ends.specs.Stops.{IsInput, RefusesText, StopsAtFile, FileRefused, FileFault, FileWants, StopsReading}
+use Rattle.command_ends.specs.Stops.{ReadingRefused, ReadingFault, ReadingWants}
+use Rattle.command_ends.specs.inside.Stops.{ReadsOn, RefusesBy}
 use Rattle.command_ends.specs.declared.cause.Cause.{Cause}
 use Rattle.command_ends.specs.declared.cause.Cause.TheVariants.{Refused}
 use Rattle.command_ends.specs.declared.cause.Limit.TheVariants.{File}

@@ -11,7 +11,7 @@ use Rattle.command_ends.specs.Answers.{Concludes}
 use Rattle.command_ends.specs.Causes.{line_of, status_of}
 use Rattle.mm_base.specs.declared.errors.EndError.{EndError}
 use Rattle.mm_base.specs.declared.errors.EndError.TheVariants.{Failed, OutOfMemory as WantsMemory}
-use Rattle.command_ends.specs.Stops.{Sends}
+use Rattle.command_ends.specs.inside.Stops.{Sends}
 use Rattle.command_ends.specs.declared.cause.Cause.{Cause}
 use Rattle.command_ends.specs.declared.cause.Cause.TheVariants.{Refused, ReadFault, WriteFault, OutFault, NetFault}
 use Rattle.command_ends.specs.declared.cause.Cause.TheVariants.{OutOfMemory}

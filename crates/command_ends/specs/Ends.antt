@@ -7,7 +7,7 @@ use Rattle.mm_base.specs.Sink.{SinkView, sending}
 use Rattle.command_ends.specs.Causes.{Text}
 use Rattle.command_ends.specs.Outputs.{Output, holding_all, HoldsFirst}
 use Rattle.command_ends.specs.Readings.{Reading, Reaches, AtTask, AtRefusal, AtFile}
-use Rattle.command_ends.specs.Works.{Work, only}
+use Rattle.command_ends.specs.Works.{Work}
 use Rattle.command_ends.specs.declared.cause.Refusal.{Refusal}
 use Rattle.command_ends.specs.declared.cause.Refusal.TheVariants.{Absent}
 use Rattle.command_ends.specs.declared.cause.Cause.{Cause}
@@ -44,10 +44,6 @@ pub record Finishes {A N : Type 0} (work : A → Work N) (reading : Reading A) (
   pub task : A
   pub read : Reaches told reading (AtTask task)
   pub gives : (work task).gives old new output
-
--- the same of a command that touches no net
-abbrev pub FinishesOnly : {A : Type 0} → (A → Output → Type 0) → Reading A → Option Files → Output → Type 0
-FinishesOnly Gives reading told output = Finishes {N = Unit {0}} (only Gives) reading told tt tt output
 
 -- Each file has its text, no other file is changed, and the text is printed, and nothing else.
 pub record IsDone {A N : Type 0} (work : A → Work N) (reading : Reading A) (old new : Outside N) : Type 0 where

@@ -1,5 +1,4 @@
 pub mod Causes
-pub mod Loads
 pub mod Names
 pub mod Readings
 pub mod Outputs
@@ -7,3 +6,4 @@ pub mod Works
 pub mod Ends
 pub mod Answers
 pub mod Stops
+pub mod inside

@@ -84,7 +84,3 @@ Reaches told (Reads name next) stop =
     × ReachesPast (λ bytes. Reaches told (next bytes) stop) (input_of name given) stop)
 Reaches told (Judges Says next) stop =
     (Says None × Reaches told next stop) ⊎ ((refusal : Refusal) × Says (Some refusal) × (stop ≡ AtRefusal refusal))
-
--- The files lead from one reading to another: where the other ends, the first does.
-pub record Leads {A : Type 0} (told : Option Files) (a b : Reading A) : Type 0 where
-  pub on : (stop : Stop A) → Reaches told b stop → Reaches told a stop

@@ -1,16 +1,14 @@
 -- What the bodies of commands answer: where reading, writing or printing came, and why it stopped.
-use Rattle.std.specs.Prelude.{◌≡◌, ◌⊎◌, ◌≤◌, ◌<◌, ℕ, take, List, Option, Some, Result, Ok, Err, OnOk, OnErr}
-use Rattle.std.specs.Prelude.{IsErrOf, length}
+use Rattle.std.specs.Prelude.{◌≡◌, ◌⊎◌, ◌≤◌, ◌<◌, ℕ, take, List, Option, Some, Err}
+use Rattle.std.specs.Prelude.{length}
 use Rattle.mm_base.specs.Counts.{Rose}
 use Rattle.mm_base.specs.Disk.{DiskView}
 use Rattle.mm_base.specs.Files.{Files}
 use Rattle.file_pieces.specs.Pieces.{GoesOnBy}
-use Rattle.mm_base.specs.Sink.{SinkView, CountsSinkFaults, sending}
-use Rattle.mm_base.specs.declared.errors.EndError.{EndError}
-use Rattle.mm_base.specs.declared.errors.EndError.TheVariants.{Failed}
+use Rattle.mm_base.specs.Sink.{SinkView, sending}
 use Rattle.command_ends.specs.Causes.{Text}
 use Rattle.command_ends.specs.Outputs.{NamedText, HoldsFirst}
-use Rattle.command_ends.specs.Readings.{Reading, AtRefusal, AtFile, Holds, Leads, Reaches, input_of}
+use Rattle.command_ends.specs.Readings.{Reading, AtRefusal, AtFile, Holds, Reaches, input_of}
 use Rattle.command_ends.specs.declared.cause.Refusal.{Refusal}
 use Rattle.command_ends.specs.declared.cause.Refusal.TheVariants.{Absent}
 use Rattle.command_ends.specs.declared.cause.Cause.{Cause}
@@ -30,10 +28,6 @@ abbrev pub RefusesText : Option Refusal → Cause → Type 0
 RefusesText found cause = (cause ≡ OutOfMemory)
     ⊎ ((refusal : Refusal) × (cause ≡ Refused refusal) × (found ≡ Some refusal))
 
--- why what was read is refused where it is judged: its refusal, or want of memory
-abbrev pub RefusesBy : (Option Refusal → Type 0) → Cause → Type 0
-RefusesBy Says cause = (cause ≡ OutOfMemory) ⊎ ((refusal : Refusal) × (cause ≡ Refused refusal) × Says (Some refusal))
-
 -- why the file of this name isn't read: its refusal, a fault, or want of memory
 pub data StopsAtFile (name : Text) (old new : DiskView) (cause : Cause) : Type 0 where
   FileRefused : (refusal : Refusal) → cause ≡ Refused refusal → (given : Option (List ℕ)) → Holds old.files name given
@@ -50,11 +44,6 @@ pub data StopsReading {A : Type 0} (reading : Reading A) (old new : DiskView) (c
   ReadingFault : (name : Text) → cause ≡ ReadFault name → Reaches old.files reading (AtFile name)
       → Rose old.read_faults new.read_faults → StopsReading reading old new cause
   ReadingWants : cause ≡ OutOfMemory → StopsReading reading old new cause
-
--- the files lead to what comes after this value, or reading stopped
-abbrev pub ReadsOn : {A T : Type 0} → Reading A → (T → Reading A) → DiskView → DiskView → Result T Cause → Type 0
-ReadsOn reading next old new (Ok value) = Leads old.files reading (next value)
-ReadsOn reading next old new (Err cause) = StopsReading reading old new cause
 
 -- All bytes of an input were read.
 pub record InputIsRead {R : Type 0} (has_read : List ℕ → R → Type 0) (told : Option Files) (name : Text)
@@ -80,10 +69,3 @@ pub record StopsPrinting (text : List ℕ) (old new : SinkView) (cause : Cause) 
   pub short : count < length text
   pub front : new.written ≡ sending (take count text) old.written
   pub refused : (cause ≡ OutOfMemory) ⊎ ((cause ≡ OutFault) × Rose old.faults new.faults)
-
--- All of the text is written, or after a refusal a front of it that isn't all.
-pub record Sends {T : Type 0} (text : List ℕ) (old new : SinkView) (result : Result T EndError) : Type 0 where
-  pub ok : OnOk result (new.written ≡ sending text old.written)
-  pub err : OnErr result ((n : ℕ) × (n < length text) × (new.written ≡ sending (take n text) old.written))
-  pub counts : CountsSinkFaults old new
-  pub cause : IsErrOf result Failed → Rose old.faults new.faults

@@ -4,7 +4,7 @@ ghost use Rattle.std.specs.List.{flat_map};
 ghost use Rattle.command_ends.specs.Answers.{Concludes, cause_in};
 ghost use Rattle.command_ends.specs.Causes.{inner_pieces, limit_pieces, line_of, named_pieces, refusal_pieces};
 ghost use Rattle.command_ends.specs.Causes.{words_pieces};
-ghost use Rattle.command_ends.specs.Stops.{Sends};
+ghost use Rattle.command_ends.specs.inside.Stops.{Sends};
 
 use crate::{Cause, Limit, Refusal, WordsRefusal};
 use itoa::Buffer;

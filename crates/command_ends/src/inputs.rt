@@ -2,7 +2,7 @@
 ghost use Rattle.std.specs.Prelude.{◌≡◌, IfOk, IfErr, OnOk};
 ghost use Rattle.mm_base.specs.Disk.{OnlyReads};
 ghost use Rattle.file_pieces.specs.Pieces.{HasSize};
-ghost use Rattle.command_ends.specs.Loads.{cause_of_disk, cause_of_load};
+ghost use Rattle.command_ends.specs.inside.Loads.{cause_of_disk, cause_of_load};
 ghost use Rattle.command_ends.specs.Stops.{InputIsRead, IsInput, StopsAtFile};
 
 use crate::{Cause, Limit, Refusal};

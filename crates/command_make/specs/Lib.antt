@@ -1,2 +1,2 @@
 pub mod Make
-pub mod View
+pub mod inside

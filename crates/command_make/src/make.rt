@@ -8,7 +8,7 @@ ghost use Rattle.command_ends.specs.Answers.{cause_in};
 ghost use Rattle.command_ends.specs.Ends.{Ends, offline};
 ghost use Rattle.command_ends.specs.Works.{only};
 ghost use Rattle.command_make.specs.Make.{GivesMake, make_job_of, make_reading, make_with, make_words};
-ghost use Rattle.command_make.specs.View.{make_values};
+ghost use Rattle.command_make.specs.inside.Values.{make_values};
 
 use crate::make_job::MakeJob;
 use command_ends::{Cause, print};

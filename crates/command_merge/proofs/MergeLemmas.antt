@@ -15,9 +15,10 @@ use Rattle.nest_spec.specs.declared.error.NestError.{NestError}
 use Rattle.nest_spec.specs.declared.error.NestError.TheVariants as nest_errors
 use Rattle.sender_merge.specs.Merges.{merge_rows}
 use Rattle.command_ends.specs.Causes.{Text, status_of_refusal}
-use Rattle.command_ends.specs.Ends.{FinishesOnly}
+use Rattle.command_ends.specs.inside.Ends.{FinishesOnly}
 use Rattle.command_ends.specs.Outputs.{writes}
-use Rattle.command_ends.specs.Readings.{Reading, Done, Refuses, Leads, asked, unless}
+use Rattle.command_ends.specs.Readings.{Reading, Done, Refuses, asked, unless}
+use Rattle.command_ends.specs.inside.Readings.{Leads}
 use Rattle.command_ends.specs.Stops.{IsInput, RefusesText, StopsAtFile, StopsReading, ReadingWants}
 use Rattle.command_ends.specs.declared.cause.Cause.{Cause}
 use Rattle.command_ends.specs.declared.cause.Cause.TheVariants.{Refused, OutOfMemory}
@@ -32,7 +33,7 @@ use Rattle.nest_command.specs.NestReading.{nest_refusal, refused_count, refused_
 use Rattle.nest_command.proofs.InputLemmas.{have_said, have_texts, leads_traces}
 use Rattle.nest_command.proofs.NestLemmas.{count_text, count_within, horizon_text, names_there}
 use Rattle.command_merge.specs.List.{list_refusal}
-use Rattle.command_merge.specs.Loaded.{AddsSchedules, HasSenders, HasTraces, HaveSchedules}
+use Rattle.command_merge.specs.inside.Loaded.{AddsSchedules, HasSenders, HasTraces, HaveSchedules}
 use Rattle.command_merge.specs.Merge.{GivesMerge, MergeJob, MergeTask, merge_files, merge_of, nest_for}
 use Rattle.command_merge.specs.MergeReading.{merge_inputs, merge_reading, merge_words, reading_schedules}
 use Rattle.command_merge.specs.MergeReading.{refused_listed}

@@ -10,7 +10,8 @@ use Rattle.packet_record.specs.Schedules.{AreRows, IsScheduleText}
 use Rattle.packet_record.specs.declared.packet.Row.{Row}
 use Rattle.sender_merge.specs.RowLists.{rows_in}
 use Rattle.command_ends.specs.Causes.{Text, status_of_refusal}
-use Rattle.command_ends.specs.Readings.{Reading, Done, Leads, unless}
+use Rattle.command_ends.specs.Readings.{Reading, Done, unless}
+use Rattle.command_ends.specs.inside.Readings.{Leads}
 use Rattle.command_ends.specs.Stops.{RefusesText, StopsReading}
 use Rattle.command_ends.specs.declared.cause.Cause.{Cause}
 use Rattle.command_ends.specs.declared.cause.Cause.TheVariants.{Refused}
@@ -21,7 +22,7 @@ use Rattle.command_ends.proofs.ReadingLemmas.{StopsAlike, alike_done, alike_text
 use Rattle.command_ends.proofs.ReadingLemmas.{leads_then, leads_unless, stays, stops_alike, stops_later}
 use Rattle.nest_command.specs.Inputs.{reading_schedule, schedule_refusal}
 use Rattle.nest_command.specs.Loaded.{HasSchedule}
-use Rattle.command_merge.specs.Loaded.{AddsSchedules, HasNext, HaveSchedules, NoSchedules, MoreSchedules}
+use Rattle.command_merge.specs.inside.Loaded.{AddsSchedules, HasNext, HaveSchedules, NoSchedules, MoreSchedules}
 use Rattle.command_merge.specs.Merge.{AreScheduleTexts}
 use Rattle.command_merge.specs.MergeReading.{reading_next, reading_schedules, refused_total}
 

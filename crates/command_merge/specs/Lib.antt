@@ -2,5 +2,4 @@ pub mod List
 pub mod FateLines
 pub mod Merge
 pub mod MergeReading
-pub mod Loaded
-pub mod View
+pub mod inside

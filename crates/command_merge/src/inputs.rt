@@ -7,10 +7,10 @@ ghost use Rattle.text_base.specs.Lines.{lines_of};
 ghost use Rattle.command_ends.specs.Readings.{Done};
 ghost use Rattle.command_ends.specs.Stops.{RefusesText, StopsReading};
 ghost use Rattle.command_merge.specs.List.{list_fault, list_refusal};
-ghost use Rattle.command_merge.specs.Loaded.{AddsSchedules, HasNext, HasSenders, HasTraces};
+ghost use Rattle.command_merge.specs.inside.Loaded.{AddsSchedules, HasNext, HasSenders, HasTraces};
 ghost use Rattle.command_merge.specs.MergeReading.{merge_inputs, reading_next, reading_schedules, refused_listed};
 ghost use Rattle.command_merge.specs.MergeReading.{refused_total, sender_inputs};
-ghost use Rattle.command_merge.specs.View.{merge_values};
+ghost use Rattle.command_merge.specs.inside.Values.{merge_values};
 ghost use Rattle.sender_merge.specs.RowLists.{rows_in};
 
 use crate::job::MergeJob;

@@ -3,7 +3,7 @@ ghost use Rattle.std.specs.Prelude.{◌≡◌, IfOk, map, string_bytes};
 ghost use Rattle.std.specs.Option.{option_map};
 ghost use Rattle.option_words.specs.View.{merge_texts_of};
 ghost use Rattle.command_merge.specs.Merge.{merge_numbers, merge_of};
-ghost use Rattle.command_merge.specs.View.{merge_values};
+ghost use Rattle.command_merge.specs.inside.Values.{merge_values};
 
 use nest_command::end_of_options;
 use option_words::{MergeWords, parse_merge, read_seed};

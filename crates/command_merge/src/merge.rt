@@ -3,13 +3,15 @@ ghost use Rattle.std.specs.Prelude.{◌≡◌, ◌≤◌, None, IfErr, IfOk, Mat
 ghost use Rattle.mm_base.specs.Disk.{DiskView, OnlyReads};
 ghost use Rattle.mm_base.specs.Sink.{SinkView};
 ghost use Rattle.command_ends.specs.Answers.{CountsDisk, cause_in};
-ghost use Rattle.command_ends.specs.Ends.{Ends, FinishesOnly, offline};
+ghost use Rattle.command_ends.specs.Ends.{Ends, offline};
+ghost use Rattle.command_ends.specs.inside.Ends.{FinishesOnly};
 ghost use Rattle.command_ends.specs.Outputs.{writes};
-ghost use Rattle.command_ends.specs.Stops.{ReadsOn, RefusesText, StopsReading};
+ghost use Rattle.command_ends.specs.Stops.{RefusesText, StopsReading};
+ghost use Rattle.command_ends.specs.inside.Stops.{ReadsOn};
 ghost use Rattle.command_ends.specs.Works.{only};
 ghost use Rattle.command_merge.specs.Merge.{GivesMerge, merge_files};
 ghost use Rattle.command_merge.specs.MergeReading.{merge_inputs, merge_reading, merge_words, refused_outputs};
-ghost use Rattle.command_merge.specs.View.{merge_values};
+ghost use Rattle.command_merge.specs.inside.Values.{merge_values};
 
 use crate::files::write_files;
 use crate::inputs::{load_nest_traces, load_senders};

@@ -20,7 +20,8 @@ use Rattle.live_relay.proofs.Coursing.{stops_first}
 use Rattle.command_ends.specs.declared.cause.Cause.{Cause}
 use Rattle.command_ends.specs.declared.cause.Cause.TheVariants.{NetFault, OutOfMemory}
 use Rattle.command_relay.specs.Jobs.{RelayJob}
-use Rattle.command_relay.specs.Relaying.{HasRelayed, HasStopped, RelayNet, cause_of_relay, cause_of_wire, net}
+use Rattle.command_relay.specs.Relaying.{HasRelayed, HasStopped, RelayNet, net}
+use Rattle.command_relay.specs.inside.Relaying.{cause_of_relay, cause_of_wire}
 
 -- what is told from an opened wire on is told from the wire before
 told_from : (old mid new : WireView) (P : WireTold → WireTold → Type 0) → mid.told ≡ old.told → IfTold mid new P

@@ -15,7 +15,8 @@ use Rattle.nest_spec.specs.declared.error.NestError.TheVariants as nest_errors
 use Rattle.live_relay.specs.declared.outcome.RelayResult.{RelayResult}
 use Rattle.command_ends.specs.Causes.{Text, status_of_refusal}
 use Rattle.command_ends.specs.Ends.{Ends, Finishes, IsStopped, Serving, outside}
-use Rattle.command_ends.specs.Readings.{Reading, Done, Refuses, Reaches, AtTask, Leads, asked, unless}
+use Rattle.command_ends.specs.Readings.{Reading, Done, Refuses, Reaches, AtTask, asked, unless}
+use Rattle.command_ends.specs.inside.Readings.{Leads}
 use Rattle.command_ends.specs.Stops.{RefusesText, StopsReading, ReadingWants}
 use Rattle.command_ends.specs.declared.cause.Cause.{Cause}
 use Rattle.command_ends.specs.declared.cause.Cause.TheVariants.{Refused, NetFault, OutOfMemory}
@@ -34,7 +35,7 @@ use Rattle.nest_command.proofs.InputLemmas.{have_said, have_texts, leads_traces,
 use Rattle.nest_command.proofs.NestLemmas.{count_text, count_within, horizon_text, names_there}
 use Rattle.command_relay.specs.Jobs.{RelayJob, relay_of}
 use Rattle.command_relay.specs.Lines.{relay_line}
-use Rattle.command_relay.specs.Loaded.{HasNest}
+use Rattle.command_relay.specs.inside.Loaded.{HasNest}
 use Rattle.command_relay.specs.Relaying.{GivesRelay, HasRelayed, HasStopped, RelayNet, RelayTask, nest_for}
 use Rattle.command_relay.specs.Relaying.{refused_outputs, relay_inputs, relay_reading, relay_words, relay_work}
 

@@ -1,5 +1,4 @@
 pub mod Jobs
 pub mod Lines
 pub mod Relaying
-pub mod Loaded
-pub mod View
+pub mod inside

@@ -1,8 +1,6 @@
 -- What a relay reads and refuses, in order, and what it does with its clock and its wire.
 use Rattle.std.specs.Prelude.{◌≡◌, ◌⊎◌, ◌↔◌, ◌<◌, ℕ, List, [], ◌∷◌, ◌++◌, Option, Some, map}
 use Rattle.mm_base.specs.Counts.{Rose}
-use Rattle.mm_base.specs.declared.errors.EndError.{EndError}
-use Rattle.mm_base.specs.declared.errors.EndError.TheVariants as wires
 use Rattle.trace_reader.specs.TraceIn.{trace_in}
 use Rattle.trace_reader.specs.Traces.{TraceView}
 use Rattle.nest_spec.specs.Nests.{NestParts, built}
@@ -11,8 +9,6 @@ use Rattle.live_relay.specs.Clocks.{ClockView}
 use Rattle.live_relay.specs.Relays.{IsRelayed, IsStopped}
 use Rattle.live_relay.specs.Wires.{WireView}
 use Rattle.live_relay.specs.declared.outcome.RelayEnd.TheVariants.{Horizon}
-use Rattle.live_relay.specs.declared.outcome.RelayError.{RelayError}
-use Rattle.live_relay.specs.declared.outcome.RelayError.TheVariants as relays
 use Rattle.live_relay.specs.declared.outcome.RelayResult.{RelayResult}
 use Rattle.command_ends.specs.Causes.{Text}
 use Rattle.command_ends.specs.Names.{refused_names}
@@ -100,13 +96,3 @@ relay_work task = record {
   stops = StopsRelay task;
   faulted = λ old new. Rose old.wire.faults new.wire.faults;
 }
-
--- why a wire can't be opened
-abbrev pub cause_of_wire : EndError → Cause
-cause_of_wire wires.Failed = NetFault
-cause_of_wire wires.OutOfMemory = OutOfMemory
-
--- why a relay stopped
-abbrev pub cause_of_relay : RelayError → Cause
-cause_of_relay relays.WireFault = NetFault
-cause_of_relay relays.OutOfMemory = OutOfMemory

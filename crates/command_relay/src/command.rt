@@ -12,7 +12,7 @@ ghost use Rattle.command_ends.specs.declared.cause.Refusal.{Refusal};
 ghost use Rattle.command_ends.specs.declared.cause.Refusal.TheVariants.{Words};
 ghost use Rattle.command_ends.specs.declared.cause.WordsRefusal.{WordsRefusal};
 ghost use Rattle.command_relay.specs.Relaying.{RelayTask, net, relay_reading, relay_words, relay_work};
-ghost use Rattle.command_relay.specs.View.{relay_values};
+ghost use Rattle.command_relay.specs.inside.Values.{relay_values};
 
 use crate::inputs::{load_nest, read_words};
 use crate::job::RelayJob;

@@ -1,10 +1,11 @@
 // What `mm-relay` reads: the words of its nest, and the traces of its links.
 ghost use Rattle.std.specs.Prelude.{◌≡◌, ◌≤◌, None, IfErr, IfOk, MatchResult, OnOk, map};
 ghost use Rattle.mm_base.specs.Disk.{DiskView, OnlyReads};
-ghost use Rattle.command_ends.specs.Stops.{ReadsOn, RefusesText, StopsReading};
-ghost use Rattle.command_relay.specs.Loaded.{HasNest};
+ghost use Rattle.command_ends.specs.Stops.{RefusesText, StopsReading};
+ghost use Rattle.command_ends.specs.inside.Stops.{ReadsOn};
+ghost use Rattle.command_relay.specs.inside.Loaded.{HasNest};
 ghost use Rattle.command_relay.specs.Relaying.{refused_outputs, relay_inputs, relay_reading};
-ghost use Rattle.command_relay.specs.View.{relay_values};
+ghost use Rattle.command_relay.specs.inside.Values.{relay_values};
 
 use crate::job::RelayJob;
 use command_ends::Cause;

@@ -1,8 +1,9 @@
 // What `mm-relay` does with its clock and its wire.
 ghost use Rattle.std.specs.Prelude.{◌≡◌, IfErr, IfOk};
 ghost use Rattle.live_relay.specs.Wires.{CountsWireFaults};
-ghost use Rattle.command_relay.specs.Relaying.{HasRelayed, HasStopped, cause_of_relay, cause_of_wire, net};
-ghost use Rattle.command_relay.specs.View.{relay_values};
+ghost use Rattle.command_relay.specs.Relaying.{HasRelayed, HasStopped, net};
+ghost use Rattle.command_relay.specs.inside.Relaying.{cause_of_relay, cause_of_wire};
+ghost use Rattle.command_relay.specs.inside.Values.{relay_values};
 
 use crate::job::RelayJob;
 use command_ends::Cause;

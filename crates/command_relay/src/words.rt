@@ -2,7 +2,7 @@
 ghost use Rattle.std.specs.Prelude.{◌≡◌, IfOk, map, string_bytes, option_map};
 ghost use Rattle.option_words.specs.View.{relay_texts_of};
 ghost use Rattle.command_relay.specs.Jobs.{relay_numbers, relay_of};
-ghost use Rattle.command_relay.specs.View.{relay_values};
+ghost use Rattle.command_relay.specs.inside.Values.{relay_values};
 
 use crate::job::RelayJob;
 use nest_command::end_of_options;

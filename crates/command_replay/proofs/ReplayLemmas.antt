@@ -16,7 +16,8 @@ use Rattle.replay_server.specs.declared.ends.ServeError.TheVariants as errors
 use Rattle.command_ends.specs.Causes.{Text}
 use Rattle.command_ends.specs.Ends.{Ends, Finishes, HasNetFault, IsStopped, Serving, outside}
 use Rattle.command_ends.specs.Outputs.{prints}
-use Rattle.command_ends.specs.Readings.{Done, Leads, AtTask}
+use Rattle.command_ends.specs.Readings.{Done, AtTask}
+use Rattle.command_ends.specs.inside.Readings.{Leads}
 use Rattle.command_ends.specs.Stops.{IsInput, StopsPrinting}
 use Rattle.command_ends.specs.declared.cause.Cause.{Cause}
 use Rattle.command_ends.specs.declared.cause.Cause.TheVariants.{NetFault, OutOfMemory}

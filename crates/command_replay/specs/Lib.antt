@@ -1,2 +1,2 @@
 pub mod Replay
-pub mod View
+pub mod inside

@@ -6,7 +6,7 @@ ghost use Rattle.replay_server.specs.Servings.{IsServing};
 ghost use Rattle.command_ends.specs.Answers.{CountsDisk, cause_in};
 ghost use Rattle.command_ends.specs.Ends.{Ends, outside};
 ghost use Rattle.command_replay.specs.Replay.{cause_of, replay_reading, replay_words, serve_work, StopsAsServing};
-ghost use Rattle.command_replay.specs.View.{replay_values};
+ghost use Rattle.command_replay.specs.inside.Values.{replay_values};
 
 use crate::counts::print_served;
 use crate::job::ReplayJob;

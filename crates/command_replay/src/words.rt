@@ -2,7 +2,7 @@
 ghost use Rattle.std.specs.Prelude.{◌≡◌, IfOk, map, string_bytes, option_map};
 ghost use Rattle.option_words.specs.View.{replay_texts_of};
 ghost use Rattle.command_replay.specs.Replay.{replay_job_of, replay_with, site_in};
-ghost use Rattle.command_replay.specs.View.{replay_values};
+ghost use Rattle.command_replay.specs.inside.Values.{replay_values};
 
 use crate::job::ReplayJob;
 use option_words::{ReplayWords, parse_replay, read_port, read_within};

@@ -9,7 +9,7 @@ use Rattle.shell_log.specs.declared.reading.LogError.TheVariants as errors
 use Rattle.log_report.specs.ReportText.{report_text}
 use Rattle.log_report.specs.declared.figures.Report.{Report}
 use Rattle.command_ends.specs.Causes.{Text, status_of_refusal}
-use Rattle.command_ends.specs.Ends.{FinishesOnly}
+use Rattle.command_ends.specs.inside.Ends.{FinishesOnly}
 use Rattle.command_ends.specs.Outputs.{prints}
 use Rattle.command_ends.specs.Readings.{Done}
 use Rattle.command_ends.specs.Stops.{IsInput, RefusesText, StopsReading}

@@ -1,3 +1,3 @@
 pub mod Report
 pub mod ReportReading
-pub mod View
+pub mod inside

@@ -7,13 +7,14 @@ ghost use Rattle.shell_log.specs.Reading.{log_fault};
 ghost use Rattle.log_report.specs.ReportText.{report_text};
 ghost use Rattle.log_report.specs.ReportTexts.{HasRead};
 ghost use Rattle.command_ends.specs.Answers.{CountsDisk, cause_in};
-ghost use Rattle.command_ends.specs.Ends.{Ends, FinishesOnly, offline};
+ghost use Rattle.command_ends.specs.Ends.{Ends, offline};
+ghost use Rattle.command_ends.specs.inside.Ends.{FinishesOnly};
 ghost use Rattle.command_ends.specs.Outputs.{prints};
 ghost use Rattle.command_ends.specs.Stops.{IsInput, RefusesText, StopsAtFile, StopsReading};
 ghost use Rattle.command_ends.specs.Works.{only};
 ghost use Rattle.command_report.specs.Report.{GivesReport, IsReport, report_job_of};
 ghost use Rattle.command_report.specs.ReportReading.{log_refusal, report_reading, report_words};
-ghost use Rattle.command_report.specs.View.{report_values};
+ghost use Rattle.command_report.specs.inside.Values.{report_values};
 
 use command_ends::{Cause, Refusal, input_size, print, read_pieces};
 use log_report::{EMPTY, Report, ReportText, print_report};

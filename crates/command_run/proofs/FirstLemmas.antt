@@ -8,11 +8,11 @@ use Rattle.command_ends.proofs.ReadingLemmas.{RefusesNoWords, RefusesWordsFirst,
 use Rattle.command_ends.proofs.ReadingLemmas.{unless_no_words}
 use Rattle.nest_command.specs.Inputs.{reading_schedule, reading_traces, schedule_refusal, trace_refusal}
 use Rattle.command_run.specs.RunReading.{reading_order}
+use Rattle.command_run.specs.RunReading.{refused_outputs, run_inputs, run_reading}
+use Rattle.command_run.specs.RunReading.{run_words}
 use Rattle.command_run.specs.Run.{RunJob, RunTask, run_of}
 use Rattle.nest_command.specs.NestReading.{refused_count, refused_horizon}
-use Rattle.command_run.specs.RunReading.{refused_outputs, run_inputs, run_reading}
 use Rattle.nest_command.specs.NestReading.{with_nest}
-use Rattle.command_run.specs.RunReading.{run_words}
 use Rattle.trace_reader.specs.TraceIn.{trace_in}
 use Rattle.nest_command.proofs.InputLemmas.{schedule_text, trace_text}
 use Rattle.nest_command.proofs.NestLemmas.{count_text}

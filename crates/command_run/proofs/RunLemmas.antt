@@ -12,9 +12,10 @@ use Rattle.nest_spec.specs.Words.{NestPlan, nest_of}
 use Rattle.nest_spec.specs.declared.error.NestError.{NestError}
 use Rattle.nest_spec.specs.declared.error.NestError.TheVariants as nest_errors
 use Rattle.command_ends.specs.Causes.{Text, status_of_refusal}
-use Rattle.command_ends.specs.Ends.{FinishesOnly}
+use Rattle.command_ends.specs.inside.Ends.{FinishesOnly}
 use Rattle.command_ends.specs.Outputs.{writes}
-use Rattle.command_ends.specs.Readings.{Reading, Done, Refuses, Leads, unless}
+use Rattle.command_ends.specs.Readings.{Reading, Done, Refuses, unless}
+use Rattle.command_ends.specs.inside.Readings.{Leads}
 use Rattle.command_ends.specs.Stops.{RefusesText, StopsReading, ReadingWants}
 use Rattle.command_ends.specs.declared.cause.Cause.{Cause}
 use Rattle.command_ends.specs.declared.cause.Cause.TheVariants.{Refused, OutOfMemory}
@@ -24,17 +25,17 @@ use Rattle.command_ends.proofs.ReadingLemmas.{found_stop, leads_text, leads_then
 use Rattle.command_ends.proofs.ReadingLemmas.{leads_past, stops_at, stops_later, text_stops_before}
 use Rattle.nest_command.specs.Inputs.{reading_schedule, schedule_refusal}
 use Rattle.command_run.specs.RunReading.{reading_order}
+use Rattle.command_run.specs.RunReading.{refused_outputs, run_inputs}
+use Rattle.command_run.specs.RunReading.{run_reading}
 use Rattle.nest_command.specs.Loaded.{HasSchedule, HaveTraces}
-use Rattle.command_run.specs.Loaded.{HasNest, HasOrder, HasRun, StopsAtOrder}
+use Rattle.command_run.specs.inside.Loaded.{HasNest, HasOrder, HasRun, StopsAtOrder}
 use Rattle.nest_command.specs.RunFiles.{run_files}
 use Rattle.command_run.specs.Run.{GivesRun, RunJob, RunTask, nest_with}
 use Rattle.nest_command.specs.NestReading.{nest_refusal, refused_count, refused_horizon}
-use Rattle.command_run.specs.RunReading.{refused_outputs, run_inputs}
 use Rattle.nest_command.specs.NestReading.{with_nest}
-use Rattle.command_run.specs.RunReading.{run_reading}
 use Rattle.trace_reader.specs.TraceIn.{trace_in}
 use Rattle.nest_command.proofs.InputLemmas.{have_said, have_texts, leads_traces}
-use Rattle.command_run.specs.PassedViews.{passed_lists}
+use Rattle.command_run.specs.inside.Passed.{passed_lists}
 use Rattle.command_run.specs.declared.passing.Passed.{Passed}
 use Rattle.nest_command.proofs.NestLemmas.{count_text, count_within, horizon_text, names_there}
 

@@ -26,7 +26,7 @@ use Rattle.command_ends.proofs.InputLemmas.{load_stops}
 use Rattle.command_ends.proofs.ReadingLemmas.{stops_at, text_stops}
 use Rattle.nest_command.specs.Inputs.{reading_schedule, schedule_refusal}
 use Rattle.nest_command.specs.Loaded.{HasSchedule}
-use Rattle.command_run.specs.Loaded.{HasRun}
+use Rattle.command_run.specs.inside.Loaded.{HasRun}
 use Rattle.nest_command.proofs.InputLemmas.{schedule_accepted, schedule_text}
 
 text_input : (told : Option Files) (name : Text) (bytes : List ℕ) → IsText told name bytes → IsInput told name bytes

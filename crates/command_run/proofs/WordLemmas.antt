@@ -2,8 +2,8 @@
 use Rattle.std.proofs.Common.{◌≡◌, ℕ, ◌+◌, List, Some, None, map, take, drop}
 use Rattle.std.proofs.Common.{ap, ◌∙◌}
 use Rattle.std.specs.List.{position}
-use Rattle.std.specs.Prelude.{option_and_then}
 use Rattle.std.specs.List.{drop-map, take-map}
+use Rattle.std.specs.Prelude.{option_and_then}
 use Rattle.command_ends.specs.Causes.{Text}
 use Rattle.option_words.specs.RunApp.{run_texts}
 use Rattle.nest_command.specs.Words.{ends_options}

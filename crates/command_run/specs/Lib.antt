@@ -1,5 +1,3 @@
 pub mod Run
 pub mod RunReading
-pub mod Loaded
-pub mod PassedViews
-pub mod View
+pub mod inside

@@ -1,7 +1,7 @@
 // The order of a run that goes by single steps, read from its file.
 ghost use Rattle.std.specs.Prelude.{OnOk, IfErr, option_map};
 ghost use Rattle.mm_base.specs.Disk.{OnlyReads};
-ghost use Rattle.command_run.specs.Loaded.{HasOrder, StopsAtOrder};
+ghost use Rattle.command_run.specs.inside.Loaded.{HasOrder, StopsAtOrder};
 
 use command_ends::{Cause, read_input};
 use mm_base::Disk;

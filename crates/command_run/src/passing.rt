@@ -6,8 +6,8 @@ ghost use Rattle.nest_runner.specs.Streaming.{HasStreamCause};
 ghost use Rattle.command_ends.specs.Readings.{Done};
 ghost use Rattle.command_ends.specs.Stops.{StopsReading};
 ghost use Rattle.nest_command.specs.Inputs.{reading_schedule};
-ghost use Rattle.command_run.specs.Loaded.{HasRun};
-ghost use Rattle.command_run.specs.PassedViews.{passed_lists};
+ghost use Rattle.command_run.specs.inside.Loaded.{HasRun};
+ghost use Rattle.command_run.specs.inside.Passed.{passed_lists};
 
 use command_ends::{Cause, Limit, Refusal};
 use mm_base::{Disk, Pace};

@@ -3,16 +3,18 @@ ghost use Rattle.std.specs.Prelude.{◌≡◌, ◌≤◌, None, IfErr, IfOk, Mat
 ghost use Rattle.mm_base.specs.Disk.{DiskView, OnlyReads};
 ghost use Rattle.mm_base.specs.Sink.{SinkView};
 ghost use Rattle.command_ends.specs.Answers.{CountsDisk, cause_in};
-ghost use Rattle.command_ends.specs.Ends.{Ends, FinishesOnly, offline};
+ghost use Rattle.command_ends.specs.Ends.{Ends, offline};
+ghost use Rattle.command_ends.specs.inside.Ends.{FinishesOnly};
 ghost use Rattle.command_ends.specs.Outputs.{writes};
-ghost use Rattle.command_ends.specs.Stops.{ReadsOn, RefusesText, StopsReading};
+ghost use Rattle.command_ends.specs.Stops.{RefusesText, StopsReading};
+ghost use Rattle.command_ends.specs.inside.Stops.{ReadsOn};
 ghost use Rattle.command_ends.specs.Works.{only};
-ghost use Rattle.command_run.specs.Loaded.{HasNest};
+ghost use Rattle.command_run.specs.inside.Loaded.{HasNest};
 ghost use Rattle.nest_command.specs.RunFiles.{run_files};
 ghost use Rattle.command_run.specs.Run.{GivesRun};
 ghost use Rattle.command_run.specs.RunReading.{input_names, refused_outputs, run_inputs, run_reading, run_words};
-ghost use Rattle.command_run.specs.PassedViews.{passed_lists};
-ghost use Rattle.command_run.specs.View.{run_values};
+ghost use Rattle.command_run.specs.inside.Passed.{passed_lists};
+ghost use Rattle.command_run.specs.inside.Values.{run_values};
 
 use crate::order::load_order;
 use crate::passing::{Passed, Way, pass_packets};

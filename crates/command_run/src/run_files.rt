@@ -4,7 +4,7 @@ ghost use Rattle.mm_base.specs.Disk.{OnlyWrites};
 ghost use Rattle.command_ends.specs.Outputs.{holding_all};
 ghost use Rattle.command_ends.specs.Stops.{StopsWriting};
 ghost use Rattle.nest_command.specs.RunFiles.{run_files};
-ghost use Rattle.command_run.specs.PassedViews.{passed_lists};
+ghost use Rattle.command_run.specs.inside.Passed.{passed_lists};
 
 use crate::passing::Passed;
 use command_ends::Cause;

@@ -3,7 +3,7 @@ ghost use Rattle.std.specs.Prelude.{◌≡◌, ◌<◌, IfOk, map, string_bytes}
 ghost use Rattle.std.specs.Option.{option_map};
 ghost use Rattle.option_words.specs.View.{texts_of};
 ghost use Rattle.command_run.specs.Run.{run_numbers, run_with, run_of};
-ghost use Rattle.command_run.specs.View.{run_values};
+ghost use Rattle.command_run.specs.inside.Values.{run_values};
 
 use nest_command::end_of_options;
 use option_words::{RunWords, parse_run, read_seed};

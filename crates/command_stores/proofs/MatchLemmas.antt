@@ -7,7 +7,7 @@ use Rattle.http_frame.specs.declared.messages.RequestHead.{RequestHead}
 use Rattle.record_store.specs.StoreText.{StoreSays}
 use Rattle.record_store.specs.declared.record.Record.{Record}
 use Rattle.request_match.specs.Match.{IsBest}
-use Rattle.command_ends.specs.Ends.{FinishesOnly}
+use Rattle.command_ends.specs.inside.Ends.{FinishesOnly}
 use Rattle.command_ends.specs.Outputs.{prints}
 use Rattle.command_ends.specs.Readings.{Reading, Done}
 use Rattle.command_ends.specs.Stops.{IsInput, StopsReading}

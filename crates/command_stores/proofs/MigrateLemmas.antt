@@ -4,7 +4,7 @@ use Rattle.mm_base.specs.Disk.{DiskView}
 use Rattle.mm_base.specs.Files.{Files}
 use Rattle.record_store.specs.StoreText.{StoreSays}
 use Rattle.record_store.specs.declared.record.Record.{Record}
-use Rattle.command_ends.specs.Ends.{FinishesOnly}
+use Rattle.command_ends.specs.inside.Ends.{FinishesOnly}
 use Rattle.command_ends.specs.Outputs.{writes}
 use Rattle.command_ends.specs.Readings.{Reading, Done}
 use Rattle.command_ends.specs.Stops.{IsInput, StopsReading}

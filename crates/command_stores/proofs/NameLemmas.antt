@@ -5,7 +5,8 @@ use Rattle.mm_base.specs.Disk.{DiskView}
 use Rattle.command_ends.specs.Causes.{Text, status_of_refusal}
 use Rattle.command_ends.specs.Names.{first_taken, refused_name, refused_names}
 use Rattle.command_ends.specs.Readings.{Reading, unless}
-use Rattle.command_ends.specs.Stops.{ReadsOn, RefusesText}
+use Rattle.command_ends.specs.Stops.{RefusesText}
+use Rattle.command_ends.specs.inside.Stops.{ReadsOn}
 use Rattle.command_ends.specs.declared.cause.Cause.{Cause}
 use Rattle.command_ends.specs.declared.cause.Cause.TheVariants.{Refused}
 use Rattle.command_ends.specs.declared.cause.Refusal.{Refusal}

@@ -9,10 +9,12 @@ use Rattle.record_store.specs.declared.errors.PairError.{PairError}
 use Rattle.record_store.specs.declared.errors.PairError.TheVariants as errors
 use Rattle.record_store.proofs.PairLaws.{one_pairing}
 use Rattle.command_ends.specs.Causes.{Text, status_of_refusal}
-use Rattle.command_ends.specs.Ends.{FinishesOnly}
+use Rattle.command_ends.specs.inside.Ends.{FinishesOnly}
 use Rattle.command_ends.specs.Outputs.{writes}
-use Rattle.command_ends.specs.Readings.{Reading, Done, Reads, Judges, Leads}
-use Rattle.command_ends.specs.Stops.{IsInput, RefusesBy, StopsAtFile, StopsReading}
+use Rattle.command_ends.specs.Readings.{Reading, Done, Reads, Judges}
+use Rattle.command_ends.specs.inside.Readings.{Leads}
+use Rattle.command_ends.specs.Stops.{IsInput, StopsAtFile, StopsReading}
+use Rattle.command_ends.specs.inside.Stops.{RefusesBy}
 use Rattle.command_ends.specs.declared.cause.Cause.{Cause}
 use Rattle.command_ends.specs.declared.cause.Cause.TheVariants.{Refused}
 use Rattle.command_ends.specs.declared.cause.Refusal.{Refusal}

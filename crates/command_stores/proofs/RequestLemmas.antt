@@ -20,7 +20,8 @@ use Rattle.http_frame.specs.declared.messages.RequestHead.{RequestHead}
 use Rattle.mm_base.specs.Disk.{DiskView}
 use Rattle.command_ends.specs.Causes.{Text, status_of_refusal}
 use Rattle.command_ends.specs.Readings.{Done, Judges}
-use Rattle.command_ends.specs.Stops.{IsInput, RefusesBy, StopsAtFile, StopsReading}
+use Rattle.command_ends.specs.Stops.{IsInput, StopsAtFile, StopsReading}
+use Rattle.command_ends.specs.inside.Stops.{RefusesBy}
 use Rattle.command_ends.specs.declared.cause.Cause.{Cause}
 use Rattle.command_ends.specs.declared.cause.Cause.TheVariants.{Refused}
 use Rattle.command_ends.specs.declared.cause.Refusal.{Refusal}

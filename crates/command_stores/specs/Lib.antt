@@ -4,4 +4,4 @@ pub mod Requests
 pub mod Recording
 pub mod Matching
 pub mod Migrating
-pub mod View
+pub mod inside

@@ -5,13 +5,14 @@ ghost use Rattle.mm_base.specs.Disk.{OnlyReads};
 ghost use Rattle.mm_base.specs.Sink.{CountsSinkFaults};
 ghost use Rattle.option_words.specs.View.{match_texts_of};
 ghost use Rattle.command_ends.specs.Answers.{CountsDisk, cause_in};
-ghost use Rattle.command_ends.specs.Ends.{Ends, FinishesOnly, offline};
+ghost use Rattle.command_ends.specs.Ends.{Ends, offline};
+ghost use Rattle.command_ends.specs.inside.Ends.{FinishesOnly};
 ghost use Rattle.command_ends.specs.Outputs.{prints};
 ghost use Rattle.command_ends.specs.Stops.{StopsReading};
 ghost use Rattle.command_ends.specs.Works.{only};
 ghost use Rattle.command_stores.specs.Matching.{GivesMatch, HasNumber, match_job_of, match_reading, match_with};
 ghost use Rattle.command_stores.specs.Matching.{match_words, number_text};
-ghost use Rattle.command_stores.specs.View.{match_values};
+ghost use Rattle.command_stores.specs.inside.Values.{match_values};
 
 use crate::port::given_port;
 use crate::request_file::load_request;

@@ -4,13 +4,15 @@ ghost use Rattle.std.specs.Option.{option_map};
 ghost use Rattle.mm_base.specs.Disk.{DiskView, OnlyReads};
 ghost use Rattle.mm_base.specs.Sink.{SinkView};
 ghost use Rattle.command_ends.specs.Answers.{CountsDisk, cause_in};
-ghost use Rattle.command_ends.specs.Ends.{Ends, FinishesOnly, offline};
+ghost use Rattle.command_ends.specs.Ends.{Ends, offline};
+ghost use Rattle.command_ends.specs.inside.Ends.{FinishesOnly};
 ghost use Rattle.command_ends.specs.Outputs.{writes};
-ghost use Rattle.command_ends.specs.Stops.{ReadsOn, StopsReading};
+ghost use Rattle.command_ends.specs.Stops.{StopsReading};
+ghost use Rattle.command_ends.specs.inside.Stops.{ReadsOn};
 ghost use Rattle.command_ends.specs.Works.{only};
 ghost use Rattle.command_stores.specs.Migrating.{GivesMigrate, migrate_inputs, migrate_job_of, migrate_reading};
 ghost use Rattle.command_stores.specs.Migrating.{migrate_words};
-ghost use Rattle.command_stores.specs.View.{migrate_values};
+ghost use Rattle.command_stores.specs.inside.Values.{migrate_values};
 ghost use Rattle.command_stores.specs.Written.{store_file};
 
 use crate::names::check_names;

@@ -2,7 +2,8 @@
 ghost use Rattle.std.specs.Prelude.{◌≡◌, ◌≢◌, ℕ, false, List, [], None, IfOk, IfErr};
 ghost use Rattle.mm_base.specs.Disk.{OnlyReads};
 ghost use Rattle.command_ends.specs.Readings.{Done};
-ghost use Rattle.command_ends.specs.Stops.{IsInput, RefusesBy, StopsReading};
+ghost use Rattle.command_ends.specs.Stops.{IsInput, StopsReading};
+ghost use Rattle.command_ends.specs.inside.Stops.{RefusesBy};
 ghost use Rattle.command_stores.specs.Requests.{IsOneRequest, RefusesRequest, RequestVerdict, reading_request};
 ghost use Rattle.command_stores.specs.declared.request_file.RequestError.TheVariants as errors;
 

@@ -4,7 +4,8 @@ use Rattle.std.proofs.Common.{append_assoc, arith, length-append}
 use Rattle.std.proofs.lemmas.List.{append-nil, take_all}
 use Rattle.mm_base.specs.Files.{Files, IfHeld}
 use Rattle.mm_base.proofs.Pieces.{take-append-take}
-use Rattle.file_pieces.specs.Pieces.{FrontIsRead, HasSize, PieceIsRead, WholeIsRead}
+use Rattle.file_pieces.specs.Pieces.{FrontIsRead, HasSize}
+use Rattle.file_pieces.specs.inside.Pieces.{PieceIsRead, WholeIsRead}
 
 module _ {R : Type 0} (has_read : List ℕ → R → Type 0) (told : Option Files) (name : List ℕ) where
   pub none_read : (read : R) → FrontIsRead has_read told name 0 read read

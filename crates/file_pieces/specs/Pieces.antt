@@ -18,26 +18,10 @@ pub record IsPiece (told : Option Files) (name : List ℕ) (at read : ℕ) (byte
   pub held : IfHeld told name (λ whole. bytes ≡ take read (drop at whole))
   pub end : read ≡ 0 → IfHeld told name (λ whole. length whole ≤ at)
 
--- So many bytes of a file were read from this place on.
-pub record PieceIsRead {R : Type 0} (has_read : List ℕ → R → Type 0) (told : Option Files) (name : List ℕ)
-    (at read : ℕ) (old new : R) : Type 0 where
-  pub bytes : List ℕ
-  pub are : IsPiece told name at read bytes
-  pub goes_on : GoesOnBy has_read bytes old new
-
 -- The first bytes of a file were read, up to this size.
 pub record FrontIsRead {R : Type 0} (has_read : List ℕ → R → Type 0) (told : Option Files) (name : List ℕ) (size : ℕ)
     (old new : R) : Type 0 where
   pub bytes : List ℕ
   pub few : length bytes ≤ size
   pub held : IfHeld told name (λ whole. bytes ≡ take size whole)
-  pub goes_on : GoesOnBy has_read bytes old new
-
--- All bytes of a file were read.
-pub record WholeIsRead {R : Type 0} (has_read : List ℕ → R → Type 0) (told : Option Files) (name : List ℕ)
-    (old new : R) : Type 0 where
-  pub bytes : List ℕ
-  pub few : length bytes ≤ 67108864
-  pub there : IsThere told name
-  pub held : IfHeld told name (λ whole. bytes ≡ whole)
   pub goes_on : GoesOnBy has_read bytes old new

@@ -2,7 +2,8 @@
 ghost use Rattle.std.specs.Prelude.{◌≡◌, ◌+◌, ◌≤◌, ◌<◌, length, take, IfOk, OnOk, IsErrOf};
 ghost use Rattle.mm_base.specs.Files.{IfThere, IsAbsent};
 ghost use Rattle.mm_base.specs.Disk.{HasReadCause, OnlyReads};
-ghost use Rattle.file_pieces.specs.Pieces.{FrontIsRead, IsPiece, PieceIsRead};
+ghost use Rattle.file_pieces.specs.Pieces.{FrontIsRead, IsPiece};
+ghost use Rattle.file_pieces.specs.inside.Pieces.{PieceIsRead};
 
 use mm_base::{Disk, DiskError};
 use std::alloc::Global;

@@ -7,7 +7,8 @@ use Rattle.httparse.proofs.GrammarLemmas.{request_unique}
 use Rattle.http_frame.specs.Window.{NeverHas}
 use Rattle.http_frame.specs.Forms.{request_form, said_of_request}
 use Rattle.http_frame.specs.Messages.{IsRequest}
-use Rattle.http_frame.specs.Frames.{Frames, FindSays, NextSays, MoreCause, FaultCause, GivesFault, GivesMore}
+use Rattle.http_frame.specs.Frames.{Frames, NextSays, MoreCause, FaultCause, GivesFault, GivesMore}
+use Rattle.http_frame.specs.inside.Frames.{FindSays}
 use Rattle.http_frame.specs.HeadsAlone.{head_alone, NextHeadSays, GivesHead}
 use Rattle.http_frame.specs.declared.head.Found.{Found}
 use Rattle.http_frame.specs.declared.errors.Step.{Step}

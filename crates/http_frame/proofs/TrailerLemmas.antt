@@ -16,7 +16,7 @@ use Rattle.httparse.specs.Grammar.{Field, LineEnd, lf, crlf, IsField, print_fiel
 use Rattle.httparse.specs.Grammar.{is_value_byte, HasNoSection, MayBecomeSection}
 use Rattle.httparse.proofs.GrammarLemmas.{section_unique}
 use Rattle.http_frame.specs.Window.{Section, IsSection, print_tree, Reads, line_feeds}
-use Rattle.http_frame.specs.Steps.{last_line, lacking, HasNoTrailers, NeverHasTrailers, MayBecomeTrailers}
+use Rattle.http_frame.specs.inside.Steps.{last_line, lacking, HasNoTrailers, NeverHasTrailers, MayBecomeTrailers}
 use Rattle.http_frame.proofs.WindowLemmas.{take_past, line_feeds-append, section_lines, ends_in_feed, in_front}
 
 abbrev pub has : ℕ → List ℕ → Bool

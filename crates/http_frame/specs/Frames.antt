@@ -1,14 +1,13 @@
 -- The state of a reader of messages, and what its answers say.
-use Rattle.std.specs.Prelude.{◌≡◌, ◌⊎◌, ℕ, ◌+◌, ◌≤◌, length, Bool, List, ◌++◌, drop, take, Option, Some, None, Result}
+use Rattle.std.specs.Prelude.{◌≡◌, ◌⊎◌, ℕ, Bool, List, ◌++◌, drop, Option, Some, None, Result}
 use Rattle.std.specs.Prelude.{Ok, Err}
 use Rattle.http_frame.specs.Forms.{Form}
 use Rattle.http_frame.specs.Heads.{AwaitsHead, IsHeadRead, HeadFault}
-use Rattle.http_frame.specs.Bodies.{BodyCause, MayGoOn}
+use Rattle.http_frame.specs.Bodies.{BodyCause}
 use Rattle.http_frame.specs.Messages.{IsMessage, MayStop}
 use Rattle.http_frame.specs.declared.body.BodyStep.{BodyStep}
 use Rattle.http_frame.specs.declared.body.BodyStep.TheVariants as bodies
 use Rattle.http_frame.specs.declared.framing.Framing.{Framing}
-use Rattle.text_base.specs.declared.out_of_memory.OutOfMemory.{OutOfMemory}
 use Rattle.http_frame.specs.declared.errors.Step.{Step}
 use Rattle.http_frame.specs.declared.errors.Step.TheVariants as steps
 use Rattle.http_frame.specs.declared.errors.FrameFault.{FrameFault}
@@ -16,10 +15,6 @@ use Rattle.http_frame.specs.declared.errors.FrameFault.TheVariants as faults
 use Rattle.http_frame.specs.declared.errors.FrameError.{FrameError}
 use Rattle.http_frame.specs.declared.errors.FrameError.TheVariants.{BadHead, HeadTooLong, TooManyHeaders, BadLength}
 use Rattle.http_frame.specs.declared.errors.FrameError.TheVariants.{BadCoding, BadChunk, BodyTooLong, Refused}
-use Rattle.http_frame.specs.declared.pending.Pending.{Pending}
-use Rattle.http_frame.specs.declared.head.Found.{Found}
-use Rattle.http_frame.specs.declared.pending.Outcome.{Outcome}
-use Rattle.http_frame.specs.declared.pending.Outcome.TheVariants as outcomes
 
 -- what contracts see of a reader: the bytes that no message has taken, whether the input has ended,
 -- and the error that was answered
@@ -32,27 +27,6 @@ pub record Frames : Type 0 where
 pub record StaysOpen (old new : Frames) : Type 0 where
   pub was : old.failed ≡ None
   pub same : new ≡ old
-
--- going on with a body
-pub record KeepsPlace {Said : Type 0} (p : Pending Said) (place : ℕ) (q : Option (Pending Said)) : Type 0 where
-  pub same : q ≡ Some (record { head = p.head; len = p.len; framing = p.framing; place = place })
-
-abbrev pub FinishSays : {Said : Type 0} → Bool → List ℕ → Pending Said → Option (Pending Said) → Outcome Said → Type 0
-FinishSays ended bytes p q (outcomes.Message m) =
-    (q ≡ None) × (m.head ≡ p.head) × (k : ℕ) × (m.len ≡ p.len + k)
-    × BodyCause ended p.framing (drop p.len bytes) (bodies.Whole k)
-FinishSays ended bytes p q outcomes.More = (place : ℕ) × KeepsPlace p place q
-    × BodyCause ended p.framing (drop p.len bytes) (bodies.More place)
-FinishSays ended bytes p q (outcomes.Fault BadHead) = ⊥
-FinishSays ended bytes p q (outcomes.Fault HeadTooLong) = ⊥
-FinishSays ended bytes p q (outcomes.Fault TooManyHeaders) = ⊥
-FinishSays ended bytes p q (outcomes.Fault BadLength) = ⊥
-FinishSays ended bytes p q (outcomes.Fault BadCoding) = ⊥
-FinishSays ended bytes p q (outcomes.Fault BadChunk) = (q ≡ Some p)
-    × BodyCause ended p.framing (drop p.len bytes) bodies.Bad
-FinishSays ended bytes p q (outcomes.Fault BodyTooLong) = (q ≡ Some p)
-    × BodyCause ended p.framing (drop p.len bytes) bodies.TooLong
-FinishSays ended bytes p q (outcomes.Fault Refused) = ⊥
 
 -- the bytes begin with that message
 pub record BeginsMessage {Tree Said Message : Type 0} (form : Form Tree Said Message) (ended : Bool) (bytes : List ℕ)
@@ -82,12 +56,6 @@ pub record TakesMessage {Tree Said Message : Type 0} (form : Form Tree Said Mess
   pub unread : old.unread ≡ form.bytes m ++ new.unread
 
 module _ {Tree Said Message : Type 0} (form : Form Tree Said Message) where
-  -- the reader knows a head, and how far its body was read
-  abbrev pub IsPending : List ℕ → Option (Pending Said) → Type 0
-  IsPending unread None = Unit {0}
-  IsPending unread (Some p) = IsHeadRead form unread p.len p.framing p.head
-      × MayGoOn p.framing (drop p.len unread) p.place
-
   -- no head yet, or a head and less than its body
   abbrev pub MoreCause : Bool → List ℕ → Type 0
   MoreCause ended bytes = AwaitsHead form bytes ⊎ ((place : ℕ) × HasBody form ended bytes (bodies.More place))
@@ -103,27 +71,11 @@ module _ {Tree Said Message : Type 0} (form : Form Tree Said Message) where
   FaultCause ended bytes BodyTooLong = HasBody form ended bytes bodies.TooLong
   FaultCause ended bytes Refused = HeadFault form bytes Refused
 
-  abbrev pub AdvanceSays : Bool → List ℕ → Option (Pending Said) → Result (Outcome Said) OutOfMemory → Type 0
-  AdvanceSays ended bytes p (Ok (outcomes.Message m)) = (p ≡ None) × (m.len ≤ length bytes)
-      × BeginsMessage form ended bytes m.head (take m.len bytes)
-  AdvanceSays ended bytes p (Ok outcomes.More) = IsPending bytes p × MoreCause ended bytes
-  AdvanceSays ended bytes p (Ok (outcomes.Fault e)) = IsPending bytes p × FaultCause ended bytes e
-  AdvanceSays ended bytes p (Err e) = IsPending bytes p
-
   pub record Fails (old : Frames) (e : FrameError) (new : Frames) : Type 0 where
     pub unread : new.unread ≡ old.unread
     pub ended : new.ended ≡ old.ended
     pub failed : new.failed ≡ Some e
     pub cause : (old.failed ≡ Some e) ⊎ ((old.failed ≡ None) × FaultCause old.ended old.unread e)
-
-  -- what is at the front, which stays there
-  abbrev pub FindSays : Frames → Result (Step (Found Said)) FrameFault → Frames → Type 0
-  FindSays old (Ok (steps.Message m)) new =
-      StaysOpen old new × (m.len ≤ length old.unread)
-      × BeginsMessage form old.ended old.unread m.head (take m.len old.unread)
-  FindSays old (Ok steps.More) new = StaysOpen old new × MoreCause old.ended old.unread
-  FindSays old (Err (faults.Frame e)) new = Fails old e new
-  FindSays old (Err faults.OutOfMemory) new = StaysOpen old new
 
   -- what each answer of `next` says
   abbrev pub NextSays : Frames → Result (Step Message) FrameFault → Frames → Type 0

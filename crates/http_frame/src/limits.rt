@@ -1,7 +1,7 @@
 // The limits of heads.
 ghost use Rattle.std.specs.Prelude.{◌≡◌, take};
 ghost use Rattle.http_frame.specs.Window.{line_feeds as feeds_of};
-ghost use Rattle.http_frame.specs.Heads.{LimitCause};
+ghost use Rattle.http_frame.specs.inside.Heads.{LimitCause};
 
 use crate::errors::FrameError;
 

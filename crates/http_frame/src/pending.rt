@@ -1,7 +1,7 @@
 // One message, by what is known of it.
 ghost use Rattle.std.specs.Prelude.{◌≡◌, ◌≤◌, ℕ, length, drop};
-ghost use Rattle.http_frame.specs.Bodies.{MayGoOn};
-ghost use Rattle.http_frame.specs.Frames.{FinishSays};
+ghost use Rattle.http_frame.specs.inside.Bodies.{MayGoOn};
+ghost use Rattle.http_frame.specs.inside.Frames.{FinishSays};
 
 use crate::body::{BodyStep, read_body};
 use crate::chunks::from_place;

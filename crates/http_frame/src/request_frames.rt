@@ -3,16 +3,16 @@ ghost use Rattle.std.specs.Prelude.{◌≡◌, ◌≤◌, ◌++◌, ℕ, List, [
 ghost use Rattle.httparse.specs.Grammar.{RequestHead as Head, IsRequestHead, print_request};
 ghost use Rattle.http_frame.specs.Window.{NeverHas};
 ghost use Rattle.http_frame.specs.Forms.{request_form};
+ghost use Rattle.http_frame.specs.Forms.{Form};
 ghost use Rattle.http_frame.specs.Messages.{IsRequest};
-ghost use Rattle.http_frame.specs.Runs.{Messages};
+ghost use Rattle.http_frame.specs.inside.Runs.{Messages};
 ghost use Rattle.http_frame.specs.declared.messages.Request.{Request as RequestValue};
 ghost use Rattle.http_frame.specs.declared.errors.FrameError.{FrameError as ErrorValue};
 ghost use Rattle.http_frame.specs.declared.errors.FrameError.TheVariants.{BadHead};
 ghost use Rattle.http_frame.specs.declared.errors.FrameFault.TheVariants.{Frame};
-ghost use Rattle.http_frame.specs.Frames.{IsPending, AdvanceSays, NextSays, Frames, GivesBytes, GivesFault, GivesMore};
-ghost use Rattle.http_frame.specs.Frames.{FaultCause, MoreCause, FindSays};
+ghost use Rattle.http_frame.specs.Frames.{NextSays, Frames, GivesBytes, GivesFault, GivesMore, FaultCause, MoreCause};
+ghost use Rattle.http_frame.specs.inside.Frames.{IsPending, AdvanceSays, FindSays};
 ghost use Rattle.http_frame.specs.HeadsAlone.{NextHeadSays, GivesHead};
-ghost use Rattle.http_frame.specs.Forms.{Form};
 
 use crate::buffer::Buffer;
 use crate::errors::{FrameError, FrameFault, Step};

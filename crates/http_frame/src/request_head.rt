@@ -5,7 +5,7 @@ ghost use Rattle.httparse.specs.Spans.{span_bytes, IsWithin as IsSpanWithin, IsR
 ghost use Rattle.httparse.specs.Grammar.{RequestHead as Head};
 ghost use Rattle.http_header.specs.HeaderMap.{get_all};
 ghost use Rattle.http_frame.specs.Forms.{request_line, request_said, request_form};
-ghost use Rattle.http_frame.specs.Heads.{SaysHead, HeadCause};
+ghost use Rattle.http_frame.specs.inside.Heads.{SaysHead, HeadCause};
 
 use crate::errors::FrameError;
 use crate::fields::{asks_close, field_map};

@@ -6,8 +6,8 @@ ghost use Rattle.http_frame.specs.Forms.{response_form};
 ghost use Rattle.http_frame.specs.Messages.{IsResponse, MayStop};
 ghost use Rattle.http_frame.specs.declared.errors.FrameError.{FrameError as ErrorValue};
 ghost use Rattle.http_frame.specs.declared.errors.FrameFault.TheVariants.{Frame};
-ghost use Rattle.http_frame.specs.Frames.{IsPending, AdvanceSays, NextSays, Frames, GivesBytes, GivesFault, GivesMore};
-ghost use Rattle.http_frame.specs.Frames.{FaultCause, MoreCause, FindSays};
+ghost use Rattle.http_frame.specs.Frames.{NextSays, Frames, GivesBytes, GivesFault, GivesMore, FaultCause, MoreCause};
+ghost use Rattle.http_frame.specs.inside.Frames.{IsPending, AdvanceSays, FindSays};
 
 use crate::buffer::Buffer;
 use crate::errors::{FrameError, FrameFault, Step};

@@ -7,14 +7,14 @@ use Rattle.packet_record.specs.declared.packet.Timed.{Timed}
 use Rattle.packet_queue.specs.declared.spec.QueueSpec.{QueueSpec}
 use Rattle.packet_record.specs.Packets.{moved_to}
 use Rattle.trace_reader.specs.declared.opportunity.Opportunity.{Opportunity}
-use Rattle.link_core.specs.Stream.{rest, begun}
+use Rattle.link_core.specs.inside.Stream.{rest, begun}
 use Rattle.trace_reader.specs.Orders.{Each, AreRising}
-use Rattle.link_core.specs.Orders.{Rising, Falling, AreFalling}
-use Rattle.link_core.specs.Back.{sent, keep, departures, losses, log_of}
-use Rattle.link_core.specs.State.{Tied}
+use Rattle.link_core.specs.inside.Orders.{Rising, Falling, AreFalling}
+use Rattle.link_core.specs.inside.Back.{sent, keep, departures, losses, log_of}
+use Rattle.link_core.specs.inside.State.{Tied}
 use Rattle.packet_record.specs.Moments.{AreFrom}
 use Rattle.packet_record.proofs.MomentsLemmas.{from-append}
-use Rattle.link_core.specs.Promises.{Extends}
+use Rattle.link_core.specs.inside.Promises.{Extends}
 use Rattle.link_core.proofs.SentLemmas.{each_map}
 use Rattle.link_core.proofs.TiedLemmas.{tied_burn, tied_arrive}
 use Rattle.link_core.proofs.SoundLemmas.{reverse_push}

@@ -7,11 +7,11 @@ use Rattle.packet_record.specs.declared.packet.Timed.{Timed}
 use Rattle.packet_record.specs.Packets.{moved_to}
 use Rattle.trace_reader.specs.declared.opportunity.Opportunity.{Opportunity}
 use Rattle.trace_reader.proofs.ListLemmas.{slice_get-front, slice_get-next, some_at}
-use Rattle.link_core.specs.Orders.{AreFalling}
-use Rattle.link_core.specs.Stream.{rest, ending}
+use Rattle.link_core.specs.inside.Orders.{AreFalling}
+use Rattle.link_core.specs.inside.Stream.{rest, ending}
 use Rattle.link_core.specs.Links.{sent_with, sums_sent, first_reaching, first_sent, departure_at, departing, leaving}
 use Rattle.link_core.specs.Links.{is_number, is_no_number}
-use Rattle.link_core.specs.Back as back
+use Rattle.link_core.specs.inside.Back as back
 use Rattle.link_core.proofs.Least as least
 use Rattle.link_core.proofs.SentLemmas as sums
 use Rattle.link_core.proofs.StreamLemmas.{rest_over, rest_stops, rest_zero, ending_in, ending_before, ending_after}

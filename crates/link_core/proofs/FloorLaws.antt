@@ -13,9 +13,9 @@ use Rattle.trace_reader.specs.declared.opportunity.Opportunity.{Opportunity}
 use Rattle.trace_reader.specs.Orders.{Each, AreRising}
 use Rattle.trace_reader.proofs.OrderLemmas.{each_map, counted, length-up_to}
 use Rattle.trace_reader.proofs.ListLemmas.{some_at, slice_get-take}
-use Rattle.link_core.specs.Orders.{AreFalling}
+use Rattle.link_core.specs.inside.Orders.{AreFalling}
 use Rattle.link_core.specs.Links.{keep_with, drop_with, lost_from, link_out, link_lost}
-use Rattle.link_core.specs.Back as back
+use Rattle.link_core.specs.inside.Back as back
 use Rattle.link_core.specs.Promises.{count_to, floor_of}
 use Rattle.link_core.proofs.SoundLemmas.{each_reverse, drop_one}
 use Rattle.link_core.proofs.KeepLemmas.{up_to_all}

@@ -7,7 +7,7 @@ use Rattle.shell_log.specs.declared.entry.Entry.{Entry}
 use Rattle.shell_log.specs.Entries.{AreUpTo as EntriesUpTo}
 use Rattle.trace_reader.specs.declared.opportunity.Opportunity.{Opportunity}
 use Rattle.trace_reader.specs.Orders.{Each}
-use Rattle.link_core.specs.Sound.{Sound}
+use Rattle.link_core.specs.inside.Sound.{Sound}
 use Rattle.link_core.proofs.SoundLemmas.{log_before_burn, log_before_enter}
 
 entries_back : (m : ℕ) (front es : List Entry) → EntriesUpTo m (front ++ es) → EntriesUpTo m es

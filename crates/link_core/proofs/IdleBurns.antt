@@ -7,8 +7,8 @@ use Rattle.packet_queue.specs.declared.spec.QueueSpec.{QueueSpec}
 use Rattle.shell_log.specs.declared.entry.Entry.{Entry}
 use Rattle.trace_reader.specs.declared.opportunity.Opportunity.{Opportunity}
 use Rattle.trace_reader.proofs.ListLemmas.{some_at}
-use Rattle.link_core.specs.State.{pending}
-use Rattle.link_core.specs.Sound.{Sound}
+use Rattle.link_core.specs.inside.State.{pending}
+use Rattle.link_core.specs.inside.Sound.{Sound}
 use Rattle.link_core.proofs.SoundLemmas.{sound_burn}
 
 idle_one : (q : QueueSpec) (opps : List Opportunity) (b : ℕ) (arrivals : List Timed) (used : ℕ)

@@ -7,11 +7,11 @@ use Rattle.packet_queue.specs.declared.spec.QueueSpec.{QueueSpec}
 use Rattle.shell_log.specs.declared.entry.Entry.TheVariants as entries
 use Rattle.trace_reader.specs.declared.opportunity.Opportunity.{Opportunity}
 use Rattle.trace_reader.specs.Orders.{Each, AreRising}
-use Rattle.link_core.specs.Orders.{Falling, AreFalling}
-use Rattle.link_core.specs.Stream.{rest}
+use Rattle.link_core.specs.inside.Orders.{Falling, AreFalling}
+use Rattle.link_core.specs.inside.Stream.{rest}
 use Rattle.link_core.specs.Links.{keep, link_lost, departing, link_out, leaving, is_number, is_no_number, link_inside}
 use Rattle.link_core.specs.Links.{Lines, departure_line, opportunity_lines, arrival_lines, merged, entries_of, link_log}
-use Rattle.link_core.specs.Back as back
+use Rattle.link_core.specs.inside.Back as back
 use Rattle.link_core.proofs.SentLemmas.{each_append}
 use Rattle.link_core.proofs.LeastLaws.{departures_least}
 use Rattle.link_core.proofs.Turned.{reverse_cons, keep_back, lost_back, arrivals_back}

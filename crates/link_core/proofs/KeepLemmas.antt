@@ -10,10 +10,10 @@ use Rattle.packet_queue.specs.Queues.{fits, fitting, enqueued, enqueued_by, drop
 use Rattle.trace_reader.specs.declared.opportunity.Opportunity.{Opportunity}
 use Rattle.link_core.specs.Stream.{waiting, ahead}
 use Rattle.trace_reader.specs.Orders.{Each}
-use Rattle.link_core.specs.Orders.{Rising, Falling}
+use Rattle.link_core.specs.inside.Orders.{Rising, Falling}
 use Rattle.trace_reader.specs.Opps.{up_to}
 use Rattle.link_core.specs.Links.{below}
-use Rattle.link_core.specs.Back.{sent, entered, keep, dropped_at, losses}
+use Rattle.link_core.specs.inside.Back.{sent, entered, keep, dropped_at, losses}
 use Rattle.link_core.proofs.StreamLemmas.{ahead_waiting}
 use Rattle.link_core.proofs.SentLemmas.{each_append, each_front, each_back, each_map, below_none, none_below}
 

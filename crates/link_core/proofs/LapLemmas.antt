@@ -5,7 +5,7 @@ use Rattle.std.proofs.Math.Nat.{mul-div_cancel, div-le_self, mul-le-mul_right, z
 use Rattle.trace_reader.specs.declared.opportunity.Opportunity.{Opportunity}
 use Rattle.trace_reader.specs.Opps.{last_moment, later, entry}
 use Rattle.trace_reader.proofs.Laps.{entry_in_lap}
-use Rattle.link_core.specs.Laps.{IsLap}
+use Rattle.link_core.specs.inside.Laps.{IsLap}
 
 pub first_lap : (trace : List Opportunity) → IsLap trace 0 0
 first_lap trace =

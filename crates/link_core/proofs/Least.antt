@@ -3,7 +3,7 @@ use Rattle.std.specs.Prelude.{ℕ, ◌+◌, List, [], ◌∷◌, Option, Some, N
 use Rattle.packet_record.specs.declared.packet.Timed.{Timed}
 use Rattle.packet_record.specs.Packets.{moved_to}
 use Rattle.trace_reader.specs.declared.opportunity.Opportunity.{Opportunity}
-use Rattle.link_core.specs.Back.{sent}
+use Rattle.link_core.specs.inside.Back.{sent}
 
 abbrev pub or_then : Option ℕ → Option ℕ → Option ℕ
 or_then None o = o

@@ -10,9 +10,10 @@ use Rattle.packet_record.specs.Packets.{moved_to}
 use Rattle.packet_queue.specs.Queues.{fits}
 use Rattle.packet_queue.proofs.Sizes.{by_infinite, by_tail_in, by_tail_out}
 use Rattle.trace_reader.specs.declared.opportunity.Opportunity.{Opportunity}
-use Rattle.link_core.specs.Stream.{waiting, ahead, ending}
-use Rattle.link_core.specs.Orders.{AreFalling}
-use Rattle.link_core.specs.Back.{sent, ended, departures, entered}
+use Rattle.link_core.specs.Stream.{waiting, ahead}
+use Rattle.link_core.specs.inside.Stream.{ending}
+use Rattle.link_core.specs.inside.Orders.{AreFalling}
+use Rattle.link_core.specs.inside.Back.{sent, ended, departures, entered}
 use Rattle.link_core.proofs.Least.{or_then, moment_sent, onto_some, departing}
 use Rattle.link_core.proofs.StreamLemmas.{ahead_waiting, ending_in, ending_before, ending_after}
 use Rattle.link_core.proofs.SentLemmas.{sent_more}

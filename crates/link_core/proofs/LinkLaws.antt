@@ -15,9 +15,10 @@ use Rattle.trace_reader.specs.declared.opportunity.Opportunity.{Opportunity}
 use Rattle.trace_reader.specs.Orders.{Each, AreRising}
 use Rattle.trace_reader.proofs.OrderLemmas.{each_map, counted}
 use Rattle.trace_reader.proofs.ListLemmas.{some_at}
-use Rattle.link_core.specs.Orders.{Rising, Falling}
+use Rattle.link_core.specs.inside.Orders.{Rising, Falling}
 use Rattle.link_core.specs.Links.{link_out, link_lost, link_log}
-use Rattle.link_core.specs.Promises.{count_to, AreCovered, floor_of, Extends}
+use Rattle.link_core.specs.Promises.{count_to, AreCovered, floor_of}
+use Rattle.link_core.specs.inside.Promises.{Extends}
 use Rattle.link_core.proofs.SentLemmas.{each_append, each_front, each_back}
 use Rattle.link_core.proofs.SoundLemmas.{each_reverse, each_up_to, drop_one}
 use Rattle.link_core.proofs.Turned.{reverse_cons}

@@ -6,7 +6,7 @@ use Rattle.packet_queue.specs.declared.spec.QueueSpec.{QueueSpec}
 use Rattle.trace_reader.specs.declared.opportunity.Opportunity.{Opportunity}
 use Rattle.trace_reader.specs.Orders.{Each}
 use Rattle.link_core.specs.Links.{Lines, drop_line}
-use Rattle.link_core.specs.Back.{opportunity_lines, arrival_lines, dropped_at, keep, merged}
+use Rattle.link_core.specs.inside.Back.{opportunity_lines, arrival_lines, dropped_at, keep, merged}
 use Rattle.shell_log.specs.declared.entry.Entry.TheVariants as entries
 use Rattle.link_core.proofs.KeepLemmas.{dropped_burn}
 

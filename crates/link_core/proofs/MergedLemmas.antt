@@ -7,7 +7,7 @@ use Rattle.std.proofs.lemmas.List.Elements.{filter-append}
 use Rattle.shell_log.specs.declared.entry.Entry.{Entry}
 use Rattle.trace_reader.specs.Orders.{Each}
 use Rattle.link_core.specs.Links.{Lines, merged, entries_of}
-use Rattle.link_core.specs.Back as back
+use Rattle.link_core.specs.inside.Back as back
 use Rattle.link_core.proofs.SentLemmas.{each_append}
 use Rattle.link_core.proofs.Turned.{reverse_cons}
 

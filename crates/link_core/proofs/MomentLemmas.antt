@@ -10,7 +10,8 @@ use Rattle.shell_log.proofs.LogLemmas.{up_to_append}
 use Rattle.trace_reader.specs.declared.opportunity.Opportunity.{Opportunity}
 use Rattle.trace_reader.specs.Orders.{Each}
 use Rattle.link_core.specs.Links.{Lines, departure_line, drop_line_by}
-use Rattle.link_core.specs.Back.{keep, ended, dropped_at, opportunity_lines, arrival_lines, merged, in_order, log_of}
+use Rattle.link_core.specs.inside.Back.{keep, ended, dropped_at, opportunity_lines, arrival_lines, merged, in_order}
+use Rattle.link_core.specs.inside.Back.{log_of}
 use Rattle.link_core.proofs.SentLemmas.{each_append}
 
 each_filter : {X : Type 0} (P : X → Type 0) (test : X → Bool) (xs : List X) → Each P xs → Each P (filter test xs)

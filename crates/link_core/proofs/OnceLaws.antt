@@ -8,13 +8,14 @@ use Rattle.packet_queue.specs.declared.spec.QueueKind.{QueueKind}
 use Rattle.packet_queue.specs.declared.spec.QueueKind.TheVariants.{Infinite, DropTail, DropHead}
 use Rattle.packet_queue.specs.declared.spec.QueueSpec.{QueueSpec}
 use Rattle.packet_record.specs.Packets.{moved_to}
+use Rattle.packet_record.specs.Packets.{number}
 use Rattle.packet_queue.specs.Queues.{fits, fitting, excess, enqueued, enqueued_by, dropped_by}
 use Rattle.trace_reader.specs.declared.opportunity.Opportunity.{Opportunity}
-use Rattle.link_core.specs.Stream.{carried, rest, waiting, ahead, ending}
-use Rattle.link_core.specs.Orders.{AreFalling}
+use Rattle.link_core.specs.Stream.{waiting, ahead}
+use Rattle.link_core.specs.inside.Stream.{carried, rest, ending}
+use Rattle.link_core.specs.inside.Orders.{AreFalling}
 use Rattle.trace_reader.specs.Opps.{up_to}
-use Rattle.link_core.specs.Back.{sent, keep, dropped_at, losses, ended, departures}
-use Rattle.packet_record.specs.Packets.{number}
+use Rattle.link_core.specs.inside.Back.{sent, keep, dropped_at, losses, ended, departures}
 use Rattle.link_core.proofs.StreamLemmas.{carried_over, carried_stops, rest_over, rest_stops, ending_in, ending_before}
 use Rattle.link_core.proofs.StreamLemmas.{ending_after, ending_none, ending_first, ahead_waiting}
 use Rattle.link_core.proofs.SentLemmas.{sent_more}

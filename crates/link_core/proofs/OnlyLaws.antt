@@ -10,10 +10,11 @@ use Rattle.packet_queue.specs.declared.spec.QueueSpec.{QueueSpec}
 use Rattle.shell_log.specs.declared.entry.Entry.{Entry}
 use Rattle.trace_reader.specs.declared.opportunity.Opportunity.{Opportunity}
 use Rattle.trace_reader.specs.Orders.{Each, AreRising}
-use Rattle.link_core.specs.Orders.{Falling}
+use Rattle.link_core.specs.inside.Orders.{Falling}
 use Rattle.link_core.specs.Promises.{count_to, floor_of}
-use Rattle.link_core.specs.Sound.{Sound}
-use Rattle.link_core.specs.View.{Span, span_opps, Link, out_of, lost_of, log_of, OnlyGoesOn}
+use Rattle.link_core.specs.inside.Sound.{Sound}
+use Rattle.link_core.specs.View.{Link, out_of, lost_of, log_of, OnlyGoesOn}
+use Rattle.link_core.specs.views.Span.{Span, span_opps}
 use Rattle.link_core.proofs.SoundLemmas.{each_reverse, each_up_to}
 use Rattle.link_core.proofs.Turned.{reverse_cons}
 use Rattle.link_core.proofs.LinkLaws.{LinkGoesOn, goes_on, early_burnt}

@@ -12,11 +12,11 @@ use Rattle.trace_reader.specs.Orders.{Each, AreRising}
 use Rattle.link_core.specs.Links.{link_out, link_log}
 use Rattle.link_core.specs.Promises.{count_to}
 use Rattle.link_core.specs.declared.parts.Parts.{Parts}
-use Rattle.link_core.specs.Written.{written}
-use Rattle.link_core.specs.View.{Span, span_opps}
-use Rattle.link_core.specs.Sound.{Sound, Gone, IsSoundAfter}
-use Rattle.link_core.specs.Play.{IsInTime, IsPlayable, CanPlay, all_arrivals, work, rest_from, rest_of, without_last}
-use Rattle.link_core.specs.Play.{gone_of}
+use Rattle.link_core.specs.inside.Written.{written}
+use Rattle.link_core.specs.views.Span.{Span, span_opps}
+use Rattle.link_core.specs.inside.Sound.{Sound, Gone, IsSoundAfter}
+use Rattle.link_core.specs.inside.Play.{IsInTime, IsPlayable, CanPlay, all_arrivals, work, without_last, gone_of}
+use Rattle.link_core.specs.views.Play.{rest_from, rest_of}
 use Rattle.link_core.proofs.SentLemmas.{each_map}
 use Rattle.link_core.proofs.OppsLemmas.{opps_within}
 use Rattle.link_core.proofs.FloorLaws.{link_all_at_horizon}

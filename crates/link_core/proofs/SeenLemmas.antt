@@ -7,9 +7,9 @@ use Rattle.shell_log.specs.declared.entry.Entry.{Entry}
 use Rattle.trace_reader.specs.declared.opportunity.Opportunity.{Opportunity}
 use Rattle.trace_reader.specs.Orders.{AreRising}
 use Rattle.link_core.specs.Links.{link_out, link_lost, link_log, link_inside}
-use Rattle.link_core.specs.Written.{written}
-use Rattle.link_core.specs.State.{pending}
-use Rattle.link_core.specs.Sound.{Sound}
+use Rattle.link_core.specs.inside.Written.{written}
+use Rattle.link_core.specs.inside.State.{pending}
+use Rattle.link_core.specs.inside.Sound.{Sound}
 use Rattle.link_core.proofs.SentLemmas.{each_front}
 use Rattle.link_core.proofs.InOrder.{out_is, lost_is, log_is, inside_is}
 

@@ -4,11 +4,11 @@ use Rattle.std.proofs.lemmas.Bool.{cases_lt, lt-ltb, le-ltb}
 use Rattle.packet_record.specs.declared.packet.Timed.{Timed}
 use Rattle.packet_record.specs.Packets.{bytes, moved_to}
 use Rattle.trace_reader.specs.declared.opportunity.Opportunity.{Opportunity}
-use Rattle.link_core.specs.Stream.{ending}
+use Rattle.link_core.specs.inside.Stream.{ending}
 use Rattle.trace_reader.specs.Orders.{Each}
-use Rattle.link_core.specs.Orders.{Rising, AreFalling}
+use Rattle.link_core.specs.inside.Orders.{Rising, AreFalling}
 use Rattle.link_core.specs.Links.{below, departure_line, Lines}
-use Rattle.link_core.specs.Back.{sent, ended, departures, opportunity_lines}
+use Rattle.link_core.specs.inside.Back.{sent, ended, departures, opportunity_lines}
 use Rattle.shell_log.specs.declared.entry.Entry.TheVariants as entries
 use Rattle.link_core.proofs.StreamLemmas.{ending_same}
 

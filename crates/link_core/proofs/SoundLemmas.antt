@@ -9,14 +9,14 @@ use Rattle.packet_queue.specs.Queues.{enqueued, dropped}
 use Rattle.shell_log.specs.declared.entry.Entry.{Entry}
 use Rattle.shell_log.specs.declared.entry.Entry.TheVariants as entries
 use Rattle.trace_reader.specs.declared.opportunity.Opportunity.{Opportunity}
-use Rattle.link_core.specs.Stream.{carried, rest, begun}
+use Rattle.link_core.specs.inside.Stream.{carried, rest, begun}
 use Rattle.trace_reader.specs.Orders.{Each, AreRising}
-use Rattle.link_core.specs.Orders.{AreFalling}
-use Rattle.link_core.specs.Written.{written}
+use Rattle.link_core.specs.inside.Orders.{AreFalling}
+use Rattle.link_core.specs.inside.Written.{written}
 use Rattle.link_core.specs.Links.{drop_line}
-use Rattle.link_core.specs.Back.{sent, keep, departures, losses, log_of}
-use Rattle.link_core.specs.State.{pending, IsPart, Tied, served_lines}
-use Rattle.link_core.specs.Sound.{Sound}
+use Rattle.link_core.specs.inside.Back.{sent, keep, departures, losses, log_of}
+use Rattle.link_core.specs.inside.State.{pending, IsPart, Tied, served_lines}
+use Rattle.link_core.specs.inside.Sound.{Sound}
 use Rattle.link_core.proofs.SentLemmas.{each_append, each_back, each_map}
 use Rattle.link_core.proofs.MomentLemmas.{log_up_to}
 use Rattle.link_core.proofs.WrittenLemmas.{written_up_to}

@@ -9,15 +9,16 @@ use Rattle.packet_queue.specs.Queues.{enqueued, dropped}
 use Rattle.shell_log.specs.declared.entry.Entry.{Entry}
 use Rattle.shell_log.specs.declared.entry.Entry.TheVariants as entries
 use Rattle.trace_reader.specs.declared.opportunity.Opportunity.{Opportunity}
-use Rattle.link_core.specs.Stream.{carried, rest, begun, waiting, ahead}
+use Rattle.link_core.specs.Stream.{waiting, ahead}
+use Rattle.link_core.specs.inside.Stream.{carried, rest, begun}
 use Rattle.trace_reader.specs.Orders.{Each}
-use Rattle.link_core.specs.Orders.{Rising}
+use Rattle.link_core.specs.inside.Orders.{Rising}
 use Rattle.trace_reader.specs.Opps.{up_to}
 use Rattle.link_core.specs.Links.{below, Lines, drop_line}
-use Rattle.link_core.specs.Back.{sent, entered, keep, dropped_at, losses, ended, departures, opportunity_lines}
-use Rattle.link_core.specs.Back.{arrival_lines, merged, in_order, log_of}
-use Rattle.link_core.specs.Written.{written}
-use Rattle.link_core.specs.State.{Tied, served_lines, pending, IsPart}
+use Rattle.link_core.specs.inside.Back.{sent, entered, keep, dropped_at, losses, ended, departures, opportunity_lines}
+use Rattle.link_core.specs.inside.Back.{arrival_lines, merged, in_order, log_of}
+use Rattle.link_core.specs.inside.Written.{written}
+use Rattle.link_core.specs.inside.State.{Tied, served_lines, pending, IsPart}
 use Rattle.link_core.proofs.WrittenLemmas.{written_append}
 use Rattle.link_core.proofs.StreamLemmas.{rest_more, begun_more, ending_more, rest_capped, begun_capped, ending_capped}
 use Rattle.link_core.proofs.StreamLemmas.{waiting_clean, waiting_part, ahead_waiting, bytes_ahead, begun_ahead}

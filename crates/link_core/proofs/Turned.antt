@@ -14,7 +14,7 @@ use Rattle.trace_reader.proofs.OrderLemmas.{up_to-append}
 use Rattle.link_core.specs.Stream.{waiting, ahead}
 use Rattle.link_core.specs.Links.{sent_with, sent, sent_before, keep_with, keep, drop_with, lost_from, link_lost}
 use Rattle.link_core.specs.Links.{sums_sent, Lines, drop_line, arrival_lines}
-use Rattle.link_core.specs.Back as back
+use Rattle.link_core.specs.inside.Back as back
 
 pub reverse_cons : {X : Type 0} (x : X) (xs : List X) → reverse (x ∷ xs) ≡ reverse xs ++ x ∷ []
 reverse_cons x xs = reverse-append (x ∷ []) xs

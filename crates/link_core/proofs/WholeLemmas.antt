@@ -6,10 +6,10 @@ use Rattle.packet_queue.specs.declared.spec.QueueSpec.{QueueSpec}
 use Rattle.trace_reader.specs.declared.opportunity.Opportunity.{Opportunity}
 use Rattle.link_core.specs.declared.parts.Parts.{Parts}
 use Rattle.link_core.specs.Links.{link_log}
-use Rattle.link_core.specs.Written.{written}
-use Rattle.link_core.specs.View.{span_opps}
-use Rattle.link_core.specs.Sound.{IsSound}
-use Rattle.link_core.specs.Play.{IsPlayed, all_arrivals}
+use Rattle.link_core.specs.inside.Written.{written}
+use Rattle.link_core.specs.views.Span.{span_opps}
+use Rattle.link_core.specs.inside.Sound.{IsSound}
+use Rattle.link_core.specs.inside.Play.{IsPlayed, all_arrivals}
 use Rattle.link_core.proofs.SeenLemmas.{seen_log}
 
 module _ (c : Parts) (sound : IsSound c) (played : IsPlayed c) (q : QueueSpec) (os : List Opportunity) (ts : List Timed)

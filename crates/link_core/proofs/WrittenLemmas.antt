@@ -2,7 +2,7 @@
 use Rattle.std.proofs.Common.{◌≡◌, ℕ, ◌++◌, Bool, true, false, List, [], ◌∷◌, refl}
 use Rattle.shell_log.specs.declared.entry.Entry.{Entry}
 use Rattle.shell_log.specs.Entries.{AreUpTo}
-use Rattle.link_core.specs.Written.{written}
+use Rattle.link_core.specs.inside.Written.{written}
 
 pub written_append : (kept : Bool) (xs ys : List Entry) → written kept (xs ++ ys) ≡ written kept xs ++ written kept ys
 written_append true xs ys = refl

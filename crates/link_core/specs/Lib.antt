@@ -1,14 +1,7 @@
 pub mod Stream
-pub mod Orders
 pub mod Links
-pub mod Back
-pub mod State
-pub mod Arriving
-pub mod Sound
 pub mod View
 pub mod Promises
-pub mod Laps
-pub mod Written
-pub mod Play
 pub mod Pieces
-pub mod Same
+pub mod inside
+pub mod views

@@ -1,8 +1,7 @@
 -- Words for what a link promises of arrivals and opportunities to come.
-use Rattle.std.specs.Prelude.{◌≡◌, ◌≤◌, ◌+◌, ◌++◌, ℕ, List, [], ◌∷◌, length, slice_get}
+use Rattle.std.specs.Prelude.{◌≤◌, ◌+◌, ℕ, List, [], ◌∷◌, length, slice_get}
 use Rattle.std.specs.Option.{option_map, unwrap_or}
 use Rattle.packet_record.specs.declared.packet.Timed.{Timed}
-use Rattle.packet_record.specs.Moments.{AreFrom}
 use Rattle.trace_reader.specs.declared.opportunity.Opportunity.{Opportunity}
 use Rattle.trace_reader.specs.Opps.{up_to}
 
@@ -18,9 +17,3 @@ AreCovered opps b (t ∷ ts) = (count_to opps t.moment ≤ b) × AreCovered opps
 -- the moment of the next opportunity where b are burnt, or the one after the horizon where there is none
 abbrev pub floor_of : List Opportunity → ℕ → ℕ → ℕ
 floor_of opps horizon b = unwrap_or (option_map (λ (o : Opportunity). o.moment) (slice_get opps b)) (horizon + 1)
-
--- the first list is the second followed by packets at this moment or later
-pub record Extends (longer shorter : List Timed) (low : ℕ) : Type 0 where
-  pub more : List Timed
-  pub is : longer ≡ shorter ++ more
-  pub later : AreFrom low more

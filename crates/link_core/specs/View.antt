@@ -9,15 +9,6 @@ use Rattle.trace_reader.specs.Opps.{opps}
 use Rattle.trace_reader.specs.Traces.{TraceView}
 use Rattle.link_core.specs.Links.{link_out, link_lost, link_log, link_inside}
 
--- a trace, played once or again and again, up to a horizon
-pub record Span : Type 0 where
-  pub trace : TraceView
-  pub once : Bool
-  pub horizon : ℕ
-
-abbrev pub span_opps : Span → List Opportunity
-span_opps s = opps s.trace.opportunities s.once s.horizon
-
 pub record Link : Type 0 where
   pub trace : TraceView
   pub once : Bool

@@ -15,7 +15,7 @@ pub struct Arrivals {
 
 impl Model for Arrivals {
     ghost use Rattle.std.specs.Prelude.{◌-◌, ◌≤◌, length, take, drop, vec_len, vec_capacity};
-    ghost use Rattle.link_core.specs.Arriving.{Arriving};
+    ghost use Rattle.link_core.specs.views.Arriving.{Arriving};
 
     ghost Value = { Arriving };
 

@@ -7,7 +7,7 @@ ghost use Rattle.packet_record.specs.Moments.{AreUpTo, Rise};
 ghost use Rattle.trace_reader.specs.Opps.{opps};
 ghost use Rattle.link_core.specs.Links.{link_log};
 ghost use Rattle.link_core.specs.Promises.{count_to};
-ghost use Rattle.link_core.specs.Sound.{IsSound};
+ghost use Rattle.link_core.specs.inside.Sound.{IsSound};
 ghost use Rattle.link_core.specs.View.{Link, opps_of, out_of, lost_of, inside_of, OnlyGoesOn};
 
 use crate::link_log::LinkLog;
@@ -34,7 +34,7 @@ pub struct LinkCore {
 
 impl Model for LinkCore {
     ghost use Rattle.std.specs.Prelude.{◌≡◌, []};
-    ghost use Rattle.link_core.specs.Sound.{IsSound};
+    ghost use Rattle.link_core.specs.inside.Sound.{IsSound};
     ghost use Rattle.link_core.specs.View.{Link};
 
     ghost Value = { Link };

@@ -1,7 +1,7 @@
 // The log of a link that keeps one, or of one that keeps none.
 ghost use Rattle.std.specs.Prelude.{◌≡◌, ◌+◌, ◌≤◌, ◌++◌, ◌∷◌, [], length, OnOk};
 ghost use Rattle.shell_log.specs.Entries.{AreUpTo, IsEntry, moment_of};
-ghost use Rattle.link_core.specs.Written.{written};
+ghost use Rattle.link_core.specs.inside.Written.{written};
 
 use shell_log::{Entry, Log};
 use std::alloc::Global;
@@ -16,7 +16,7 @@ pub struct Journal {
 }
 
 impl Model for Journal {
-    ghost use Rattle.link_core.specs.Written.{KeptLog, room_of};
+    ghost use Rattle.link_core.specs.views.Written.{KeptLog, room_of};
 
     ghost Value = { KeptLog };
 

@@ -1,7 +1,7 @@
 // One lap of a trace that is played again and again.
 ghost use Rattle.std.specs.Prelude.{◌≡◌, ◌+◌, ◌<◌, ◌≤◌, ◌↔◌, IsTrue, Some, length, IfSome};
 ghost use Rattle.trace_reader.specs.Opps.{entry};
-ghost use Rattle.link_core.specs.Laps.{IsLap};
+ghost use Rattle.link_core.specs.inside.Laps.{IsLap};
 
 use trace_reader::{Opportunity, Trace};
 

@@ -30,7 +30,7 @@ impl Model for LinkLog {
     ghost use Rattle.packet_record.specs.Moments.{AreUpTo, Rise};
     ghost use Rattle.shell_log.specs.declared.entry.Entry.{Entry};
     ghost use Rattle.link_core.specs.Links.{link_log};
-    ghost use Rattle.link_core.specs.View.{span_opps};
+    ghost use Rattle.link_core.specs.views.Span.{span_opps};
 
     ghost Value = { List Entry };
 

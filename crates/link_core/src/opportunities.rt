@@ -2,7 +2,7 @@
 ghost use Rattle.std.specs.Prelude.{◌≡◌, ◌≤◌, ◌<◌, ◌↔◌, Some, IsTrue, length, slice_get, IfOk, IfSome};
 ghost use Rattle.trace_reader.specs.Orders.{AreRising};
 ghost use Rattle.trace_reader.specs.Opps.{up_to, opps};
-ghost use Rattle.link_core.specs.View.{span_opps};
+ghost use Rattle.link_core.specs.views.Span.{span_opps};
 
 use crate::lap::Lap;
 use std::marker::Model;
@@ -21,8 +21,8 @@ pub struct Opportunities {
 impl Model for Opportunities {
     ghost use Rattle.std.specs.Prelude.{◌≡◌, ◌≤◌, length};
     ghost use Rattle.trace_reader.specs.Opps.{opps};
-    ghost use Rattle.link_core.specs.Laps.{IsLap};
-    ghost use Rattle.link_core.specs.View.{Span};
+    ghost use Rattle.link_core.specs.inside.Laps.{IsLap};
+    ghost use Rattle.link_core.specs.views.Span.{Span};
 
     ghost Value = { Span };
 

@@ -3,13 +3,13 @@ ghost use Rattle.std.specs.Prelude.{◌≡◌, ◌+◌, ◌-◌, ◌<◌, ◌≤
 ghost use Rattle.std.specs.Prelude.{vec_len, vec_capacity};
 ghost use Prim.Native.Nat.{min};
 ghost use Rattle.packet_queue.specs.View.{Queue};
-ghost use Rattle.link_core.specs.State.{IsPart, inside_line};
+ghost use Rattle.link_core.specs.inside.State.{IsPart, inside_line};
 ghost use Rattle.trace_reader.specs.Opps.{up_to};
 ghost use Rattle.trace_reader.specs.Orders.{Each};
 ghost use Rattle.packet_record.specs.Moments.{AreUpTo};
-ghost use Rattle.link_core.specs.View.{Span, span_opps};
-ghost use Rattle.link_core.specs.Sound.{Gone, IsSoundAfter, IsSound};
-ghost use Rattle.link_core.specs.Same.{IsSameLink};
+ghost use Rattle.link_core.specs.views.Span.{Span, span_opps};
+ghost use Rattle.link_core.specs.inside.Sound.{Gone, IsSoundAfter, IsSound};
+ghost use Rattle.link_core.specs.inside.Same.{IsSameLink};
 
 use crate::arrivals::Arrivals;
 use crate::journal::Journal;

@@ -1,7 +1,8 @@
 // A log of a link, piece by piece.
 ghost use Rattle.std.specs.Prelude.{◌≡◌, ◌<◌, ◌++◌, [], IsTrue, true, length, IfOk, OnErr};
-ghost use Rattle.link_core.specs.Sound.{IsSound};
-ghost use Rattle.link_core.specs.Play.{CanPlay, rest_of};
+ghost use Rattle.link_core.specs.inside.Sound.{IsSound};
+ghost use Rattle.link_core.specs.inside.Play.{CanPlay};
+ghost use Rattle.link_core.specs.views.Play.{rest_of};
 
 use crate::parts::Parts;
 use shell_log::Entry;
@@ -17,8 +18,9 @@ pub struct LogPieces {
 
 impl Model for LogPieces {
     ghost use Rattle.std.specs.Prelude.{◌≡◌, true};
-    ghost use Rattle.link_core.specs.Sound.{IsSoundAfter};
-    ghost use Rattle.link_core.specs.Play.{CanPlay, rest_of, gone_of};
+    ghost use Rattle.link_core.specs.inside.Sound.{IsSoundAfter};
+    ghost use Rattle.link_core.specs.inside.Play.{CanPlay, gone_of};
+    ghost use Rattle.link_core.specs.views.Play.{rest_of};
     ghost use Rattle.link_core.specs.Pieces.{Pieces};
 
     ghost Value = { Pieces };

@@ -1,8 +1,9 @@
 // A link over arrivals that are all in a list: step by step, up to the end or to so many entries of its log.
 ghost use Rattle.std.specs.Prelude.{◌≡◌, ◌<◌, ◌≤◌, ◌++◌, ◌∷◌, [], IsTrue, true, length, drop, IfOk, OnOk, OnErr};
-ghost use Rattle.link_core.specs.Sound.{Gone, IsSoundAfter};
-ghost use Rattle.link_core.specs.Same.{IsSameLink};
-ghost use Rattle.link_core.specs.Play.{CanPlay, IsPlayed, all_arrivals, work, rest_of, gone_with};
+ghost use Rattle.link_core.specs.inside.Sound.{Gone, IsSoundAfter};
+ghost use Rattle.link_core.specs.inside.Same.{IsSameLink};
+ghost use Rattle.link_core.specs.inside.Play.{CanPlay, IsPlayed, all_arrivals, work, gone_with};
+ghost use Rattle.link_core.specs.views.Play.{rest_of};
 
 use crate::parts::Parts;
 use packet_record::Timed;

@@ -3,10 +3,10 @@ ghost use Rattle.std.specs.Prelude.{◌≡◌, ◌+◌, ◌-◌, ◌<◌, ◌≤
 ghost use Rattle.packet_record.specs.Packets.{moved_to};
 ghost use Rattle.packet_queue.specs.View.{Queue};
 ghost use Rattle.shell_log.specs.Entries.{AreUpTo, IsEntry};
-ghost use Rattle.link_core.specs.Written.{written};
-ghost use Rattle.link_core.specs.Stream.{carried, rest, begun};
+ghost use Rattle.link_core.specs.inside.Written.{written};
+ghost use Rattle.link_core.specs.inside.Stream.{carried, rest, begun};
 ghost use Rattle.link_core.specs.Links.{drop_line_by};
-ghost use Rattle.link_core.specs.State.{pending, IsPart, inside_line, served_lines};
+ghost use Rattle.link_core.specs.inside.State.{pending, IsPart, inside_line, served_lines};
 
 use crate::journal::Journal;
 use crate::line::Line;

@@ -3,9 +3,9 @@ ghost use Rattle.std.specs.Prelude.{◌≡◌, ◌≤◌, Some, [], length, map,
 ghost use Rattle.packet_record.specs.Moments.{AreUpTo, Rise};
 ghost use Rattle.trace_reader.specs.Opps.{opps};
 ghost use Rattle.link_core.specs.Links.{link_out, link_lost, link_log, link_inside};
-ghost use Rattle.link_core.specs.View.{span_opps};
-ghost use Rattle.link_core.specs.Sound.{IsSound};
-ghost use Rattle.link_core.specs.Play.{IsPlayed, all_arrivals};
+ghost use Rattle.link_core.specs.views.Span.{span_opps};
+ghost use Rattle.link_core.specs.inside.Sound.{IsSound};
+ghost use Rattle.link_core.specs.inside.Play.{IsPlayed, all_arrivals};
 
 use crate::link_log::LinkLog;
 use crate::opportunities::Opportunities;

@@ -12,8 +12,9 @@ use Rattle.live_relay.specs.Clocks.{ClockView, Reads}
 use Rattle.live_relay.specs.Due.{due, last_moment}
 use Rattle.live_relay.specs.Relays.{AreWithin, HasAsked, HasSent, HasSentSome, IfTold, IsFrontOf, IsRelayed, IsStopped}
 use Rattle.live_relay.specs.Relays.{but_last, EndsBy, moments_read, NeverBefore, ReadsBeyond, ReadsTurns}
-use Rattle.live_relay.specs.Stamped.{Turn, turn}
-use Rattle.live_relay.specs.Turns.{EndsAt, HasResult, IsCurrent, IsTurned, Stands, StopsAt, ToldBefore}
+use Rattle.live_relay.specs.Stamped.{Turn}
+use Rattle.live_relay.specs.inside.Stamped.{turn}
+use Rattle.live_relay.specs.inside.Turns.{EndsAt, HasResult, IsCurrent, IsTurned, Stands, StopsAt, ToldBefore}
 use Rattle.live_relay.specs.Wires.{Datagram, WireTold, WireView}
 use Rattle.live_relay.proofs.Asking.{asked_none, front_whole, last_moment_within, last_snoc, last_turn, within-snoc}
 use Rattle.live_relay.proofs.ClockLemmas.{reads_none, reads_on}

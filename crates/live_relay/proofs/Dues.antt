@@ -27,7 +27,7 @@ use Rattle.live_relay.specs.declared.way.Way.{Way}
 use Rattle.live_relay.specs.Due.{bytes_in, departures, due, last_moment, pieces_of, towards}
 use Rattle.live_relay.specs.Relays.{IsFrontOf}
 use Rattle.live_relay.specs.Stamped.{Stamp, Turn, rows_from, rows_of, stamp_within, stamped_at, stamps_of}
-use Rattle.live_relay.specs.Ways.{IsCurrentWay, IsWay, KeepsWay, waiting}
+use Rattle.live_relay.specs.inside.Ways.{IsCurrentWay, IsWay, KeepsWay, waiting}
 use Rattle.live_relay.specs.Wires.{Datagram}
 use Rattle.live_relay.proofs.Stamping.{is_beyond, none_past, pieces-snoc, rows-snoc}
 use Rattle.live_relay.proofs.UpTo.{up_to_front}

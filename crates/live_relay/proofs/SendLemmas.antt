@@ -2,9 +2,9 @@
 use Rattle.std.proofs.Common.{◌≡◌, ℕ, ◌≤◌, ◌<◌, ◌+◌, List, [], ◌∷◌, ◌++◌, Option, Some, None, option_map, length, map}
 use Rattle.std.proofs.Common.{take, drop}
 use Rattle.std.proofs.Common.{get_or, ap, sym, subst, ◌∙◌, refl, append_assoc, add-one}
+use Rattle.std.proofs.Common.{Contains, Err, rules}
 use Rattle.std.proofs.lemmas.List.{append-nil, map-append, take-append-drop}
 use Rattle.std.proofs.Math.Seq.{take-suc}
-use Rattle.std.proofs.Common.{Contains, Err, rules}
 use Rattle.mm_base.specs.Counts.{one_more}
 use Rattle.mm_base.specs.declared.errors.EndError.TheVariants.{Failed}
 use Rattle.packet_record.specs.declared.packet.Timed.{Timed}
@@ -14,7 +14,7 @@ use Rattle.live_relay.specs.declared.side.Side.TheVariants.{Client, Server}
 use Rattle.live_relay.specs.MemWires.{IsWireCall, MemWireState}
 use Rattle.live_relay.specs.Relays.{IsFrontOf}
 use Rattle.live_relay.specs.Wires.{Sent, WireTold, sending_all, sent_all}
-use Rattle.live_relay.specs.Ways.{StopsSending}
+use Rattle.live_relay.specs.inside.Ways.{StopsSending}
 
 sending_more : (side : Side) (xs ys : List (List ℕ)) (w : WireTold)
     → sending_all side ys (sending_all side xs w) ≡ sending_all side (xs ++ ys) w

@@ -15,7 +15,7 @@ use Rattle.live_relay.specs.declared.side.Side.{Side}
 use Rattle.live_relay.specs.Due.{pieces_of}
 use Rattle.live_relay.specs.Stamped.{Stamp, Turn, row_of, rows_from, rows_of, refused_at, refused_of, stamp_within}
 use Rattle.live_relay.specs.Stamped.{stamped_at, stamps_of, direction_of}
-use Rattle.live_relay.specs.Ways.{fits_not}
+use Rattle.live_relay.specs.inside.Ways.{fits_not}
 use Rattle.live_relay.specs.Wires.{Datagram}
 
 pub stamps-append : (xs ys : List Turn) → stamps_of (xs ++ ys) ≡ stamps_of xs ++ stamps_of ys

@@ -21,12 +21,12 @@ use Rattle.live_relay.specs.declared.side.Side.TheVariants.{Client, Server}
 use Rattle.live_relay.specs.declared.way.Way.{Way}
 use Rattle.live_relay.specs.Due.{due, last_moment, pieces_of, towards}
 use Rattle.live_relay.specs.Relays.{HasAsked, HasSent, HasSentSome, IsFrontOf, but_last}
-use Rattle.live_relay.specs.Stamped.{Turn, turn, refused_at, rows_from, rows_of, stamped_at, stamps_of}
-use Rattle.live_relay.specs.Turns.{GoesTo, HasEnded, HasFed, IsCurrent, IsSameButSent, IsStamped, IsTurned, KnowsSent}
-use Rattle.live_relay.specs.Turns.{StopsAt, StopsBoth, AtServer, AtClient, ToldBefore, waits_down, waits_up, EndsAt}
-use Rattle.live_relay.specs.Turns.{StopsPast}
-use Rattle.live_relay.specs.Turns.{sending_both}
-use Rattle.live_relay.specs.Ways.{GoesOn, EndsWay, IsCurrentWay, IsEndedWay, IsFedWay, IsWay, waiting}
+use Rattle.live_relay.specs.Stamped.{Turn, refused_at, rows_from, rows_of, stamped_at, stamps_of}
+use Rattle.live_relay.specs.inside.Stamped.{turn}
+use Rattle.live_relay.specs.inside.Turns.{GoesTo, HasEnded, HasFed, IsCurrent, IsSameButSent, IsStamped, IsTurned}
+use Rattle.live_relay.specs.inside.Turns.{KnowsSent, StopsAt, StopsBoth, AtServer, AtClient, ToldBefore, waits_down}
+use Rattle.live_relay.specs.inside.Turns.{waits_up, EndsAt, StopsPast, sending_both}
+use Rattle.live_relay.specs.inside.Ways.{GoesOn, EndsWay, IsCurrentWay, IsEndedWay, IsFedWay, IsWay, waiting}
 use Rattle.live_relay.specs.Wires.{Datagram, WireTold, WireView, receiving, sending_all}
 use Rattle.live_relay.proofs.Asking.{asked_more, asked_on, but_last_turn, front_behind, front_on, front_then}
 use Rattle.live_relay.proofs.Asking.{front_whole, last_turn}

@@ -17,7 +17,7 @@ use Rattle.packet_record.specs.Streams.{after, MayFollow, IsUpTo}
 use Rattle.shell_state.specs.Steps.{breaks}
 use Rattle.nest_line.specs.Lines.{IsFed, LineParts}
 use Rattle.live_relay.specs.declared.way.Way.{Way}
-use Rattle.live_relay.specs.Ways.{EndsWay, GoesOn, KeepsWay, item_in}
+use Rattle.live_relay.specs.inside.Ways.{EndsWay, GoesOn, KeepsWay, item_in}
 
 -- what is fed at a moment may be fed, and adds what enters
 pub record Feeds (d : Direction) (m h : ℕ) (row : Option Row) (f : Stream) : Type 0 where

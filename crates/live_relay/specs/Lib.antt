@@ -2,10 +2,9 @@ pub mod Clocks
 pub mod MemClocks
 pub mod Wires
 pub mod MemWires
-pub mod MemWireViews
 pub mod Stamped
 pub mod Due
 pub mod Errors
 pub mod Relays
-pub mod Ways
-pub mod Turns
+pub mod inside
+pub mod views

@@ -1,7 +1,6 @@
 -- A wire in memory as its callers see it.
 use Rattle.std.specs.Prelude.{◌≡◌, ◌==◌, ℕ, List, [], ◌∷◌, length, take, Option, Some, None, Contains, Result, OnOk}
 use Rattle.std.specs.Prelude.{IsErrOf}
-use Rattle.std.specs.Borrow.{Bor}
 use Rattle.mm_base.specs.Counts.{one_more}
 use Rattle.mm_base.specs.declared.errors.EndError.{EndError}
 use Rattle.mm_base.specs.declared.errors.EndError.TheVariants.{Failed}
@@ -52,8 +51,3 @@ rest_answers (answer ∷ answers) = answers
 abbrev pub cut_at : ℕ → Option Datagram → Option Datagram
 cut_at n None = None
 cut_at n (Some d) = Some (d.0, take n d.1)
-
--- an answer that is lent, where there is one
-abbrev pub lent_answer : Option (Bor (Option Datagram)) → Option Datagram
-lent_answer None = None
-lent_answer (Some answer) = answer.now

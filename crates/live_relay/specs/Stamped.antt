@@ -15,9 +15,6 @@ pub record Turn : Type 0 where
   pub moment : ℕ
   pub answer : Option Datagram
 
-abbrev pub turn : ℕ → Option Datagram → Turn
-turn moment answer = record { moment = moment; answer = answer }
-
 -- A datagram of 1 to 1,504 bytes, which is a packet, at the moment of its turn.
 pub record Stamp : Type 0 where
   pub moment : ℕ

@@ -4,8 +4,8 @@ ghost use Rattle.std.specs.Option.{option_map};
 ghost use Rattle.mm_base.specs.Counts.{Rose};
 ghost use Rattle.live_relay.specs.Wires.{CountsWireFaults, after_receive, after_send, asked_after, datagram_in};
 ghost use Rattle.live_relay.specs.Wires.{opened_after, receiving, sending_all, sent_to};
-ghost use Rattle.live_relay.specs.MemWires.{IsWireCall, cut_at, empty_wire, lent_answer, mem_wire_view};
-ghost use Rattle.live_relay.specs.MemWires.{next_answer, rest_answers};
+ghost use Rattle.live_relay.specs.MemWires.{IsWireCall, cut_at, empty_wire, mem_wire_view, next_answer, rest_answers};
+ghost use Rattle.live_relay.specs.inside.MemWires.{lent_answer};
 
 use crate::fails::is_failing;
 use crate::{Received, Side, Wire};
@@ -35,7 +35,7 @@ impl Model for MemWire {
 
     ghost Value = { MemWireState };
 
-    ghost use Rattle.live_relay.specs.MemWireViews.{wire_view};
+    ghost use Rattle.live_relay.specs.views.MemWire.{wire_view};
 
     ghost view = { wire_view };
 }

@@ -9,7 +9,8 @@ ghost use Rattle.nest_spec.specs.Once.{HaveOneFate};
 ghost use Rattle.packet_record.specs.Rows.{AreApart};
 ghost use Rattle.nest_line.specs.Lines.{IsSettled, up_to};
 ghost use Rattle.live_relay.specs.Due.{last_moment};
-ghost use Rattle.live_relay.specs.Stamped.{Turn, turn};
+ghost use Rattle.live_relay.specs.Stamped.{Turn};
+ghost use Rattle.live_relay.specs.inside.Stamped.{turn};
 ghost use Rattle.live_relay.specs.Wires.{CountsWireFaults, datagram_in};
 
 use crate::stamps::Stamps;
@@ -30,10 +31,10 @@ pub(crate) struct Relay {
 }
 
 impl Relay {
-    ghost use Rattle.live_relay.specs.Turns.{CanGoOn, EndsAt, HasEnded, HasFed, IsCurrent, IsSameButSent, IsTurned};
-    ghost use Rattle.live_relay.specs.Turns.{HasResult, KnowsSent, Stands, StopsAt, StopsBoth, StopsPast, sending_both};
-    ghost use Rattle.live_relay.specs.Turns.{waits_down, waits_up};
-    ghost use Rattle.live_relay.specs.Ways.{IsWay};
+    ghost use Rattle.live_relay.specs.inside.Turns.{CanGoOn, EndsAt, HasEnded, HasFed, IsCurrent, IsSameButSent};
+    ghost use Rattle.live_relay.specs.inside.Turns.{IsTurned, HasResult, KnowsSent, Stands, StopsAt, StopsBoth};
+    ghost use Rattle.live_relay.specs.inside.Turns.{StopsPast, sending_both, waits_down, waits_up};
+    ghost use Rattle.live_relay.specs.inside.Ways.{IsWay};
 
     /// A relay before its first turn.
     pub fn new(alloc: Global, nest: &Nest) -> Result<Relay, OutOfMemory>

@@ -2,7 +2,7 @@
 ghost use Rattle.std.specs.Prelude.{◌≡◌, ◌≤◌, ◌<◌, ◌+◌, ◌++◌, [], length, option_to_list, IfNone, IfOk, IfSome, OnOk};
 ghost use Rattle.live_relay.specs.Due.{pieces_of};
 ghost use Rattle.live_relay.specs.Stamped.{refused_at, rows_from, stamped_at};
-ghost use Rattle.live_relay.specs.Ways.{fits_not};
+ghost use Rattle.live_relay.specs.inside.Ways.{fits_not};
 ghost use Rattle.live_relay.specs.Wires.{datagram_in};
 
 use crate::Side;

@@ -9,7 +9,7 @@ ghost use Rattle.packet_record.specs.Streams.{no_items};
 ghost use Rattle.nest_spec.specs.Nests.{directions_of};
 ghost use Rattle.nest_line.specs.Lines.{IsSettled, up_to};
 ghost use Rattle.live_relay.specs.Due.{bytes_in};
-ghost use Rattle.live_relay.specs.Ways.{EndsWay, GoesOn, item_in, StopsSending};
+ghost use Rattle.live_relay.specs.inside.Ways.{EndsWay, GoesOn, item_in, StopsSending};
 ghost use Rattle.live_relay.specs.Wires.{CountsWireFaults, sending_all};
 
 use crate::{Side, Wire};

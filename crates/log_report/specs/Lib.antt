@@ -4,3 +4,4 @@ pub mod ReportText
 pub mod Counted
 pub mod Summed
 pub mod ReportTexts
+pub mod inside

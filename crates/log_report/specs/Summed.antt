@@ -1,4 +1,4 @@
--- For proofs: sums over entries.
+-- Sums over entries.
 use Rattle.std.specs.Prelude.{◌≡◌, ℕ, List, length, Option}
 use Rattle.std.specs.List.{filter_map}
 use Rattle.shell_log.specs.declared.entry.Entry.{Entry}

@@ -21,7 +21,8 @@ pub(crate) struct DelayCounts {
 }
 
 impl DelayCounts {
-    ghost use Rattle.log_report.specs.Counted.{AreCounts, AreRanked};
+    ghost use Rattle.log_report.specs.Counted.{AreCounts};
+    ghost use Rattle.log_report.specs.inside.Counted.{AreRanked};
 
     // No delay.
     pub(crate) fn new(alloc: Global) -> Result<Self, OutOfMemory>

@@ -7,11 +7,11 @@ use Rattle.crossbeam_channel.specs.Fifo.{Pushes, Pops, Forks, Merges, Learns}
 use Rattle.atomic_table.proofs.Lists.{at_set, at_snoc}
 use Rattle.packet_record.specs.declared.item.Item.{Item}
 use Rattle.packet_record.specs.Streams.{after_all, MayFollow, IsUpTo, AllFollow}
-use Rattle.mark_channel.specs.Carrying.{nothing, carrying, carrying_all}
+use Rattle.mark_channel.specs.inside.Carrying.{nothing, carrying, carrying_all}
 use Rattle.mark_channel.specs.declared.rule.Carried.{Carried}
 use Rattle.mark_channel.specs.declared.rule.View.{View}
-use Rattle.mark_channel.specs.Rules.{known, opening, sending, getting, settling, spent, Fits, FitsWriter, FitsFresh}
-use Rattle.mark_channel.specs.Rules.{Kept, Sends, Gets, Settles}
+use Rattle.mark_channel.specs.inside.Rules.{known, opening, sending, getting, settling, spent, Fits, FitsWriter}
+use Rattle.mark_channel.specs.inside.Rules.{FitsFresh, Kept, Sends, Gets, Settles}
 use Rattle.mark_channel.proofs.Streaming.{carrying_all-snoc, carrying_all-flow, AllFollow-snoc}
 
 at_end : (l : List View) (a b : View) (j : ℕ) → get_elem? l j ≢ some b → get_elem? (l ++ a ∷ []) j ≡ some b

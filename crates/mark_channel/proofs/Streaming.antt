@@ -8,7 +8,7 @@ use Rattle.packet_record.specs.declared.item.Item.TheVariants.{Packet, Mark, End
 use Rattle.packet_record.specs.declared.item.FlowEnd.TheVariants.{Open}
 use Rattle.packet_record.specs.declared.item.Stream.{Stream}
 use Rattle.packet_record.specs.Streams.{after, after_all, MayFollow, IsUpTo, AllFollow, IsStreamPrefix}
-use Rattle.mark_channel.specs.Carrying.{carrying, carrying_all}
+use Rattle.mark_channel.specs.inside.Carrying.{carrying, carrying_all}
 use Rattle.mark_channel.specs.declared.rule.Carried.{Carried}
 
 pub carrying_all-snoc : (c : Carried) (xs : List Item) (x : Item)

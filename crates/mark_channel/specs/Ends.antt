@@ -1,11 +1,10 @@
 -- What contracts see of an end of a channel.
-use Rattle.std.specs.Prelude.{◌≡◌, ℕ, List, [], ◌∷◌, ◌++◌}
+use Rattle.std.specs.Prelude.{◌≡◌, ℕ, List}
 use Rattle.atomic_table.specs.Seated.{TableId}
 use Rattle.atomic_table.specs.declared.badge.Badge.{Badge}
 use Rattle.crossbeam_channel.specs.declared.flavors.array.Key.{Key}
 use Rattle.packet_record.specs.declared.item.Item.{Item}
 use Rattle.packet_record.specs.declared.item.Stream.{Stream}
-use Rattle.packet_record.specs.Streams.{after, MayFollow, IsUpTo}
 
 -- which channel it is
 pub record Channel : Type 0 where
@@ -22,16 +21,3 @@ pub record End : Type 0 where
 -- an end keeps its horizon and its channel
 abbrev pub IsSameEnd : End → End → Type 0
 IsSameEnd old new = (new.horizon ≡ old.horizon) × (new.channel ≡ old.channel)
-
--- an end through which one more item went
-abbrev pub with_item : End → Item → End
-with_item e x = record {
-  flow = after e.flow x;
-  items = e.items ++ x ∷ [];
-  horizon = e.horizon;
-  channel = e.channel;
-}
-
--- the item may go through the end next
-abbrev pub MayPass : End → Item → Type 0
-MayPass e x = MayFollow e.flow x × IsUpTo e.horizon x

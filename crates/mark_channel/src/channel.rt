@@ -5,8 +5,8 @@ ghost use Rattle.packet_record.specs.declared.item.FlowEnd.TheVariants.{Open};
 ghost use Rattle.packet_record.specs.Streams.{no_items, IsStreamPrefix};
 ghost use Rattle.crossbeam_channel.specs.Claims.{view, IsSeatAt};
 ghost use Rattle.crossbeam_channel.specs.Ends.{sends_on};
-ghost use Rattle.mark_channel.specs.Carrying.{nothing};
-ghost use Rattle.mark_channel.specs.Rules.{opening, sending, getting};
+ghost use Rattle.mark_channel.specs.inside.Carrying.{nothing};
+ghost use Rattle.mark_channel.specs.inside.Rules.{opening, sending, getting};
 
 use crate::bells::open_bells;
 use crate::rule::{InOrder, Limit, Roles, Together, Total, View};

@@ -2,7 +2,8 @@
 ghost use Rattle.std.specs.Prelude.{◌≡◌, ◌++◌, ◌∷◌, [], IfSome, IfNone};
 ghost use Rattle.packet_record.specs.declared.item.FlowEnd.TheVariants.{Open};
 ghost use Rattle.packet_record.specs.Streams.{after, MayFollow, IsUpTo};
-ghost use Rattle.mark_channel.specs.Ends.{IsSameEnd, MayPass, with_item};
+ghost use Rattle.mark_channel.specs.Ends.{IsSameEnd};
+ghost use Rattle.mark_channel.specs.inside.Ends.{MayPass, with_item};
 
 use crate::bells::EndBells;
 use crate::rule::{Got, InOrder, View};
@@ -27,7 +28,8 @@ impl Model for Receiver {
 
     ghost Value = { End };
 
-    ghost use Rattle.mark_channel.specs.Sides.{receiver_view, IsReceiver};
+    ghost use Rattle.mark_channel.specs.views.Sides.{receiver_view};
+    ghost use Rattle.mark_channel.specs.inside.Sides.{IsReceiver};
 
     ghost view = { receiver_view };
 

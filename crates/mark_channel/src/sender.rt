@@ -1,7 +1,8 @@
 //! The sending end.
 ghost use Rattle.std.specs.Prelude.{◌≡◌, ◌++◌, ◌∷◌, [], IsTrue, IsFalse};
 ghost use Rattle.packet_record.specs.Streams.{after, MayFollow, IsUpTo};
-ghost use Rattle.mark_channel.specs.Ends.{IsSameEnd, MayPass, with_item};
+ghost use Rattle.mark_channel.specs.Ends.{IsSameEnd};
+ghost use Rattle.mark_channel.specs.inside.Ends.{MayPass, with_item};
 
 use crate::bells::EndBells;
 use crate::rule::{InOrder, Sent, View};
@@ -25,7 +26,8 @@ impl Model for Sender {
 
     ghost Value = { End };
 
-    ghost use Rattle.mark_channel.specs.Sides.{sender_view, IsSender};
+    ghost use Rattle.mark_channel.specs.views.Sides.{sender_view};
+    ghost use Rattle.mark_channel.specs.inside.Sides.{IsSender};
 
     ghost view = { sender_view };
 

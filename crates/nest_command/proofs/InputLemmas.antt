@@ -17,7 +17,8 @@ use Rattle.trace_reader.specs.Traces.{TraceView}
 use Rattle.trace_reader.specs.declared.reading.TraceError.{TraceError}
 use Rattle.trace_reader.specs.declared.reading.TraceError.TheVariants as trace_errors
 use Rattle.command_ends.specs.Causes.{Text}
-use Rattle.command_ends.specs.Readings.{Reading, Done, Leads}
+use Rattle.command_ends.specs.Readings.{Reading, Done}
+use Rattle.command_ends.specs.inside.Readings.{Leads}
 use Rattle.command_ends.specs.Stops.{IsInput, RefusesText, StopsReading}
 use Rattle.command_ends.specs.declared.cause.Cause.{Cause}
 use Rattle.command_ends.specs.declared.cause.Cause.TheVariants.{Refused}

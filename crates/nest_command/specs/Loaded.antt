@@ -1,4 +1,4 @@
--- For proofs: what reading traces and a schedule leaves, for the bodies that read them.
+-- What reading traces and a schedule leaves, for the bodies that read them.
 use Rattle.std.specs.Prelude.{◌≡◌, ℕ, List, [], ◌∷◌, Option, None}
 use Rattle.mm_base.specs.Files.{Files}
 use Rattle.packet_record.specs.Schedules.{IsScheduleText}

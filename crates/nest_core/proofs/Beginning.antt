@@ -15,7 +15,7 @@ use Rattle.nest_core.specs.declared.stage.Stage.{Stage}
 use Rattle.nest_core.specs.Channels.{ChannelParts, new_channel}
 use Rattle.nest_core.specs.Worlds.{line, world, new_stages, new_world}
 use Rattle.nest_core.specs.Promises.{passed_first, source_stream, IsRunOf}
-use Rattle.nest_core.specs.Standing.{Arrives, LineStands, WorldStands, StandAnew}
+use Rattle.nest_core.specs.inside.Standing.{Arrives, LineStands, WorldStands, StandAnew}
 
 none_passed : (h capacity : ℕ) (specs : List DirSpec) → passed_first (new_stages h capacity specs) no_items ≡ no_items
 none_passed h capacity [] = refl

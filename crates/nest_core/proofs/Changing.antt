@@ -10,12 +10,12 @@ use Rattle.shell_state.specs.States.{State}
 use Rattle.nest_core.specs.declared.stage.Stage.{Stage}
 use Rattle.nest_core.specs.declared.actor.Actor.TheVariants.{Source}
 use Rattle.nest_core.specs.Channels.{ChannelParts, has_room, with_last, first_of}
-use Rattle.nest_core.specs.Stages.{MayFeed}
+use Rattle.nest_core.specs.inside.Stages.{MayFeed}
 use Rattle.nest_core.specs.Worlds.{Line, WorldParts, line, world}
 use Rattle.nest_core.specs.WorldSteps.{sourcing, received, changed_at, with_stages, act}
 use Rattle.nest_core.specs.Actors.{actor_at, actor_of}
-use Rattle.nest_core.specs.Standing.{Arrives, LineStands, WorldStands}
-use Rattle.nest_core.specs.Does.{at_stage, receives_at, MayCollect, IsAmong}
+use Rattle.nest_core.specs.inside.Standing.{Arrives, LineStands, WorldStands}
+use Rattle.nest_core.specs.inside.Does.{at_stage, receives_at, MayCollect, IsAmong}
 
 pub set-changed_at : (f : Stage → Stage) (stages : List Stage) (j : ℕ) (old new : Stage) → j < length stages
     → old ≡ get_or stages j old → new ≡ f old

@@ -21,7 +21,7 @@ use Rattle.nest_spec.specs.Chains.{last_departed, chain_logs}
 use Rattle.nest_core.specs.Channels.{ChannelParts}
 use Rattle.nest_core.specs.Worlds.{WorldParts}
 use Rattle.nest_core.specs.Promises.{source_stream, arrivals_of, AreUnderWay, Keeps}
-use Rattle.nest_core.specs.Standing.{Arrives, StageStands, LineStands, WorldStands}
+use Rattle.nest_core.specs.inside.Standing.{Arrives, StageStands, LineStands, WorldStands}
 
 -- all is what came and others, none of which is before the bound, in order and within the horizon; where nothing more
 -- may come, there are no others

@@ -23,13 +23,14 @@ use Rattle.nest_core.specs.declared.actor.Actor.{Actor}
 use Rattle.nest_core.specs.declared.actor.Actor.TheVariants.{Source, Receiver, Feeder, Taker, Sender}
 use Rattle.nest_core.specs.Channels.{ChannelParts, holding, has_room, with_last, first_of}
 use Rattle.nest_core.specs.Stages.{most, stage, receives, fed_stage, feeding, given, taking, taken_stage, sending}
-use Rattle.nest_core.specs.Stages.{sent_stage, goes_on, takes_where}
+use Rattle.nest_core.specs.Stages.{sent_stage}
+use Rattle.nest_core.specs.inside.Stages.{goes_on, takes_where}
 use Rattle.nest_core.specs.Worlds.{Line, WorldParts, line, world}
 use Rattle.nest_core.specs.WorldSteps.{sourcing, collecting, receiving, behind, received, changed_at, with_stages, act}
 use Rattle.nest_core.specs.Promises.{source_stream, arrivals_of}
 use Rattle.nest_core.specs.Left.{count_held, left_at, left_in, left_of}
-use Rattle.nest_core.specs.Standing.{Arrives, StageStands, LineStands, WorldStands}
-use Rattle.nest_core.specs.Does.{feeds, takes, sends, at_stage, receives_at, does}
+use Rattle.nest_core.specs.inside.Standing.{Arrives, StageStands, LineStands, WorldStands}
+use Rattle.nest_core.specs.inside.Does.{feeds, takes, sends, at_stage, receives_at, does}
 use Rattle.nest_core.proofs.Meeting.{act_source}
 use Rattle.nest_core.proofs.Leading.{Leads, fed_leads, next_leads, source_leads}
 use Rattle.nest_core.proofs.Settling.{waits_same}

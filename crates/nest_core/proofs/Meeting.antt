@@ -13,7 +13,7 @@ use Rattle.shell_state.specs.declared.taken.Taken.{Taken}
 use Rattle.shell_state.specs.declared.taken.Taken.TheVariants.{Item as Gives, Again, NotYet}
 use Rattle.shell_state.specs.States.{State}
 use Rattle.shell_state.specs.Steps.{breaks, after_take, answer_of, answer_after, burns, with_burnt, stream_after}
-use Rattle.shell_state.specs.Inside.{AnswerFollows}
+use Rattle.shell_state.specs.inside.Fed.{AnswerFollows}
 use Rattle.shell_state.specs.Standing.{IsHonest, Stands}
 use Rattle.shell_state.proofs.Keeping.{burnt_keeps, burns-le, take_keeps, feed_keeps}
 use Rattle.shell_state.proofs.Answering.{answer_follows}
@@ -27,7 +27,7 @@ use Rattle.nest_core.specs.Stages.{most, stage, feeding, fed_stage, given, takin
 use Rattle.nest_core.specs.Worlds.{WorldParts, line, world}
 use Rattle.nest_core.specs.WorldSteps.{sourcing, collecting, receiving, received, changed_at, act}
 use Rattle.nest_core.specs.Promises.{passed_first, source_stream, specs_of}
-use Rattle.nest_core.specs.Standing.{Arrives, StageStands, LineStands, WorldStands}
+use Rattle.nest_core.specs.inside.Standing.{Arrives, StageStands, LineStands, WorldStands}
 
 pub after_all-append : (f : Stream) (xs ys : List Item) → after_all f (xs ++ ys) ≡ after_all (after_all f xs) ys
 after_all-append f [] ys = refl

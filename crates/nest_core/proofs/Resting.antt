@@ -14,7 +14,7 @@ use Rattle.nest_core.specs.declared.stage.Stage.{Stage}
 use Rattle.nest_core.specs.Channels.{ChannelParts}
 use Rattle.nest_core.specs.Worlds.{WorldParts}
 use Rattle.nest_core.specs.Promises.{passed_first, sent_stream, source_stream, departed_of, IsFrontUntil}
-use Rattle.nest_core.specs.Standing.{Arrives, StageStands, LineStands, WorldStands}
+use Rattle.nest_core.specs.inside.Standing.{Arrives, StageStands, LineStands, WorldStands}
 use Rattle.nest_core.proofs.Meeting.{taken_goes}
 use Rattle.nest_core.proofs.Leading.{fed_all, world_leads}
 

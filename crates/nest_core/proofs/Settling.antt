@@ -31,7 +31,7 @@ use Rattle.nest_core.specs.WorldSteps.{with_stages, act, step_of}
 use Rattle.nest_core.specs.Actors.{actor_at, actor_of}
 use Rattle.nest_core.specs.Promises.{source_stream, arrivals_of, departed_of, specs_of, states_of, state_log}
 use Rattle.nest_core.specs.Promises.{sent_stream, IsFrontUntil, IsSettled, IsQuiet, IsFinished, IsWhole}
-use Rattle.nest_core.specs.Standing.{Arrives, LineStands, WorldStands}
+use Rattle.nest_core.specs.inside.Standing.{Arrives, LineStands, WorldStands}
 use Rattle.nest_core.proofs.Leading.{fed_all, world_leads}
 use Rattle.nest_core.proofs.Resting.{IdleLine, idle_first, idle_ends, idle_front, all_came}
 

@@ -10,8 +10,8 @@ use Rattle.nest_core.specs.WorldSteps.{actors_of, act, step_of}
 use Rattle.nest_core.specs.Actors.{actor_of}
 use Rattle.nest_core.specs.Promises.{arrivals_of, specs_of, KeepsFirst}
 use Rattle.nest_core.specs.Left.{left_of}
-use Rattle.nest_core.specs.Standing.{WorldStands}
-use Rattle.nest_core.specs.Does.{does}
+use Rattle.nest_core.specs.inside.Standing.{WorldStands}
+use Rattle.nest_core.specs.inside.Does.{does}
 use Rattle.nest_core.proofs.Meeting.{act_source, act_specs, act_horizon, act_stages}
 use Rattle.nest_core.proofs.Lessening.{act_less, act_same}
 

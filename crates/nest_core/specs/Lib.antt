@@ -1,14 +1,10 @@
 pub mod Channels
-pub mod ChannelViews
-pub mod SourceViews
 pub mod Actors
 pub mod Stages
 pub mod Worlds
 pub mod WorldSteps
 pub mod Promises
 pub mod Left
-pub mod Standing
-pub mod WorldViews
-pub mod Does
 pub mod Orders
-pub mod OrderViews
+pub mod inside
+pub mod views

@@ -1,6 +1,5 @@
 -- A shell of a world, and what its feeder and its drain do.
-use Rattle.std.specs.Prelude.{ℕ, Bool, true, false, Option, Some, None, IfSome, is_some, not, ◌&&◌, if◌then◌else◌}
-use Rattle.packet_record.specs.Streams.{MayFollow, IsUpTo}
+use Rattle.std.specs.Prelude.{ℕ, Bool, Option, Some, None, is_some, not, ◌&&◌, if◌then◌else◌}
 use Rattle.packet_record.specs.declared.item.Item.{Item}
 use Rattle.packet_record.specs.declared.item.FlowEnd.{FlowEnd}
 use Rattle.packet_record.specs.declared.item.FlowEnd.TheVariants.{Open, Ended, Broken}
@@ -37,10 +36,6 @@ feeding (Some item) s = stage None (after_feed s.state item) s.drain s.channel
 abbrev pub fed_stage : Stage → Stage
 fed_stage s = feeding s.feeder s
 
--- what the feeder holds may be fed
-abbrev pub MayFeed : Stage → Type 0
-MayFeed s = IfSome s.feeder (λ item. MayFollow s.state.fed item × IsUpTo s.state.horizon item)
-
 -- what a take gives the drain to send: an item, or nothing
 abbrev pub given : Taken → Option Item
 given (Gives item) = Some item
@@ -56,18 +51,6 @@ taking None Broken s = s
 
 abbrev pub taken_stage : Stage → Stage
 taken_stage s = taking s.drain s.state.taken.end s
-
--- whether a take gave anything
-abbrev pub goes_on : Taken → Bool
-goes_on (Gives item) = true
-goes_on (Again burnt) = true
-goes_on (NotYet bound) = false
-
-abbrev pub takes_where : Option Item → FlowEnd → Stage → Bool
-takes_where (Some item) end s = false
-takes_where None Open s = goes_on (answer_of s.state most)
-takes_where None Ended s = false
-takes_where None Broken s = false
 
 -- the drain sends what it holds, where there is room
 abbrev pub sending : Option Item → Stage → Stage

@@ -20,7 +20,8 @@ impl Model for Channel {
 
     ghost Value = { ChannelParts };
 
-    ghost use Rattle.nest_core.specs.ChannelViews.{channel_view, HasPlaces};
+    ghost use Rattle.nest_core.specs.views.Channel.{channel_view};
+    ghost use Rattle.nest_core.specs.inside.ChannelViews.{HasPlaces};
 
     ghost view = { channel_view };
 

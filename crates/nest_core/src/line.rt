@@ -2,7 +2,7 @@
 ghost use Rattle.std.specs.Prelude.{◌≡◌, [], OnOk, OnErr, IfOk};
 ghost use Rattle.nest_core.specs.Worlds.{line};
 ghost use Rattle.nest_core.specs.WorldSteps.{received};
-ghost use Rattle.nest_core.specs.Does.{receives_at, MayCollect};
+ghost use Rattle.nest_core.specs.inside.Does.{receives_at, MayCollect};
 
 use crate::channel::Channel;
 use crate::stage::Stage;

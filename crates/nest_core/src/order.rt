@@ -27,7 +27,7 @@ impl<'a> Model for Worlds<'a> {
 
     ghost Value = { WorldPair };
 
-    ghost use Rattle.nest_core.specs.OrderViews.{worlds_view};
+    ghost use Rattle.nest_core.specs.views.Worlds.{worlds_view};
 
     ghost view = { worlds_view };
 }

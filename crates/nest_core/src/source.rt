@@ -25,7 +25,7 @@ impl<'a> Model for Source<'a> {
 
     ghost Value = { List Item };
 
-    ghost use Rattle.nest_core.specs.SourceViews.{source_view};
+    ghost use Rattle.nest_core.specs.views.Source.{source_view};
 
     ghost view = { source_view };
 }

@@ -26,10 +26,10 @@ pub(crate) struct Stage {
 }
 
 impl Stage {
-    ghost use Rattle.nest_core.specs.Stages.{new_stage, fed_stage, taken_stage, sent_stage, MayFeed};
-    ghost use Rattle.nest_core.specs.Stages.{receives, after_receiving};
+    ghost use Rattle.nest_core.specs.Stages.{new_stage, fed_stage, taken_stage, sent_stage, receives, after_receiving};
+    ghost use Rattle.nest_core.specs.inside.Stages.{MayFeed};
     ghost use Rattle.nest_core.specs.Channels.{first_of, left_by};
-    ghost use Rattle.nest_core.specs.Does.{feeds, takes, sends};
+    ghost use Rattle.nest_core.specs.inside.Does.{feeds, takes, sends};
 
     // The shell before anything reached it.
     pub(crate) fn new(

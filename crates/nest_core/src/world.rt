@@ -4,7 +4,7 @@ ghost use Rattle.std.specs.Bool.{OnTrue, OnFalse};
 ghost use Rattle.packet_record.specs.Sources.{source_items};
 ghost use Rattle.nest_spec.specs.Nests.{directions_of};
 ghost use Rattle.nest_spec.specs.Passed.{HavePassed};
-ghost use Rattle.nest_core.specs.Standing.{StandAnew};
+ghost use Rattle.nest_core.specs.inside.Standing.{StandAnew};
 ghost use Rattle.nest_core.specs.Worlds.{new_stages};
 
 use crate::actor::{Actor, actor_of};
@@ -40,7 +40,8 @@ impl<'a> Model for World<'a> {
 
     ghost Value = { WorldParts };
 
-    ghost use Rattle.nest_core.specs.WorldViews.{world_view, IsWorld};
+    ghost use Rattle.nest_core.specs.views.World.{world_view};
+    ghost use Rattle.nest_core.specs.inside.WorldViews.{IsWorld};
 
     ghost view = { world_view };
 
@@ -53,8 +54,8 @@ impl<'a> World<'a> {
     ghost use Rattle.nest_core.specs.Promises.{arrivals_of, specs_of, departed_of, sent_stream, Keeps, KeepsFirst};
     ghost use Rattle.nest_core.specs.Promises.{IsRunOf, IsFrontUntil, IsSettled, IsQuiet, IsFinished, IsWhole};
     ghost use Rattle.nest_core.specs.Left.{left_of};
-    ghost use Rattle.nest_core.specs.Does.{IsAmong, does};
-    ghost use Rattle.nest_core.specs.Standing.{WorldStands};
+    ghost use Rattle.nest_core.specs.inside.Does.{IsAmong, does};
+    ghost use Rattle.nest_core.specs.inside.Standing.{WorldStands};
 
     /// A direction of the nest before its first step: nothing is sent yet. The source sends the items of the
     /// schedule's rows, and each channel holds so many items, 1 to 64.

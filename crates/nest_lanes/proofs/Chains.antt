@@ -12,8 +12,8 @@ use Rattle.shell_core.specs.declared.spec.DirSpec.{DirSpec}
 use Rattle.shell_workers.specs.declared.stage.Stage.{Stage}
 use Rattle.nest_lanes.specs.declared.lane.Lane.{Lane}
 use Rattle.shell_workers.specs.Stages.{AllDone, AllFresh, AllSame, IsFresh}
-use Rattle.nest_lanes.specs.Lanes.{AllEnded, AllOwn, HasCarried, HasEnded, HasRun, IsSameLane, IsWired, Linked}
-use Rattle.nest_lanes.specs.Lanes.{specs_of}
+use Rattle.nest_lanes.specs.Lanes.{AllOwn, HasCarried, HasRun, IsWired, Linked, specs_of}
+use Rattle.nest_lanes.specs.inside.Lanes.{AllEnded, HasEnded, IsSameLane}
 
 abbrev pub IsOwn : ℕ → Stage → Type 0
 IsOwn h s = (s.feed.cell ≡ s.cell) × (s.drain.cell ≡ s.cell) × (s.cell.opening.horizon ≡ h)

@@ -6,7 +6,8 @@ use Rattle.shell_core.specs.declared.spec.DirSpec.{DirSpec}
 use Rattle.shell_core.specs.Shells.{whole_inside, whole_lost, whole_out}
 use Rattle.nest_spec.specs.declared.fate.Fate.{Fate}
 use Rattle.nest_spec.specs.declared.shell.ShellDirection.{ShellDirection}
-use Rattle.nest_spec.specs.Marks.{ids_of, marked_through, passed}
+use Rattle.nest_spec.specs.Marks.{passed}
+use Rattle.nest_spec.specs.inside.Marks.{ids_of, marked_through}
 use Rattle.nest_spec.specs.Walk.{step, walk}
 use Rattle.nest_spec.proofs.Natural.{one_step}
 

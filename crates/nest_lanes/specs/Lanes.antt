@@ -55,26 +55,11 @@ IsDonePath path = AllDone path.stages.items × (path.last.flow.end ≡ IsOver)
 abbrev pub IsSamePath : Path → Path → Type 0
 IsSamePath old new = AllSame old.stages.items new.stages.items × IsSameEnd old.last new.last
 
-abbrev pub IsSameLane : Lane → Lane → Type 0
-IsSameLane old new = IsSameEnd old.head new.head × IsSamePath old.path new.path
-
 -- These packets were sent through a lane, and all of them came through.
 pub record HasCarried (packets : List Timed) (lane : Lane) : Type 0 where
   pub sent : lane.head.flow.packets ≡ packets
   pub over : lane.head.flow.end ≡ IsOver
   pub done : IsDonePath lane.path
-
--- what the source sent, and what was received, taken and passed on at each stage, came to its end: no item Broken was
--- among it
-abbrev pub AllEnded : List Stage → Type 0
-AllEnded [] = Unit {0}
-AllEnded (s ∷ stages) = (s.from.flow.end ≡ IsOver) × (s.drain.flow.end ≡ IsOver) × (s.to.flow.end ≡ IsOver)
-    × AllEnded stages
-
-pub record HasEnded (lane : Lane) : Type 0 where
-  pub sent : lane.head.flow.end ≡ IsOver
-  pub stages : AllEnded lane.path.stages.items
-  pub collected : lane.path.last.flow.end ≡ IsOver
 
 -- The packets of these rows went through a direction of a nest, from the source to the collector.
 pub record HasRun (direction : Direction) (nest : NestParts) (rows : List Row) (lane : Lane) : Type 0 where

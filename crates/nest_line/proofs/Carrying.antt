@@ -22,8 +22,9 @@ use Rattle.shell_state.proofs.Equations.{take_taken, take_fed, take_horizon, tak
 use Rattle.shell_state.proofs.Equations.{feed_taken, feed_horizon, feed_spec, feed_breaks}
 use Rattle.shell_state.proofs.GoingOn.{take_leaves_fewer}
 use Rattle.shell_state.specs.Standing.{IsHonest, Stands}
-use Rattle.nest_line.specs.Meeting.{Grows, IsSound, IsSameShell, Rests, Follow, Meet, AreNew, fed_of, last_taken}
-use Rattle.nest_line.specs.Meeting.{Caught, TakesFewer, goes_on, packet_items, specs_of}
+use Rattle.nest_line.specs.inside.Meeting.{Grows, IsSound, IsSameShell, Rests, Follow, Meet, AreNew, Caught, TakesFewer}
+use Rattle.nest_line.specs.inside.Meeting.{goes_on, packet_items}
+use Rattle.nest_line.specs.views.Meeting.{fed_of, last_taken, specs_of}
 use Rattle.nest_line.proofs.Growing.{caught, grown_not, grows_on, grows_taken, mark_follows, rest_follows, rest_is}
 use Rattle.nest_line.proofs.Settling.{taken_open}
 

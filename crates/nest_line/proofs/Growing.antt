@@ -17,12 +17,12 @@ use Rattle.shell_state.specs.declared.taken.Taken.{Taken}
 use Rattle.shell_state.specs.declared.taken.Taken.TheVariants.{Item as Gives, Again, NotYet}
 use Rattle.shell_state.specs.States.{State}
 use Rattle.shell_state.specs.Steps.{after_take, answer_of, answer_after, burns, with_burnt, stream_after}
-use Rattle.shell_state.specs.Inside.{AnswerFollows}
+use Rattle.shell_state.specs.inside.Fed.{AnswerFollows}
 use Rattle.shell_state.specs.Standing.{IsHonest, Stands}
 use Rattle.shell_state.proofs.Answering.{answer_follows}
 use Rattle.shell_state.proofs.Keeping.{burnt_keeps, burns-le}
 use Rattle.nest_line.specs.Lines.{IsFront}
-use Rattle.nest_line.specs.Meeting.{Grows, packet_items}
+use Rattle.nest_line.specs.inside.Meeting.{Grows, packet_items}
 
 pub grown_not : (f : Stream) → f.end ≡ Open → Grows f f
 grown_not f going = record {

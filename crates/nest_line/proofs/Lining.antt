@@ -11,8 +11,10 @@ use Rattle.nest_spec.specs.Nests.{NestParts, directions_of, shells_in}
 use Rattle.nest_spec.specs.Passed.{HavePassed}
 use Rattle.nest_spec.proofs.NestLemmas.{shells_long}
 use Rattle.nest_line.specs.Lines.{IsSettled}
-use Rattle.nest_line.specs.LineViews.{IsLine, line_view}
-use Rattle.nest_line.specs.Meeting.{Meet, fed_of, last_taken, specs_of}
+use Rattle.nest_line.specs.inside.LineViews.{IsLine}
+use Rattle.nest_line.specs.views.Line.{line_view}
+use Rattle.nest_line.specs.inside.Meeting.{Meet}
+use Rattle.nest_line.specs.views.Meeting.{fed_of, last_taken, specs_of}
 use Rattle.nest_line.specs.declared.line.Line.TheInside.{Inside}
 use Rattle.nest_line.proofs.Settling.{last_rises, line_ended, line_entered, line_front, line_passed, not_cut}
 use Rattle.nest_line.proofs.Settling.{settled_at}

@@ -11,7 +11,8 @@ use Rattle.packet_record.specs.declared.item.FlowEnd.TheVariants.{Open, Ended, B
 use Rattle.packet_record.specs.Moments.{AreFrom, AreUpTo, Rise}
 use Rattle.packet_record.proofs.MomentsLemmas.{from_lower, up_to_higher, rise-append, rise_rest}
 use Rattle.packet_record.specs.Packets.{number}
-use Rattle.link_core.specs.Promises.{count_to, Extends}
+use Rattle.link_core.specs.Promises.{count_to}
+use Rattle.link_core.specs.inside.Promises.{Extends}
 use Rattle.shell_core.specs.declared.spec.DirSpec.{DirSpec}
 use Rattle.shell_core.specs.declared.spec.DirSpec.TheVariants.{Pass, Delay, Loss, Link}
 use Rattle.shell_core.specs.Shells.{out, whole_out, opportunities}
@@ -28,7 +29,8 @@ use Rattle.shell_state.proofs.Foretelling.{foretells_more, out_goes_on, finished
 use Rattle.shell_state.proofs.GoingOn.{keeps_up}
 use Rattle.nest_spec.specs.Passed.{HavePassed}
 use Rattle.nest_line.specs.Lines.{IsFront, last_out, up_to}
-use Rattle.nest_line.specs.Meeting.{IsSound, Rests, Meet, last_taken, specs_of}
+use Rattle.nest_line.specs.inside.Meeting.{IsSound, Rests, Meet}
+use Rattle.nest_line.specs.views.Meeting.{last_taken, specs_of}
 
 link_or_not : (c : DirSpec) → (IsLink c) ⊎ (IsLink c → ⊥)
 link_or_not Pass = inr (λ link. link)

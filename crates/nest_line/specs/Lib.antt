@@ -1,3 +1,3 @@
 pub mod Lines
-pub mod Meeting
-pub mod LineViews
+pub mod inside
+pub mod views

@@ -6,7 +6,8 @@ ghost use Rattle.shell_state.specs.Steps.{breaks};
 ghost use Rattle.nest_spec.specs.Nests.{directions_of};
 ghost use Rattle.nest_spec.specs.Passed.{HavePassed};
 ghost use Rattle.nest_line.specs.Lines.{IsFed, IsSettled};
-ghost use Rattle.nest_line.specs.Meeting.{AreNew, last_taken, specs_of};
+ghost use Rattle.nest_line.specs.inside.Meeting.{AreNew};
+ghost use Rattle.nest_line.specs.views.Meeting.{last_taken, specs_of};
 
 use crate::passing::advance;
 use nest_spec::Nest;
@@ -32,7 +33,8 @@ impl Model for Line {
 
     ghost Value = { LineParts };
 
-    ghost use Rattle.nest_line.specs.LineViews.{line_view, IsLine};
+    ghost use Rattle.nest_line.specs.views.Line.{line_view};
+    ghost use Rattle.nest_line.specs.inside.LineViews.{IsLine};
 
     ghost view = { line_view };
 

@@ -25,7 +25,7 @@ impl Model for NestRun {
 
     ghost Value = { RunLists };
 
-    ghost use Rattle.nest_plain.specs.RunView.{run_view};
+    ghost use Rattle.nest_plain.specs.views.NestRun.{run_view};
 
     ghost view = { run_view };
 }

@@ -4,13 +4,15 @@ ghost use Rattle.std.specs.Vec.Iter.{into_iter_items};
 ghost use Rattle.packet_record.specs.declared.packet.Row.{Row as RowValue};
 ghost use Rattle.packet_record.specs.Moments.{AreUpTo, Rise};
 ghost use Rattle.shell_core.specs.Shells.{IsInRange, IsBuilt, opportunities, whole_out, whole_lost};
+ghost use Rattle.shell_core.specs.Shells.{whole_inside};
 ghost use Rattle.shell_core.specs.Wholes.{IsLink};
 ghost use Rattle.nest_spec.specs.declared.fate.Fate.{Fate as FateValue};
 ghost use Rattle.nest_spec.specs.Fates.{fated};
-ghost use Rattle.nest_spec.specs.Links.{AreBuilt, NamedAreLinks, specs_in};
-ghost use Rattle.nest_spec.specs.Marks.{ids_of, marked_through, passed};
+ghost use Rattle.nest_spec.specs.Links.{NamedAreLinks, specs_in};
+ghost use Rattle.nest_spec.specs.inside.Links.{AreBuilt};
+ghost use Rattle.nest_spec.specs.Marks.{passed};
+ghost use Rattle.nest_spec.specs.inside.Marks.{ids_of, marked_through};
 ghost use Rattle.nest_spec.specs.Nests.{AllFit};
-ghost use Rattle.shell_core.specs.Shells.{whole_inside};
 ghost use Rattle.nest_spec.specs.Walk.{step, walk, named_log};
 ghost use Rattle.nest_plain.specs.Unwritten.{unwritten_log};
 

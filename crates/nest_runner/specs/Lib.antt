@@ -1,2 +1,2 @@
-pub mod Feeding
 pub mod Streaming
+pub mod inside

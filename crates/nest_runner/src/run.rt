@@ -9,8 +9,8 @@ ghost use Rattle.mark_channel.specs.Ends.{IsSameEnd};
 ghost use Rattle.nest_spec.specs.Nests.{result_of};
 ghost use Rattle.nest_spec.specs.Once.{HaveOneFate};
 ghost use Rattle.shell_workers.specs.Ends.{IfEnded};
-ghost use Rattle.nest_lanes.specs.Lanes.{HasCarried, HasEnded, HasRun, IsDonePath, IsFreshLane, IsFreshPath};
-ghost use Rattle.nest_lanes.specs.Lanes.{IsSameLane, IsSamePath};
+ghost use Rattle.nest_lanes.specs.Lanes.{HasCarried, HasRun, IsDonePath, IsFreshLane, IsFreshPath, IsSamePath};
+ghost use Rattle.nest_lanes.specs.inside.Lanes.{HasEnded, IsSameLane};
 
 use mark_channel::{Begun, Sender};
 use mm_base::Pace;

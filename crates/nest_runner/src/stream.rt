@@ -10,8 +10,8 @@ ghost use Rattle.packet_record.specs.Rows.{entering};
 ghost use Rattle.packet_record.specs.Streams.{no_items};
 ghost use Rattle.mark_channel.specs.Ends.{IsSameEnd};
 ghost use Rattle.shell_workers.specs.Ends.{IfEnded};
-ghost use Rattle.nest_lanes.specs.Lanes.{HasCarried, HasEnded, HasRun, IsDonePath, IsFreshLane, IsFreshPath};
-ghost use Rattle.nest_lanes.specs.Lanes.{IsSameLane, IsSamePath};
+ghost use Rattle.nest_lanes.specs.Lanes.{HasCarried, HasRun, IsDonePath, IsFreshLane, IsFreshPath, IsSamePath};
+ghost use Rattle.nest_lanes.specs.inside.Lanes.{HasEnded, IsSameLane};
 ghost use Rattle.nest_runner.specs.Streaming.{HasStreamCause, IsScheduleOf, StreamsTo};
 ghost use Rattle.row_source.specs.StreamParts.{AllSent, IsStreamed};
 

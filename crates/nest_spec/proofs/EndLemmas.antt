@@ -11,7 +11,8 @@ use Rattle.shell_core.specs.Shells.{whole_out, whole_lost}
 use Rattle.nest_spec.specs.declared.fate.Fate.{Fate}
 use Rattle.nest_spec.specs.declared.fate.Fate.TheVariants.{Departed, Dropped, Inside, Unsent}
 use Rattle.nest_spec.specs.declared.shell.ShellDirection.{ShellDirection}
-use Rattle.nest_spec.specs.Links.{AreBuilt, specs_in}
+use Rattle.nest_spec.specs.Links.{specs_in}
+use Rattle.nest_spec.specs.inside.Links.{AreBuilt}
 use Rattle.nest_spec.specs.Walk.{Step, step, walk, last_list}
 use Rattle.nest_spec.specs.Fates.{find_id, ended_at, departed_at, fate_in}
 use Rattle.nest_spec.specs.Once.{StandsAt, Stands, IsInside, IsEnd}

@@ -8,7 +8,7 @@ use Rattle.std.specs.declared.hash.BuildHasherDefault.{BuildHasherDefault}
 use Rattle.std.specs.HashMap.{get, HashMap}
 use Rattle.packet_record.specs.declared.packet.Row.{Row}
 use Rattle.packet_record.specs.Rows.{AreApart}
-use Rattle.nest_spec.specs.Index.{IsIndex, IsNowhere, IsOnlyAt, AreFromOne}
+use Rattle.nest_spec.specs.inside.Index.{IsIndex, IsNowhere, IsOnlyAt, AreFromOne}
 
 abbrev Places : Type 0
 Places = HashMap ℕ ℕ (BuildHasherDefault FoldHasher)

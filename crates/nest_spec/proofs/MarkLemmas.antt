@@ -11,8 +11,9 @@ use Rattle.nest_spec.specs.declared.fate.Fate.TheVariants.{Inside}
 use Rattle.nest_spec.specs.declared.fate.FateRow.{FateRow}
 use Rattle.nest_spec.specs.declared.mark.Mark.{Mark}
 use Rattle.nest_spec.specs.Fates.{fate_row, fated, find_id}
-use Rattle.nest_spec.specs.Marks.{Marks, marks, mark_fate, put, marked, held_in}
-use Rattle.nest_spec.specs.Index.{IsNowhere, IsOnlyAt}
+use Rattle.nest_spec.specs.Marks.{Marks, marks, mark_fate, marked, held_in}
+use Rattle.nest_spec.specs.inside.Marks.{put}
+use Rattle.nest_spec.specs.inside.Index.{IsNowhere, IsOnlyAt}
 
 pub fated_same : (f g : Row → Fate) (rows : List Row)
     → ((i : ℕ) (d : Row) → i < length rows → f (get_or rows i d) ≡ g (get_or rows i d)) → fated f rows ≡ fated g rows

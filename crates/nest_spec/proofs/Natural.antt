@@ -7,15 +7,17 @@ use Rattle.packet_record.specs.declared.packet.Timed.{Timed}
 use Rattle.packet_record.specs.declared.packet.Row.{Row}
 use Rattle.packet_record.specs.Packets.{number}
 use Rattle.shell_core.specs.Shells.{whole_out, whole_lost}
+use Rattle.shell_core.specs.Shells.{whole_inside}
 use Rattle.nest_spec.specs.declared.fate.Fate.{Fate}
 use Rattle.nest_spec.specs.declared.fate.Fate.TheVariants as fates
 use Rattle.nest_spec.specs.declared.mark.Mark.TheVariants.{Drops, Leaves}
 use Rattle.nest_spec.specs.declared.shell.ShellDirection.{ShellDirection}
-use Rattle.nest_spec.specs.Links.{AreBuilt, specs_in}
-use Rattle.shell_core.specs.Shells.{whole_inside}
+use Rattle.nest_spec.specs.Links.{specs_in}
+use Rattle.nest_spec.specs.inside.Links.{AreBuilt}
 use Rattle.nest_spec.specs.Walk.{Step, step, walk, last_list}
 use Rattle.nest_spec.specs.Fates.{find_id, ended_at, departed_at, fate_in}
-use Rattle.nest_spec.specs.Marks.{mark_fate, passed, ids_of, marked_through}
+use Rattle.nest_spec.specs.Marks.{mark_fate, passed}
+use Rattle.nest_spec.specs.inside.Marks.{ids_of, marked_through}
 use Rattle.nest_spec.proofs.NumberLemmas.{is_id, all_three, none_found, without_found, some_number, none_among}
 use Rattle.nest_spec.proofs.NumberLemmas.{some_among}
 

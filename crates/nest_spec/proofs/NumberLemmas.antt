@@ -7,10 +7,10 @@ use Rattle.packet_record.specs.declared.packet.Timed.{Timed}
 use Rattle.packet_record.specs.Packets.{number}
 use Rattle.shell_core.specs.declared.spec.DirSpec.{DirSpec}
 use Rattle.shell_core.specs.Shells.{IsBuilt, opportunities, whole_out, whole_lost}
+use Rattle.shell_core.specs.Shells.{whole_inside}
 use Rattle.shell_core.proofs.Once.{number_once}
 use Rattle.nest_spec.specs.Fates.{find_id}
-use Rattle.nest_spec.specs.Marks.{ids_of}
-use Rattle.shell_core.specs.Shells.{whole_inside}
+use Rattle.nest_spec.specs.inside.Marks.{ids_of}
 
 abbrev pub is_id : ℕ → Packet → Bool
 is_id id p = eqb p.id id

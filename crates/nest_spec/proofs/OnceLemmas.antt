@@ -9,14 +9,15 @@ use Rattle.packet_record.specs.declared.packet.Row.{Row}
 use Rattle.packet_record.specs.declared.packet.Direction.{Direction}
 use Rattle.packet_record.specs.declared.packet.Direction.TheVariants.{Up, Down}
 use Rattle.packet_record.specs.Rows.{goes, entering}
+use Rattle.packet_record.specs.Rows.{AreApart}
 use Rattle.packet_record.specs.Packets.{number}
 use Rattle.shell_core.specs.Shells.{whole_out}
 use Rattle.nest_spec.specs.declared.fate.Fate.{Fate}
 use Rattle.nest_spec.specs.declared.fate.Fate.TheVariants as fates
 use Rattle.nest_spec.specs.declared.fate.FateRow.{FateRow}
 use Rattle.nest_spec.specs.declared.shell.ShellDirection.{ShellDirection}
-use Rattle.nest_spec.specs.Links.{AreBuilt, specs_in}
-use Rattle.packet_record.specs.Rows.{AreApart}
+use Rattle.nest_spec.specs.Links.{specs_in}
+use Rattle.nest_spec.specs.inside.Links.{AreBuilt}
 use Rattle.nest_spec.specs.Walk.{walk}
 use Rattle.nest_spec.specs.Fates.{fate_row, fated, fate_in}
 use Rattle.nest_spec.specs.Nests.{NestParts, shells_in, directions_of, walk_of, fate_of}

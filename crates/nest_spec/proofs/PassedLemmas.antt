@@ -5,6 +5,7 @@ use Rattle.packet_record.specs.declared.packet.Timed.{Timed}
 use Rattle.packet_record.specs.declared.item.FlowEnd.TheVariants.{Ended}
 use Rattle.shell_core.specs.declared.spec.DirSpec.{DirSpec}
 use Rattle.shell_core.specs.Shells.{lost, inside, shell_log, whole_out, whole_lost, whole_log}
+use Rattle.shell_core.specs.Shells.{whole_inside}
 use Rattle.shell_state.specs.States.{State}
 use Rattle.shell_state.specs.Standing.{Stands}
 use Rattle.shell_state.proofs.Foretelling.{taken_whole}
@@ -12,7 +13,6 @@ use Rattle.packet_record.specs.declared.item.Stream.{Stream}
 use Rattle.nest_spec.specs.declared.shell.ShellDirection.{ShellDirection}
 use Rattle.nest_spec.specs.Links.{specs_in}
 use Rattle.nest_spec.specs.Passed.{HavePassed}
-use Rattle.shell_core.specs.Shells.{whole_inside}
 
 pub record HasRun (c : DirSpec) (h : ℕ) (arrived : List Timed) (s : State) : Type 0 where
   pub departed : s.taken.packets ≡ whole_out c h arrived

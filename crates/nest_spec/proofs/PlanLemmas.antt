@@ -11,7 +11,7 @@ use Rattle.nest_spec.specs.Words.{side_words, queues_read, traces_read, link_end
 use Rattle.nest_spec.specs.Words.{NestPlan, no_shells, with_shell, next_shell, begun, passed_over, followed}
 use Rattle.nest_spec.specs.Words.{shells_from, nest_of}
 use Rattle.nest_spec.specs.Plans.{IsShell, AreShells, traces_in, logs_in, trace_count, log_count, IsPart, IsPlan}
-use Rattle.nest_spec.specs.Plans.{IsShellRead}
+use Rattle.nest_spec.specs.inside.Plans.{IsShellRead}
 use Rattle.nest_spec.specs.declared.error.NestError.{NestError}
 use Rattle.nest_spec.specs.declared.error.NestError.TheVariants as errors
 use Rattle.nest_spec.specs.declared.shell_words.ShellKind.{ShellKind}

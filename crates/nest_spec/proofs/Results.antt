@@ -5,16 +5,17 @@ use Rattle.packet_record.specs.declared.packet.Row.{Row}
 use Rattle.packet_record.specs.declared.packet.Direction.{Direction}
 use Rattle.packet_record.specs.declared.packet.Direction.TheVariants.{Up, Down}
 use Rattle.packet_record.specs.Rows.{goes, entering}
+use Rattle.packet_record.specs.Rows.{AreApart}
 use Rattle.nest_spec.specs.declared.fate.Fate.{Fate}
 use Rattle.nest_spec.specs.declared.fate.Fate.TheVariants.{Unsent}
-use Rattle.nest_spec.specs.Links.{AreBuilt}
-use Rattle.packet_record.specs.Rows.{AreApart}
+use Rattle.nest_spec.specs.inside.Links.{AreBuilt}
 use Rattle.nest_spec.specs.Fates.{fated, fate_in}
 use Rattle.std.proofs.lemmas.List.{length-map}
 use Rattle.shell_log.specs.declared.entry.Entry.{Entry}
 use Rattle.nest_spec.specs.declared.run_result.Named.{Named}
 use Rattle.nest_spec.specs.RunViews.{named_by}
-use Rattle.nest_spec.specs.Marks.{Marks, marks, marked_through}
+use Rattle.nest_spec.specs.Marks.{Marks, marks}
+use Rattle.nest_spec.specs.inside.Marks.{marked_through}
 use Rattle.nest_spec.specs.Walk.{named_log, in_nest_order}
 use Rattle.nest_spec.specs.Nests.{NestParts, shells_in, directions_of, walk_of, fate_of, run_lists, result_of}
 use Rattle.nest_spec.proofs.MarkLemmas.{fated_same, marks_on}

@@ -3,7 +3,7 @@ use Rattle.std.proofs.Common.{◌≡◌, ℕ, zero, suc, ◌+◌, ◌<◌, List,
 use Rattle.packet_record.specs.declared.packet.Row.{Row}
 use Rattle.packet_record.specs.Orders.{AreInOrder, IsSchedule}
 use Rattle.packet_record.specs.Rows.{AreApart}
-use Rattle.nest_spec.specs.Index.{AreFromOne}
+use Rattle.nest_spec.specs.inside.Index.{AreFromOne}
 
 id_at : (place low : ℕ) (rows : List Row) (i : ℕ) (d : Row) → AreInOrder place low rows → i < length rows
     → (get_or rows i d).timed.packet.id ≡ place + i

@@ -1,5 +1,4 @@
 pub mod FateTexts
-pub mod PackedFates
 pub mod NestFaults
 pub mod Words
 pub mod Plans
@@ -11,14 +10,6 @@ pub mod Passed
 pub mod Marks
 pub mod RunViews
 pub mod Links
-pub mod Index
-pub mod Places
-pub mod DraftViews
-pub mod LinkViews
-pub mod MarkingViews
-pub mod NestViews
-pub mod PackedViews
-pub mod PlanViews
-pub mod ResultViews
-pub mod ShellViews
 pub mod Chains
+pub mod inside
+pub mod views

@@ -1,16 +1,11 @@
 -- What holds of the directions of a nest's shells.
 use Rattle.std.specs.Prelude.{List, [], ◌∷◌, IsSome, map}
 use Rattle.shell_core.specs.declared.spec.DirSpec.{DirSpec}
-use Rattle.shell_core.specs.Shells.{IsBuilt}
 use Rattle.shell_core.specs.Wholes.{IsLink}
 use Rattle.nest_spec.specs.declared.shell.ShellDirection.{ShellDirection}
 
 abbrev pub specs_in : List ShellDirection → List DirSpec
 specs_in shells = map (λ (s : ShellDirection). s.spec) shells
-
-abbrev pub AreBuilt : List DirSpec → Type 0
-AreBuilt [] = Unit {0}
-AreBuilt (c ∷ specs) = IsBuilt c × AreBuilt specs
 
 -- a log has a name only where the shell is a link
 abbrev pub NamedAreLinks : List ShellDirection → Type 0

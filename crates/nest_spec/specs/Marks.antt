@@ -1,6 +1,6 @@
 -- What contracts see of a marking, and what marking does: the fates of rows, marked shell by shell. That this
 -- gives the fates of the walk is proved.
-use Rattle.std.specs.Prelude.{ℕ, ◌==◌, List, [], ◌∷◌, map, if◌then◌else◌}
+use Rattle.std.specs.Prelude.{ℕ, ◌==◌, List, if◌then◌else◌}
 use Rattle.std.specs.List.{list_any}
 use Rattle.std.specs.Option.{option_map_or}
 use Rattle.packet_record.specs.declared.packet.Timed.{Timed}
@@ -10,8 +10,6 @@ use Rattle.nest_spec.specs.declared.fate.Fate.TheVariants as fates
 use Rattle.nest_spec.specs.declared.fate.FateRow.{FateRow}
 use Rattle.nest_spec.specs.declared.mark.Mark.{Mark}
 use Rattle.nest_spec.specs.declared.mark.Mark.TheVariants.{Drops, Leaves}
-use Rattle.nest_spec.specs.declared.shell.ShellDirection.{ShellDirection}
-use Rattle.nest_spec.specs.Walk.{Step, walk, last_list}
 use Rattle.nest_spec.specs.Fates.{find_id}
 
 -- the rows, and the fates so far
@@ -27,10 +25,6 @@ abbrev pub mark_fate : Mark → Timed → Fate
 mark_fate (Drops shell) t = fates.Dropped shell t.moment
 mark_fate Leaves t = fates.Departed t.moment
 
--- the fates where the rows of this number have this one
-abbrev pub put : ℕ → Fate → (Row → Fate) → Row → Fate
-put id fate f row = if id == row.timed.packet.id then fate else f row
-
 -- where the rows of these packets are marked
 abbrev pub marked : List Timed → Mark → (Row → Fate) → Row → Fate
 marked packets mark f row = option_map_or (mark_fate mark) (find_id row.timed.packet.id packets) (f row)
@@ -42,15 +36,3 @@ held_in ids shell f row = if list_any (λ id. id == row.timed.packet.id) ids the
 -- where packets have passed the shell of this number, which dropped some and holds those of these numbers
 abbrev pub passed : ℕ → List Timed → List ℕ → (Row → Fate) → Row → Fate
 passed number lost held f = marked lost (Drops number) (held_in held number f)
-
-abbrev pub ids_of : List Timed → List ℕ
-ids_of packets = map (λ (t : Timed). t.packet.id) packets
-
--- where packets have passed the shells of a walk, and these have departed from the last
-abbrev pub walked : List Step → List Timed → (Row → Fate) → Row → Fate
-walked [] departed f = marked departed Leaves f
-walked (s ∷ steps) departed f = walked steps departed (passed s.number s.lost (ids_of s.inside) f)
-
--- where what arrived has passed these shells
-abbrev pub marked_through : ℕ → List ShellDirection → List Timed → (Row → Fate) → Row → Fate
-marked_through h shells arrived f = walked (walk h shells arrived) (last_list arrived (walk h shells arrived)) f

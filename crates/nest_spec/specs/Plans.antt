@@ -1,6 +1,6 @@
 -- What holds of every nest that words state.
 use Rattle.std.specs.Prelude.{◌≡◌, ℕ, ◌+◌, ◌≤◌, List, [], ◌∷◌, length, if◌then◌else◌}
-use Rattle.nest_spec.specs.Words.{NestPlan, ShellRead}
+use Rattle.nest_spec.specs.Words.{NestPlan}
 use Rattle.nest_spec.specs.declared.shell_words.ShellWords.{ShellWords}
 use Rattle.nest_spec.specs.declared.shell_words.ShellWords.TheVariants.{Delay, Loss, Link}
 use Rattle.nest_spec.specs.declared.shell_words.LinkSide.{LinkSide}
@@ -48,9 +48,3 @@ pub record IsPart (plan : NestPlan) : Type 0 where
 pub record IsPlan (plan : NestPlan) : Type 0 where
   pub some : 1 ≤ length plan.shells
   pub part : IsPart plan
-
--- what is read of a shell has as many traces and logs as it names
-pub record IsShellRead (read : ShellRead) : Type 0 where
-  pub shell : IsShell read.shell
-  pub traces : length read.traces ≡ traces_in read.shell
-  pub logs : length read.logs ≡ logs_in read.shell

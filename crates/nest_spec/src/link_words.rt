@@ -35,7 +35,7 @@ pub(crate) struct LinkWords<'a> {
 }
 
 impl<'a> LinkWords<'a> {
-    ghost use Rattle.nest_spec.specs.LinkViews.{side_given, link_given};
+    ghost use Rattle.nest_spec.specs.inside.LinkWords.{side_given, link_given};
 
     pub(crate) fn new() -> Self
         ensures { link_given result ≡ nothing_given }
@@ -203,7 +203,7 @@ pub(crate) struct OptionWords<'a> {
     pub waiting: Option<LinkOption>,
 }
 
-ghost use Rattle.nest_spec.specs.LinkViews.{text_of, link_given, option_given, rest_given};
+ghost use Rattle.nest_spec.specs.inside.LinkWords.{text_of, link_given, option_given, rest_given};
 
 fn read_option<'a>(
     shell: u32,

@@ -1,7 +1,7 @@
 // How a packet's fate is marked: dropped by a shell, or departed from the last.
 ghost use Rattle.std.specs.Prelude.{◌≡◌, ◌≤◌};
 ghost use Rattle.nest_spec.specs.Marks.{mark_fate};
-ghost use Rattle.nest_spec.specs.PackedFates.{IsShort};
+ghost use Rattle.nest_spec.specs.inside.PackedFates.{IsShort};
 
 use crate::Fate;
 use packet_record::Timed;

@@ -3,11 +3,12 @@ ghost use Rattle.std.specs.Prelude.{◌≡◌, length, map, IfOk};
 ghost use Rattle.packet_record.specs.declared.packet.Row.{Row as RowValue};
 ghost use Rattle.nest_spec.specs.declared.fate.Fate.{Fate as FateValue};
 ghost use Rattle.nest_spec.specs.Fates.{fate_row, fated};
-ghost use Rattle.nest_spec.specs.Marks.{marks, put, marked, held_in, passed};
+ghost use Rattle.nest_spec.specs.Marks.{marks, marked, held_in, passed};
+ghost use Rattle.nest_spec.specs.inside.Marks.{put};
 ghost use Rattle.packet_record.specs.Moments.{AreUpTo};
 ghost use Rattle.packet_record.specs.Rows.{AreApart};
-ghost use Rattle.nest_spec.specs.PackedFates.{IsShort};
-ghost use Rattle.nest_spec.specs.Places.{ArePlaces};
+ghost use Rattle.nest_spec.specs.inside.PackedFates.{IsShort};
+ghost use Rattle.nest_spec.specs.inside.Places.{ArePlaces};
 
 use crate::mark::{Mark, fate_by};
 use crate::places::{Places, place_of, places_of};
@@ -30,7 +31,8 @@ impl<'a> Model for Marking<'a> {
 
     ghost Value = { Marks };
 
-    ghost use Rattle.nest_spec.specs.MarkingViews.{marking_view, IsMarking};
+    ghost use Rattle.nest_spec.specs.views.Marking.{marking_view};
+    ghost use Rattle.nest_spec.specs.inside.MarkingViews.{IsMarking};
 
     ghost view = { marking_view };
 

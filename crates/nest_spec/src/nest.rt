@@ -26,7 +26,8 @@ impl Model for Nest {
 
     ghost Value = { NestParts };
 
-    ghost use Rattle.nest_spec.specs.NestViews.{nest_view, HasNest};
+    ghost use Rattle.nest_spec.specs.views.Nest.{nest_view};
+    ghost use Rattle.nest_spec.specs.inside.NestViews.{HasNest};
 
     ghost view = { nest_view };
 

@@ -3,11 +3,11 @@ ghost use Rattle.std.specs.Prelude.{◌≡◌, ◌≢◌, ◌≤◌, ◌+◌, �
 ghost use Rattle.std.specs.Prelude.{option_to_list, MatchResult, OnOk};
 ghost use Rattle.nest_spec.specs.Words.{with_shell, passed_over, shells_from, nest_of};
 ghost use Rattle.nest_spec.specs.Plans.{IsPlan, trace_count};
-ghost use Rattle.nest_spec.specs.LinkViews.{text_of};
-ghost use Rattle.nest_spec.specs.ShellViews.{shell_given};
+ghost use Rattle.nest_spec.specs.inside.LinkWords.{text_of};
+ghost use Rattle.nest_spec.specs.inside.ShellWords.{shell_given};
 ghost use Rattle.nest_spec.specs.Nests.{opportunities_of};
 ghost use Rattle.trace_reader.specs.Opps.{opps};
-ghost use Rattle.nest_spec.specs.DraftViews.{draft_plan, place_and_words};
+ghost use Rattle.nest_spec.specs.inside.Draft.{draft_plan, place_and_words};
 
 use crate::shell_reading::{ShellRead, read_shell};
 use crate::shell_words::{kind_of, next};
@@ -31,7 +31,8 @@ impl Model for NestWords {
 
     ghost Value = { NestPlan };
 
-    ghost use Rattle.nest_spec.specs.PlanViews.{plan_view, HasPlan};
+    ghost use Rattle.nest_spec.specs.views.NestWords.{plan_view};
+    ghost use Rattle.nest_spec.specs.inside.PlanViews.{HasPlan};
 
     ghost view = { plan_view };
 

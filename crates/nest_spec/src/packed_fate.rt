@@ -1,6 +1,7 @@
 // The fate of a packet in 12 bytes.
 ghost use Rattle.std.specs.Prelude.{◌≡◌, ◌≤◌, ◌<◌, IfOk};
-ghost use Rattle.nest_spec.specs.PackedFates.{IsShort, fate_at};
+ghost use Rattle.nest_spec.specs.inside.PackedFates.{IsShort};
+ghost use Rattle.nest_spec.specs.views.PackedFate.{fate_at};
 
 use crate::{Fate, FateRow};
 use packet_record::Direction;
@@ -33,7 +34,7 @@ impl Model for PackedFate {
 
     ghost Value = { FateRow };
 
-    ghost use Rattle.nest_spec.specs.PackedViews.{packed_view};
+    ghost use Rattle.nest_spec.specs.views.PackedFate.{packed_view};
 
     ghost view = { packed_view };
 }

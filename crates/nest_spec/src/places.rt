@@ -1,8 +1,8 @@
 // The places of rows by their numbers.
 ghost use Rattle.std.specs.Prelude.{◌≡◌, ◌≤◌, ◌-◌, ◌+◌, ℕ, length, MatchOption, IfOk};
 ghost use Rattle.packet_record.specs.Rows.{AreApart};
-ghost use Rattle.nest_spec.specs.Index.{IsIndex, IsNowhere, IsOnlyAt, AreFromOne};
-ghost use Rattle.nest_spec.specs.Places.{ArePlaces};
+ghost use Rattle.nest_spec.specs.inside.Index.{IsIndex, IsNowhere, IsOnlyAt, AreFromOne};
+ghost use Rattle.nest_spec.specs.inside.Places.{ArePlaces};
 ghost use Rattle.std.specs.Bool.{OnTrue};
 
 use packet_record::Row;

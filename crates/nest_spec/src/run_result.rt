@@ -30,7 +30,7 @@ impl Model for RunResult {
 
     ghost Value = { RunLists };
 
-    ghost use Rattle.nest_spec.specs.ResultViews.{result_view};
+    ghost use Rattle.nest_spec.specs.views.RunResult.{result_view};
 
     ghost view = { result_view };
 }

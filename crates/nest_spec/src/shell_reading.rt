@@ -6,8 +6,8 @@ ghost use Rattle.nest_spec.specs.Words.{shell_read, delay_ms, delay_words, loss_
 ghost use Rattle.nest_spec.specs.Words.{loss_words, queue_given, side_words, queues_read, link_end, link_words};
 ghost use Rattle.nest_spec.specs.Words.{shell_words};
 ghost use Rattle.loss_core.specs.RateValues.{rate_value};
-ghost use Rattle.nest_spec.specs.LinkViews.{side_given, rest_given};
-ghost use Rattle.nest_spec.specs.ShellViews.{shell_given};
+ghost use Rattle.nest_spec.specs.inside.LinkWords.{side_given, rest_given};
+ghost use Rattle.nest_spec.specs.inside.ShellWords.{shell_given};
 
 use crate::link_words::{LinkRest, LinkWords, SideWords, read_link_words};
 use crate::shell_words::next;

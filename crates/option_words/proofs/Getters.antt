@@ -11,7 +11,7 @@ use Rattle.clap.specs.declared.parser.matches.ValueSource.TheVariants.{DefaultVa
 use Rattle.clap.specs.declared.builder.value_parser.Reading.TheVariants as reading
 use Rattle.clap.proofs.WalkLemmas.{find-map}
 use Rattle.option_words.specs.Options.{Opt, Use, use_of}
-use Rattle.option_words.specs.ClapTable.{rule, rules_of, row, rows, row_values}
+use Rattle.option_words.specs.inside.ClapTable.{rule, rules_of, row, rows, row_values}
 use Rattle.option_words.proofs.Rules.{same_text}
 
 abbrev pub look : Text → List Row → Option Row

@@ -8,9 +8,9 @@ use Rattle.clap.specs.Walk.{Text, Row, rows_of}
 use Rattle.clap.specs.Matches.{found_of}
 use Rattle.clap.specs.declared.parser.matches.ArgMatches.{ArgMatches}
 use Rattle.option_words.specs.Options.{Opt, Use, options}
-use Rattle.option_words.specs.ClapTable.{rows_for}
-use Rattle.option_words.specs.Givens.{differ}
-use Rattle.option_words.specs.Held.{HoldsUses}
+use Rattle.option_words.specs.inside.ClapTable.{rows_for}
+use Rattle.option_words.specs.inside.Givens.{differ}
+use Rattle.option_words.specs.inside.Held.{HoldsUses}
 use Rattle.option_words.proofs.Rules.{opt_of, same_text, text_is_itself}
 use Rattle.option_words.proofs.Getters.{default_in, default_row, extra, or_some}
 use Rattle.option_words.proofs.TableLemmas.{valued, flagged}

@@ -9,7 +9,7 @@ use Rattle.clap.specs.Walk.{Text}
 use Rattle.option_words.specs.Options.{Opt, Use, all_new, is_option_word, is_used, is_value, name_and_value, on_word}
 use Rattle.option_words.specs.Options.{option_of, options, read, unvalued, valued, with_use, use_of, value_of}
 use Rattle.option_words.proofs.Rules.{opt_of, found_again, found_passes, same_text}
-use Rattle.option_words.specs.ClapTable.{row_values}
+use Rattle.option_words.specs.inside.ClapTable.{row_values}
 use Rattle.option_words.proofs.Getters.{flag_text}
 
 abbrev opt_at : Text → Bool → Opt

@@ -1,10 +1,10 @@
 -- clap's walk over the words of such a command, as steps of a small machine.
 use Rattle.std.proofs.Common.{◌≡◌, ◌∙◌, ◌&&◌, ◌||◌, ℕ, Bool, cond, true, false, refl, sym, ap, subst, List, [], ◌∷◌}
 use Rattle.std.proofs.Common.{◌++◌, drop, Option, Some, None, append-nil}
+use Rattle.std.proofs.Common.{eqb-true}
 use Rattle.std.specs.List.{list_all, list_any, fold}
 use Rattle.std.proofs.Math.Bool.{true≢false}
 use Rattle.clap.proofs.WalkLemmas.{both}
-use Rattle.std.proofs.Common.{eqb-true}
 use Rattle.std.specs.Option.{option_map, option_map_or, MatchOption}
 use Rattle.std.specs.Prelude.{if◌then◌else◌, option_and_then, not, ◌==◌, codes, is_some, nat_lt}
 use Rattle.std.specs.Str.{bytes_eq}
@@ -25,7 +25,7 @@ use Rattle.clap.specs.Faults.{built_fault, fault_of}
 use Rattle.clap.specs.declared.error.kind.ErrorKind.TheVariants as kind
 use Rattle.clap.specs.declared.parser.matches.ValueSource.TheVariants.{CommandLine}
 use Rattle.option_words.specs.Options.{Opt, Use, is_option_word, is_used, name_and_value}
-use Rattle.option_words.specs.ClapTable.{bare_app, rule, rules_of, row, rows}
+use Rattle.option_words.specs.inside.ClapTable.{bare_app, rule, rules_of, row, rows}
 use Rattle.option_words.proofs.Rules.{opt_of, by_id, by_long, no_place, text_is_itself, found_again, has_row-rows}
 use Rattle.option_words.proofs.Rules.{absent, rows-append}
 

@@ -7,8 +7,9 @@ use Rattle.std.specs.Option.{option_map}
 use Rattle.std.specs.Prelude.{if◌then◌else◌, option_and_then, not, ◌==◌}
 use Rattle.clap.specs.Walk.{Text}
 use Rattle.clap.proofs.WalkLemmas.{both}
-use Rattle.option_words.specs.Options.{Opt, Use, all_new, is_fit, is_good, is_option_word, is_used, is_value}
-use Rattle.option_words.specs.Options.{name_and_value, on_word, option_of, options, read, unvalued, valued, with_use}
+use Rattle.option_words.specs.Options.{Opt, Use, all_new, is_option_word, is_used, is_value, name_and_value, on_word}
+use Rattle.option_words.specs.Options.{option_of, options, read, unvalued, valued, with_use}
+use Rattle.option_words.specs.inside.Options.{is_fit, is_good}
 use Rattle.option_words.proofs.Rules.{opt_of}
 use Rattle.option_words.proofs.Machine.{Mode, clean, holds, wants, State, add, settle, to_clean, after_name}
 use Rattle.option_words.proofs.Machine.{option_step, plain_step, run, is_plain_or_option}

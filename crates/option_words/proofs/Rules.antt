@@ -10,7 +10,7 @@ use Rattle.std.proofs.lemmas.Slice.Eq.{bytes_eq-Decides}
 use Rattle.clap.specs.Walk.{Rule, Row, Text, arg_by_id, arg_by_long, arg_by_index, at_row, has_long, has_row}
 use Rattle.clap.proofs.WalkLemmas.{find-map, list_any-map}
 use Rattle.option_words.specs.Options.{Opt, Use, is_used}
-use Rattle.option_words.specs.ClapTable.{rule, rules_of, row, rows}
+use Rattle.option_words.specs.inside.ClapTable.{rule, rules_of, row, rows}
 
 -- the option of a name
 abbrev pub opt_of : List Opt → Text → Option Opt

@@ -12,9 +12,10 @@ use Rattle.clap.specs.Faults.{fault_of, is_free_app, is_simple_and_free}
 use Rattle.clap.specs.Matches.{first_value, found_of, one_text}
 use Rattle.clap.specs.declared.parser.matches.ArgMatches.{ArgMatches}
 use Rattle.clap.proofs.WalkLemmas.{first_value-rows, one_text-rows}
-use Rattle.option_words.specs.Options.{Opt, Use, is_fit, is_used, options, value_of}
-use Rattle.option_words.specs.ClapTable.{app_for, rows_for, rule, rule_for, rules_of}
-use Rattle.option_words.specs.Found.{IsMatchOf}
+use Rattle.option_words.specs.Options.{Opt, Use, is_used, options, value_of}
+use Rattle.option_words.specs.inside.Options.{is_fit}
+use Rattle.option_words.specs.inside.ClapTable.{app_for, rows_for, rule, rule_for, rules_of}
+use Rattle.option_words.specs.inside.Found.{IsMatchOf}
 use Rattle.option_words.proofs.Rules.{opt_of}
 use Rattle.option_words.proofs.Machine.{alone, clap_is, Fails}
 use Rattle.option_words.proofs.Reading.{run_options, all_plain_or_option}

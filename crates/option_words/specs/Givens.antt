@@ -1,8 +1,6 @@
 -- What option words give of each option of a table.
-use Rattle.std.specs.Prelude.{Bool, true, false, not, ◌&&◌, List, [], ◌∷◌, Option, Some, None, option_map}
+use Rattle.std.specs.Prelude.{true, false, List, [], Option, Some, None, option_map}
 use Rattle.std.specs.Prelude.{option_and_then, map, if◌then◌else◌}
-use Rattle.std.specs.List.{list_any}
-use Rattle.std.specs.Str.{bytes_eq}
 use Rattle.option_words.specs.Options.{Opt, Text, Use, is_used, options, value_of}
 
 -- the value of an option, the empty text for a flag that stands there, or nothing
@@ -12,11 +10,6 @@ given us o = if o.takes_value then value_of o.name us else (if is_used o.name us
 -- what is given of each option, in the order of the table, where the words are its options, each at most once
 abbrev pub givens : List Opt → List Text → Option (List (Option Text))
 givens table words = option_map (λ us. map (given us) table) (options table words)
-
--- no two options have one name
-abbrev pub differ : List Opt → Bool
-differ [] = true
-differ (o ∷ table) = not (list_any (λ p. bytes_eq o.name p.name) table) && differ table
 
 -- an option that takes a value, and one that takes none
 abbrev pub valued : Text → Opt

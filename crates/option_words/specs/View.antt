@@ -1,12 +1,10 @@
 -- What a value of this crate's types holds.
 use Rattle.std.specs.Prelude.{option_map}
-use Rattle.option_words.specs.Options.{Opt}
 use Rattle.option_words.specs.RunApp.{RunTexts}
 use Rattle.option_words.specs.Commands.{ReportTexts, MakeTexts, RecordTexts, MatchTexts, MigrateTexts, ReplayTexts}
 use Rattle.option_words.specs.Commands.{MergeTexts, ProxyTexts}
 use Rattle.option_words.specs.RelayApp.{RelayTexts}
 use Rattle.option_words.specs.declared.relaying.RelayWords.{RelayWords}
-use Rattle.option_words.specs.declared.table.OptionSpec.{OptionSpec}
 use Rattle.option_words.specs.declared.run.RunWords.{RunWords}
 use Rattle.option_words.specs.declared.report.ReportWords.{ReportWords}
 use Rattle.option_words.specs.declared.make.MakeWords.{MakeWords}
@@ -16,9 +14,6 @@ use Rattle.option_words.specs.declared.migrate.MigrateWords.{MigrateWords}
 use Rattle.option_words.specs.declared.replay.ReplayWords.{ReplayWords}
 use Rattle.option_words.specs.declared.merge.MergeWords.{MergeWords}
 use Rattle.option_words.specs.declared.proxying.ProxyWords.{ProxyWords}
-
-abbrev pub opt : OptionSpec → Opt
-opt o = record { name = o.name.now; takes_value = o.takes_value }
 
 abbrev pub texts_of : RunWords → RunTexts
 texts_of w = record {

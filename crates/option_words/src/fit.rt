@@ -1,7 +1,8 @@
 // The words that can stand among options. What clap would take beyond them is refused here first.
 ghost use Rattle.std.specs.Prelude.{◌≡◌, option_map, map, string_bytes};
 ghost use Rattle.std.specs.List.{list_all};
-ghost use Rattle.option_words.specs.Options.{is_fit, is_value, name_and_value};
+ghost use Rattle.option_words.specs.Options.{is_value, name_and_value};
+ghost use Rattle.option_words.specs.inside.Options.{is_fit};
 
 // A value isn't empty and doesn't begin with a hyphen.
 fn is_value(text: &str) -> bool

@@ -1,9 +1,10 @@
 // What words give of each option of a table.
 ghost use Rattle.std.specs.Prelude.{◌≡◌, IfOk, IfSome, List, length, vec_len, option_map, map, string_bytes, true};
 ghost use Rattle.option_words.specs.Options.{Use};
-ghost use Rattle.option_words.specs.Givens.{differ, given, givens};
-ghost use Rattle.option_words.specs.Held.{HoldsUses};
-ghost use Rattle.option_words.specs.View.{opt};
+ghost use Rattle.option_words.specs.Givens.{given, givens};
+ghost use Rattle.option_words.specs.inside.Givens.{differ};
+ghost use Rattle.option_words.specs.inside.Held.{HoldsUses};
+ghost use Rattle.option_words.specs.inside.Values.{opt};
 
 use crate::fit::all_fit;
 use crate::table::{OptionSpec, matches_for};

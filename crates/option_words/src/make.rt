@@ -1,7 +1,8 @@
 // The options of `make`.
 ghost use Rattle.std.specs.Prelude.{◌≡◌, IfOk, option_map, map, string_bytes};
 ghost use Rattle.option_words.specs.Commands.{make_table, make_texts, make_with};
-ghost use Rattle.option_words.specs.View.{opt, make_texts_of};
+ghost use Rattle.option_words.specs.View.{make_texts_of};
+ghost use Rattle.option_words.specs.inside.Values.{opt};
 
 use crate::given::read_given;
 use crate::table::{OptionSpec, valued};

@@ -1,7 +1,8 @@
 // The options of `match`.
 ghost use Rattle.std.specs.Prelude.{◌≡◌, IfOk, option_map, map, string_bytes};
 ghost use Rattle.option_words.specs.Commands.{match_table, match_texts, match_with};
-ghost use Rattle.option_words.specs.View.{opt, match_texts_of};
+ghost use Rattle.option_words.specs.View.{match_texts_of};
+ghost use Rattle.option_words.specs.inside.Values.{opt};
 
 use crate::given::read_given;
 use crate::table::{OptionSpec, valued};

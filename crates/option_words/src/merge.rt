@@ -1,7 +1,8 @@
 // The options of `merge`.
 ghost use Rattle.std.specs.Prelude.{◌≡◌, IfOk, option_map, map, string_bytes};
 ghost use Rattle.option_words.specs.Commands.{merge_table, merge_texts, merge_with};
-ghost use Rattle.option_words.specs.View.{opt, merge_texts_of};
+ghost use Rattle.option_words.specs.View.{merge_texts_of};
+ghost use Rattle.option_words.specs.inside.Values.{opt};
 
 use crate::given::read_given;
 use crate::table::{OptionSpec, valued};

@@ -1,7 +1,8 @@
 // The options of `migrate`.
 ghost use Rattle.std.specs.Prelude.{◌≡◌, IfOk, option_map, map, string_bytes};
 ghost use Rattle.option_words.specs.Commands.{migrate_table, migrate_texts, migrate_with};
-ghost use Rattle.option_words.specs.View.{opt, migrate_texts_of};
+ghost use Rattle.option_words.specs.View.{migrate_texts_of};
+ghost use Rattle.option_words.specs.inside.Values.{opt};
 
 use crate::given::read_given;
 use crate::table::{OptionSpec, valued};

@@ -1,7 +1,8 @@
 // The options of `mm-record`.
 ghost use Rattle.std.specs.Prelude.{◌≡◌, IfOk, option_map, map, string_bytes};
 ghost use Rattle.option_words.specs.Commands.{proxy_table, proxy_texts, proxy_with};
-ghost use Rattle.option_words.specs.View.{opt, proxy_texts_of};
+ghost use Rattle.option_words.specs.View.{proxy_texts_of};
+ghost use Rattle.option_words.specs.inside.Values.{opt};
 
 use crate::given::read_given;
 use crate::table::{OptionSpec, valued};

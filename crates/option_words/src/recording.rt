@@ -1,7 +1,8 @@
 // The options of `record`.
 ghost use Rattle.std.specs.Prelude.{◌≡◌, IfOk, option_map, map, string_bytes};
 ghost use Rattle.option_words.specs.Commands.{record_table, record_texts, record_with};
-ghost use Rattle.option_words.specs.View.{opt, record_texts_of};
+ghost use Rattle.option_words.specs.View.{record_texts_of};
+ghost use Rattle.option_words.specs.inside.Values.{opt};
 
 use crate::given::read_given;
 use crate::table::{OptionSpec, valued};

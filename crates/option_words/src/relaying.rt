@@ -1,7 +1,8 @@
 // The options of a relay.
 ghost use Rattle.std.specs.Prelude.{◌≡◌, IfOk, option_map, map, string_bytes};
 ghost use Rattle.option_words.specs.RelayApp.{relay_table, relay_texts, relay_with};
-ghost use Rattle.option_words.specs.View.{opt, relay_texts_of};
+ghost use Rattle.option_words.specs.View.{relay_texts_of};
+ghost use Rattle.option_words.specs.inside.Values.{opt};
 
 use crate::given::read_given;
 use crate::table::{OptionSpec, valued};

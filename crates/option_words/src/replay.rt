@@ -1,7 +1,8 @@
 // The options of `replay`.
 ghost use Rattle.std.specs.Prelude.{◌≡◌, IfOk, option_map, map, string_bytes};
 ghost use Rattle.option_words.specs.Commands.{replay_table, replay_texts, replay_with};
-ghost use Rattle.option_words.specs.View.{opt, replay_texts_of};
+ghost use Rattle.option_words.specs.View.{replay_texts_of};
+ghost use Rattle.option_words.specs.inside.Values.{opt};
 
 use crate::given::read_given;
 use crate::table::{OptionSpec, valued};

@@ -1,7 +1,8 @@
 // The options of `report`.
 ghost use Rattle.std.specs.Prelude.{◌≡◌, IfOk, option_map, map, string_bytes};
 ghost use Rattle.option_words.specs.Commands.{report_table, report_texts, report_with};
-ghost use Rattle.option_words.specs.View.{opt, report_texts_of};
+ghost use Rattle.option_words.specs.View.{report_texts_of};
+ghost use Rattle.option_words.specs.inside.Values.{opt};
 
 use crate::given::read_given;
 use crate::table::{OptionSpec, valued};

@@ -1,7 +1,8 @@
 // The options of `run`.
 ghost use Rattle.std.specs.Prelude.{◌≡◌, IfOk, option_map, map, string_bytes};
 ghost use Rattle.option_words.specs.RunApp.{run_table, run_texts, run_with};
-ghost use Rattle.option_words.specs.View.{opt, texts_of};
+ghost use Rattle.option_words.specs.View.{texts_of};
+ghost use Rattle.option_words.specs.inside.Values.{opt};
 
 use crate::given::read_given;
 use crate::table::{OptionSpec, flag, valued};

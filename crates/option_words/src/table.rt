@@ -2,10 +2,10 @@
 ghost use Rattle.std.specs.Prelude.{◌≡◌, IfOk, map, string_bytes, true, false, if◌then◌else◌};
 ghost use Rattle.std.specs.List.{list_all};
 ghost use Rattle.option_words.specs.Givens.{flag, valued};
-ghost use Rattle.option_words.specs.Options.{is_fit};
-ghost use Rattle.option_words.specs.Found.{IsMatchOf};
-ghost use Rattle.option_words.specs.View.{opt};
-ghost use Rattle.option_words.specs.ClapTable.{app_for, rule_for};
+ghost use Rattle.option_words.specs.inside.Options.{is_fit};
+ghost use Rattle.option_words.specs.inside.Found.{IsMatchOf};
+ghost use Rattle.option_words.specs.inside.Values.{opt};
+ghost use Rattle.option_words.specs.inside.ClapTable.{app_for, rule_for};
 ghost use Rattle.clap.specs.Words.{app_of, rule_of};
 
 use clap::error::ErrorKind;

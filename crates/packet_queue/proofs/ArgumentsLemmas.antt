@@ -15,7 +15,7 @@ use Rattle.packet_queue.specs.declared.spec.QueueError.TheVariants.{BadArgs}
 use Rattle.packet_queue.specs.declared.reading.Limits.{Limits}
 use Rattle.packet_queue.specs.Arguments.{number_of, numbers_of, packets_name, bytes_name, is_item, are_items, limit_of}
 use Rattle.packet_queue.specs.Arguments.{with_limits, limited}
-use Rattle.packet_queue.specs.Reading.{limits, with_packets, read_on, limited_by}
+use Rattle.packet_queue.specs.inside.Reading.{limits, with_packets, read_on, limited_by}
 
 -- no item has both names
 apart : (item : List ℕ) → (number_of bytes_name item ≡ None) ⊎ (number_of packets_name item ≡ None)

@@ -9,7 +9,7 @@ use Rattle.packet_queue.specs.declared.spec.QueueSpec.{QueueSpec}
 use Rattle.packet_record.specs.Packets.{bytes}
 use Rattle.packet_queue.specs.Queues.{is_within, fits, fitting, excess, enqueued, enqueued_by, dropped}
 use Rattle.packet_queue.specs.Queues.{dropped_by}
-use Rattle.packet_queue.specs.Kept.{AreKept, AreKeptBy}
+use Rattle.packet_queue.specs.inside.Kept.{AreKept, AreKeptBy}
 use Rattle.packet_queue.proofs.Sizes.{bytes_push, length_push, fit_stays}
 
 within_less : (limit : Option ℕ) (m n : ℕ) → is_within limit n ≡ true → m ≤ n → is_within limit m ≡ true

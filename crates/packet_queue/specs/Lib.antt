@@ -1,6 +1,5 @@
 pub mod Queues
 pub mod View
 pub mod Arguments
-pub mod Reading
 pub mod Faults
-pub mod Kept
+pub mod inside

@@ -5,7 +5,7 @@ ghost use Rattle.std.specs.VecDeque.{deque_len, deque_capacity};
 ghost use Rattle.packet_record.specs.Packets.{bytes, moved_to};
 ghost use Rattle.packet_queue.specs.Queues.{is_within, fits, fitting, excess, enqueued, dropped};
 ghost use Rattle.packet_queue.specs.View.{Queue};
-ghost use Rattle.packet_queue.specs.Kept.{AreKept};
+ghost use Rattle.packet_queue.specs.inside.Kept.{AreKept};
 
 use crate::spec::{QueueKind, QueueSpec};
 use packet_record::Timed;
@@ -39,7 +39,7 @@ impl Model for PacketQueue {
     ghost use Rattle.std.specs.VecDeque.{deque_capacity};
     ghost use Rattle.packet_record.specs.Packets.{bytes};
     ghost use Rattle.packet_queue.specs.View.{Queue};
-    ghost use Rattle.packet_queue.specs.Kept.{AreKept};
+    ghost use Rattle.packet_queue.specs.inside.Kept.{AreKept};
 
     ghost Value = { Queue };
 

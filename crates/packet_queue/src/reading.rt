@@ -3,7 +3,7 @@ ghost use Rattle.std.specs.Prelude.{◌≡◌, ◌∷◌, ◌<◌, Some, None, l
 ghost use Rattle.std.specs.List.{slice_split};
 ghost use Rattle.packet_queue.specs.Arguments.{after_spaces, trimmed, items_of, number_of, limit_of, with_limits};
 ghost use Rattle.packet_queue.specs.Arguments.{limited, unlimited, queue_of};
-ghost use Rattle.packet_queue.specs.Reading.{limits, with_item, read_on, items_after};
+ghost use Rattle.packet_queue.specs.inside.Reading.{limits, with_item, read_on, items_after};
 
 use crate::spec::{QueueError, QueueKind, QueueSpec};
 use text_base::read_decimal;

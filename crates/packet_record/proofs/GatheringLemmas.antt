@@ -1,7 +1,9 @@
 -- One line more of a schedule.
 use Rattle.std.proofs.Common.{◌≡◌, ◌≢◌, ℕ, ◌+◌, ◌≤◌, ◌<◌, List, [], ◌∷◌, ◌++◌, length, Some, None, ap, sym, subst, ◌∙◌}
 use Rattle.std.proofs.Common.{append_assoc, arith, length-append}
-use Rattle.packet_record.specs.Gathered.{Gathered, gathered, refusing, Awaits}
+use Rattle.packet_record.specs.Gathered.{Gathered, Awaits}
+use Rattle.packet_record.specs.views.Gathered.{gathered}
+use Rattle.packet_record.specs.inside.Gathered.{refusing}
 use Rattle.packet_record.specs.Orders.{AreInOrder, AreWithin, IsSchedule}
 use Rattle.packet_record.specs.Said.{said_of}
 use Rattle.text_base.specs.Refusals.{or_later}

@@ -9,7 +9,7 @@ use Rattle.std.proofs.lemmas.List.{append-nil}
 use Rattle.std.specs.List.{join_with_byte}
 use Rattle.std.proofs.lemmas.List.Splits.{join_with_byte-slice_split}
 use Rattle.std.proofs.lemmas.Slice.Eq.{bytes_eq-Decides}
-use Rattle.text_base.specs.Lines.{is_one_line}
+use Rattle.text_base.specs.inside.Lines.{is_one_line}
 use Rattle.text_base.specs.Numbers.{decimal_of, BeginsOtherwise}
 use Rattle.text_base.proofs.NumbersLemmas.{decimal_of-Some}
 use Rattle.text_base.proofs.SplitLemmas.{none_is}

@@ -1,5 +1,5 @@
 -- What lines of a schedule have given.
-use Rattle.std.specs.Prelude.{◌≡◌, ◌≢◌, ℕ, ◌+◌, List, [], ◌++◌, length, Option, Some, None}
+use Rattle.std.specs.Prelude.{◌≡◌, ◌≢◌, ℕ, ◌+◌, List, ◌++◌, length, Option, Some, None}
 use Rattle.text_base.specs.Refusals.{or_later}
 use Rattle.packet_record.specs.Schedules.{AreRows, first_fault}
 use Rattle.packet_record.specs.declared.packet.Row.{Row}
@@ -11,16 +11,6 @@ pub record Gathered : Type 0 where
   pub rows : List Row
   pub low : ℕ
   pub refused : Option ScheduleError
-
-abbrev pub gathered : List Row → ℕ → Option ScheduleError → Gathered
-gathered rows low refused = record { rows = rows; low = low; refused = refused }
-
--- before the first line
-abbrev pub none_gathered : Gathered
-none_gathered = gathered [] 0 None
-
-abbrev pub refusing : ScheduleError → Gathered → Gathered
-refusing fault g = gathered g.rows g.low (Some fault)
 
 -- Of all lines only these are still to come: whatever rows are theirs, the rows of all are those so far and these, and
 -- the first refusal of all is that so far, or else theirs.

@@ -2,7 +2,6 @@ pub mod Said
 pub mod Schedules
 pub mod Orders
 pub mod Reading
-pub mod Readers
 pub mod Printing
 pub mod Draws
 pub mod Loads
@@ -12,10 +11,9 @@ pub mod Rows
 pub mod Sources
 pub mod Moments
 pub mod Flows
-pub mod Views
 pub mod Takes
 pub mod Gathered
-pub mod Gatherers
 pub mod PartsRead
-pub mod TextReaders
 pub mod Packets
+pub mod inside
+pub mod views

@@ -1,19 +1,13 @@
 -- How far a stream has come, item by item: a stream without its packets.
-use Rattle.std.specs.Prelude.{◌≡◌, List}
-use Rattle.packet_record.specs.declared.packet.Timed.{Timed}
+use Rattle.std.specs.Prelude.{◌≡◌}
 use Rattle.packet_record.specs.declared.item.Item.{Item}
 use Rattle.packet_record.specs.declared.item.Item.TheVariants.{Packet, Mark, End, Broken}
 use Rattle.packet_record.specs.declared.item.FlowEnd.TheVariants.{Open, Ended, Broken as Cut}
-use Rattle.packet_record.specs.declared.item.Stream.{Stream}
 use Rattle.packet_record.specs.declared.reach.Reach.{Reach}
-use Rattle.packet_record.specs.Streams.{stream, IsFrom}
+use Rattle.packet_record.specs.Streams.{IsFrom}
 
 abbrev pub nowhere : Reach
 nowhere = record { bound = 0; end = Open }
-
--- the stream of these packets that has come so far
-abbrev pub stream_to : Reach → List Timed → Stream
-stream_to r packets = stream packets r.bound r.end
 
 abbrev pub IsNext : Reach → Item → Type 0
 IsNext r x = (r.end ≡ Open) × IsFrom r.bound x

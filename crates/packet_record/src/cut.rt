@@ -1,6 +1,6 @@
 // A text cut at its first line feed.
 ghost use Rattle.std.specs.Prelude.{◌≡◌, ◌∷◌, ◌++◌, true, MatchOption};
-ghost use Rattle.text_base.specs.Lines.{is_one_line};
+ghost use Rattle.text_base.specs.inside.Lines.{is_one_line};
 
 use memchr::memchr;
 

@@ -22,7 +22,8 @@ impl Model for Flow {
 
     ghost Value = { FlowView };
 
-    ghost use Rattle.packet_record.specs.Views.{flow_view, HasRoom};
+    ghost use Rattle.packet_record.specs.views.Flow.{flow_view};
+    ghost use Rattle.packet_record.specs.inside.Views.{HasRoom};
 
     ghost view = { flow_view };
 

@@ -26,7 +26,8 @@ impl Model for ScheduleRows {
 
     ghost Value = { Gathered };
 
-    ghost use Rattle.packet_record.specs.Gatherers.{rows_view, CanGather};
+    ghost use Rattle.packet_record.specs.views.Gatherers.{rows_view};
+    ghost use Rattle.packet_record.specs.inside.Gatherers.{CanGather};
 
     ghost view = { rows_view };
 
@@ -34,7 +35,8 @@ impl Model for ScheduleRows {
 }
 
 impl ScheduleRows {
-    ghost use Rattle.packet_record.specs.Gathered.{none_gathered, refusing, Awaits};
+    ghost use Rattle.packet_record.specs.Gathered.{Awaits};
+    ghost use Rattle.packet_record.specs.inside.Gathered.{none_gathered, refusing};
 
     // The rows of the lines so far.
     pub(crate) fn rows(&self) -> &[Row]

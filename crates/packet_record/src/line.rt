@@ -1,6 +1,6 @@
 // What one line of a schedule says.
 ghost use Rattle.std.specs.Prelude.{◌≡◌, ◌≤◌, ◌∷◌, ◌++◌, ℕ, List, Some, true, IfSome, MatchOption};
-ghost use Rattle.text_base.specs.Lines.{is_one_line};
+ghost use Rattle.text_base.specs.inside.Lines.{is_one_line};
 ghost use Rattle.text_base.specs.Numbers.{BeginsOtherwise};
 ghost use Rattle.packet_record.specs.Said.{said_of};
 ghost use Rattle.packet_record.specs.Printing.{direction_text};

@@ -2,7 +2,8 @@
 ghost use Rattle.std.specs.Prelude.{◌≡◌, ◌≢◌, ◌≤◌, ◌<◌, ◌∷◌, ◌++◌, ◌+◌, ◌-◌, ◌/◌, ℕ, List, [], length, take, None};
 ghost use Rattle.std.specs.Prelude.{Some, true, IfSome, IfNone, IfOk, IfErr, MatchResult, is_some};
 ghost use mathlib.Core.List.{IsPrefix};
-ghost use Rattle.text_base.specs.Lines.{is_one_line, lines_of};
+ghost use Rattle.text_base.specs.Lines.{lines_of};
+ghost use Rattle.text_base.specs.inside.Lines.{is_one_line};
 ghost use Rattle.packet_record.specs.Orders.{IsSchedule};
 ghost use Rattle.packet_record.specs.Schedules.{IsScheduleText, first_fault};
 ghost use Rattle.packet_record.specs.declared.packet.Row.{Row as RowValue};
@@ -33,7 +34,8 @@ impl Model for ScheduleText {
 
     ghost Value = { PartRead };
 
-    ghost use Rattle.packet_record.specs.TextReaders.{text_view, KeepsOneLine};
+    ghost use Rattle.packet_record.specs.views.TextReaders.{text_view};
+    ghost use Rattle.packet_record.specs.inside.TextReaders.{KeepsOneLine};
 
     ghost view = { text_view };
 

@@ -4,7 +4,7 @@ use Rattle.std.proofs.Common.{arith, length-drop}
 use Rattle.std.specs.Option.{option_map}
 use Rattle.std.proofs.lemmas.List.{take-append-drop}
 use Rattle.mm_base.specs.Link.{LinkBytes, giving}
-use Rattle.record_proxy.specs.Giving.{Breaks}
+use Rattle.record_proxy.specs.inside.Giving.{Breaks}
 
 kept : (f : LinkBytes → LinkBytes) → ((l : LinkBytes) → f l ≡ l) → (told : Option LinkBytes) → option_map f told ≡ told
 kept f same None = refl

@@ -14,7 +14,7 @@ use Rattle.record_proxy.specs.Exchanges.{Exchange, recorded}
 use Rattle.record_proxy.specs.Courses.{Sides, course, sent, IsIdle}
 use Rattle.record_proxy.specs.Ends.{EndsAs, EndsShort, ClientReady}
 use Rattle.record_proxy.specs.Links.{Links, links, IsStored}
-use Rattle.record_proxy.specs.Progress.{History, Taken, Stands, IsEndAt}
+use Rattle.record_proxy.specs.inside.Progress.{History, Taken, Stands, IsEndAt}
 use Rattle.record_proxy.specs.declared.ends.ProxyEnd.{ProxyEnd}
 use Rattle.record_proxy.specs.declared.ends.ProxyEnd.TheVariants.{Closed, BadRequest, ClientFault, Full}
 use Rattle.record_proxy.proofs.HistoryLemmas.{side, history_read, history_ended, history_refused, at_end}

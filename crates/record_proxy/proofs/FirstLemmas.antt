@@ -7,7 +7,7 @@ use Rattle.record_store.specs.declared.record.Record.{Record}
 use Rattle.record_proxy.specs.Exchanges.{Exchange, IsExchange, closes}
 use Rattle.record_proxy.specs.Courses.{course}
 use Rattle.record_proxy.specs.Links.{Links, IsStored}
-use Rattle.record_proxy.specs.Progress.{Stands, Progress, taken_of}
+use Rattle.record_proxy.specs.inside.Progress.{Stands, Progress, taken_of}
 use Rattle.record_proxy.specs.declared.talk.Talk.{Talk}
 use Rattle.record_proxy.proofs.HistoryLemmas.{side, history_start}
 use Rattle.record_proxy.proofs.TextLemmas.{begun}

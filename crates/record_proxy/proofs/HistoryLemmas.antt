@@ -15,7 +15,7 @@ use Rattle.replay_server.proofs.PassedLemmas.{passed_refused}
 use Rattle.record_proxy.specs.Courses.{Side}
 use Rattle.record_proxy.specs.Ends.{WhenBegun}
 use Rattle.record_proxy.specs.Links.{IsUsed}
-use Rattle.record_proxy.specs.Progress.{History}
+use Rattle.record_proxy.specs.inside.Progress.{History}
 
 abbrev pub side : List ℕ → List ℕ → Side
 side taken given = record { taken = taken; given = given }

@@ -14,7 +14,7 @@ use Rattle.record_proxy.specs.Exchanges.{Exchange, recorded}
 use Rattle.record_proxy.specs.Courses.{Begun, course, got, IsDue, NeedsMore, IsFaulty}
 use Rattle.record_proxy.specs.Ends.{EndsShort, ServerReady}
 use Rattle.record_proxy.specs.Links.{Links, links, IsStored}
-use Rattle.record_proxy.specs.Progress.{Taken, Stands, IsEndAt}
+use Rattle.record_proxy.specs.inside.Progress.{Taken, Stands, IsEndAt}
 use Rattle.record_proxy.specs.declared.ends.ProxyEnd.{ProxyEnd}
 use Rattle.record_proxy.specs.declared.ends.ProxyEnd.TheVariants.{BadResponse, ServerFault, Full}
 use Rattle.record_proxy.proofs.HistoryLemmas.{side, history_read, history_ended, history_refused, at_end}

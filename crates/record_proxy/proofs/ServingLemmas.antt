@@ -19,7 +19,7 @@ use Rattle.record_store.specs.declared.record.Record.{Record}
 use Rattle.replay_server.specs.declared.ends.Served.{Served}
 use Rattle.record_proxy.specs.Dialers.{DialerView}
 use Rattle.record_proxy.specs.Links.{IsStored, HasFaultCause, links}
-use Rattle.record_proxy.specs.Passing.{Dials, EndsWith, Joins, ServesOne, plus}
+use Rattle.record_proxy.specs.inside.Passing.{Dials, EndsWith, Joins, ServesOne, plus}
 use Rattle.record_proxy.specs.Servings.{IsJoined, IsDialed, Dialed, NotDialed, GivenUp, Joined, Passage, Net, Serves}
 use Rattle.record_proxy.specs.Servings.{Rises, RisesFor, tally, counted_as, end_of, lost_of, dials_of, servers_of}
 use Rattle.record_proxy.specs.Servings.{added_of}

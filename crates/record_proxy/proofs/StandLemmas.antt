@@ -21,7 +21,7 @@ use Rattle.record_proxy.specs.Exchanges.{Exchange, IsExchange, AllOpen, LastClos
 use Rattle.record_proxy.specs.Courses.{Begun, Course, Side, Sides, course, got, IsInTurn, IsPart, IsCut, StopsAt}
 use Rattle.record_proxy.specs.Ends.{EndsAs, EndsShort, ClientReady, ServerReady}
 use Rattle.record_proxy.specs.Links.{Links, Adds, IsStored}
-use Rattle.record_proxy.specs.Progress.{History, Taken, Stands, Progress, IsEndAt, begun_with, taken_of}
+use Rattle.record_proxy.specs.inside.Progress.{History, Taken, Stands, Progress, IsEndAt, begun_with, taken_of}
 use Rattle.record_proxy.specs.declared.ends.ProxyEnd.{ProxyEnd}
 use Rattle.record_proxy.specs.declared.talk.Talk.{Talk}
 use Rattle.record_proxy.proofs.HistoryLemmas.{side, history_used}

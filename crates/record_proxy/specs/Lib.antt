@@ -2,11 +2,8 @@ pub mod Exchanges
 pub mod Courses
 pub mod Ends
 pub mod Links
-pub mod Giving
-pub mod Progress
 pub mod Dialers
 pub mod MemDialers
 pub mod Servings
-pub mod Passing
 pub mod Proxying
-pub mod View
+pub mod inside

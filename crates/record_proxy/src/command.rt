@@ -14,7 +14,7 @@ ghost use Rattle.command_ends.specs.declared.cause.WordsRefusal.{WordsRefusal};
 ghost use Rattle.record_proxy.specs.Proxying.{ProxyJob as JobValue, StopsAsProxy, cause_of, proxy_reading, proxy_words};
 ghost use Rattle.record_proxy.specs.Proxying.{IsProxyStatus, proxy_work};
 ghost use Rattle.record_proxy.specs.Servings.{IsServed, net};
-ghost use Rattle.record_proxy.specs.View.{proxy_values};
+ghost use Rattle.record_proxy.specs.inside.Values.{proxy_values};
 
 use crate::dialer::Dialer;
 use crate::ends::ProxyError;

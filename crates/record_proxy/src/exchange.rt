@@ -6,7 +6,7 @@ ghost use Rattle.http_frame.specs.Runs.{IsRequestOf, IsResponseOf};
 ghost use Rattle.mm_base.specs.Link.{LinkBytes, CountsLinkFaults};
 ghost use Rattle.record_store.specs.declared.record.Record.{Record as RecordValue};
 ghost use Rattle.record_proxy.specs.Links.{Links, HasFaultCause, links};
-ghost use Rattle.record_proxy.specs.Progress.{Progress, GoesOn, to_do};
+ghost use Rattle.record_proxy.specs.inside.Progress.{Progress, GoesOn, to_do};
 
 use crate::ends::ProxyEnd;
 use crate::giving::give;

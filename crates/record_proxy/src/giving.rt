@@ -3,7 +3,7 @@ ghost use Rattle.std.specs.Prelude.{◌≡◌, take, drop, OnOk, OnErr, IsErrOf}
 ghost use Rattle.std.specs.Option.{option_map};
 ghost use Rattle.mm_base.specs.Counts.{Rose};
 ghost use Rattle.mm_base.specs.Link.{CountsLinkFaults, giving};
-ghost use Rattle.record_proxy.specs.Giving.{Breaks};
+ghost use Rattle.record_proxy.specs.inside.Giving.{Breaks};
 
 use mm_base::{EndError, Link};
 

@@ -3,9 +3,9 @@ ghost use Rattle.std.specs.Prelude.{◌≡◌, ◌<◌, ◌≤◌, ◌+◌, ◌�
 ghost use Rattle.mm_base.specs.Counts.{Rose};
 ghost use Rattle.mm_base.specs.Link.{IsFresh};
 ghost use Rattle.mm_base.specs.Port.{KeepsPort, after_finish};
-ghost use Rattle.replay_server.specs.Tallies.{total};
+ghost use Rattle.replay_server.specs.inside.Tallies.{total};
 ghost use Rattle.record_proxy.specs.Dialers.{CountsDials};
-ghost use Rattle.record_proxy.specs.Passing.{Dials, EndsWith, Joins, ServesOne, plus};
+ghost use Rattle.record_proxy.specs.inside.Passing.{Dials, EndsWith, Joins, ServesOne, plus};
 ghost use Rattle.record_proxy.specs.Servings.{ServingSays, counted_as, net, no_ends};
 
 use crate::dialer::Dialer;

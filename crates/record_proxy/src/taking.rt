@@ -7,7 +7,7 @@ ghost use Rattle.record_store.specs.declared.record.Record.{Record as RecordValu
 ghost use Rattle.replay_server.specs.Sessions.{MayGoOn, most};
 ghost use Rattle.record_proxy.specs.Courses.{NeedsMore};
 ghost use Rattle.record_proxy.specs.Links.{Links, HasFaultCause, links};
-ghost use Rattle.record_proxy.specs.Progress.{Progress, GoesOn, IsEndAt, to_do};
+ghost use Rattle.record_proxy.specs.inside.Progress.{Progress, GoesOn, IsEndAt, to_do};
 ghost use Rattle.http_frame.specs.declared.messages.Request.{Request as RequestValue};
 
 use crate::ends::ProxyEnd;

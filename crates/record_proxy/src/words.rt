@@ -2,7 +2,7 @@
 ghost use Rattle.std.specs.Prelude.{◌≡◌, IfOk, map, string_bytes, option_map};
 ghost use Rattle.option_words.specs.View.{proxy_texts_of};
 ghost use Rattle.record_proxy.specs.Proxying.{proxy_job_of, proxy_job_with};
-ghost use Rattle.record_proxy.specs.View.{proxy_values};
+ghost use Rattle.record_proxy.specs.inside.Values.{proxy_values};
 
 use crate::job::ProxyJob;
 use option_words::{ProxyWords, parse_proxy, read_port, read_within};

@@ -16,7 +16,8 @@ use Rattle.http_frame.specs.declared.messages.Request.{Request}
 use Rattle.http_frame.specs.declared.messages.Response.{Response}
 use Rattle.http_frame.proofs.RunLemmas.{prefix_free}
 use Rattle.http_frame.proofs.FindingLemmas.{messages_same}
-use Rattle.record_store.specs.Exchanges.{OneRequest, OneResponse, IsExchange}
+use Rattle.record_store.specs.Exchanges.{IsExchange}
+use Rattle.record_store.specs.inside.Exchanges.{OneRequest, OneResponse}
 use Rattle.record_store.specs.Headers.{most_length}
 use Rattle.record_store.specs.Records.{IsRecord}
 use Rattle.record_store.specs.declared.record.Record.{Record}

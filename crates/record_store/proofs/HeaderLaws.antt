@@ -7,13 +7,14 @@ use Rattle.std.specs.Str.{bytes_eq}
 use Rattle.std.proofs.lemmas.Bool.{le-leb, leb-true}
 use Rattle.std.proofs.lemmas.Slice.Eq.{bytes_eq-Decides}
 use Rattle.text_base.specs.Numbers.{canonical_of}
-use Rattle.text_base.specs.Lines.{is_one_line}
+use Rattle.text_base.specs.inside.Lines.{is_one_line}
 use Rattle.text_base.proofs.TextLemmas.{is_one_line-append}
 use Rattle.text_base.proofs.NumbersLemmas.{canonical_of-decimal, canonical_of-Some, decimal-canonical_of}
 use Rattle.text_base.proofs.NumbersLemmas.{no_space-decimal, is_one_line-decimal}
 use Rattle.text_base.specs.Words.{first_word, other_words}
-use Rattle.record_store.specs.Headers.{header_line, HasPort, if_at_most, number_up_to, most_length, IsShort, lengths_of}
+use Rattle.record_store.specs.Headers.{header_line, HasPort, if_at_most, number_up_to, most_length, lengths_of}
 use Rattle.record_store.specs.Headers.{port_and_lengths_of, is_scheme, with_scheme, header_by_form, header_of}
+use Rattle.record_store.specs.inside.Headers.{IsShort}
 use Rattle.record_store.specs.declared.header.Form.{Form}
 use Rattle.record_store.specs.declared.header.Form.TheVariants.{One, Two}
 use Rattle.record_store.specs.declared.header.Header.{Header}

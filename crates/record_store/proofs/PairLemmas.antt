@@ -10,7 +10,8 @@ use Rattle.http_frame.specs.Runs.{IsRequestOf, IsResponseOf, AreRequests, Begins
 use Rattle.http_frame.specs.declared.messages.Request.{Request}
 use Rattle.http_frame.specs.declared.messages.Response.{Response}
 use Rattle.http_frame.proofs.WindowLemmas.{request_lines, response_lines}
-use Rattle.record_store.specs.Pairs.{IsThen, AreInterim, IsAnswer, AreAnswers, Reaches, Pairs, AnswerSays}
+use Rattle.record_store.specs.Pairs.{IsThen, AreInterim, IsAnswer, AreAnswers, Reaches, Pairs}
+use Rattle.record_store.specs.inside.Pairs.{AnswerSays}
 use Rattle.record_store.specs.declared.errors.PairError.{PairError}
 use Rattle.record_store.specs.declared.errors.PairError.TheVariants as errors
 use Rattle.record_store.specs.declared.record.Record.{Record}

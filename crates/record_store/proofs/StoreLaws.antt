@@ -10,7 +10,8 @@ use Rattle.std.proofs.lemmas.Slice.Eq.{bytes_eq-Decides}
 use Rattle.record_store.specs.Records.{IsRecord}
 use Rattle.record_store.specs.Headers.{header_line, HasPort}
 use Rattle.record_store.specs.Cuts.{cut_of, request_part, response_part}
-use Rattle.record_store.specs.Exchanges.{IsExchange, OneExchange}
+use Rattle.record_store.specs.Exchanges.{IsExchange}
+use Rattle.record_store.specs.inside.Exchanges.{OneExchange}
 use Rattle.record_store.specs.StoreText.{magic, record_text, records_text, store_text, IsRecordIn, form_of, Reaches}
 use Rattle.record_store.specs.StoreText.{StoreSays, whole, no_form, no_parts, no_exchange, no_memory}
 use Rattle.record_store.specs.declared.header.Form.{Form}

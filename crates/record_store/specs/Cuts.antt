@@ -1,5 +1,5 @@
 -- The parts of the record that stands at a place.
-use Rattle.std.specs.Prelude.{ℕ, ◌+◌, ◌-◌, ◌≤◌, ◌<◌, ◌==◌, List, length, take, drop, Option, Some, None, Result, Ok}
+use Rattle.std.specs.Prelude.{ℕ, ◌+◌, ◌-◌, ◌==◌, List, length, take, drop, Option, Some, None, Result, Ok}
 use Rattle.std.specs.Prelude.{Err, nat_lt, position, slice_index, if◌then◌else◌}
 use Rattle.record_store.specs.Headers.{header_of}
 use Rattle.record_store.specs.declared.header.Form.{Form}
@@ -14,10 +14,6 @@ request_part cut bytes = take (cut.response - cut.request) (drop cut.request byt
 
 abbrev pub response_part : Cut → List ℕ → List ℕ
 response_part cut bytes = take (cut.end - cut.response) (drop cut.response bytes)
-
--- all parts and the line feed after them are there
-abbrev pub IsInside : List ℕ → Cut → Type 0
-IsInside bytes cut = (cut.request ≤ cut.response) × (cut.response ≤ cut.end) × (cut.end < length bytes)
 
 -- after the header: the bytes that its lengths state, and a line feed
 abbrev pub cut_by_end : ℕ → List ℕ → Cut → Result Cut StoreError

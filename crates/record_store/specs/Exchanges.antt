@@ -1,27 +1,8 @@
 -- Whether bytes are one whole request, one whole response, or both.
-use Rattle.std.specs.Prelude.{◌≡◌, ◌≤◌, ℕ, Bool, List, Option, Some, None}
-use Rattle.http_frame.specs.Runs.{IsRequestOf, IsResponseOf}
-use Rattle.http_frame.specs.declared.messages.Request.{Request}
-use Rattle.http_frame.specs.declared.messages.Response.{Response}
+use Rattle.std.specs.Prelude.{◌≡◌, ℕ, List}
 use Rattle.record_store.specs.Records.{IsRecord}
 use Rattle.record_store.specs.declared.record.Record.{Record}
 
 -- the bytes are one whole request, and one whole response to it of status 200 or more
 abbrev pub IsExchange : List ℕ → List ℕ → Type 0
 IsExchange request response = (r : Record) × IsRecord r × (r.request.bytes ≡ request) × (r.response.bytes ≡ response)
-
--- the request that all of the bytes are, or none
-abbrev pub OneRequest : List ℕ → Option Request → Type 0
-OneRequest bytes (Some m) = IsRequestOf m × (m.bytes ≡ bytes)
-OneRequest bytes None = (m : Request) → IsRequestOf m → m.bytes ≡ bytes → ⊥
-
--- the response of a final status that all of the bytes are, or none
-abbrev pub OneResponse : Bool → List ℕ → Option Response → Type 0
-OneResponse to_head bytes (Some m) = IsResponseOf to_head m × (m.bytes ≡ bytes) × (200 ≤ m.head.status)
-OneResponse to_head bytes None = (m : Response) → IsResponseOf to_head m → m.bytes ≡ bytes → 200 ≤ m.head.status → ⊥
-
--- the record that they are, with that port, or none
-abbrev pub OneExchange : ℕ → List ℕ → List ℕ → Option Record → Type 0
-OneExchange port request response (Some r) = IsRecord r × (r.port ≡ port) × (r.request.bytes ≡ request)
-    × (r.response.bytes ≡ response)
-OneExchange port request response None = IsExchange request response → ⊥

@@ -1,5 +1,5 @@
 -- Header lines of records.
-use Rattle.std.specs.Prelude.{◌≡◌, ℕ, Bool, ◌&&◌, ◌≤◌, List, [], ◌∷◌, length, Option, Some, None, option_and_then}
+use Rattle.std.specs.Prelude.{◌≡◌, ℕ, Bool, ◌&&◌, List, [], ◌∷◌, length, Option, Some, None, option_and_then}
 use Rattle.std.specs.Prelude.{Result, Ok, Err, codes, decimal, nat_le, if◌then◌else◌}
 use Rattle.std.specs.List.{list_all}
 use Rattle.std.specs.Option.{ok_or}
@@ -40,9 +40,6 @@ number_up_to most word = do
 -- the most that eight digits say
 abbrev pub most_length : ℕ
 most_length = 99999999
-
-abbrev pub IsShort : Header → Type 0
-IsShort h = (h.request ≤ most_length) × (h.response ≤ most_length)
 
 -- two words, the lengths
 abbrev pub lengths_of : ℕ → List ℕ → Option Header

@@ -7,3 +7,5 @@ pub mod Cuts
 pub mod Exchanges
 pub mod StoreText
 pub mod Pieces
+pub mod inside
+pub mod views

@@ -1,7 +1,8 @@
 // Where the parts of a record stand.
 ghost use Rattle.std.specs.Prelude.{◌≡◌, ◌≤◌, ◌<◌, ◌+◌, ◌^◌, ◌==◌, length, position, IfOk, IfSome};
-ghost use Rattle.record_store.specs.Headers.{IsShort};
-ghost use Rattle.record_store.specs.Cuts.{IsInside, cut_at_header, cut_of};
+ghost use Rattle.record_store.specs.inside.Headers.{IsShort};
+ghost use Rattle.record_store.specs.Cuts.{cut_at_header, cut_of};
+ghost use Rattle.record_store.specs.inside.Cuts.{IsInside};
 
 use crate::header::{Form, Header, read_header};
 use crate::store_error::StoreError;

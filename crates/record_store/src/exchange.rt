@@ -1,6 +1,6 @@
 // One whole request and one whole response, from bytes.
 ghost use Rattle.std.specs.Prelude.{IfOk};
-ghost use Rattle.record_store.specs.Exchanges.{OneRequest, OneResponse, OneExchange};
+ghost use Rattle.record_store.specs.inside.Exchanges.{OneRequest, OneResponse, OneExchange};
 
 use crate::record::Record;
 use http_frame::{Request, Response, first_request, first_response};

@@ -2,7 +2,8 @@
 ghost use Rattle.std.specs.Prelude.{◌≡◌, ◌≤◌, IfOk, IfSome};
 ghost use Rattle.std.specs.List.{list_all};
 ghost use Rattle.record_store.specs.Headers.{number_up_to, lengths_of, port_and_lengths_of, is_scheme, check_scheme};
-ghost use Rattle.record_store.specs.Headers.{header_by_form, header_of, is_letter, IsShort};
+ghost use Rattle.record_store.specs.Headers.{header_by_form, header_of, is_letter};
+ghost use Rattle.record_store.specs.inside.Headers.{IsShort};
 
 use crate::store_error::StoreError;
 use text_base::{read_canonical, split_word};

@@ -42,7 +42,8 @@ fn fill<'a>(piece: &mut Bytes, records: &'a [Record]) -> Result<&'a [Record], Ou
 }
 
 impl<'a> Model for StorePieces<'a> {
-    ghost use Rattle.record_store.specs.Pieces.{Pieces, text_left};
+    ghost use Rattle.record_store.specs.Pieces.{Pieces};
+    ghost use Rattle.record_store.specs.views.Pieces.{text_left};
 
     ghost Value = { Pieces };
 

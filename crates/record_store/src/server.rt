@@ -1,6 +1,6 @@
 // The answer to one request in a server's bytes.
 ghost use Rattle.std.specs.Prelude.{◌≡◌, ◌≤◌, length, drop};
-ghost use Rattle.record_store.specs.Pairs.{AnswerSays};
+ghost use Rattle.record_store.specs.inside.Pairs.{AnswerSays};
 
 use crate::errors::PairError;
 use http_frame::{Response, first_response};

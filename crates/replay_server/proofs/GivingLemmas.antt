@@ -5,7 +5,7 @@ use Rattle.std.specs.Prelude.{Result, OnOk, OnErr}
 use Rattle.std.specs.Option.{option_map}
 use Rattle.std.proofs.lemmas.List.{take-append-drop}
 use Rattle.mm_base.specs.Link.{LinkBytes, giving}
-use Rattle.replay_server.specs.Giving.{Pours, Spills}
+use Rattle.replay_server.specs.inside.Giving.{Pours, Spills}
 
 pub giving_more : (a b : List ℕ) (told : Option LinkBytes)
     → option_map (giving b) (option_map (giving a) told) ≡ option_map (giving (a ++ b)) told

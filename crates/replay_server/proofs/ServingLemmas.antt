@@ -17,7 +17,7 @@ use Rattle.record_store.specs.declared.record.Record.{Record}
 use Rattle.replay_server.specs.Sessions.{Session, most as most_bytes}
 use Rattle.replay_server.specs.Links.{Passed, IfBothTold, counted_from, IsAtEnd, IsPrompt, IsServed, HasFaultCause}
 use Rattle.replay_server.specs.Servings.{IsConnServed, IsServing, ServingSays, no_ends, with_end, finished_with}
-use Rattle.replay_server.specs.Tallies.{IsTally, refusal_of, ended, tallied}
+use Rattle.replay_server.specs.inside.Tallies.{IsTally, refusal_of, ended, tallied}
 use Rattle.replay_server.specs.declared.ends.ConnEnd.{ConnEnd}
 use Rattle.replay_server.specs.declared.ends.ConnEnd.TheVariants.{Closed, BadRequest, LinkFault, Full, OutOfMemory}
 use Rattle.replay_server.specs.declared.ends.Served.{Served}

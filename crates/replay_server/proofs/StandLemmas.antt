@@ -15,8 +15,8 @@ use Rattle.replay_server.specs.Answers.{IsAnswer, bad_request}
 use Rattle.replay_server.specs.Sessions.{Reply, AllOpen, LastCloses, full_text, most, MayGoOn, IsHopeless, IsOpen}
 use Rattle.replay_server.specs.Sessions.{IsCut, Session}
 use Rattle.replay_server.specs.Links.{IsPrompt, IsServed, IsAtEnd}
-use Rattle.replay_server.specs.Giving.{Spills}
-use Rattle.replay_server.specs.Progress.{Stand, IsDue, end_of}
+use Rattle.replay_server.specs.inside.Giving.{Spills}
+use Rattle.replay_server.specs.inside.Progress.{Stand, IsDue, end_of}
 use Rattle.replay_server.specs.declared.ends.ConnEnd.{ConnEnd}
 use Rattle.replay_server.specs.declared.ends.ConnEnd.TheVariants.{Closed, BadRequest, Full}
 use Rattle.replay_server.proofs.ReplyLemmas.{replies_none, replies_more, replies_push}

@@ -14,8 +14,8 @@ use Rattle.record_store.specs.declared.record.Record.{Record}
 use Rattle.replay_server.specs.Answers.{IsAnswer, bad_request}
 use Rattle.replay_server.specs.Sessions.{Reply, AllOpen, full_text, most, MayGoOn, IsHopeless}
 use Rattle.replay_server.specs.Links.{IsServed}
-use Rattle.replay_server.specs.Giving.{Pours, Spills}
-use Rattle.replay_server.specs.Progress.{Stand, Progress, IsDue, end_of}
+use Rattle.replay_server.specs.inside.Giving.{Pours, Spills}
+use Rattle.replay_server.specs.inside.Progress.{Stand, Progress, IsDue, end_of}
 use Rattle.replay_server.specs.declared.ends.ConnEnd.TheVariants.{Closed, BadRequest, Full, OutOfMemory}
 use Rattle.replay_server.specs.declared.talk.Talk.{Talk}
 use Rattle.replay_server.proofs.ReplyLemmas.{full_text-push, open_push, closes_push}

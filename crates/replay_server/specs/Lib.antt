@@ -1,7 +1,5 @@
 pub mod Answers
 pub mod Sessions
 pub mod Links
-pub mod Giving
-pub mod Progress
 pub mod Servings
-pub mod Tallies
+pub mod inside

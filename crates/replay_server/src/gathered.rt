@@ -3,7 +3,7 @@ ghost use Rattle.std.specs.Prelude.{◌≡◌, [], ◌++◌, length, take, drop,
 ghost use Rattle.std.specs.Option.{option_map};
 ghost use Rattle.mm_base.specs.Counts.{Rose};
 ghost use Rattle.mm_base.specs.Link.{CountsLinkFaults, giving};
-ghost use Rattle.replay_server.specs.Giving.{Pours, Spills};
+ghost use Rattle.replay_server.specs.inside.Giving.{Pours, Spills};
 
 use mm_base::{EndError, Link};
 use text_base::Bytes;

@@ -5,7 +5,7 @@ ghost use Rattle.mm_base.specs.Counts.{Rose};
 ghost use Rattle.mm_base.specs.Link.{IsFresh};
 ghost use Rattle.mm_base.specs.Port.{KeepsPort, after_finish};
 ghost use Rattle.replay_server.specs.Servings.{IsConnServed, IsServing, no_ends, with_end};
-ghost use Rattle.replay_server.specs.Tallies.{IsTally, total, refusal_of, ended, tallied};
+ghost use Rattle.replay_server.specs.inside.Tallies.{IsTally, total, refusal_of, ended, tallied};
 
 use crate::ends::{ConnEnd, ServeError, Served};
 use crate::session::serve_link;

@@ -2,7 +2,7 @@
 ghost use Rattle.std.specs.Prelude.{◌≡◌, ◌<◌, ℕ, Option, length, IfSome, IfNone, IfOk, vec_len};
 ghost use Rattle.mm_base.specs.Link.{LinkBytes, CountsLinkFaults};
 ghost use Rattle.replay_server.specs.Links.{IsServed, HasFaultCause};
-ghost use Rattle.replay_server.specs.Progress.{Progress, GoesOn, to_do};
+ghost use Rattle.replay_server.specs.inside.Progress.{Progress, GoesOn, to_do};
 
 use crate::answers::answer_to;
 use crate::ends::ConnEnd;

@@ -7,7 +7,7 @@ ghost use Rattle.mm_base.specs.Link.{LinkBytes, CountsLinkFaults};
 ghost use Rattle.record_store.specs.declared.record.Record.{Record};
 ghost use Rattle.replay_server.specs.Answers.{IsAnswer};
 ghost use Rattle.replay_server.specs.Links.{IsServed, HasFaultCause};
-ghost use Rattle.replay_server.specs.Progress.{Stand, Progress, GoesOn, end_of, to_do};
+ghost use Rattle.replay_server.specs.inside.Progress.{Stand, Progress, GoesOn, end_of, to_do};
 ghost use Rattle.replay_server.specs.Sessions.{Reply, AllOpen, IsHopeless, MayGoOn, full_text, most};
 
 use crate::answers::refusal;

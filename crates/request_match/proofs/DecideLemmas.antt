@@ -8,9 +8,10 @@ use Rattle.std.proofs.lemmas.Bool.Decides.{Decides-eqb}
 use Rattle.std.proofs.lemmas.Slice.Eq.{bytes_eq-Decides}
 use Rattle.http_frame.specs.declared.messages.RequestHead.{RequestHead}
 use Rattle.record_store.specs.declared.record.Record.{Record}
-use Rattle.request_match.specs.Compared.{IsAtMost}
-use Rattle.request_match.specs.Index.{WithRecord}
-use Rattle.request_match.specs.Match.{stripped, score, FitsPort, Agrees, better_of}
+use Rattle.request_match.specs.inside.Compared.{IsAtMost}
+use Rattle.request_match.specs.inside.Index.{WithRecord}
+use Rattle.request_match.specs.Match.{stripped, score, FitsPort, Agrees}
+use Rattle.request_match.specs.inside.Match.{better_of}
 
 by_test : {P : Type 0} (t : Bool) → Decides t P → P ⊎ (P → ⊥)
 by_test true d = inl (d.0 refl)

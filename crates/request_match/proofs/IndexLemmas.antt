@@ -14,8 +14,9 @@ use Rattle.std.proofs.lemmas.Option.{slice_get-get_or, get_or_from_slice_get, sl
 use Rattle.http_frame.specs.declared.messages.RequestHead.{RequestHead}
 use Rattle.record_store.specs.declared.record.Record.{Record}
 use Rattle.request_match.specs.Match.{FitsPort, Agrees, common, score, BestCause, stripped}
-use Rattle.request_match.specs.Index.{Entry, IsEntry, HasAllTo, IsIndex, key_of, hash_of_bytes, entry_at, offered}
-use Rattle.request_match.specs.Index.{IsShared, HasFront, HasScore, HasNear, NoneBefore, BestBefore, Scanned}
+use Rattle.request_match.specs.inside.Index.{Entry, IsEntry, HasAllTo, IsIndex, key_of, hash_of_bytes, entry_at}
+use Rattle.request_match.specs.inside.Index.{offered, IsShared, HasFront, HasScore, HasNear, NoneBefore, BestBefore}
+use Rattle.request_match.specs.inside.Index.{Scanned}
 
 -- ---- keys
 

@@ -12,8 +12,8 @@ use Rattle.std.proofs.lemmas.List.Sums.{position_or_len_is}
 use Rattle.std.proofs.lemmas.List.Elements.{All-push}
 use Rattle.http_frame.specs.declared.messages.RequestHead.{RequestHead}
 use Rattle.record_store.specs.declared.record.Record.{Record}
-use Rattle.request_match.specs.Match.{stripped, common, score, Agrees, IsBest, NoneAgrees, BestSoFar, BestCause}
-use Rattle.request_match.specs.Match.{better_of}
+use Rattle.request_match.specs.Match.{stripped, common, score, Agrees, IsBest, NoneAgrees, BestCause}
+use Rattle.request_match.specs.inside.Match.{BestSoFar, better_of}
 
 -- ---- the common front
 

@@ -1,4 +1,3 @@
 pub mod Match
 pub mod Indexed
-pub mod Index
-pub mod Compared
+pub mod inside

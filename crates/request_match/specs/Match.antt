@@ -1,5 +1,5 @@
 -- Which records agree with a request, and which of them is best.
-use Rattle.std.specs.Prelude.{◌≡◌, ◌⊎◌, ◌==◌, ◌+◌, ◌<◌, ◌≤◌, ℕ, List, [], ◌∷◌, ◌++◌, length, nat_lt, Option, Some, None}
+use Rattle.std.specs.Prelude.{◌≡◌, ◌⊎◌, ◌==◌, ◌+◌, ◌<◌, ◌≤◌, ℕ, List, [], ◌∷◌, ◌++◌, length, Option, Some, None}
 use Rattle.std.specs.Prelude.{All, if◌then◌else◌}
 use Rattle.std.specs.List.{before_first}
 use Rattle.http_frame.specs.declared.messages.RequestHead.{RequestHead}
@@ -47,13 +47,3 @@ NoneAgrees q asked rs = All (λ r. Agrees q asked r → ⊥) rs
 abbrev pub BestCause : RequestHead → Option ℕ → List Record → Option ℕ → Type 0
 BestCause q asked rs (Some place) = IsBest q asked rs place
 BestCause q asked rs None = NoneAgrees q asked rs
-
--- a place with its score, or a new one where that is greater
-abbrev pub better_of : Option (ℕ × ℕ) → ℕ → ℕ → Option (ℕ × ℕ)
-better_of None place most = Some (place, most)
-better_of (Some f) place most = if nat_lt f.1 most then Some (place, most) else Some (f.0, f.1)
-
--- the best of the records so far, with its score
-abbrev pub BestSoFar : RequestHead → Option ℕ → List Record → Option (ℕ × ℕ) → Type 0
-BestSoFar q asked rs None = NoneAgrees q asked rs
-BestSoFar q asked rs (Some f) = (b : IsBest q asked rs f.0) × (f.1 ≡ score q b.best)

@@ -1,7 +1,7 @@
 // Records by what must agree with a request.
 ghost use Rattle.std.specs.Prelude.{◌≡◌, ◌<◌, ◌≤◌, ℕ, List, Option, IfOk, All, length, slice_index_or};
 ghost use Rattle.request_match.specs.Match.{BestCause};
-ghost use Rattle.request_match.specs.Index.{Entry, IsIndex as IsIndexOf};
+ghost use Rattle.request_match.specs.inside.Index.{Entry, IsIndex as IsIndexOf};
 
 use crate::index_entries::{fronts_of, ordered_entries};
 use crate::index_scores::{better_place, next_score};
@@ -27,7 +27,7 @@ pub struct Index<'a> {
 
 impl<'a> Model for Index<'a> {
     ghost use Rattle.request_match.specs.Indexed.{Indexed};
-    ghost use Rattle.request_match.specs.Index.{IsIndex};
+    ghost use Rattle.request_match.specs.inside.Index.{IsIndex};
 
     ghost Value = { Indexed };
 

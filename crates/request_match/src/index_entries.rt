@@ -1,7 +1,7 @@
 // The entries of an index: keys and places in order, and what neighbours have in common.
 ghost use Rattle.std.specs.Prelude.{◌≡◌, ◌<◌, ℕ, Option, IfOk, IfSome, OnOk, All, IsPermutation, length};
 ghost use Rattle.std.specs.List.Sorted.{IsNonDecreasingBy};
-ghost use Rattle.request_match.specs.Index.{Entry, IsEntry, HasAllTo, IsShared, HasFront, HasFrontsTo};
+ghost use Rattle.request_match.specs.inside.Index.{Entry, IsEntry, HasAllTo, IsShared, HasFront, HasFrontsTo};
 
 use crate::keys::key;
 use crate::matching::{agrees, common_front, fits_port};

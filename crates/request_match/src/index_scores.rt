@@ -1,7 +1,7 @@
 // The score of an entry's record, by that of the entry before.
 ghost use Rattle.std.specs.Prelude.{◌≡◌, ◌<◌, ℕ, List, Option, None, Some, drop};
 ghost use Rattle.record_store.specs.declared.record.Record.{Record as RecordValue};
-ghost use Rattle.request_match.specs.Index.{IsShared, HasScore, offered};
+ghost use Rattle.request_match.specs.inside.Index.{IsShared, HasScore, offered};
 ghost use Rattle.request_match.specs.Match.{FitsPort, common};
 
 use crate::matching::{agrees, common_front};

@@ -1,6 +1,6 @@
 // A number of what a record and a request must agree in.
 ghost use Rattle.std.specs.Prelude.{◌≡◌, [], unwrap_or};
-ghost use Rattle.request_match.specs.Index.{hash_of_bytes, key_of};
+ghost use Rattle.request_match.specs.inside.Index.{hash_of_bytes, key_of};
 
 use crate::matching::without_query;
 use http_frame::RequestHead;

@@ -1,9 +1,10 @@
 // The first agreeing record of greatest score.
 ghost use Rattle.std.specs.Prelude.{◌≡◌, ◌==◌, ◌≤◌, ◌+◌, List, ℕ, Option, Decides, false, length, drop, option_map};
 ghost use Rattle.std.specs.List.{before_first};
-ghost use Rattle.request_match.specs.Compared.{FitsFields, IsAtMost};
-ghost use Rattle.request_match.specs.Index.{WithRecord};
-ghost use Rattle.request_match.specs.Match.{stripped, common, score, FitsPort, Agrees, BestCause, better_of};
+ghost use Rattle.request_match.specs.inside.Compared.{FitsFields, IsAtMost};
+ghost use Rattle.request_match.specs.inside.Index.{WithRecord};
+ghost use Rattle.request_match.specs.Match.{stripped, common, score, FitsPort, Agrees, BestCause};
+ghost use Rattle.request_match.specs.inside.Match.{better_of};
 
 use http_frame::RequestHead;
 use record_store::{Record, Store};

@@ -12,7 +12,7 @@ use Rattle.packet_record.specs.Sources.{items_from, sent_after, source_item, sou
 use Rattle.packet_record.specs.Streams.{no_items}
 use Rattle.packet_record.proofs.RowsLemmas.{entering-append}
 use Rattle.mark_channel.specs.Ends.{End}
-use Rattle.row_source.specs.Sent.{HasSent}
+use Rattle.row_source.specs.inside.Sent.{HasSent}
 
 -- rows that rise from a moment rise from an earlier one
 pub Rises-from : (a b : ℕ) (rows : List Row) → a ≤ b → Rises b rows → Rises a rows

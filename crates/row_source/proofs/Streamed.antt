@@ -20,7 +20,7 @@ use Rattle.packet_record.specs.Rows.{Rises}
 use Rattle.packet_record.proofs.PartLemmas.{awaits_any}
 use Rattle.packet_record.proofs.RowsLemmas.{rises-in_order}
 use Rattle.mark_channel.specs.Ends.{End}
-use Rattle.row_source.specs.Sent.{HasSent}
+use Rattle.row_source.specs.inside.Sent.{HasSent}
 use Rattle.row_source.specs.StreamParts.{AllSent, IsStreamed}
 use Rattle.row_source.proofs.Sending.{all_sent, rest_of}
 

@@ -1,2 +1,2 @@
-pub mod Sent
 pub mod StreamParts
+pub mod inside

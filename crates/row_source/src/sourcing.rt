@@ -8,7 +8,7 @@ ghost use Rattle.packet_record.specs.Rows.{Rises, entering};
 ghost use Rattle.packet_record.specs.Sources.{source_item, source_items, sent_after};
 ghost use Rattle.packet_record.specs.Streams.{no_items};
 ghost use Rattle.mark_channel.specs.Ends.{IsSameEnd};
-ghost use Rattle.row_source.specs.Sent.{HasSent};
+ghost use Rattle.row_source.specs.inside.Sent.{HasSent};
 
 use mark_channel::Sender;
 use mm_base::{Pace, Role};

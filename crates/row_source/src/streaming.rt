@@ -3,13 +3,14 @@ ghost use Rattle.std.specs.Prelude.{◌≡◌, ◌≢◌, ◌≤◌, ◌<◌, �
 ghost use Rattle.std.specs.Prelude.{IsErrOf};
 ghost use Rattle.mm_base.specs.Disk.{HasReadCause, OnlyReads};
 ghost use Rattle.mm_base.specs.Files.{IsAbsent};
-ghost use Rattle.file_pieces.specs.Pieces.{FrontIsRead, HasSize, PieceIsRead};
+ghost use Rattle.file_pieces.specs.Pieces.{FrontIsRead, HasSize};
+ghost use Rattle.file_pieces.specs.inside.Pieces.{PieceIsRead};
 ghost use Rattle.packet_record.specs.declared.item.FlowEnd.TheVariants.{Open, Broken as IsCut};
 ghost use Rattle.packet_record.specs.declared.packet.Direction.TheVariants.{Up, Down};
 ghost use Rattle.packet_record.specs.PartsRead.{HasRead, HasReadAll};
 ghost use Rattle.packet_record.specs.Streams.{no_items};
 ghost use Rattle.mark_channel.specs.Ends.{IsSameEnd};
-ghost use Rattle.row_source.specs.Sent.{HasSent};
+ghost use Rattle.row_source.specs.inside.Sent.{HasSent};
 ghost use Rattle.row_source.specs.StreamParts.{AllSent, IsStreamed};
 
 use crate::sourcing::{Sent, end_both, send_rows};

@@ -17,11 +17,10 @@ use Rattle.packet_record.proofs.MomentsLemmas.{from_bound, from_lower, rise-appe
 use Rattle.sender_merge.specs.Inflows.{Inflow, Merging, after_add, fresh, has_ended, is_ended, new_merging}
 use Rattle.sender_merge.specs.Inflows.{sender_at, with_item}
 use Rattle.sender_merge.specs.Laws.{IsMergeFront, MayFollowAll, packets_with}
-use Rattle.sender_merge.specs.Lefts.{left_of, packets_in}
+use Rattle.sender_merge.specs.inside.Lefts.{left_of, packets_in}
 use Rattle.sender_merge.specs.Merges.{by_moment, packet_moment}
-use Rattle.sender_merge.specs.Standing.{AllFrom, AllMayCome, AllSound, IsFrom, IsSound, MayCome, Stands, all_left}
-use Rattle.sender_merge.specs.Standing.{all_sent}
-use Rattle.sender_merge.specs.Standing.{waits}
+use Rattle.sender_merge.specs.inside.Standing.{AllFrom, AllMayCome, AllSound, IsFrom, IsSound, MayCome, Stands}
+use Rattle.sender_merge.specs.inside.Standing.{all_left, all_sent, waits}
 
 -- a sender after one more item
 abbrev pub added_at : List Inflow → ℕ → Item → List Inflow

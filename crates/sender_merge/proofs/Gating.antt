@@ -2,9 +2,9 @@
 use Rattle.std.proofs.Common.{◌≡◌, ◌∙◌, ℕ, suc, ap, sym, refl, List, [], ◌∷◌, ◌++◌, length}
 use Rattle.sender_merge.specs.declared.inlet.Inlet.{Inlet}
 use Rattle.sender_merge.specs.declared.outlet.Outlet.{Outlet}
-use Rattle.sender_merge.specs.Gates.{AllEnds, AllFresh, IsFresh}
-use Rattle.sender_merge.specs.Inlets.{AllEmpty, AllSame}
-use Rattle.sender_merge.specs.Outlets.{AllEmpty as AllUnsent, AllSameOutlets}
+use Rattle.sender_merge.specs.inside.Gates.{AllEnds, AllFresh, IsFresh}
+use Rattle.sender_merge.specs.inside.Inlets.{AllEmpty, AllSame}
+use Rattle.sender_merge.specs.inside.Outlets.{AllEmpty as AllUnsent, AllSameOutlets}
 
 pub fresh-snoc : (h : ℕ) (os : List Outlet) (us ds : List Inlet) (o : Outlet) (u d : Inlet) → AllFresh h os us ds
     → IsFresh h o u d → AllFresh h (os ++ o ∷ []) (us ++ u ∷ []) (ds ++ d ∷ [])

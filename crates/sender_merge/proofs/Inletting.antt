@@ -2,6 +2,7 @@
 use Rattle.std.proofs.Common.{◌≡◌, ◌≢◌, ⊎_elim, ℕ, zero, suc, ◌+◌, ◌<◌, ◌≤◌, true, List, [], ◌∷◌, length}
 use Rattle.std.proofs.Common.{get_or, set}
 use Rattle.std.proofs.Common.{take, replicate, refl, ap, sym, subst, ◌∙◌, arith}
+use Rattle.std.proofs.Common.{Option, Some, None, IfNone, IfSome, Result, Ok, Err, OnOk}
 use Rattle.std.specs.List.{list_all}
 use Rattle.std.proofs.lemmas.Bool.{and_parts}
 use Rattle.packet_record.specs.declared.packet.Timed.{Timed}
@@ -19,13 +20,13 @@ use Rattle.sender_merge.specs.declared.step.MergeStep.{MergeStep}
 use Rattle.sender_merge.specs.declared.step.MergeStep.TheVariants.{Item as Gives, Need}
 use Rattle.sender_merge.specs.Inflows.{Inflow, Merging, fresh, has_ended, is_ended, with_passed}
 use Rattle.sender_merge.specs.Steps.{after_step, candidate, passing, senders_after}
-use Rattle.sender_merge.specs.Laws.{AllUpTo, IsMergeFront, SomeOpen, packets_of}
-use Rattle.sender_merge.specs.Inlets.{AllClosed, AllEmpty, AllEnded, AllSame, AllWithin, AreAdded, IsMerged}
-use Rattle.sender_merge.specs.Inlets.{bound_at, received, IsFurther, IsFurthestBehind, IsOpenAt}
+use Rattle.sender_merge.specs.Laws.{AllUpTo, IsMergeFront, packets_of}
+use Rattle.sender_merge.specs.inside.Laws.{SomeOpen}
+use Rattle.sender_merge.specs.inside.Inlets.{AllClosed, AllEmpty, AllEnded, AllSame, AllWithin, AreAdded, IsMerged}
+use Rattle.sender_merge.specs.inside.Inlets.{bound_at, received, IsFurther, IsFurthestBehind, IsOpenAt}
 use borrow.Author.Count.{below_more}
 use Rattle.sender_merge.specs.Merges.{merge}
 use Rattle.sender_merge.specs.declared.step.Head.{Head}
-use Rattle.std.proofs.Common.{Option, Some, None, IfNone, IfSome, Result, Ok, Err, OnOk}
 
 pub open-here : (place : ℕ) (inlets : List Inlet) (d : Inlet) → place < length inlets
     → (get_or inlets place d).from.flow.end ≡ Open → IsOpenAt place inlets

@@ -20,11 +20,10 @@ use Rattle.sender_merge.specs.Inflows.{with_passed}
 use Rattle.sender_merge.specs.Steps.{all_clear, candidate_from, clears, moment_or}
 use Rattle.sender_merge.specs.Laws.{packets_of}
 use Rattle.sender_merge.specs.Merges.{by_moment, packet_moment}
-use Rattle.sender_merge.specs.Standing.{AllFrom, AllMayCome, AllSound, IsFrom, IsSound, MayCome, Stands, all_left}
-use Rattle.sender_merge.specs.Standing.{all_sent}
-use Rattle.sender_merge.specs.Standing.{waits}
+use Rattle.sender_merge.specs.inside.Standing.{AllFrom, AllMayCome, AllSound, IsFrom, IsSound, MayCome, Stands}
+use Rattle.sender_merge.specs.inside.Standing.{all_left, all_sent, waits}
 use Rattle.sender_merge.proofs.Sorting.{behind, first, from-append as sorting-append}
-use Rattle.sender_merge.specs.RowMerges.{From}
+use Rattle.sender_merge.specs.inside.RowMerges.{From}
 use Rattle.sender_merge.proofs.Looking.{Clears, IsLeast, NoHeads, NotAfter, cleared, none_wait, one_waits, up_to_got}
 use Rattle.sender_merge.proofs.Looking.{AllBounded, found, wait_from, within}
 

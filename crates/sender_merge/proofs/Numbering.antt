@@ -5,7 +5,7 @@ use Rattle.packet_record.specs.declared.packet.Row.{Row}
 use Rattle.packet_record.specs.Orders.{AreInOrder}
 use Rattle.packet_record.specs.Rows.{AreApart}
 use Rattle.sender_merge.specs.Merges.{by_moment, merge_rows, merged_id, merged_row, put, row_moment, rows_from}
-use Rattle.sender_merge.specs.RowLists.{AllSchedules}
+use Rattle.sender_merge.specs.inside.RowLists.{AllSchedules}
 
 abbrev id_of : Row → ℕ
 id_of r = r.timed.packet.id

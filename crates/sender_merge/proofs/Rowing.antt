@@ -3,6 +3,7 @@ use Rattle.std.proofs.Common.{◌≡◌, ◌⊎◌, ⊎_elim, inl, inr, ℕ, zer
 use Rattle.std.proofs.Common.{cond, leb}
 use Rattle.std.proofs.Common.{nat_le}
 use Rattle.std.proofs.Common.{ap, sym, subst, refl, List, [], ◌∷◌, ◌++◌, length, map, filter, get_or, arith}
+use Rattle.std.proofs.Common.{Some, None, append_assoc, drop, slice_get}
 use Rattle.std.specs.List.{flat_map}
 use Rattle.std.proofs.lemmas.Bool.{leb-false, leb-true}
 use Rattle.packet_record.specs.declared.packet.Direction.{Direction}
@@ -15,10 +16,10 @@ use Rattle.mark_channel.specs.declared.feeds.FeedEnd.TheVariants.{Ended, OutOfMe
 use Rattle.mark_channel.specs.Feedings.{HasSentRows, IfFed}
 use Rattle.sender_merge.specs.declared.inlet.Inlet.{Inlet}
 use Rattle.sender_merge.specs.declared.outlet.Outlet.{Outlet}
-use Rattle.sender_merge.specs.Feeding.{IsBrokenOff, SentOne, SentOrBroken}
-use Rattle.sender_merge.specs.Gates.{AreSettled}
-use Rattle.sender_merge.specs.Inlets.{AllEnded, IsMerged, received}
-use Rattle.sender_merge.specs.Outlets.{AllSentOrBroken}
+use Rattle.sender_merge.specs.inside.Feeding.{IsBrokenOff, SentOne, SentOrBroken}
+use Rattle.sender_merge.specs.inside.Gates.{AreSettled}
+use Rattle.sender_merge.specs.inside.Inlets.{AllEnded, IsMerged, received}
+use Rattle.sender_merge.specs.inside.Outlets.{AllSentOrBroken}
 use Rattle.packet_record.specs.declared.packet.Timed.{Timed}
 use Rattle.packet_record.specs.Rows.{Rises, entering, goes}
 use Rattle.packet_record.proofs.RowsLemmas.{entering-append}
@@ -27,8 +28,7 @@ use Rattle.sender_merge.specs.Merges.{row_moment}
 use Rattle.sender_merge.specs.Merges.{rows_from}
 use Rattle.sender_merge.proofs.Sorting.{by_moment-sorted, from_lower, put_first, put_later}
 use Rattle.sender_merge.proofs.Sorting.{behind, first as first_row, from-append}
-use Rattle.sender_merge.specs.RowMerges.{AllNumbered, From, IsBefore, IsFirst, Sorted, left_over}
-use Rattle.std.proofs.Common.{Some, None, append_assoc, drop, slice_get}
+use Rattle.sender_merge.specs.inside.RowMerges.{AllNumbered, From, IsBefore, IsFirst, Sorted, left_over}
 use Rattle.std.proofs.lemmas.List.{append-nil}
 
 -- rows that rise are in order, and stay so under other numbers

@@ -12,7 +12,7 @@ use Rattle.packet_record.specs.Orders.{AreInOrder, IsSchedule}
 use Rattle.packet_record.specs.Rows.{Rises, entering}
 use Rattle.packet_record.proofs.RowsLemmas.{entering-append}
 use Rattle.sender_merge.specs.Merges.{merged_row}
-use Rattle.sender_merge.specs.RowMerges.{AllNumbered}
+use Rattle.sender_merge.specs.inside.RowMerges.{AllNumbered}
 
 numbered_from : (place low : ℕ) (rows : List Row) → 1 ≤ place → length rows + place ≤ 1000001
     → AreInOrder place low rows → AllNumbered rows

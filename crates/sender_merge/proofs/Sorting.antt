@@ -3,7 +3,7 @@ use Rattle.std.proofs.Common.{◌≡◌, ℕ, ◌+◌, ◌<◌, ◌≤◌, Bool,
 use Rattle.std.proofs.Common.{arith}
 use Rattle.std.proofs.lemmas.Bool.{le-leb, leb-false, leb-true, lt-leb}
 use Rattle.sender_merge.specs.Merges.{put, by_moment}
-use Rattle.sender_merge.specs.RowMerges.{From, Sorted}
+use Rattle.sender_merge.specs.inside.RowMerges.{From, Sorted}
 
 pub from_lower : {A : Type 0} (f : A → ℕ) (m n : ℕ) (xs : List A) → m ≤ n → From f n xs → From f m xs
 from_lower f m n [] le h = tt

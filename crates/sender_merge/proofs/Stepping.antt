@@ -5,6 +5,7 @@ use Rattle.std.proofs.Common.{List, [], ◌∷◌, length, get_or, drop, refl, a
 use Rattle.std.proofs.Common.{Option, Some, None, IsSome, arith, rules, is_none, not}
 use Rattle.std.proofs.Common.{unwrap_or}
 use Rattle.std.proofs.Common.{◌&&◌}
+use Rattle.std.proofs.Common.{◌||◌}
 use Rattle.std.specs.List.{list_all, list_any}
 use Rattle.std.proofs.lemmas.Bool.{and_parts, ltb-true}
 use Rattle.packet_record.specs.declared.packet.Timed.{Timed}
@@ -23,14 +24,14 @@ use Rattle.sender_merge.specs.Inflows.{Inflow, Merging, fresh, has_ended, head_o
 use Rattle.sender_merge.specs.Steps.{after_step, all_clear, bound_of, candidate, lesser, mark_or_need}
 use Rattle.sender_merge.specs.Steps.{is_needed, merged_bound, moment_or, needed, needed_from, next_step, passing}
 use Rattle.sender_merge.specs.Steps.{senders_after, step_at}
-use Rattle.sender_merge.specs.Laws.{AllUpTo, IfNeeds, IsNeeded, IsStepUpTo, MayFollowStep, SomeOpen}
-use Rattle.sender_merge.specs.Lefts.{left_of}
-use Rattle.sender_merge.specs.Standing.{AllFrom, Stands}
-use Rattle.sender_merge.proofs.Looking.{one_missing, one_needed}
 use Rattle.sender_merge.specs.Steps.{clears}
-use Rattle.packet_record.specs.declared.item.FlowEnd.{FlowEnd}
-use Rattle.std.proofs.Common.{◌||◌}
+use Rattle.sender_merge.specs.Laws.{AllUpTo, IfNeeds, IsNeeded, IsStepUpTo, MayFollowStep}
+use Rattle.sender_merge.specs.inside.Laws.{SomeOpen}
+use Rattle.sender_merge.specs.inside.Lefts.{left_of}
+use Rattle.sender_merge.specs.inside.Standing.{AllFrom, Stands}
+use Rattle.sender_merge.proofs.Looking.{one_missing, one_needed}
 use Rattle.sender_merge.proofs.Looking.{bound_low, bounded, found, none_found, one_waits, up_to_got, within}
+use Rattle.packet_record.specs.declared.item.FlowEnd.{FlowEnd}
 use Rattle.sender_merge.proofs.Keeping.{all_from_bounded, given_at, heads_least, heads_none, stands-broken, stands-end}
 use Rattle.sender_merge.proofs.Keeping.{stands-mark, stands-packet}
 

@@ -1,5 +1,5 @@
 -- What holds of every merge: what was given is a front of the merge of whatever the senders may still send.
-use Rattle.std.specs.Prelude.{◌≡◌, ◌⊎◌, ◌≤◌, ◌+◌, ℕ, true, List, [], ◌∷◌, length, map, Some}
+use Rattle.std.specs.Prelude.{◌≡◌, ◌≤◌, ◌+◌, ℕ, true, List, [], ◌∷◌, length, map, Some}
 use Rattle.std.specs.List.{list_all}
 use mathlib.Core.List.{IsPrefix}
 use Rattle.packet_record.specs.declared.packet.Timed.{Timed}
@@ -55,11 +55,6 @@ IsStepUpTo horizon (Need sender) = Unit {0}
 abbrev pub MayFollowStep : Stream → MergeStep → Type 0
 MayFollowStep f (Gives x) = MayFollow f x
 MayFollowStep f (Need sender) = Unit {0}
-
--- some sender may still send
-abbrev pub SomeOpen : List Inflow → Type 0
-SomeOpen [] = ⊥
-SomeOpen (s ∷ senders) = (s.flow.end ≡ Open) ⊎ SomeOpen senders
 
 -- where a sender is needed, this holds of its number
 abbrev pub IfNeeds : MergeStep → (ℕ → Type 0) → Type 0

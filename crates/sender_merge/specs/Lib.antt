@@ -2,14 +2,6 @@ pub mod Merges
 pub mod Inflows
 pub mod Steps
 pub mod Laws
-pub mod Inlets
-pub mod Feeding
-pub mod Outlets
-pub mod Gates
 pub mod RowLists
-pub mod RowMerges
-pub mod Standing
-pub mod Lefts
-pub mod InflowInside
-pub mod Inside
-pub mod SendersInside
+pub mod inside
+pub mod views

@@ -1,14 +1,8 @@
 -- The rows of several schedules.
 use Rattle.std.specs.Prelude.{ℕ, ◌+◌, List, [], ◌∷◌, length}
 use Rattle.packet_record.specs.declared.packet.Row.{Row}
-use Rattle.packet_record.specs.Orders.{IsSchedule}
 
 -- how many rows there are in all
 abbrev pub rows_in : List (List Row) → ℕ
 rows_in [] = 0
 rows_in (rows ∷ schedules) = length rows + rows_in schedules
-
--- each is a schedule
-abbrev pub AllSchedules : List (List Row) → Type 0
-AllSchedules [] = Unit {0}
-AllSchedules (rows ∷ schedules) = IsSchedule rows × AllSchedules schedules

@@ -109,8 +109,3 @@ senders_after senders Broken = senders
 abbrev pub after_step : Merging → MergeStep → Merging
 after_step m (Gives x) = merging (senders_after m.senders x) (after m.given x)
 after_step m (Need sender) = m
-
--- the item that a step gives, if it gives one
-abbrev pub given_in : MergeStep → List Item
-given_in (Gives x) = x ∷ []
-given_in (Need sender) = []

@@ -12,10 +12,10 @@ ghost use Rattle.packet_record.specs.declared.packet.Direction.TheVariants.{Up, 
 ghost use Rattle.packet_record.specs.Streams.{no_items};
 ghost use Rattle.mark_channel.specs.Ends.{IsSameEnd};
 ghost use Rattle.mark_channel.specs.Feedings.{IfFed};
-ghost use Rattle.sender_merge.specs.Feeding.{both as both_of, SentOrBroken};
-ghost use Rattle.sender_merge.specs.Inlets.{AllClosed, AllEmpty, AllSame, IsMerged};
-ghost use Rattle.sender_merge.specs.Outlets.{AllEmpty as AllUnsent, AllSameOutlets, AllSentOrBroken, IsEmpty};
-ghost use Rattle.sender_merge.specs.Outlets.{IsSameOutlet};
+ghost use Rattle.sender_merge.specs.inside.Feeding.{both as both_of, SentOrBroken};
+ghost use Rattle.sender_merge.specs.inside.Inlets.{AllClosed, AllEmpty, AllSame, IsMerged};
+ghost use Rattle.sender_merge.specs.inside.Outlets.{AllEmpty as AllUnsent, AllSameOutlets, AllSentOrBroken, IsEmpty};
+ghost use Rattle.sender_merge.specs.inside.Outlets.{IsSameOutlet};
 
 use crate::gates::Gates;
 use crate::inlet::Inlet;

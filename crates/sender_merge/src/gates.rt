@@ -2,8 +2,8 @@
 // have ended.
 ghost use Rattle.std.specs.Prelude.{◌≡◌, ◌≢◌, ◌≤◌, ◌+◌, length, IfOk, OnOk};
 ghost use Rattle.packet_record.specs.declared.item.FlowEnd.TheVariants.{Open};
-ghost use Rattle.sender_merge.specs.Gates.{AllEnds, AllFresh, AreEnds, AreSettled, IsFresh, IsSettled};
-ghost use Rattle.sender_merge.specs.Inlets.{AllClosed};
+ghost use Rattle.sender_merge.specs.inside.Gates.{AllEnds, AllFresh, AreEnds, AreSettled, IsFresh, IsSettled};
+ghost use Rattle.sender_merge.specs.inside.Inlets.{AllClosed};
 
 use crate::inlet::Inlet;
 use crate::outlet::{Outlet, Way};

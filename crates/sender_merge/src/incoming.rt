@@ -20,7 +20,7 @@ impl Model for Incoming {
 
     ghost Value = { Inflow };
 
-    ghost use Rattle.sender_merge.specs.InflowInside.{inflow_view};
+    ghost use Rattle.sender_merge.specs.views.Inflow.{inflow_view};
 
     ghost view = { inflow_view };
 }

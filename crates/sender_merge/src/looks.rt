@@ -6,7 +6,7 @@ ghost use Rattle.sender_merge.specs.Steps.{all_clear as is_clear, bound_of, cand
 ghost use Rattle.sender_merge.specs.Steps.{earlier as earlier_of, is_needed, lesser as lesser_of};
 ghost use Rattle.sender_merge.specs.Steps.{mark_or_need as mark_or_need_of, merged_bound as bound_in};
 ghost use Rattle.sender_merge.specs.Steps.{needed as needed_of, senders_after, step_of as step_in};
-ghost use Rattle.sender_merge.specs.Lefts.{left_of};
+ghost use Rattle.sender_merge.specs.inside.Lefts.{left_of};
 
 use crate::incoming::Incoming;
 use crate::step::{Head, MergeStep};

@@ -3,7 +3,7 @@ ghost use Rattle.std.specs.Prelude.{◌≡◌, ◌≤◌, ◌↔◌, ◌+◌, �
 ghost use Rattle.packet_record.specs.declared.item.FlowEnd.TheVariants.{Open};
 ghost use Rattle.packet_record.specs.Streams.{MayFollow};
 ghost use Rattle.packet_record.specs.Takes.{IsPacket};
-ghost use Rattle.sender_merge.specs.Lefts.{packets_in};
+ghost use Rattle.sender_merge.specs.inside.Lefts.{packets_in};
 
 use crate::incoming::Incoming;
 use crate::looks::{candidate, next_step, pass};
@@ -32,7 +32,8 @@ impl Model for MergeCore {
 
     ghost Value = { Merging };
 
-    ghost use Rattle.sender_merge.specs.Inside.{merging_view, IsMergeCore};
+    ghost use Rattle.sender_merge.specs.views.MergeCore.{merging_view};
+    ghost use Rattle.sender_merge.specs.inside.Inside.{IsMergeCore};
 
     ghost view = { merging_view };
 

@@ -4,10 +4,12 @@ ghost use Rattle.packet_record.specs.declared.item.FlowEnd.TheVariants.{Open};
 ghost use Rattle.packet_record.specs.Streams.{no_items};
 ghost use Rattle.mark_channel.specs.Ends.{IsSameEnd};
 ghost use Rattle.mark_channel.specs.Feedings.{IfFed};
-ghost use Rattle.sender_merge.specs.Inlets.{AllClosed, AllEmpty, AllSame, AllWithin, AreAdded, IsFurther};
-ghost use Rattle.sender_merge.specs.Inlets.{IsFurthestBehind, IsMerged};
-ghost use Rattle.sender_merge.specs.Laws.{AllUpTo, IfNeeds, IsMergeFront, IsNeeded, SomeOpen};
-ghost use Rattle.sender_merge.specs.Steps.{after_step, given_in, next_step};
+ghost use Rattle.sender_merge.specs.inside.Inlets.{AllClosed, AllEmpty, AllSame, AllWithin, AreAdded, IsFurther};
+ghost use Rattle.sender_merge.specs.inside.Inlets.{IsFurthestBehind, IsMerged};
+ghost use Rattle.sender_merge.specs.Laws.{AllUpTo, IfNeeds, IsMergeFront, IsNeeded};
+ghost use Rattle.sender_merge.specs.inside.Laws.{SomeOpen};
+ghost use Rattle.sender_merge.specs.Steps.{after_step, next_step};
+ghost use Rattle.sender_merge.specs.inside.Steps.{given_in};
 
 use crate::inlet::Inlet;
 use crate::merge_core::MergeCore;

@@ -94,8 +94,8 @@ pub(crate) fn merged_row(sender: u32, row: &Row) -> Row
 }
 
 impl Outlet {
-    ghost use Rattle.sender_merge.specs.Feeding.{SentOrBroken};
-    ghost use Rattle.sender_merge.specs.Outlets.{IsEmpty, IsSameOutlet};
+    ghost use Rattle.sender_merge.specs.inside.Feeding.{SentOrBroken};
+    ghost use Rattle.sender_merge.specs.inside.Outlets.{IsEmpty, IsSameOutlet};
 
     // Sends what a row gives in both directions, first in its own.
     fn send_row<R: Wait>(&mut self, rt: &R, horizon: u64, row: &Row)

@@ -1,8 +1,9 @@
 // The rows of several schedules as one list.
 ghost use Rattle.std.specs.Prelude.{◌≡◌, ◌≤◌, ◌<◌, ◌+◌, ◌*◌, ◌++◌, ℕ, drop, length, map, slice_get, IfOk, OnOk};
 ghost use Rattle.sender_merge.specs.Merges.{by_moment, merged_row as merged_row_of, row_moment, rows_from};
-ghost use Rattle.sender_merge.specs.RowMerges.{AllNumbered, IsBefore, IsFirst, Sorted, left_over};
-ghost use Rattle.sender_merge.specs.RowLists.{AllSchedules, rows_in};
+ghost use Rattle.sender_merge.specs.inside.RowMerges.{AllNumbered, IsBefore, IsFirst, Sorted, left_over};
+ghost use Rattle.sender_merge.specs.RowLists.{rows_in};
+ghost use Rattle.sender_merge.specs.inside.RowLists.{AllSchedules};
 
 use crate::outlet::merged_row;
 use packet_record::{Row, Schedule};

@@ -6,7 +6,7 @@ ghost use Rattle.packet_record.specs.Streams.{no_items};
 ghost use Rattle.mark_channel.specs.Ends.{IsSameEnd};
 ghost use Rattle.mark_channel.specs.Feedings.{HasSentRows, IfFed};
 ghost use Rattle.sender_merge.specs.Merges.{merge_rows};
-ghost use Rattle.sender_merge.specs.Gates.{AllFresh};
+ghost use Rattle.sender_merge.specs.inside.Gates.{AllFresh};
 ghost use Rattle.sender_merge.specs.RowLists.{rows_in};
 
 use crate::feeding::run;
@@ -46,7 +46,8 @@ impl Model for Senders {
 
     ghost Value = { List (List RowValue) };
 
-    ghost use Rattle.sender_merge.specs.SendersInside.{senders_view, AreSenders};
+    ghost use Rattle.sender_merge.specs.views.Senders.{senders_view};
+    ghost use Rattle.sender_merge.specs.inside.SendersInside.{AreSenders};
 
     ghost view = { senders_view };
 

@@ -12,8 +12,8 @@ use Rattle.shell_cell.specs.declared.view.View.{View}
 use Rattle.shell_cell.specs.declared.view.Role.TheVariants.{Whole, Feeder, Drain}
 use Rattle.shell_cell.specs.declared.view.Call.TheVariants.{Feeds, Drains}
 use Rattle.shell_cell.specs.History.{IsPast, MayFeed, Answers, after_drain}
-use Rattle.shell_cell.specs.Rule.{view, note_of, Kept, Place, IsDone, IsUndone, IsTaken, HasTaken}
-use Rattle.shell_cell.specs.Rule.{left_of, right_of, both_of}
+use Rattle.shell_cell.specs.inside.Rule.{view, note_of, Kept, Place, IsDone, IsUndone, IsTaken, HasTaken, left_of}
+use Rattle.shell_cell.specs.inside.Rule.{right_of, both_of}
 use Rattle.shell_cell.proofs.Keeps.{parts, ends}
 
 -- the first of the slots that a seat has taken

@@ -22,9 +22,12 @@ use Rattle.shell_cell.specs.declared.view.View.{View}
 use Rattle.shell_cell.specs.declared.view.Role.TheVariants.{Feeder, Drain}
 use Rattle.shell_cell.specs.declared.view.Call.TheVariants.{Feeds, Drains}
 use Rattle.shell_cell.specs.History.{fed_flow, taken_flow, flow_after, MayFeed, after_drain}
-use Rattle.shell_cell.specs.Rule.{Place, IsTaken, with_turn, without_note, broken_in, broken_by, number_in, IsAbove}
-use Rattle.shell_cell.specs.Seats.{FeedView, DrainView, feed_seat, drain_seat, MayFeedAt, SpendsFeed, FindsBroken, Fed}
-use Rattle.shell_cell.specs.Seats.{SpendsDrain, Found, Took, MayGive, HasHistory}
+use Rattle.shell_cell.specs.inside.Rule.{Place, IsTaken, with_turn, without_note, broken_in, broken_by, number_in}
+use Rattle.shell_cell.specs.inside.Rule.{IsAbove}
+use Rattle.shell_cell.specs.Seats.{FeedView, DrainView, MayFeedAt, SpendsFeed, FindsBroken, Fed, SpendsDrain, Found}
+use Rattle.shell_cell.specs.Seats.{Took, HasHistory}
+use Rattle.shell_cell.specs.views.Seats.{feed_seat, drain_seat}
+use Rattle.shell_cell.specs.inside.Seats.{MayGive}
 use Rattle.shell_cell.proofs.StateLaws.{feed_breaks, take_broken, answer_broken, answer_may}
 use Rattle.shell_cell.proofs.Calls.{Closed}
 use Rattle.shell_cell.proofs.Histories.{fed_flow_snoc, taken_flow_snoc}

@@ -27,11 +27,11 @@ use Rattle.shell_cell.specs.declared.view.Role.TheVariants.{Whole, Feeder, Drain
 use Rattle.shell_cell.specs.declared.view.Call.{Call}
 use Rattle.shell_cell.specs.declared.view.Call.TheVariants.{Feeds, Drains}
 use Rattle.shell_cell.specs.History.{IsPast, fed_flow, taken_flow, MayFeed, Answers, after_drain}
-use Rattle.shell_cell.specs.Rule.{Stage, whole, shared, joined, Holder, nobody, feeder, drain, view, spent_view}
-use Rattle.shell_cell.specs.Rule.{note_of, views_of, feeder_note, drain_note, word_of, home_of, Settles, Kept, Place}
-use Rattle.shell_cell.specs.Rule.{IsMade, after_call, IsEnd, IsDone, IsUndone, with_note, Claimed, claims, gives_up}
-use Rattle.shell_cell.specs.Rule.{without_note, broken_in, broken_by, number_in, with_turn, IsAbove, spends, left_of}
-use Rattle.shell_cell.specs.Rule.{right_of, both_of}
+use Rattle.shell_cell.specs.inside.Rule.{Stage, whole, shared, joined, Holder, nobody, feeder, drain, view, spent_view}
+use Rattle.shell_cell.specs.inside.Rule.{note_of, views_of, feeder_note, drain_note, word_of, home_of, Settles, Kept}
+use Rattle.shell_cell.specs.inside.Rule.{Place, IsMade, after_call, IsEnd, IsDone, IsUndone, with_note, Claimed, claims}
+use Rattle.shell_cell.specs.inside.Rule.{gives_up, without_note, broken_in, broken_by, number_in, with_turn, IsAbove}
+use Rattle.shell_cell.specs.inside.Rule.{spends, left_of, right_of, both_of}
 use Rattle.shell_cell.proofs.Histories.{drain_broken, goes_on_fed, goes_on_drained, all_fed, all_drained, no_past}
 use Rattle.shell_cell.proofs.Seating.{SitsAt, feeder_sits, drain_sits, whole_sits, joined_sits, even_is_free}
 use Rattle.shell_cell.proofs.Seating.{feeder_holds, drain_holds, none_hold}

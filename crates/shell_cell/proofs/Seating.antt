@@ -10,8 +10,8 @@ use Rattle.shell_cell.specs.declared.view.Note.{Note}
 use Rattle.shell_cell.specs.declared.view.View.{View}
 use Rattle.shell_cell.specs.declared.view.Role.{Role}
 use Rattle.shell_cell.specs.declared.view.Role.TheVariants.{Whole, Feeder, Drain, Joined}
-use Rattle.shell_cell.specs.Rule.{Stage, whole, shared, joined, Holder, nobody, feeder, drain, view, views_of}
-use Rattle.shell_cell.specs.Rule.{feeder_note, drain_note, word_of}
+use Rattle.shell_cell.specs.inside.Rule.{Stage, whole, shared, joined, Holder, nobody, feeder, drain, view, views_of}
+use Rattle.shell_cell.specs.inside.Rule.{feeder_note, drain_note, word_of}
 
 pub record SitsAt (stage now : Stage) (id place : ℕ) (v w : View) : Type 0 where
   pub stage_is : stage ≡ now

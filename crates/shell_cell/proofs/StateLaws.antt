@@ -9,10 +9,10 @@ use Rattle.shell_state.specs.declared.taken.Taken.TheVariants.{Item as Gives, Ag
 use Rattle.shell_state.specs.States.{State}
 use Rattle.shell_state.specs.Steps.{after_break, answer_of, answer_after, burns, with_burnt, with_answer}
 use Rattle.shell_state.specs.Standing.{Stands}
-use Rattle.shell_state.specs.Inside.{AnswerFollows}
+use Rattle.shell_state.specs.inside.Fed.{AnswerFollows}
 use Rattle.shell_state.proofs.Keeping.{burnt_keeps, answer_keeps, burns-le}
 use Rattle.shell_state.proofs.Answering.{answer_follows}
-use Rattle.shell_cell.specs.Seats.{MayGive}
+use Rattle.shell_cell.specs.inside.Seats.{MayGive}
 pub use Rattle.shell_state.proofs.Equations.{feed_fed, feed_taken, feed_horizon, feed_spec, feed_breaks, take_fed}
 pub use Rattle.shell_state.proofs.Equations.{take_taken, take_horizon, take_spec, take_broken, break_fed, break_taken}
 pub use Rattle.shell_state.proofs.Equations.{break_horizon, break_broken}

@@ -1,4 +1,4 @@
 pub mod History
-pub mod Rule
 pub mod Seats
-pub mod Sides
+pub mod inside
+pub mod views

@@ -13,8 +13,7 @@ use Rattle.shell_state.specs.Causes.{HasCauses}
 use Rattle.shell_cell.specs.declared.view.FeedTurn.{FeedTurn}
 use Rattle.shell_cell.specs.declared.view.DrainTurn.{DrainTurn}
 use Rattle.shell_cell.specs.declared.view.DrainCall.{DrainCall}
-use Rattle.shell_cell.specs.declared.view.View.{View}
-use Rattle.shell_cell.specs.History.{IsPast, fed_flow, taken_flow}
+use Rattle.shell_cell.specs.History.{IsPast}
 
 -- which cell it is, and the state that it was opened with
 pub record Cell : Type 0 where
@@ -35,25 +34,6 @@ FeedView = Seat FeedTurn
 
 abbrev pub DrainView : Type 0
 DrainView = Seat DrainTurn
-
--- what a seat at this table shows by what it knows
-abbrev pub feed_seat : TableId → View → FeedView
-feed_seat table v = record {
-  turns = v.fed;
-  flow = fed_flow v.fed;
-  broken = v.broken;
-  horizon = v.opening.horizon;
-  cell = record { table = table; opening = v.opening };
-}
-
-abbrev pub drain_seat : TableId → View → DrainView
-drain_seat table v = record {
-  turns = v.drained;
-  flow = taken_flow v.drained;
-  broken = v.broken;
-  horizon = v.opening.horizon;
-  cell = record { table = table; opening = v.opening };
-}
 
 -- a seat keeps its horizon and its cell
 abbrev pub IsSameSeat : {Turn : Type 0} → Seat Turn → Seat Turn → Type 0
@@ -100,12 +80,6 @@ pub record Found (old : DrainView) (most : ℕ) (answer : Taken) (new : DrainVie
   pub horizon : state.horizon ≡ old.horizon
   pub spec : state.spec ≡ old.cell.opening.spec
   pub broken : new.broken ≡ state.broken
-
--- an item that is given may follow the flow and is within the horizon
-abbrev pub MayGive : Stream → ℕ → Taken → Type 0
-MayGive flow horizon (Gives item) = MayFollow flow item × IsUpTo horizon item
-MayGive flow horizon (Again burnt) = Unit {0}
-MayGive flow horizon (NotYet bound) = Unit {0}
 
 -- what a take did to the flow
 abbrev pub Took : DrainView → Taken → DrainView → Type 0

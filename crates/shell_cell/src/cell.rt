@@ -31,7 +31,7 @@ impl Model for ShellCell {
 
     ghost Value = { Cell };
 
-    ghost use Rattle.shell_cell.specs.Sides.{cell_view};
+    ghost use Rattle.shell_cell.specs.views.Sides.{cell_view};
 
     ghost view = { cell_view };
 }

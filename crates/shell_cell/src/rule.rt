@@ -16,7 +16,7 @@ pub struct Turns;
 impl TableRule<Slot, View, Opening> for Turns {
     ghost use Rattle.std.specs.Prelude.{[], None, false};
     ghost use Rattle.shell_cell.specs.declared.view.Role.TheVariants.{Whole};
-    ghost use Rattle.shell_cell.specs.Rule.{Kept, view};
+    ghost use Rattle.shell_cell.specs.inside.Rule.{Kept, view};
 
     ghost holds = { λ key. Kept key.value };
 
@@ -27,7 +27,7 @@ impl TableRule<Slot, View, Opening> for Turns {
 pub struct Claim;
 
 impl Play<Slot, View> for Claim {
-    ghost use Rattle.shell_cell.specs.Rule.{claims};
+    ghost use Rattle.shell_cell.specs.inside.Rule.{claims};
 
     ghost then = { claims };
 }
@@ -36,7 +36,7 @@ impl Play<Slot, View> for Claim {
 pub struct GiveUp;
 
 impl Play<Slot, View> for GiveUp {
-    ghost use Rattle.shell_cell.specs.Rule.{gives_up};
+    ghost use Rattle.shell_cell.specs.inside.Rule.{gives_up};
 
     ghost then = { gives_up };
 }
@@ -61,7 +61,7 @@ pub struct Spend<J> {
 }
 
 impl<J: Spending> Play<Slot, View> for Spend<J> {
-    ghost use Rattle.shell_cell.specs.Rule.{spends};
+    ghost use Rattle.shell_cell.specs.inside.Rule.{spends};
 
     ghost then = { spends J.call };
 }
@@ -69,7 +69,7 @@ impl<J: Spending> Play<Slot, View> for Spend<J> {
 pub struct Part;
 
 impl Split<View> for Part {
-    ghost use Rattle.shell_cell.specs.Rule.{left_of, right_of};
+    ghost use Rattle.shell_cell.specs.inside.Rule.{left_of, right_of};
 
     ghost left = { left_of };
 
@@ -77,7 +77,7 @@ impl Split<View> for Part {
 }
 
 impl Join<View> for Part {
-    ghost use Rattle.shell_cell.specs.Rule.{both_of, spent_view};
+    ghost use Rattle.shell_cell.specs.inside.Rule.{both_of, spent_view};
 
     ghost both = { both_of };
 

@@ -19,7 +19,8 @@ impl Model for FeedSeat {
 
     ghost Value = { FeedView };
 
-    ghost use Rattle.shell_cell.specs.Sides.{feed_view, IsFeedSeat};
+    ghost use Rattle.shell_cell.specs.views.Sides.{feed_view};
+    ghost use Rattle.shell_cell.specs.inside.Sides.{IsFeedSeat};
 
     ghost view = { feed_view };
 
@@ -40,7 +41,8 @@ impl Model for DrainSeat {
 
     ghost Value = { DrainView };
 
-    ghost use Rattle.shell_cell.specs.Sides.{drain_view, IsDrainSeat};
+    ghost use Rattle.shell_cell.specs.views.Sides.{drain_view};
+    ghost use Rattle.shell_cell.specs.inside.Sides.{IsDrainSeat};
 
     ghost view = { drain_view };
 

@@ -1,7 +1,7 @@
 //! How a turn is taken and given back.
 ghost use Rattle.std.specs.Prelude.{◌≡◌, ◌+◌, ◌%◌, ◌<◌, ◌^◌, ◌⊎◌, [], None, IsTrue, IfSome, IfNone};
 ghost use Rattle.shell_cell.specs.declared.view.Role.TheVariants.{Feeder, Drain};
-ghost use Rattle.shell_cell.specs.Rule.{HasTaken, IsDone, IsUndone, IsAbove, number_in, with_turn, without_note};
+ghost use Rattle.shell_cell.specs.inside.Rule.{HasTaken, IsDone, IsUndone, IsAbove, number_in, with_turn, without_note};
 
 use crate::rule::{Claim, GiveUp, Opening, Slot, Spend, Spending, Turns};
 use crate::view::{Call, View};

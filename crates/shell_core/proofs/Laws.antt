@@ -16,7 +16,8 @@ use Rattle.link_core.proofs.FloorLaws.{link_floor_grows, link_floor_rises, link_
 use Rattle.link_core.proofs.FloorLaws.{link_all_at_horizon, link_lost_within}
 use Rattle.shell_core.specs.declared.spec.DirSpec.{DirSpec}
 use Rattle.shell_core.specs.declared.spec.DirSpec.TheVariants.{Pass, Delay, Loss, Link}
-use Rattle.link_core.specs.Promises.{count_to, AreCovered, Extends}
+use Rattle.link_core.specs.Promises.{count_to, AreCovered}
+use Rattle.link_core.specs.inside.Promises.{Extends}
 use Rattle.shell_core.specs.Shells.{IsBuilt, opportunities, out, lost, shell_log, floor}
 use Rattle.shell_core.specs.Wholes.{IsLink}
 use Rattle.shell_core.proofs.Counting.{opps_within}

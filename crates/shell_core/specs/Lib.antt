@@ -1,4 +1,5 @@
 pub mod Shells
 pub mod CoreParts
-pub mod CoreInside
 pub mod Wholes
+pub mod inside
+pub mod views

@@ -47,7 +47,8 @@ impl Model for Core {
 
     ghost Value = { CorePart };
 
-    ghost use Rattle.shell_core.specs.CoreInside.{core_view, IsCore};
+    ghost use Rattle.shell_core.specs.views.Core.{core_view};
+    ghost use Rattle.shell_core.specs.inside.CoreInside.{IsCore};
 
     ghost view = { core_view };
 

@@ -10,7 +10,7 @@ use Rattle.std.proofs.lemmas.Fmt.{length-decimal-le}
 use borrow.Author.Tests.{eqb-true}
 use Rattle.std.proofs.lemmas.List.{append-nil}
 use Rattle.std.proofs.lemmas.Slice.Eq.{bytes_eq-Decides}
-use Rattle.text_base.specs.Lines.{is_one_line}
+use Rattle.text_base.specs.inside.Lines.{is_one_line}
 use Rattle.text_base.proofs.TextLemmas.{is_one_line-append}
 use Rattle.shell_log.specs.declared.entry.Entry.{Entry}
 use Rattle.shell_log.specs.declared.entry.Entry.TheVariants.{Arrival, Opportunity, Departure, Drop}
@@ -20,8 +20,8 @@ use Rattle.shell_log.specs.Entries.{IsEntry, IsShort, IsLog, AreFrom, AreUpTo, m
 use Rattle.shell_log.specs.Words.{parts_of}
 use Rattle.shell_log.specs.LogText.{header, line_of, lines_text, log_text}
 use Rattle.shell_log.specs.Reading.{entry_of, fault_of, moment_after, or_else, first_fault, fault_by_parts, log_fault}
-use Rattle.shell_log.specs.LogParts.{LogPart, IsRefusing, KeepsLine, last_moment, lines_before, IsRead, IsFault, IsLeft}
-use Rattle.shell_log.specs.LogParts.{with_entry, keeping, refusing, bad_line}
+use Rattle.shell_log.specs.LogParts.{LogPart, last_moment, lines_before, IsRead, IsFault, IsLeft, refusing}
+use Rattle.shell_log.specs.inside.LogParts.{IsRefusing, KeepsLine, with_entry, keeping, bad_line}
 use Rattle.shell_log.proofs.WordsLemmas.{some_part}
 use Rattle.shell_log.proofs.LineLaws.{entry_of-line_of, line_of-entry_of}
 use Rattle.shell_log.proofs.LogLemmas.{log_push, up_to_push}

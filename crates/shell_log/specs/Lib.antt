@@ -4,4 +4,5 @@ pub mod Words
 pub mod LogText
 pub mod Reading
 pub mod LogParts
-pub mod LogTexts
+pub mod inside
+pub mod views

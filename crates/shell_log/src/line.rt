@@ -1,6 +1,6 @@
 // One line of a log, read.
 ghost use Rattle.std.specs.Prelude.{◌≡◌, ◌∷◌, ◌++◌, true, MatchOption};
-ghost use Rattle.text_base.specs.Lines.{is_one_line};
+ghost use Rattle.text_base.specs.inside.Lines.{is_one_line};
 ghost use Rattle.shell_log.specs.Reading.{arrival_of, opportunity_of, departure_of, drop_of, entry_of};
 
 use crate::Entry;

@@ -3,7 +3,7 @@ ghost use Rattle.std.specs.Prelude.{◌≡◌, ◌≢◌, ◌≤◌, ◌<◌, �
 ghost use Rattle.std.specs.Prelude.{false, IfSome, IfNone, IfOk, IfErr, OnOk, MatchResult};
 ghost use Rattle.std.specs.Bool.{OnTrue, OnFalse};
 ghost use Rattle.std.specs.Str.{bytes_eq};
-ghost use Rattle.text_base.specs.Lines.{is_one_line};
+ghost use Rattle.text_base.specs.inside.Lines.{is_one_line};
 ghost use Rattle.shell_log.specs.declared.entry.Entry.{Entry as EntryValue};
 ghost use Rattle.shell_log.specs.Entries.{IsEntry, IsLog, moment_of};
 ghost use Rattle.shell_log.specs.LogText.{header, log_text};
@@ -38,7 +38,8 @@ impl Model for LogText {
 
     ghost Value = { LogPart };
 
-    ghost use Rattle.shell_log.specs.LogTexts.{text_view, CanRead};
+    ghost use Rattle.shell_log.specs.views.LogTexts.{text_view};
+    ghost use Rattle.shell_log.specs.inside.LogTexts.{CanRead};
 
     ghost view = { text_view };
 
@@ -46,8 +47,8 @@ impl Model for LogText {
 }
 
 impl LogText {
-    ghost use Rattle.shell_log.specs.LogParts.{IsLeft, IsRead, IsRefusing, KeepsLine, keeping, refusing, with_entry};
-    ghost use Rattle.shell_log.specs.LogParts.{bad_line};
+    ghost use Rattle.shell_log.specs.LogParts.{IsLeft, IsRead, refusing};
+    ghost use Rattle.shell_log.specs.inside.LogParts.{IsRefusing, KeepsLine, keeping, with_entry, bad_line};
 
     /// Nothing is read so far.
     pub fn new(alloc: Global) -> Self

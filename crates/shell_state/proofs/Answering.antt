@@ -24,8 +24,9 @@ use Rattle.shell_state.specs.States.{State, new_state, opps_of, ready, floor_of}
 use Rattle.shell_state.specs.Steps.{is_ended, licensed, burns, burns_where, with_burnt, with_answer, answer_where}
 use Rattle.shell_state.specs.Steps.{answer_after, answer_of, after_take, after_feed, fed_more, breaks}
 use Rattle.shell_state.specs.Standing.{Stands}
-use Rattle.shell_state.specs.Fronts.{no_front}
-use Rattle.shell_state.specs.Inside.{departed_of, state_of, core_fed, IsState, IsWhole, front_with, AnswerFollows}
+use Rattle.shell_state.specs.inside.Fronts.{no_front}
+use Rattle.shell_state.specs.views.Whole.{departed_of, state_of}
+use Rattle.shell_state.specs.inside.Fed.{core_fed, IsState, IsWhole, front_with, AnswerFollows}
 use Rattle.shell_state.proofs.FrontLemmas.{same_ready, front_stays, front_within, next}
 use Rattle.shell_state.proofs.Keeping.{burnt_keeps, fed_keeps, answer_keeps, burns-le}
 

@@ -11,7 +11,8 @@ use Rattle.packet_record.specs.Streams.{after, after_all, AllFollow}
 use Rattle.packet_record.specs.Moments.{AreFrom, Rise}
 use Rattle.packet_record.proofs.MomentsLemmas.{from_lower, from-append}
 use Rattle.shell_log.specs.declared.entry.Entry.{Entry}
-use Rattle.link_core.specs.Promises.{count_to, Extends}
+use Rattle.link_core.specs.Promises.{count_to}
+use Rattle.link_core.specs.inside.Promises.{Extends}
 use Rattle.shell_core.specs.Shells.{out, lost, inside, shell_log, whole_out, whole_log}
 use Rattle.shell_core.proofs.Laws.{out_fed, out_burnt, log_fed, log_burnt}
 use Rattle.shell_state.specs.States.{State, opps_of, departures, ready, floor_of}

@@ -15,7 +15,8 @@ use Rattle.shell_state.specs.declared.taken.Taken.TheVariants.{Item as Gives, Ag
 use Rattle.shell_state.specs.States.{State, opps_of, departures, ready, floor_of}
 use Rattle.shell_state.specs.Steps.{is_ended, licensed, burns, burns_where, with_burnt, with_answer, answer_where}
 use Rattle.shell_state.specs.Steps.{answer_after, answer_of, after_take}
-use Rattle.shell_state.specs.Standing.{Stands, left_of}
+use Rattle.shell_state.specs.Standing.{Stands}
+use Rattle.shell_state.specs.inside.Standing.{left_of}
 use Rattle.shell_state.proofs.Keeping.{burnt_keeps, burns-le, licensed-le, more_departs, ready_is}
 
 licensed_ended : (s : State) → s.fed.end ≡ Ended → licensed s ≡ length (opps_of s)

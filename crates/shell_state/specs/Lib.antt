@@ -3,6 +3,5 @@ pub mod Steps
 pub mod Standing
 pub mod Causes
 pub mod Promises
-pub mod Fronts
-pub mod Inside
-pub mod StateInside
+pub mod inside
+pub mod views

@@ -1,5 +1,5 @@
 -- What is true of every state.
-use Rattle.std.specs.Prelude.{◌≡◌, ◌≤◌, ◌+◌, ◌-◌, ℕ, true, List, [], ◌++◌, length}
+use Rattle.std.specs.Prelude.{◌≡◌, ◌≤◌, ◌+◌, ℕ, true, List, [], ◌++◌, length}
 use Rattle.packet_record.specs.declared.packet.Timed.{Timed}
 use Rattle.packet_record.specs.declared.item.Stream.{Stream}
 use Rattle.packet_record.specs.declared.item.Item.{Item}
@@ -48,8 +48,3 @@ pub record Foretells (s : State) (packets : List Timed) : Type 0 where
 -- it holds of everything that may still be fed
 abbrev pub ForetellsAll : State → Type 0
 ForetellsAll s = (items : List Item) → AllFollow s.horizon s.fed items → Foretells s (after_all s.fed items).packets
-
--- what is left to be taken where nothing more is fed: each answer but the end lowers it
-abbrev pub left_of : State → ℕ
-left_of s = (length (opps_of s) - s.burnt) + (s.horizon + 1 - s.taken.bound) +
-    (length (whole_out s.spec s.horizon s.fed.packets) - length s.taken.packets)

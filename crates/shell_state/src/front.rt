@@ -1,7 +1,7 @@
 // What was taken of the departures.
 ghost use Rattle.std.specs.Prelude.{◌≡◌};
 ghost use Rattle.packet_record.specs.Reaches.{IsNext};
-ghost use Rattle.shell_state.specs.Fronts.{no_front, front_after, CanCount};
+ghost use Rattle.shell_state.specs.inside.Fronts.{no_front, front_after, CanCount};
 
 use packet_record::{Item, Reach};
 

@@ -9,9 +9,9 @@ ghost use Rattle.shell_core.specs.Shells.{opportunities};
 ghost use Rattle.shell_core.specs.CoreParts.{with_burnt as core_burnt, is_spent};
 ghost use Rattle.shell_state.specs.States.{ready};
 ghost use Rattle.shell_state.specs.Steps.{answer_after, burns, licensed, is_ended, breaks};
-ghost use Rattle.shell_state.specs.Fronts.{no_front};
-ghost use Rattle.shell_state.specs.Inside.{departed_of, state_of, core_fed, IsState, front_with, AnswerFollows};
-ghost use Rattle.shell_state.specs.Inside.{AnswerFits};
+ghost use Rattle.shell_state.specs.inside.Fronts.{no_front};
+ghost use Rattle.shell_state.specs.views.Whole.{departed_of, state_of};
+ghost use Rattle.shell_state.specs.inside.Fed.{core_fed, IsState, front_with, AnswerFollows, AnswerFits};
 
 use crate::front::Front;
 use crate::taken::Taken;

@@ -43,7 +43,8 @@ impl Model for ShellState {
 
     ghost Value = { State };
 
-    ghost use Rattle.shell_state.specs.StateInside.{state_view, IsShellState};
+    ghost use Rattle.shell_state.specs.views.ShellState.{state_view};
+    ghost use Rattle.shell_state.specs.inside.StateInside.{IsShellState};
 
     ghost view = { state_view };
 

@@ -1,7 +1,7 @@
 // What was fed or taken, as a state lends it.
 ghost use Rattle.std.specs.Prelude.{◌≡◌, ◌↔◌, IsTrue};
 ghost use Rattle.packet_record.specs.Streams.{MayFollow};
-ghost use Rattle.packet_record.specs.Reaches.{stream_to};
+ghost use Rattle.packet_record.specs.views.Flow.{stream_to};
 
 use packet_record::{FlowEnd, Item, Reach, Timed};
 use std::marker::Model;
@@ -18,7 +18,7 @@ impl<'a> Model for StreamView<'a> {
 
     ghost Value = { Stream };
 
-    ghost use Rattle.packet_record.specs.Reaches.{stream_to};
+    ghost use Rattle.packet_record.specs.views.Flow.{stream_to};
 
     ghost view = { λ v. stream_to v.reach v.packets.now };
 }

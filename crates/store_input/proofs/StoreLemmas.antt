@@ -10,8 +10,10 @@ use Rattle.record_store.specs.declared.store_error.StoreError.{StoreError}
 use Rattle.record_store.specs.declared.store_error.StoreError.TheVariants as errors
 use Rattle.record_store.proofs.StoreLaws.{one_outcome}
 use Rattle.command_ends.specs.Causes.{Text, status_of_refusal}
-use Rattle.command_ends.specs.Readings.{Reading, Done, Judges, Leads}
-use Rattle.command_ends.specs.Stops.{IsInput, RefusesBy, StopsAtFile, StopsReading}
+use Rattle.command_ends.specs.Readings.{Reading, Done, Judges}
+use Rattle.command_ends.specs.inside.Readings.{Leads}
+use Rattle.command_ends.specs.Stops.{IsInput, StopsAtFile, StopsReading}
+use Rattle.command_ends.specs.inside.Stops.{RefusesBy}
 use Rattle.command_ends.specs.declared.cause.Cause.{Cause}
 use Rattle.command_ends.specs.declared.cause.Cause.TheVariants.{Refused}
 use Rattle.command_ends.specs.declared.cause.Refusal.{Refusal}

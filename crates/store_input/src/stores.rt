@@ -3,7 +3,8 @@ ghost use Rattle.std.specs.Prelude.{◌≡◌, ◌≢◌, ℕ, List, Ok, Err, If
 ghost use Rattle.mm_base.specs.Disk.{OnlyReads};
 ghost use Rattle.record_store.specs.StoreText.{StoreSays};
 ghost use Rattle.command_ends.specs.Readings.{Done};
-ghost use Rattle.command_ends.specs.Stops.{IsInput, RefusesBy, StopsReading};
+ghost use Rattle.command_ends.specs.Stops.{IsInput, StopsReading};
+ghost use Rattle.command_ends.specs.inside.Stops.{RefusesBy};
 ghost use Rattle.store_input.specs.Stores.{StoreVerdict, reading_store};
 
 use command_ends::{Cause, Refusal, read_input};

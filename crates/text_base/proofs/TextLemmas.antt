@@ -2,7 +2,8 @@
 use Rattle.std.proofs.Common.{◌≡◌, ◌≢◌, ℕ, ◌<◌, List, [], ◌∷◌, ◌++◌, length, map, Bool, true, false, cond, not, ◌&&◌}
 use Rattle.std.proofs.Common.{eqb, append_assoc, refl, ap, sym, ◌∙◌, arith, rules}
 use Rattle.std.specs.List.{onto_first, list_all, flat_map}
-use Rattle.text_base.specs.Lines.{lines_of, is_one_line, is_ended, text_of_lines}
+use Rattle.text_base.specs.Lines.{lines_of, is_ended}
+use Rattle.text_base.specs.inside.Lines.{is_one_line, text_of_lines}
 
 both_true : (a b : Bool) → (a && b) ≡ true → (a ≡ true) × (b ≡ true)
 both_true true b e = (refl, e)

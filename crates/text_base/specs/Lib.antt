@@ -3,3 +3,4 @@ pub mod Lines
 pub mod Words
 pub mod LinesLeft
 pub mod Refusals
+pub mod inside

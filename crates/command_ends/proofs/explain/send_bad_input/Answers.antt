@@ -1,6 +1,6 @@
 use Rattle.std.proofs.Common.{◌≡◌, ℕ, List, [], ◌∷◌, codes, decimal, subst, ◌∙◌}
 use Rattle.std.specs.List.{flat_map}
-use Rattle.command_ends.specs.Stops.{Sends}
+use Rattle.command_ends.specs.inside.Stops.{Sends}
 use Rattle.command_ends.proofs.explain.send_bad_input.Goals as goal
 
 abbrev line : List ℕ → List ℕ → List ℕ → List ℕ

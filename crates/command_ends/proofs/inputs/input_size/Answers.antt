@@ -1,5 +1,5 @@
 use Rattle.std.proofs.Common.{Err, ap, subst, sym, ◌∙◌}
-use Rattle.command_ends.specs.Loads.{cause_of_load}
+use Rattle.command_ends.specs.inside.Loads.{cause_of_load}
 use Rattle.command_ends.specs.Stops.{StopsAtFile}
 use Rattle.command_ends.specs.declared.cause.Cause.{Cause}
 use Rattle.command_ends.proofs.InputLemmas.{load_stops}

@@ -7,7 +7,7 @@ use Rattle.command_ends.specs.Works.{only}
 use Rattle.command_ends.specs.declared.cause.Cause.{Cause}
 use Rattle.command_ends.proofs.EndLemmas.{ends_asked, ends_early, ends_unasked, keeps_all}
 use Rattle.command_make.specs.Make.{GivesMake, make_job_of, make_reading, make_words}
-use Rattle.command_make.specs.View.{make_values}
+use Rattle.command_make.specs.inside.Values.{make_values}
 use Rattle.command_make.specs.declared.make_job.MakeJob.{MakeJob}
 use Rattle.command_make.proofs.make.answer_make.Goals as goal
 

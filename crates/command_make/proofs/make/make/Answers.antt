@@ -8,7 +8,7 @@ use Rattle.command_ends.specs.declared.cause.Cause.{Cause}
 use Rattle.command_ends.proofs.EndLemmas.{ends_early, ends_printed, finishes_only, keeps_all}
 use Rattle.command_ends.proofs.ReadingLemmas.{stays}
 use Rattle.command_make.specs.Make.{GivesMake, make_reading}
-use Rattle.command_make.specs.View.{make_values}
+use Rattle.command_make.specs.inside.Values.{make_values}
 use Rattle.command_make.proofs.make.make.Goals as goal
 
 pub returns-in_err-summary-clause-ends : goal.returns-in_err-summary-clause-ends

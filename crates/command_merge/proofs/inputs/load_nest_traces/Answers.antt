@@ -11,7 +11,7 @@ use Rattle.nest_command.specs.Loaded.{HaveTraces}
 use Rattle.nest_command.specs.NestReading.{refused_count}
 use Rattle.nest_command.proofs.InputLemmas.{traces_stop_before}
 use Rattle.command_merge.specs.MergeReading.{merge_inputs}
-use Rattle.command_merge.specs.View.{merge_values}
+use Rattle.command_merge.specs.inside.Values.{merge_values}
 use Rattle.command_merge.proofs.MergeLemmas.{after_traces, count_stop}
 use Rattle.command_merge.proofs.inputs.load_nest_traces.Goals as goal
 

@@ -10,7 +10,7 @@ use Rattle.command_ends.specs.Stops.{RefusesText, StopsReading}
 use Rattle.command_ends.specs.declared.cause.Cause.{Cause}
 use Rattle.command_merge.specs.List.{list_refusal}
 use Rattle.command_merge.specs.MergeReading.{sender_inputs}
-use Rattle.command_merge.specs.View.{merge_values}
+use Rattle.command_merge.specs.inside.Values.{merge_values}
 use Rattle.command_merge.proofs.MergeLemmas.{list_file_stop, list_text_stop, listed_schedules_stop, listed_stop}
 use Rattle.command_merge.proofs.MergeLemmas.{senders_found}
 use Rattle.command_merge.proofs.ScheduleLemmas.{rows_few, schedule_count}

@@ -8,7 +8,7 @@ use Rattle.command_ends.specs.declared.cause.Cause.{Cause}
 use Rattle.command_ends.proofs.EndLemmas.{ends_asked, ends_early, ends_unasked, keeps_all}
 use Rattle.command_merge.specs.Merge.{GivesMerge, merge_of}
 use Rattle.command_merge.specs.MergeReading.{merge_reading, merge_words}
-use Rattle.command_merge.specs.View.{merge_values}
+use Rattle.command_merge.specs.inside.Values.{merge_values}
 use Rattle.command_merge.specs.declared.job.MergeJob.{MergeJob}
 use Rattle.command_merge.proofs.merge.answer_merge.Goals as goal
 

@@ -8,7 +8,7 @@ use Rattle.command_ends.proofs.CountLemmas.{reads_none}
 use Rattle.command_ends.proofs.ReadingLemmas.{stops_later}
 use Rattle.command_merge.specs.Merge.{GivesMerge, merge_files}
 use Rattle.command_merge.specs.MergeReading.{merge_inputs, merge_reading}
-use Rattle.command_merge.specs.View.{merge_values}
+use Rattle.command_merge.specs.inside.Values.{merge_values}
 use Rattle.command_merge.proofs.merge.merge.Goals as goal
 
 pub returns-in_err-words-clause-ends : goal.returns-in_err-words-clause-ends

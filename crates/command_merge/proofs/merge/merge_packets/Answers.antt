@@ -7,7 +7,7 @@ use Rattle.sender_merge.specs.Merges.{merge_rows}
 use Rattle.command_ends.specs.Stops.{StopsReading}
 use Rattle.command_ends.specs.declared.cause.Cause.{Cause}
 use Rattle.command_merge.specs.MergeReading.{merge_inputs}
-use Rattle.command_merge.specs.View.{merge_values}
+use Rattle.command_merge.specs.inside.Values.{merge_values}
 use Rattle.command_merge.proofs.MergeLemmas.{merge_finishes, senders_stop}
 use Rattle.command_merge.proofs.merge.merge_packets.Goals as goal
 

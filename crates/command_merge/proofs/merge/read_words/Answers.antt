@@ -3,7 +3,7 @@ use Rattle.std.proofs.lemmas.Result.{err_from_is_err_and}
 use Rattle.command_ends.specs.Stops.{StopsReading}
 use Rattle.command_ends.specs.declared.cause.Cause.{Cause}
 use Rattle.command_merge.specs.MergeReading.{merge_reading}
-use Rattle.command_merge.specs.View.{merge_values}
+use Rattle.command_merge.specs.inside.Values.{merge_values}
 use Rattle.command_merge.proofs.MergeLemmas.{horizon_stop, names_stop, nest_stop, words_read}
 use Rattle.command_merge.proofs.merge.read_words.Goals as goal
 

@@ -7,7 +7,7 @@ use Rattle.command_ends.specs.declared.cause.Cause.{Cause}
 use Rattle.command_ends.proofs.EndLemmas.{ends_asked, ends_early, ends_unasked, keeps_all}
 use Rattle.command_relay.specs.Jobs.{relay_of}
 use Rattle.command_relay.specs.Relaying.{net, relay_reading, relay_words, relay_work}
-use Rattle.command_relay.specs.View.{relay_values}
+use Rattle.command_relay.specs.inside.Values.{relay_values}
 use Rattle.command_relay.specs.declared.job.RelayJob.{RelayJob}
 use Rattle.command_relay.proofs.command.answer.Goals as goal
 

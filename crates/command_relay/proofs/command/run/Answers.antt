@@ -10,7 +10,7 @@ use Rattle.nest_command.specs.RunFiles.{run_files}
 use Rattle.live_relay.specs.declared.outcome.RelayResult.{RelayResult}
 use Rattle.command_relay.specs.Lines.{relay_line}
 use Rattle.command_relay.specs.Relaying.{net, relay_inputs, relay_reading, relay_work}
-use Rattle.command_relay.specs.View.{relay_values}
+use Rattle.command_relay.specs.inside.Values.{relay_values}
 use Rattle.command_relay.proofs.RelayLemmas.{ends_relaying, relay_finishes, some_files}
 use Rattle.command_relay.proofs.command.run.Goals as goal
 

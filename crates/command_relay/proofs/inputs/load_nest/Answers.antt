@@ -9,7 +9,7 @@ use Rattle.nest_command.specs.Inputs.{reading_traces}
 use Rattle.nest_command.specs.Loaded.{HaveTraces}
 use Rattle.nest_command.specs.NestReading.{refused_count}
 use Rattle.command_relay.specs.Relaying.{relay_inputs}
-use Rattle.command_relay.specs.View.{relay_values}
+use Rattle.command_relay.specs.inside.Values.{relay_values}
 use Rattle.nest_command.proofs.InputLemmas.{traces_stop_before}
 use Rattle.command_relay.proofs.RelayLemmas.{after_traces, count_stop}
 use Rattle.command_relay.proofs.inputs.load_nest.Goals as goal

@@ -3,7 +3,7 @@ use Rattle.std.proofs.lemmas.Result.{err_from_is_err_and}
 use Rattle.command_ends.specs.Stops.{StopsReading}
 use Rattle.command_ends.specs.declared.cause.Cause.{Cause}
 use Rattle.command_relay.specs.Relaying.{relay_reading}
-use Rattle.command_relay.specs.View.{relay_values}
+use Rattle.command_relay.specs.inside.Values.{relay_values}
 use Rattle.command_relay.proofs.RelayLemmas.{horizon_stop, names_stop, nest_stop, words_read}
 use Rattle.command_relay.proofs.inputs.read_words.Goals as goal
 

@@ -1,5 +1,5 @@
 use Rattle.std.proofs.Common.{Err, ap}
-use Rattle.command_relay.specs.View.{relay_values}
+use Rattle.command_relay.specs.inside.Values.{relay_values}
 use Rattle.command_relay.proofs.PassLemmas.{has_relayed, stops_opening, stops_relaying}
 use Rattle.command_relay.proofs.passing.relay_job.Goals as goal
 

@@ -6,7 +6,7 @@ use Rattle.command_ends.specs.declared.cause.Cause.{Cause}
 use Rattle.command_ends.proofs.EndLemmas.{ends_printed, ends_stopped, keeps}
 use Rattle.store_input.proofs.StoreLemmas.{store_stops}
 use Rattle.command_replay.specs.Replay.{replay_reading, serve_work, served_line}
-use Rattle.command_replay.specs.View.{replay_values}
+use Rattle.command_replay.specs.inside.Values.{replay_values}
 use Rattle.command_replay.proofs.ReplayLemmas.{ends_serving, finishes}
 use Rattle.command_replay.proofs.replay.replay.Goals as goal
 

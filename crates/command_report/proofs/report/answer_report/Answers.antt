@@ -8,7 +8,7 @@ use Rattle.command_ends.specs.declared.cause.Cause.{Cause}
 use Rattle.command_ends.proofs.EndLemmas.{ends_asked, ends_early, ends_unasked, keeps_all}
 use Rattle.command_report.specs.Report.{GivesReport, report_job_of}
 use Rattle.command_report.specs.ReportReading.{report_reading, report_words}
-use Rattle.command_report.specs.View.{report_values}
+use Rattle.command_report.specs.inside.Values.{report_values}
 use Rattle.command_report.specs.declared.report.ReportJob.{ReportJob}
 use Rattle.command_report.proofs.report.answer_report.Goals as goal
 

@@ -5,7 +5,7 @@ use Rattle.command_ends.specs.Stops.{StopsReading}
 use Rattle.command_ends.specs.declared.cause.Cause.{Cause}
 use Rattle.command_ends.proofs.ReadingLemmas.{stops_at}
 use Rattle.command_report.specs.ReportReading.{log_refusal, report_reading}
-use Rattle.command_report.specs.View.{report_values}
+use Rattle.command_report.specs.inside.Values.{report_values}
 use Rattle.command_report.proofs.ReportLemmas.{report_found, report_stop}
 use Rattle.command_report.proofs.report.load_report.Goals as goal
 

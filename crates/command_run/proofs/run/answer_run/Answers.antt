@@ -8,7 +8,7 @@ use Rattle.command_ends.specs.declared.cause.Cause.{Cause}
 use Rattle.command_ends.proofs.EndLemmas.{ends_asked, ends_early, ends_unasked, keeps_all}
 use Rattle.command_run.specs.Run.{GivesRun, run_of}
 use Rattle.command_run.specs.RunReading.{run_reading, run_words}
-use Rattle.command_run.specs.View.{run_values}
+use Rattle.command_run.specs.inside.Values.{run_values}
 use Rattle.command_run.specs.declared.run_job.RunJob.{RunJob}
 use Rattle.command_run.proofs.run.answer_run.Goals as goal
 

@@ -1,6 +1,6 @@
 use Rattle.std.proofs.Common.{◌≡◌, ◌++◌, ◌∷◌, [], map, ap, ◌∙◌}
 use Rattle.command_run.specs.RunReading.{input_names}
-use Rattle.command_run.specs.View.{run_values}
+use Rattle.command_run.specs.inside.Values.{run_values}
 use Rattle.nest_command.proofs.NestLemmas.{names_checked}
 use Rattle.command_run.proofs.run.check_names.Goals as goal
 

@@ -9,7 +9,7 @@ use Rattle.nest_command.specs.Inputs.{reading_traces}
 use Rattle.nest_command.specs.Loaded.{HaveTraces}
 use Rattle.nest_command.specs.NestReading.{refused_count}
 use Rattle.command_run.specs.RunReading.{run_inputs}
-use Rattle.command_run.specs.View.{run_values}
+use Rattle.command_run.specs.inside.Values.{run_values}
 use Rattle.nest_command.proofs.InputLemmas.{traces_stop_before}
 use Rattle.command_run.proofs.RunLemmas.{after_traces, count_stop}
 use Rattle.command_run.proofs.run.load_nest.Goals as goal

@@ -3,7 +3,7 @@ use Rattle.std.proofs.lemmas.Result.{err_from_is_err_and}
 use Rattle.command_ends.specs.Stops.{StopsReading}
 use Rattle.command_ends.specs.declared.cause.Cause.{Cause}
 use Rattle.command_run.specs.RunReading.{run_reading}
-use Rattle.command_run.specs.View.{run_values}
+use Rattle.command_run.specs.inside.Values.{run_values}
 use Rattle.command_run.proofs.RunLemmas.{horizon_stop, names_stop, nest_stop, words_read}
 use Rattle.command_run.proofs.run.read_words.Goals as goal
 

@@ -6,11 +6,11 @@ use Rattle.command_ends.specs.declared.cause.Cause.{Cause}
 use Rattle.command_ends.proofs.EndLemmas.{ends_stopped, ends_written, finishes_later, keeps, keeps_all}
 use Rattle.command_ends.proofs.CountLemmas.{reads_none}
 use Rattle.command_ends.proofs.ReadingLemmas.{stops_later}
-use Rattle.command_run.specs.PassedViews.{passed_lists}
+use Rattle.command_run.specs.inside.Passed.{passed_lists}
 use Rattle.nest_command.specs.RunFiles.{run_files}
 use Rattle.command_run.specs.Run.{GivesRun}
 use Rattle.command_run.specs.RunReading.{run_inputs, run_reading}
-use Rattle.command_run.specs.View.{run_values}
+use Rattle.command_run.specs.inside.Values.{run_values}
 use Rattle.command_run.proofs.run.run.Goals as goal
 
 pub returns-in_err-words-clause-ends : goal.returns-in_err-words-clause-ends

@@ -3,7 +3,7 @@ use Rattle.std.proofs.lemmas.Result.{err_from_is_err_and}
 use Rattle.command_ends.specs.Stops.{StopsReading}
 use Rattle.command_ends.specs.declared.cause.Cause.{Cause}
 use Rattle.command_run.specs.RunReading.{run_inputs}
-use Rattle.command_run.specs.View.{run_values}
+use Rattle.command_run.specs.inside.Values.{run_values}
 use Rattle.command_run.proofs.RunLemmas.{HasInputs, order_stop, passed_finishes, passed_stops}
 use Rattle.command_run.proofs.run.run_packets.Goals as goal
 

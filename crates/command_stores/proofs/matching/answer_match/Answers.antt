@@ -7,7 +7,7 @@ use Rattle.command_ends.specs.Works.{only}
 use Rattle.command_ends.specs.declared.cause.Cause.{Cause}
 use Rattle.command_ends.proofs.EndLemmas.{ends_asked, ends_early, ends_unasked, keeps_all}
 use Rattle.command_stores.specs.Matching.{GivesMatch, match_job_of, match_reading, match_words}
-use Rattle.command_stores.specs.View.{match_values}
+use Rattle.command_stores.specs.inside.Values.{match_values}
 use Rattle.command_stores.specs.declared.matching.MatchJob.{MatchJob}
 use Rattle.command_stores.proofs.matching.answer_match.Goals as goal
 

@@ -3,7 +3,7 @@ use Rattle.std.proofs.lemmas.Result.{err_from_is_err_and}
 use Rattle.command_ends.specs.Stops.{StopsReading}
 use Rattle.command_ends.specs.declared.cause.Cause.{Cause}
 use Rattle.command_stores.specs.Matching.{match_reading}
-use Rattle.command_stores.specs.View.{match_values}
+use Rattle.command_stores.specs.inside.Values.{match_values}
 use Rattle.command_stores.proofs.MatchLemmas.{best_found, request_stop, store_stop}
 use Rattle.command_stores.proofs.matching.find_best.Goals as goal
 

@@ -1,12 +1,13 @@
 use Rattle.std.proofs.Common.{List, ℕ, Some, subst, sym, ◌∙◌}
 use Rattle.std.proofs.lemmas.Result.{err_from_is_err_and}
-use Rattle.command_ends.specs.Ends.{Ends, FinishesOnly, offline}
+use Rattle.command_ends.specs.Ends.{Ends, offline}
+use Rattle.command_ends.specs.inside.Ends.{FinishesOnly}
 use Rattle.command_ends.specs.Outputs.{prints}
 use Rattle.command_ends.specs.Works.{only}
 use Rattle.command_ends.specs.declared.cause.Cause.{Cause}
 use Rattle.command_ends.proofs.EndLemmas.{ends_early, ends_printed, ends_stopped, keeps}
 use Rattle.command_stores.specs.Matching.{GivesMatch, match_reading}
-use Rattle.command_stores.specs.View.{match_values}
+use Rattle.command_stores.specs.inside.Values.{match_values}
 use Rattle.command_stores.proofs.matching.print_best.Goals as goal
 
 pub returns-in_err-number-clause-ends : goal.returns-in_err-number-clause-ends

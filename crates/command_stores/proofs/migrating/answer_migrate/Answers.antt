@@ -7,7 +7,7 @@ use Rattle.command_ends.specs.Works.{only}
 use Rattle.command_ends.specs.declared.cause.Cause.{Cause}
 use Rattle.command_ends.proofs.EndLemmas.{ends_asked, ends_early, ends_unasked, keeps_all}
 use Rattle.command_stores.specs.Migrating.{GivesMigrate, migrate_job_of, migrate_reading, migrate_words}
-use Rattle.command_stores.specs.View.{migrate_values}
+use Rattle.command_stores.specs.inside.Values.{migrate_values}
 use Rattle.command_stores.specs.declared.migrating.MigrateJob.{MigrateJob}
 use Rattle.command_stores.proofs.migrating.answer_migrate.Goals as goal
 

@@ -1,6 +1,6 @@
 use Rattle.std.proofs.Common.{[], ◌∷◌}
 use Rattle.command_stores.specs.Migrating.{migrate_inputs}
-use Rattle.command_stores.specs.View.{migrate_values}
+use Rattle.command_stores.specs.inside.Values.{migrate_values}
 use Rattle.command_stores.proofs.NameLemmas.{names_read}
 use Rattle.command_stores.proofs.migrating.check_migrate.Goals as goal
 

@@ -7,7 +7,7 @@ use Rattle.command_ends.proofs.CountLemmas.{reads_none}
 use Rattle.command_ends.proofs.EndLemmas.{ends_stopped, ends_written, finishes_later, keeps, keeps_all}
 use Rattle.command_ends.proofs.ReadingLemmas.{stops_later}
 use Rattle.command_stores.specs.Migrating.{GivesMigrate, migrate_inputs, migrate_reading}
-use Rattle.command_stores.specs.View.{migrate_values}
+use Rattle.command_stores.specs.inside.Values.{migrate_values}
 use Rattle.command_stores.specs.Written.{store_file}
 use Rattle.command_stores.proofs.migrating.migrate.Goals as goal
 

@@ -7,7 +7,7 @@ use Rattle.command_ends.specs.Works.{only}
 use Rattle.command_ends.specs.declared.cause.Cause.{Cause}
 use Rattle.command_ends.proofs.EndLemmas.{ends_asked, ends_early, ends_unasked, keeps_all}
 use Rattle.command_stores.specs.Recording.{GivesRecord, record_job_of, record_reading, record_words}
-use Rattle.command_stores.specs.View.{record_values}
+use Rattle.command_stores.specs.inside.Values.{record_values}
 use Rattle.command_stores.specs.declared.recording.RecordJob.{RecordJob}
 use Rattle.command_stores.proofs.recording.answer_record.Goals as goal
 

@@ -1,6 +1,6 @@
 use Rattle.std.proofs.Common.{[], ◌∷◌}
 use Rattle.command_stores.specs.Recording.{record_inputs}
-use Rattle.command_stores.specs.View.{record_values}
+use Rattle.command_stores.specs.inside.Values.{record_values}
 use Rattle.command_stores.proofs.NameLemmas.{names_read}
 use Rattle.command_stores.proofs.recording.check_record.Goals as goal
 

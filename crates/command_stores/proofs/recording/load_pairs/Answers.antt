@@ -4,7 +4,7 @@ use Rattle.record_store.specs.Pairs.{Pairs}
 use Rattle.command_ends.specs.Stops.{StopsReading}
 use Rattle.command_ends.specs.declared.cause.Cause.{Cause}
 use Rattle.command_stores.specs.Recording.{record_inputs}
-use Rattle.command_stores.specs.View.{record_values}
+use Rattle.command_stores.specs.inside.Values.{record_values}
 use Rattle.command_stores.proofs.RecordLemmas.{client_stops, pairs_found, pairs_stop, server_stops}
 use Rattle.command_stores.proofs.recording.load_pairs.Goals as goal
 

@@ -7,7 +7,7 @@ use Rattle.command_ends.proofs.CountLemmas.{reads_none}
 use Rattle.command_ends.proofs.EndLemmas.{ends_stopped, ends_written, finishes_later, keeps, keeps_all}
 use Rattle.command_ends.proofs.ReadingLemmas.{stops_later}
 use Rattle.command_stores.specs.Recording.{GivesRecord, record_inputs, record_reading}
-use Rattle.command_stores.specs.View.{record_values}
+use Rattle.command_stores.specs.inside.Values.{record_values}
 use Rattle.command_stores.specs.Written.{store_file}
 use Rattle.command_stores.proofs.recording.make_store.Goals as goal
 

@@ -1,5 +1,5 @@
 use Rattle.std.proofs.Common.{◌∙◌, ap, inl}
-use Rattle.command_stores.specs.View.{record_values}
+use Rattle.command_stores.specs.inside.Values.{record_values}
 use Rattle.command_stores.proofs.RecordLemmas.{pairs_refused}
 use Rattle.command_stores.proofs.recording.pair_cause.Goals as goal
 

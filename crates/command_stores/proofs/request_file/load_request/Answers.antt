@@ -2,7 +2,8 @@ use Rattle.std.proofs.Common.{List, ℕ, Ok, Err, subst, sym}
 use Rattle.std.proofs.lemmas.Result.{err_from_is_err_and}
 use Rattle.command_ends.specs.Causes.{Text}
 use Rattle.command_ends.specs.Readings.{Done}
-use Rattle.command_ends.specs.Stops.{RefusesBy, StopsReading}
+use Rattle.command_ends.specs.Stops.{StopsReading}
+use Rattle.command_ends.specs.inside.Stops.{RefusesBy}
 use Rattle.command_ends.specs.declared.cause.Cause.{Cause}
 use Rattle.command_stores.specs.Requests.{IsOneRequest, RefusesRequest, RequestVerdict, reading_request}
 use Rattle.command_stores.proofs.RequestLemmas.{request_at_file, request_judged}

@@ -1,6 +1,6 @@
 use Rattle.std.proofs.Common.{◌+◌, ◌∙◌, subst, arith, rules}
 use Rattle.mm_base.proofs.Then.{OnlyReads-then}
-use Rattle.file_pieces.specs.Pieces.{PieceIsRead}
+use Rattle.file_pieces.specs.inside.Pieces.{PieceIsRead}
 use Rattle.file_pieces.proofs.PieceLemmas.{all_read, more_read}
 use Rattle.file_pieces.proofs.pieces.push_pieces.Goals as goal
 

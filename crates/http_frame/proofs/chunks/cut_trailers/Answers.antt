@@ -1,5 +1,5 @@
 use Rattle.std.proofs.Common.{◌≡◌, ◌∙◌, ap, arith, inl, inr}
-use Rattle.http_frame.specs.Steps.{last_line as line_left, lacking}
+use Rattle.http_frame.specs.inside.Steps.{last_line as line_left, lacking}
 use Rattle.http_frame.proofs.TrailerLemmas.{trailers_never, trailers_may}
 use Rattle.http_frame.proofs.chunks.cut_trailers.Goals as goal
 

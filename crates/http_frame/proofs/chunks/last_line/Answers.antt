@@ -1,5 +1,5 @@
 use Rattle.std.proofs.Common.{◌≡◌, ◌+◌, subst, sym, arith, take, drop}
-use Rattle.http_frame.specs.Steps.{last_line as line_left}
+use Rattle.http_frame.specs.inside.Steps.{last_line as line_left}
 use Rattle.http_frame.proofs.TrailerLemmas.{last_feed, last_other}
 use Rattle.http_frame.proofs.chunks.last_line.Goals.{then-byte-eq10, else-byte-eq10}
 use Rattle.http_frame.proofs.chunks.last_line.Goals as goal

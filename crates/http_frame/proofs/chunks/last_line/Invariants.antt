@@ -1,5 +1,5 @@
 use Rattle.std.proofs.Common.{◌≡◌, ◌≤◌, take, drop}
-use Rattle.http_frame.specs.Steps.{last_line as line_left}
+use Rattle.http_frame.specs.inside.Steps.{last_line as line_left}
 use Rattle.http_frame.proofs.chunks.last_line.Given as goal
 
 abbrev pub invariant-loop-i : goal.invariant-loop-i

@@ -7,7 +7,8 @@ use Rattle.http_frame.specs.declared.pending.Outcome.{Outcome}
 use Rattle.http_frame.specs.declared.pending.Outcome.TheVariants as outcomes
 use Rattle.httparse.proofs.GrammarLemmas.{response_unique}
 use Rattle.http_frame.specs.Forms.{response_form}
-use Rattle.http_frame.specs.Frames.{AdvanceSays, BeginsMessage}
+use Rattle.http_frame.specs.Frames.{BeginsMessage}
+use Rattle.http_frame.specs.inside.Frames.{AdvanceSays}
 use Rattle.http_frame.specs.Runs.{BeginsResponse}
 use Rattle.http_frame.proofs.FindingLemmas.{more_none, fault_none}
 use Rattle.http_frame.proofs.first.first_response.Goals as goal

@@ -1,5 +1,5 @@
 use Rattle.std.proofs.Common.{false, subst}
-use Rattle.http_frame.specs.Frames.{IsPending}
+use Rattle.http_frame.specs.inside.Frames.{IsPending}
 use Rattle.http_frame.specs.Forms.{request_form}
 use Rattle.http_frame.proofs.FrameLemmas.{from_start, finish_says}
 use Rattle.http_frame.proofs.request_frames.advance.Goals as goal

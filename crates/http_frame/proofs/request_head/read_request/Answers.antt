@@ -1,7 +1,8 @@
 use Rattle.std.proofs.Common.{◌∙◌, ◌<◌, ap, arith, sym, subst, length, take, drop, Err, rules}
 use Rattle.std.proofs.lemmas.Result.{IfOk-weaker}
 use Rattle.http_frame.specs.Forms.{request_form}
-use Rattle.http_frame.specs.Heads.{BeginsWith, HeadCause}
+use Rattle.http_frame.specs.Heads.{BeginsWith}
+use Rattle.http_frame.specs.inside.Heads.{HeadCause}
 use Rattle.http_frame.proofs.HeadLemmas.{says_cause, limit_fault, request_form_gives}
 use Rattle.httparse.specs.Grammar.{RequestHead, IsRequestHead, print_request, HasNoRequest, NeverHasRequest}
 use Rattle.httparse.specs.Grammar.{MayBecomeRequest}

@@ -1,7 +1,8 @@
 use Rattle.std.proofs.Common.{◌∙◌, ◌<◌, ap, arith, sym, subst, length, take, drop, Err, rules}
 use Rattle.std.proofs.lemmas.Result.{IfOk-weaker}
 use Rattle.http_frame.specs.Forms.{response_form}
-use Rattle.http_frame.specs.Heads.{BeginsWith, HeadCause}
+use Rattle.http_frame.specs.Heads.{BeginsWith}
+use Rattle.http_frame.specs.inside.Heads.{HeadCause}
 use Rattle.http_frame.proofs.HeadLemmas.{says_cause, limit_fault, response_form_gives}
 use Rattle.httparse.specs.Grammar.{ResponseHead, IsResponseHead, print_response, HasNoResponse, NeverHasResponse}
 use Rattle.httparse.specs.Grammar.{MayBecomeResponse}

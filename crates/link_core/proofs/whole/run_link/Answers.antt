@@ -6,7 +6,7 @@ use Rattle.shell_log.specs.declared.entry.Entry.{Entry}
 use Rattle.trace_reader.specs.Opps.{opps}
 use Rattle.link_core.specs.declared.passage.Passage.{Passage}
 use Rattle.link_core.specs.Links.{link_out, link_lost, link_log, link_inside}
-use Rattle.link_core.specs.View.{Span, span_opps}
+use Rattle.link_core.specs.views.Span.{Span, span_opps}
 use Rattle.link_core.proofs.WholeLemmas.{come_is, along, throughout}
 use Rattle.link_core.proofs.whole.run_link.Goals as goal
 

@@ -1,9 +1,9 @@
 use Rattle.std.proofs.Common.{◌≡◌, List, ap, ◌∙◌, rules, subst}
 use Rattle.packet_record.specs.declared.item.Item.{Item}
 use Rattle.packet_record.specs.Streams.{AllFollow}
-use Rattle.mark_channel.specs.Carrying.{carried, carrying_all}
+use Rattle.mark_channel.specs.inside.Carrying.{carried, carrying_all}
 use Rattle.mark_channel.specs.Ends.{End}
-use Rattle.mark_channel.specs.Rules.{Settles, settling}
+use Rattle.mark_channel.specs.inside.Rules.{Settles, settling}
 use Rattle.mark_channel.specs.declared.rule.Carried.{Carried}
 use Rattle.mark_channel.specs.declared.rule.View.{View}
 use Rattle.mark_channel.proofs.Keeps.{merges}

@@ -2,7 +2,7 @@ use Rattle.std.proofs.Common.{◌≡◌, ◌++◌}
 use Rattle.std.specs.Vec.Iter.{into_iter_items}
 use Rattle.nest_spec.specs.Nests.{AllFit, directions_of}
 use Rattle.nest_core.specs.Worlds.{new_stages}
-use Rattle.nest_core.specs.Standing.{StandAnew}
+use Rattle.nest_core.specs.inside.Standing.{StandAnew}
 use Rattle.nest_core.proofs.world.new_stages.Given as goal
 
 abbrev pub invariant-loop-spec : goal.invariant-loop-spec

@@ -8,7 +8,8 @@ use Rattle.shell_state.specs.States.{State}
 use Rattle.nest_spec.specs.declared.shell.ShellDirection.{ShellDirection}
 use Rattle.nest_spec.specs.Fates.{fated}
 use Rattle.nest_spec.specs.Links.{NamedAreLinks, specs_in}
-use Rattle.nest_spec.specs.Marks.{ids_of, marked_through, passed}
+use Rattle.nest_spec.specs.Marks.{passed}
+use Rattle.nest_spec.specs.inside.Marks.{ids_of, marked_through}
 use Rattle.nest_spec.specs.Passed.{HavePassed}
 use Rattle.nest_lanes.proofs.Gathered.{marked_on}
 use Rattle.nest_lanes.proofs.gathering.+gather_shells.Goals as goal

@@ -4,7 +4,7 @@ use Rattle.shell_state.specs.States.{State}
 use Rattle.nest_spec.specs.declared.shell.ShellDirection.{ShellDirection}
 use Rattle.nest_spec.specs.Fates.{fated}
 use Rattle.nest_spec.specs.Links.{specs_in}
-use Rattle.nest_spec.specs.Marks.{marked_through}
+use Rattle.nest_spec.specs.inside.Marks.{marked_through}
 use Rattle.nest_spec.specs.Nests.{shells_in}
 use Rattle.nest_spec.specs.Passed.{HavePassed}
 use Rattle.nest_lanes.proofs.gathering.gather_direction.Goals as goal

@@ -6,7 +6,8 @@ use Rattle.shell_state.specs.States.{State, new_state}
 use Rattle.nest_spec.specs.declared.shell.ShellDirection.{ShellDirection}
 use Rattle.nest_spec.specs.Nests.{AllFit, directions_of, shells_in}
 use Rattle.nest_spec.proofs.NestLemmas.{shells_long}
-use Rattle.nest_line.specs.Meeting.{AreNew, specs_of}
+use Rattle.nest_line.specs.inside.Meeting.{AreNew}
+use Rattle.nest_line.specs.views.Meeting.{specs_of}
 use Rattle.nest_line.proofs.Carrying.{new-snoc, specs-snoc}
 use Rattle.nest_line.proofs.line.new_states.Goals as goal
 

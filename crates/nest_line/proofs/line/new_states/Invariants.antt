@@ -1,7 +1,8 @@
 use Rattle.std.proofs.Common.{◌≡◌, ◌++◌}
 use Rattle.std.specs.Vec.Iter.{into_iter_items}
 use Rattle.nest_spec.specs.Nests.{AllFit, directions_of}
-use Rattle.nest_line.specs.Meeting.{AreNew, specs_of}
+use Rattle.nest_line.specs.inside.Meeting.{AreNew}
+use Rattle.nest_line.specs.views.Meeting.{specs_of}
 use Rattle.nest_line.proofs.line.new_states.Given as goal
 
 abbrev pub invariant-loop-spec : goal.invariant-loop-spec

@@ -1,6 +1,6 @@
 use Rattle.std.proofs.Common.{◌≡◌, drop, false}
 use Rattle.packet_record.specs.Streams.{after_all, AllFollow}
-use Rattle.nest_line.specs.Meeting.{IsSameShell, packet_items}
+use Rattle.nest_line.specs.inside.Meeting.{IsSameShell, packet_items}
 use Rattle.nest_line.proofs.passing.feed_packets.Given as goal
 
 abbrev pub invariant-loop-packet : goal.invariant-loop-packet

@@ -1,7 +1,7 @@
 use Rattle.std.proofs.Common.{◌≡◌}
 use Rattle.packet_record.specs.declared.item.FlowEnd.TheVariants.{Open}
 use Rattle.shell_state.specs.Promises.{takes_left}
-use Rattle.nest_line.specs.Meeting.{Grows, IsSameShell}
+use Rattle.nest_line.specs.inside.Meeting.{Grows, IsSameShell}
 use Rattle.nest_line.proofs.passing.take_all.Given as goal
 
 abbrev pub invariant-takes : goal.invariant-takes

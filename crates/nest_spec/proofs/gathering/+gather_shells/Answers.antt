@@ -7,7 +7,8 @@ use Rattle.shell_core.specs.Shells.{opportunities}
 use Rattle.shell_core.proofs.Laws.{lost_within}
 use Rattle.nest_spec.specs.Fates.{fated}
 use Rattle.nest_spec.specs.Links.{NamedAreLinks, specs_in}
-use Rattle.nest_spec.specs.Marks.{passed, ids_of, marked_through}
+use Rattle.nest_spec.specs.Marks.{passed}
+use Rattle.nest_spec.specs.inside.Marks.{ids_of, marked_through}
 use Rattle.nest_spec.specs.Passed.{HavePassed}
 use Rattle.nest_spec.proofs.Natural.{one_step}
 use Rattle.nest_spec.proofs.PassedLemmas.{first_has_run, first_horizon, rest_have_passed}

@@ -9,7 +9,7 @@ use Rattle.nest_spec.specs.Nests.{shells_in}
 use Rattle.nest_spec.specs.Passed.{HavePassed}
 use Rattle.nest_spec.specs.RunViews.{entries_in, named_by}
 use Rattle.nest_spec.specs.Walk.{named_log, walk}
-use Rattle.nest_spec.specs.Marks.{marked_through}
+use Rattle.nest_spec.specs.inside.Marks.{marked_through}
 use Rattle.nest_spec.proofs.PassedLemmas.{some_states, first_arrivals}
 use Rattle.nest_spec.proofs.gathering.gather_direction.Goals as goal
 

@@ -1,7 +1,8 @@
 use Rattle.std.proofs.Common.{◌≡◌, ◌≤◌, ◌-◌, ◌∙◌, suc, length, drop, ap, arith}
 use Rattle.packet_record.proofs.MomentsLemmas.{up_to_read}
 use Rattle.nest_spec.specs.Fates.{fated}
-use Rattle.nest_spec.specs.Marks.{marked, put}
+use Rattle.nest_spec.specs.Marks.{marked}
+use Rattle.nest_spec.specs.inside.Marks.{put}
 use Rattle.nest_spec.proofs.MarkLemmas.{marks_none_yet, marks_more}
 use Rattle.nest_spec.proofs.marking.mark_all.Goals as goal
 

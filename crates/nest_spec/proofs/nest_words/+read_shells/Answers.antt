@@ -3,8 +3,8 @@ use Rattle.std.proofs.Common.{rules}
 use Rattle.std.specs.Result.{MatchResult}
 use Rattle.std.proofs.lemmas.Result.{err_from_is_err_and}
 use Rattle.nest_spec.specs.Words.{next_shell, kind_of, shell_words, followed, shells_from}
-use Rattle.nest_spec.specs.DraftViews.{draft_plan}
-use Rattle.nest_spec.specs.ShellViews.{shell_given}
+use Rattle.nest_spec.specs.inside.Draft.{draft_plan}
+use Rattle.nest_spec.specs.inside.ShellWords.{shell_given}
 use Rattle.nest_spec.specs.declared.error.NestError.TheVariants as errors
 use Rattle.nest_spec.proofs.PlanLemmas.{goes_on, stops}
 use Rattle.nest_spec.proofs.nest_words.+read_shells.Goals as goal

@@ -1,5 +1,5 @@
 use Rattle.std.proofs.Common.{map, string_bytes, rules}
-use Rattle.nest_spec.specs.DraftViews.{draft_plan}
+use Rattle.nest_spec.specs.inside.Draft.{draft_plan}
 use Rattle.nest_spec.proofs.PlanLemmas.{nest_fits}
 use Rattle.nest_spec.proofs.nest_words.read_nest.Goals as goal
 

@@ -1,5 +1,5 @@
 use Rattle.std.proofs.Common.{string_bytes, sym, ◌∙◌, ap}
-use Rattle.option_words.specs.Options.{is_fit}
+use Rattle.option_words.specs.inside.Options.{is_fit}
 use Rattle.option_words.proofs.TableLemmas.{one_unfit}
 use Rattle.option_words.proofs.fit.all_fit.Goals as goal
 

@@ -1,6 +1,6 @@
 use Rattle.std.proofs.Common.{◌≡◌, true, map, take, string_bytes}
 use Rattle.std.specs.List.{list_all}
-use Rattle.option_words.specs.Options.{is_fit}
+use Rattle.option_words.specs.inside.Options.{is_fit}
 use Rattle.option_words.proofs.fit.all_fit.Given as goal
 
 abbrev pub invariant-loop-word : goal.invariant-loop-word

@@ -6,8 +6,8 @@ use Rattle.std.proofs.lemmas.List.{length-map}
 use Rattle.clap.specs.Walk.{Text}
 use Rattle.option_words.specs.Options.{Opt, Use}
 use Rattle.option_words.specs.Givens.{given}
-use Rattle.option_words.specs.Found.{IsMatchOf}
-use Rattle.option_words.specs.View.{opt}
+use Rattle.option_words.specs.inside.Found.{IsMatchOf}
+use Rattle.option_words.specs.inside.Values.{opt}
 use Rattle.option_words.proofs.Reading.{unfit}
 use Rattle.option_words.proofs.GivenLemmas.{holds_at, holds_of, one_more, texts_more}
 use Rattle.option_words.proofs.given.read_given.Goals as goal

@@ -2,8 +2,8 @@ use Rattle.std.proofs.Common.{◌≡◌, ◌<◌, ℕ, List, length, get_or, map
 use Rattle.std.specs.Option.{option_map}
 use Rattle.option_words.specs.Options.{Opt, Use}
 use Rattle.option_words.specs.Givens.{given}
-use Rattle.option_words.specs.Held.{HoldsUses}
-use Rattle.option_words.specs.View.{opt}
+use Rattle.option_words.specs.inside.Held.{HoldsUses}
+use Rattle.option_words.specs.inside.Values.{opt}
 use Rattle.option_words.proofs.given.read_given.Given as goal
 
 abbrev pub invariant-loop-option : goal.invariant-loop-option

@@ -1,7 +1,7 @@
 use Rattle.std.proofs.Common.{◌≡◌, Option, Some, rules, ap, sym, ◌∙◌}
 use Rattle.packet_queue.specs.declared.reading.Limits.{Limits}
 use Rattle.packet_queue.specs.Arguments.{items_of}
-use Rattle.packet_queue.specs.Reading.{limited_by}
+use Rattle.packet_queue.specs.inside.Reading.{limited_by}
 use Rattle.packet_queue.proofs.ArgumentsLemmas.{limited_is}
 use Rattle.packet_queue.proofs.reading.read_limited.Goals as goal
 

@@ -1,6 +1,6 @@
 use Rattle.std.proofs.Common.{◌≡◌, Some, None, map}
 use Rattle.packet_queue.specs.Arguments.{items_of, trimmed}
-use Rattle.packet_queue.specs.Reading.{limits, read_on, items_after}
+use Rattle.packet_queue.specs.inside.Reading.{limits, read_on, items_after}
 use Rattle.packet_queue.proofs.ArgumentsLemmas.{length_after}
 use Rattle.packet_queue.proofs.reading.read_limits.Given as goal
 

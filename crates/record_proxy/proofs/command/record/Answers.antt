@@ -5,7 +5,7 @@ use Rattle.command_ends.specs.declared.cause.Cause.{Cause}
 use Rattle.command_ends.proofs.EndLemmas.{ends_unwritten, ends_whole}
 use Rattle.record_proxy.specs.Proxying.{proxy_output, proxy_reading, proxy_work}
 use Rattle.record_proxy.specs.Servings.{net}
-use Rattle.record_proxy.specs.View.{proxy_values}
+use Rattle.record_proxy.specs.inside.Values.{proxy_values}
 use Rattle.record_proxy.proofs.CommandLemmas.{ends_serving, finishes, reads_nothing}
 use Rattle.record_proxy.proofs.command.record.Goals as goal
 

@@ -4,7 +4,7 @@ use Rattle.http_frame.specs.Frames.{Frames}
 use Rattle.replay_server.proofs.StepLemmas.{if_none}
 use Rattle.record_proxy.specs.Courses.{NeedsMore, IsFaulty}
 use Rattle.record_proxy.specs.Links.{links}
-use Rattle.record_proxy.specs.Progress.{Progress, taken_of, to_do}
+use Rattle.record_proxy.specs.inside.Progress.{Progress, taken_of, to_do}
 use Rattle.record_proxy.proofs.TextLemmas.{begun}
 use Rattle.record_proxy.proofs.FrameSteps.{takes, waits, fails, is_response, response_shortens, stops_there, needs_more}
 use Rattle.record_proxy.proofs.FrameSteps.{refuses}

@@ -5,7 +5,7 @@ use Rattle.http_frame.specs.Runs.{BeginsWithNone}
 use Rattle.replay_server.specs.Sessions.{MayGoOn}
 use Rattle.replay_server.proofs.StepLemmas.{if_none}
 use Rattle.record_proxy.specs.Links.{links}
-use Rattle.record_proxy.specs.Progress.{Progress, taken_of, to_do}
+use Rattle.record_proxy.specs.inside.Progress.{Progress, taken_of, to_do}
 use Rattle.record_proxy.proofs.FrameSteps.{takes, waits, fails, is_request, request_shortens, none_waiting}
 use Rattle.record_proxy.proofs.FrameSteps.{none_refused, may_follow, is_hopeless}
 use Rattle.record_proxy.proofs.StandLemmas.{idle_stands, stored_cut, still_progress}

@@ -1,8 +1,8 @@
 use Rattle.std.proofs.Common.{◌∙◌, [], Some, refl, ap, subst}
 use Rattle.std.specs.Option.{option_map}
 use Rattle.mm_base.specs.Link.{giving}
-use Rattle.record_proxy.specs.Giving.{Breaks}
-use Rattle.record_proxy.specs.Progress.{taken_of}
+use Rattle.record_proxy.specs.inside.Giving.{Breaks}
+use Rattle.record_proxy.specs.inside.Progress.{taken_of}
 use Rattle.record_proxy.proofs.StandLemmas.{idle_stands, progress_due}
 use Rattle.record_proxy.proofs.RequestLemmas.{passed_request, broken_request}
 use Rattle.record_proxy.proofs.exchange.pass_request.Goals as goal

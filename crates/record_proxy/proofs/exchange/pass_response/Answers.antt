@@ -2,9 +2,9 @@ use Rattle.std.proofs.Common.{◌∙◌, List, [], ◌∷◌, ◌++◌, Some, Ok
 use Rattle.std.specs.Option.{option_map}
 use Rattle.mm_base.specs.Link.{giving}
 use Rattle.record_store.specs.declared.record.Record.{Record}
-use Rattle.record_proxy.specs.Giving.{Breaks}
+use Rattle.record_proxy.specs.inside.Giving.{Breaks}
 use Rattle.record_proxy.specs.Links.{IsStored, links}
-use Rattle.record_proxy.specs.Progress.{Progress, taken_of}
+use Rattle.record_proxy.specs.inside.Progress.{Progress, taken_of}
 use Rattle.record_proxy.specs.declared.ends.ProxyEnd.TheVariants.{Closed}
 use Rattle.record_proxy.proofs.TextLemmas.{exchange}
 use Rattle.record_proxy.proofs.StandLemmas.{due_stands, progress_due, progress_idle}

@@ -2,7 +2,7 @@ use Rattle.std.proofs.Common.{sym, subst}
 use Rattle.mm_base.specs.Link.{LinkView}
 use Rattle.mm_base.proofs.Then.{CountsFaults-none}
 use Rattle.record_proxy.specs.Links.{links}
-use Rattle.record_proxy.specs.Progress.{Progress}
+use Rattle.record_proxy.specs.inside.Progress.{Progress}
 use Rattle.record_proxy.specs.declared.talk.Talk.{Talk}
 use Rattle.record_proxy.proofs.FirstLemmas.{progress_first}
 use Rattle.record_proxy.proofs.proxy.converse.Goals as goal

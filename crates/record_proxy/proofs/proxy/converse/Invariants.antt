@@ -1,7 +1,7 @@
 use Rattle.std.proofs.Common.{◌<◌, length}
 use Rattle.mm_base.specs.Link.{CountsLinkFaults}
 use Rattle.record_proxy.specs.Links.{links}
-use Rattle.record_proxy.specs.Progress.{Progress, to_do}
+use Rattle.record_proxy.specs.inside.Progress.{Progress, to_do}
 use Rattle.record_proxy.proofs.proxy.converse.Given as goal
 
 abbrev pub invariant-steps : goal.invariant-steps

@@ -1,6 +1,6 @@
 use Rattle.std.proofs.Common.{◌≡◌, ◌∙◌, ◌+◌, [], ◌∷◌, ◌++◌, length-append, ap, rules, arith}
-use Rattle.replay_server.specs.Tallies.{total}
-use Rattle.record_proxy.specs.Passing.{plus}
+use Rattle.replay_server.specs.inside.Tallies.{total}
+use Rattle.record_proxy.specs.inside.Passing.{plus}
 use Rattle.record_proxy.specs.Servings.{counted_as}
 use Rattle.record_proxy.proofs.ServingLemmas.{passage_of, serves_none, serves_push, tally_push}
 use Rattle.record_proxy.proofs.serving.serve.Goals as goal

@@ -1,6 +1,6 @@
 use Rattle.std.proofs.Common.{◌≤◌}
 use Rattle.record_proxy.specs.Servings.{net}
-use Rattle.record_proxy.specs.Passing.{ServesSoFar}
+use Rattle.record_proxy.specs.inside.Passing.{ServesSoFar}
 use Rattle.record_proxy.proofs.serving.serve.Given as goal
 
 abbrev pub invariant-clients : goal.invariant-clients

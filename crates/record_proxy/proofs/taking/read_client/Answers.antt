@@ -5,7 +5,7 @@ use Rattle.http_frame.specs.Frames.{Frames}
 use Rattle.mm_base.specs.Link.{after_read}
 use Rattle.replay_server.specs.Sessions.{most}
 use Rattle.record_proxy.specs.Links.{links}
-use Rattle.record_proxy.specs.Progress.{Progress, taken_of}
+use Rattle.record_proxy.specs.inside.Progress.{Progress, taken_of}
 use Rattle.record_proxy.proofs.StandLemmas.{idle_stands, progress_idle, stored_cut, brought}
 use Rattle.record_proxy.proofs.ClientLemmas.{client_fails, client_leaves, client_brings}
 use Rattle.record_proxy.proofs.taking.read_client.Goals as goal

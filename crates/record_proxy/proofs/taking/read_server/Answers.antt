@@ -6,7 +6,7 @@ use Rattle.http_frame.specs.Frames.{Frames}
 use Rattle.mm_base.specs.Link.{after_read}
 use Rattle.replay_server.specs.Sessions.{most}
 use Rattle.record_proxy.specs.Links.{links}
-use Rattle.record_proxy.specs.Progress.{Progress, taken_of}
+use Rattle.record_proxy.specs.inside.Progress.{Progress, taken_of}
 use Rattle.record_proxy.proofs.TextLemmas.{begun}
 use Rattle.record_proxy.proofs.StandLemmas.{due_stands, progress_due, stored_cut, brought}
 use Rattle.record_proxy.proofs.ServerLemmas.{server_fails, server_ends, server_brings}

@@ -1,4 +1,4 @@
-use Rattle.record_proxy.specs.Progress.{taken_of}
+use Rattle.record_proxy.specs.inside.Progress.{taken_of}
 use Rattle.record_proxy.proofs.StandLemmas.{idle_stands}
 use Rattle.record_proxy.proofs.ClientLemmas.{client_full}
 use Rattle.record_proxy.proofs.taking.take_of_client.Goals as goal

@@ -1,4 +1,4 @@
-use Rattle.record_proxy.specs.Progress.{taken_of}
+use Rattle.record_proxy.specs.inside.Progress.{taken_of}
 use Rattle.record_proxy.proofs.TextLemmas.{begun}
 use Rattle.record_proxy.proofs.StandLemmas.{due_stands}
 use Rattle.record_proxy.proofs.ServerLemmas.{server_left, server_full}

@@ -6,7 +6,8 @@ use Rattle.std.proofs.lemmas.Result.{err_from_is_err_and}
 use Rattle.std.specs.Vec.Iter.{into_iter_items}
 use Rattle.http_frame.specs.Runs.{AreRequests}
 use Rattle.http_frame.specs.declared.messages.Request.{Request}
-use Rattle.record_store.specs.Pairs.{AnswerSays, AreAnswers, IsAnswer, Pairs}
+use Rattle.record_store.specs.Pairs.{AreAnswers, IsAnswer, Pairs}
+use Rattle.record_store.specs.inside.Pairs.{AnswerSays}
 use Rattle.record_store.specs.declared.record.Record.{Record}
 use Rattle.record_store.proofs.PairLemmas.{request_at, answers_push, answers_count, pairs_lack}
 use Rattle.record_store.proofs.pairing.pair_streams.Goals as goal

@@ -3,7 +3,7 @@ use Rattle.std.proofs.Common.{length-drop}
 use Rattle.std.specs.Prelude.{Result}
 use Rattle.std.proofs.lemmas.Result.{err_from_is_err_and}
 use Rattle.record_store.specs.Cuts.{cut_of, request_part, response_part}
-use Rattle.record_store.specs.Exchanges.{OneExchange}
+use Rattle.record_store.specs.inside.Exchanges.{OneExchange}
 use Rattle.record_store.specs.StoreText.{store_text, no_parts, no_exchange}
 use Rattle.record_store.specs.declared.cutting.Cut.{Cut}
 use Rattle.record_store.specs.declared.header.Form.{Form}

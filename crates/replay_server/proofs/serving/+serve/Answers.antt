@@ -2,7 +2,7 @@ use Rattle.std.proofs.Common.{◌≡◌, ◌∙◌, ◌<◌, ◌+◌, inl, inr, 
 use Rattle.std.specs.Prelude.{Result}
 use Rattle.mm_base.specs.Link.{IsFresh}
 use Rattle.replay_server.specs.Servings.{IsServing}
-use Rattle.replay_server.specs.Tallies.{tallied}
+use Rattle.replay_server.specs.inside.Tallies.{tallied}
 use Rattle.replay_server.specs.declared.ends.Served.{Served}
 use Rattle.replay_server.specs.declared.ends.ServeError.{ServeError}
 use Rattle.replay_server.proofs.ServingLemmas.{keeps_same, serving_none, serving_refused, serving_more}

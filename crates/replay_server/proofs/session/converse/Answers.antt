@@ -1,7 +1,7 @@
 use Rattle.std.proofs.Common.{sym, subst}
 use Rattle.mm_base.specs.Link.{LinkView}
 use Rattle.mm_base.proofs.Then.{CountsFaults-none}
-use Rattle.replay_server.specs.Progress.{Progress}
+use Rattle.replay_server.specs.inside.Progress.{Progress}
 use Rattle.replay_server.specs.declared.talk.Talk.{Talk}
 use Rattle.replay_server.proofs.StepLemmas.{progress_first}
 use Rattle.replay_server.proofs.session.converse.Goals as goal

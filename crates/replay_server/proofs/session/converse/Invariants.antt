@@ -1,6 +1,6 @@
 use Rattle.std.proofs.Common.{◌<◌, length}
 use Rattle.mm_base.specs.Link.{CountsLinkFaults}
-use Rattle.replay_server.specs.Progress.{Progress, to_do}
+use Rattle.replay_server.specs.inside.Progress.{Progress, to_do}
 use Rattle.replay_server.proofs.session.converse.Given as goal
 
 abbrev pub invariant-steps : goal.invariant-steps

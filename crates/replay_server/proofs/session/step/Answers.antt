@@ -4,7 +4,7 @@ use Rattle.http_frame.specs.Frames.{Frames}
 use Rattle.http_frame.specs.Runs.{BeginsWithNone}
 use Rattle.http_frame.specs.declared.messages.RequestHead.{RequestHead}
 use Rattle.replay_server.specs.Answers.{Answer, IsAnswer}
-use Rattle.replay_server.specs.Progress.{Progress, to_do}
+use Rattle.replay_server.specs.inside.Progress.{Progress, to_do}
 use Rattle.replay_server.specs.Sessions.{MayGoOn}
 use Rattle.replay_server.proofs.FrameSteps.{given, waits, fails, is_request, none_there, has_head, lacks_memory}
 use Rattle.replay_server.proofs.FrameSteps.{may_wait, is_hopeless, takes_bytes}

@@ -1,7 +1,7 @@
 use Rattle.std.proofs.Common.{◌≡◌, ◌<◌, ◌≤◌, ◌+◌, length, length-append, take, sym, ap, subst, arith}
 use Rattle.std.proofs.lemmas.List.{length-take}
 use Rattle.http_frame.specs.Frames.{Frames}
-use Rattle.replay_server.specs.Progress.{Progress}
+use Rattle.replay_server.specs.inside.Progress.{Progress}
 use Rattle.replay_server.specs.Links.{IsServed}
 use Rattle.replay_server.specs.Sessions.{most}
 use Rattle.replay_server.proofs.StepLemmas.{read_fails, read_ends, read_kept, read_lost}

@@ -1,7 +1,7 @@
 use Rattle.std.proofs.Common.{◌<◌, ◌≤◌, ◌+◌, ◌-◌, refl, length, get_or, None, sym, subst, arith}
 use Rattle.std.proofs.lemmas.Option.{slice_get_read}
 use Rattle.request_match.specs.Match.{BestCause}
-use Rattle.request_match.specs.Index.{entry_at, Scanned}
+use Rattle.request_match.specs.inside.Index.{entry_at, Scanned}
 use Rattle.request_match.proofs.IndexLemmas.{none_below, next_scanned, next_near, next_has_score, scanned_all}
 use Rattle.request_match.proofs.index.best_of.Goals as goal
 

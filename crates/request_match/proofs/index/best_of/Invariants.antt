@@ -1,5 +1,5 @@
 use Rattle.std.proofs.Common.{◌≤◌, ◌-◌, length}
-use Rattle.request_match.specs.Index.{HasNear, Scanned}
+use Rattle.request_match.specs.inside.Index.{HasNear, Scanned}
 use Rattle.request_match.proofs.index.best_of.Given as goal
 
 abbrev pub invariant-entries : goal.invariant-entries

@@ -1,6 +1,6 @@
 use Rattle.std.proofs.Common.{ℕ, ◌+◌, ◌-◌, ◌/◌, ◌<◌, length, ap, arith}
 use Rattle.std.proofs.lemmas.List.{get_or_default}
-use Rattle.request_match.specs.Index.{Entry}
+use Rattle.request_match.specs.inside.Index.{Entry}
 use Rattle.request_match.proofs.index.first_from.Goals as goal
 
 pub loop-low-preserved-then-entries-middle : goal.loop-low-preserved-then-entries-middle

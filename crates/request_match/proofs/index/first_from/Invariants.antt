@@ -1,5 +1,5 @@
 use Rattle.std.proofs.Common.{ℕ, ◌<◌, ◌≤◌, ◌-◌, length, get_or}
-use Rattle.request_match.specs.Index.{Entry}
+use Rattle.request_match.specs.inside.Index.{Entry}
 use Rattle.request_match.proofs.index.first_from.Given as goal
 
 abbrev pub invariant-loop-low : goal.invariant-loop-low

@@ -1,7 +1,7 @@
 use Rattle.std.proofs.Common.{◌≡◌, ◌∙◌, ◌+◌, [], ◌∷◌, ◌++◌, sym, ap, subst}
 use Rattle.std.proofs.Math.Bool.{true≢false}
 use Rattle.std.specs.Prelude.{All}
-use Rattle.request_match.specs.Index.{IsEntry, HasAllTo, key_of}
+use Rattle.request_match.specs.inside.Index.{IsEntry, HasAllTo, key_of}
 use Rattle.request_match.proofs.IndexLemmas.{entry_more, whole_more, whole_other}
 use Rattle.request_match.proofs.index_entries.entries_of.Goals.{then-fits_port+in_ok-push, else-fits_port}
 use Rattle.request_match.proofs.index_entries.entries_of.Goals as goal

@@ -1,5 +1,5 @@
 use Rattle.std.specs.Prelude.{All}
-use Rattle.request_match.specs.Index.{IsEntry, HasAllTo}
+use Rattle.request_match.specs.inside.Index.{IsEntry, HasAllTo}
 use Rattle.request_match.proofs.index_entries.entries_of.Given as goal
 
 abbrev pub invariant-loop-place : goal.invariant-loop-place

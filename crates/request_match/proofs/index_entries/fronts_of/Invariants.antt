@@ -1,4 +1,4 @@
-use Rattle.request_match.specs.Index.{HasFrontsTo}
+use Rattle.request_match.specs.inside.Index.{HasFrontsTo}
 use Rattle.request_match.proofs.index_entries.fronts_of.Given as goal
 
 abbrev pub invariant-loop-i : goal.invariant-loop-i

@@ -1,6 +1,6 @@
 use Rattle.std.proofs.Common.{rules}
 use Rattle.std.proofs.lemmas.List.Sorted.{IsNonDecreasingBy-from_sort_by_key, IsPermutation-trans}
-use Rattle.request_match.specs.Index.{Entry}
+use Rattle.request_match.specs.inside.Index.{Entry}
 use Rattle.request_match.proofs.index_entries.put_in_order.Goals as goal
 
 pub returns-clause-moved : goal.returns-clause-moved

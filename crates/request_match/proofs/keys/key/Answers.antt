@@ -1,7 +1,7 @@
 use Rattle.std.proofs.Common.{[], ◌∙◌, ap}
 use Rattle.std.specs.Prelude.{unwrap_or}
 use Rattle.request_match.specs.Match.{stripped}
-use Rattle.request_match.specs.Index.{hash_of_bytes, key_of}
+use Rattle.request_match.specs.inside.Index.{hash_of_bytes, key_of}
 use Rattle.request_match.proofs.keys.key.Goals as goal
 
 pub returns : goal.returns

@@ -1,5 +1,5 @@
 use Rattle.std.proofs.Common.{◌≡◌, ◌∙◌, false, ap, subst, rules}
-use Rattle.request_match.specs.Compared.{IsAtMost}
+use Rattle.request_match.specs.inside.Compared.{IsAtMost}
 use Rattle.request_match.specs.Match.{common}
 use Rattle.request_match.proofs.DecideLemmas.{left_early}
 use Rattle.request_match.proofs.matching.with_record.Goals as goal

@@ -4,7 +4,7 @@ use Rattle.std.proofs.lemmas.List.{drop_more, take_all, take_more}
 use Rattle.packet_record.specs.declared.packet.Row.{Row}
 use Rattle.packet_record.specs.declared.packet.Direction.TheVariants.{Up, Down}
 use Rattle.packet_record.specs.Rows.{Rises}
-use Rattle.row_source.specs.Sent.{HasSent}
+use Rattle.row_source.specs.inside.Sent.{HasSent}
 use Rattle.row_source.proofs.Sending.{Rises-from, one_sent}
 use Rattle.row_source.proofs.sourcing.send_rows.Goals as goal
 

@@ -5,7 +5,7 @@ use Rattle.packet_record.specs.declared.packet.Direction.TheVariants.{Up, Down}
 use Rattle.packet_record.specs.declared.packet.Row.{Row}
 use Rattle.packet_record.specs.Rows.{Rises}
 use Rattle.mark_channel.specs.Ends.{IsSameEnd}
-use Rattle.row_source.specs.Sent.{HasSent}
+use Rattle.row_source.specs.inside.Sent.{HasSent}
 use Rattle.row_source.proofs.sourcing.send_rows.Given as goal
 
 abbrev pub invariant-loop-row : goal.invariant-loop-row

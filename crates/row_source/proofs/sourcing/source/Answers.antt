@@ -1,6 +1,6 @@
 use Rattle.std.proofs.Common.{[], subst, sym, ◌∙◌}
 use Rattle.packet_record.specs.declared.packet.Direction.TheVariants.{Up, Down}
-use Rattle.row_source.specs.Sent.{HasSent}
+use Rattle.row_source.specs.inside.Sent.{HasSent}
 use Rattle.row_source.proofs.Sending.{all_sent, none_sent}
 use Rattle.row_source.proofs.sourcing.source.Goals as goal
 

@@ -1,6 +1,7 @@
 use Rattle.std.proofs.Common.{◌≡◌, ◌+◌, ◌∙◌, subst, arith, rules}
 use Rattle.mm_base.proofs.Then.{OnlyReads-then}
-use Rattle.file_pieces.specs.Pieces.{FrontIsRead, PieceIsRead}
+use Rattle.file_pieces.specs.Pieces.{FrontIsRead}
+use Rattle.file_pieces.specs.inside.Pieces.{PieceIsRead}
 use Rattle.file_pieces.proofs.PieceLemmas.{all_read, more_read}
 use Rattle.packet_record.specs.PartsRead.{HasRead}
 use Rattle.row_source.proofs.streaming.stream_pieces.Goals as goal

@@ -5,7 +5,7 @@ use Rattle.packet_record.specs.declared.item.FlowEnd.TheVariants.{Open}
 use Rattle.packet_record.specs.declared.packet.Direction.TheVariants.{Up, Down}
 use Rattle.packet_record.specs.PartsRead.{HasRead}
 use Rattle.mark_channel.specs.Ends.{IsSameEnd}
-use Rattle.row_source.specs.Sent.{HasSent}
+use Rattle.row_source.specs.inside.Sent.{HasSent}
 use Rattle.row_source.proofs.streaming.stream_pieces.Given as goal
 
 abbrev pub invariant-pieces : goal.invariant-pieces

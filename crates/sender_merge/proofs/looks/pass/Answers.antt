@@ -1,6 +1,6 @@
 use Rattle.std.proofs.Common.{◌∙◌, ◌+◌, ◌-◌, sym, ap, set}
 use Rattle.sender_merge.specs.Inflows.{Inflow, head_of, with_passed}
-use Rattle.sender_merge.specs.Lefts.{left_of}
+use Rattle.sender_merge.specs.inside.Lefts.{left_of}
 use Rattle.sender_merge.proofs.Stepping.{left_passed, passes, some_head}
 use Rattle.sender_merge.proofs.looks.pass.Goals as goal
 

@@ -3,8 +3,8 @@ use Rattle.packet_record.specs.declared.item.Item.{Item}
 use Rattle.packet_record.specs.declared.item.Stream.{Stream}
 use Rattle.packet_record.specs.Streams.{after}
 use Rattle.sender_merge.specs.Inflows.{Merging}
-use Rattle.sender_merge.specs.Inlets.{AreAdded}
-use Rattle.sender_merge.specs.Laws.{SomeOpen}
+use Rattle.sender_merge.specs.inside.Inlets.{AreAdded}
+use Rattle.sender_merge.specs.inside.Laws.{SomeOpen}
 use Rattle.sender_merge.proofs.Stepping.{some_open}
 use Rattle.sender_merge.proofs.Inletting.{added-step, added-within, empty-added, empty-within, end-after, merged}
 use Rattle.sender_merge.proofs.Inletting.{received-on, sent-on}

@@ -2,7 +2,7 @@ use Rattle.std.proofs.Common.{◌≡◌, ◌∙◌, ◌+◌, ◌-◌, ℕ, ap, g
 use Rattle.packet_record.specs.declared.item.Stream.{Stream}
 use Rattle.packet_record.specs.Streams.{MayFollow, after}
 use Rattle.sender_merge.specs.Inflows.{Merging, after_add, fresh, with_item}
-use Rattle.sender_merge.specs.Inlets.{AreAdded}
+use Rattle.sender_merge.specs.inside.Inlets.{AreAdded}
 use Rattle.sender_merge.proofs.Inletting.{added-at, added-long, added-set, none-open, on_ok, open-at, same-all}
 use Rattle.sender_merge.proofs.Inletting.{same-set}
 use Rattle.sender_merge.proofs.Inletting.{within-set}

@@ -1,4 +1,4 @@
-use Rattle.sender_merge.specs.Inlets.{AllSame}
+use Rattle.sender_merge.specs.inside.Inlets.{AllSame}
 use Rattle.sender_merge.proofs.merger.receive_rest.Given as goal
 
 abbrev pub invariant-loop : goal.invariant-loop

@@ -2,7 +2,7 @@ use Rattle.std.proofs.Common.{◌≡◌, ◌∙◌, ◌++◌, ◌∷◌, ◌+◌
 use Rattle.packet_record.specs.declared.packet.Row.{Row}
 use Rattle.packet_record.proofs.RowsLemmas.{rises-in_order}
 use Rattle.sender_merge.specs.Merges.{by_moment, merged_row, row_moment, rows_from}
-use Rattle.sender_merge.specs.RowMerges.{AllNumbered, Sorted}
+use Rattle.sender_merge.specs.inside.RowMerges.{AllNumbered, Sorted}
 use Rattle.sender_merge.proofs.Rowing.{rises_sorted}
 use Rattle.sender_merge.proofs.Sending.{schedule_numbered}
 use Rattle.sender_merge.proofs.Sorting.{by_moment-behind, by_moment-sorted}

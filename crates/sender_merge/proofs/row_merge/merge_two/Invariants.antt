@@ -1,5 +1,5 @@
 use Rattle.std.proofs.Common.{◌≡◌, ◌≤◌, ◌+◌, ◌++◌, length}
-use Rattle.sender_merge.specs.RowMerges.{left_over}
+use Rattle.sender_merge.specs.inside.RowMerges.{left_over}
 use Rattle.sender_merge.proofs.row_merge.merge_two.Given as goal
 
 abbrev pub invariant-loop : goal.invariant-loop

@@ -1,5 +1,5 @@
 use Rattle.std.proofs.Common.{◌∙◌, ℕ, subst, sym}
-use Rattle.sender_merge.specs.Inlets.{AllEmpty}
+use Rattle.sender_merge.specs.inside.Inlets.{AllEmpty}
 use Rattle.sender_merge.proofs.Gating.{fresh_parts, still_ends}
 use Rattle.sender_merge.proofs.Rowing.{fed_down, fed_up}
 use Rattle.sender_merge.proofs.senders.feed_through.Goals as goal

@@ -1,6 +1,6 @@
 use Rattle.std.proofs.Common.{false, rules}
-use Rattle.shell_state.specs.Fronts.{no_front}
-use Rattle.shell_state.specs.Inside.{state_of}
+use Rattle.shell_state.specs.inside.Fronts.{no_front}
+use Rattle.shell_state.specs.views.Whole.{state_of}
 use Rattle.shell_state.proofs.Answering.{licence_ended}
 use Rattle.shell_state.proofs.parts.licence.Goals as goal
 

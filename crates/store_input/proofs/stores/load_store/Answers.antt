@@ -3,7 +3,8 @@ use Rattle.std.proofs.lemmas.Result.{err_from_is_err_and}
 use Rattle.record_store.specs.StoreText.{StoreSays}
 use Rattle.command_ends.specs.Causes.{Text}
 use Rattle.command_ends.specs.Readings.{Done}
-use Rattle.command_ends.specs.Stops.{RefusesBy, StopsReading}
+use Rattle.command_ends.specs.Stops.{StopsReading}
+use Rattle.command_ends.specs.inside.Stops.{RefusesBy}
 use Rattle.command_ends.specs.declared.cause.Cause.{Cause}
 use Rattle.store_input.specs.Stores.{StoreVerdict, reading_store}
 use Rattle.store_input.proofs.StoreLemmas.{store_at_file, store_judged}

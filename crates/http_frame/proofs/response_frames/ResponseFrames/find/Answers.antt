@@ -1,6 +1,6 @@
 use Rattle.std.proofs.Common.{subst, sym}
 use Rattle.http_frame.specs.Forms.{response_form}
-use Rattle.http_frame.specs.Frames.{IsPending}
+use Rattle.http_frame.specs.inside.Frames.{IsPending}
 use Rattle.http_frame.proofs.response_frames.ResponseFrames.find.Goals as goal
 
 pub advance-pending-requires : goal.advance-pending-requires

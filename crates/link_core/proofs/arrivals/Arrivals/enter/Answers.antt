@@ -1,7 +1,7 @@
 use Rattle.std.proofs.Common.{◌++◌, take, drop, ap, sym, ◌∙◌}
 use Rattle.std.proofs.lemmas.List.{drop-drop}
 use Rattle.std.proofs.Math.Seq.{take-add}
-use Rattle.link_core.specs.Arriving.{Arriving}
+use Rattle.link_core.specs.views.Arriving.{Arriving}
 use Rattle.link_core.proofs.arrivals.Arrivals.enter.Goals as goal
 
 pub returns-clause-come : goal.returns-clause-come

@@ -1,5 +1,5 @@
 use Rattle.std.proofs.Common.{ap, subst}
-use Rattle.link_core.specs.Arriving.{Arriving}
+use Rattle.link_core.specs.views.Arriving.{Arriving}
 use Rattle.link_core.specs.View.{Link, OnlyGoesOn}
 use Rattle.link_core.proofs.OnlyLaws.{made, ready, only_burn}
 use Rattle.link_core.proofs.direction.LinkCore.burn.Goals as goal

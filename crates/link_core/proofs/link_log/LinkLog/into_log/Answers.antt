@@ -1,7 +1,7 @@
 use Rattle.std.proofs.Common.{ap, ◌∙◌}
 use Rattle.link_core.specs.Links.{link_log}
-use Rattle.link_core.specs.Written.{written}
-use Rattle.link_core.specs.View.{span_opps}
+use Rattle.link_core.specs.inside.Written.{written}
+use Rattle.link_core.specs.views.Span.{span_opps}
 use Rattle.link_core.proofs.WholeLemmas.{whole_log}
 use Rattle.link_core.proofs.link_log.LinkLog.into_log.Goals as goal
 

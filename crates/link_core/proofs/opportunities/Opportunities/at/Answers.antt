@@ -1,7 +1,7 @@
 use Rattle.std.proofs.Common.{◌<◌, length, slice_get, arith, ap, sym, ◌∙◌}
 use Rattle.trace_reader.specs.Opps.{opps, opportunity_at}
 use Rattle.trace_reader.proofs.OppsLaws.{slice_get-opps}
-use Rattle.link_core.specs.View.{Span, span_opps}
+use Rattle.link_core.specs.views.Span.{Span, span_opps}
 use Rattle.link_core.proofs.OppsLemmas.{some_within}
 use Rattle.link_core.proofs.opportunities.Opportunities.at.Goals as goal
 

@@ -2,7 +2,7 @@ use Rattle.std.proofs.Common.{◌≡◌, length, arith, ap, sym, ◌∙◌}
 use Rattle.trace_reader.specs.Opps.{up_to, opps}
 use Rattle.trace_reader.proofs.OrderLemmas.{length-up_to}
 use Rattle.trace_reader.proofs.CountLaws.{counted_place}
-use Rattle.link_core.specs.View.{Span, span_opps}
+use Rattle.link_core.specs.views.Span.{Span, span_opps}
 use Rattle.link_core.proofs.CountLemmas.{counted_end}
 use Rattle.link_core.proofs.opportunities.Opportunities.count_from.Goals as goal
 

@@ -3,7 +3,7 @@ use Prim.Native.Nat.{min}
 use Rattle.trace_reader.specs.Orders.{AreRising}
 use Rattle.trace_reader.specs.Opps.{opps, up_to}
 use Rattle.trace_reader.proofs.OppsLaws.{opps_rising, length-opps_more, length-up_to-opps}
-use Rattle.link_core.specs.View.{Span, span_opps}
+use Rattle.link_core.specs.views.Span.{Span, span_opps}
 use Rattle.link_core.proofs.opportunities.Opportunities.count_to.Goals as goal
 
 pub overflow_cast-result : goal.overflow_cast-result

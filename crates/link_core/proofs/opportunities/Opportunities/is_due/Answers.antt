@@ -3,7 +3,7 @@ use Rattle.std.proofs.lemmas.Bool.{cases_lt, le-leb, lt-leb}
 use Rattle.trace_reader.specs.Opps.{opps}
 use Rattle.trace_reader.proofs.CountLaws.{counted_place}
 use Rattle.trace_reader.proofs.OrderLemmas.{length-up_to}
-use Rattle.link_core.specs.View.{Span, span_opps}
+use Rattle.link_core.specs.views.Span.{Span, span_opps}
 use Rattle.link_core.proofs.CountLemmas.{counted_end}
 use Rattle.link_core.proofs.opportunities.Opportunities.is_due.Goals as goal
 

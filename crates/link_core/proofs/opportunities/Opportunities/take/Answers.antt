@@ -3,7 +3,7 @@ use Rattle.trace_reader.specs.declared.opportunity.Opportunity.{Opportunity}
 use Rattle.trace_reader.specs.Opps.{entry, opps}
 use Rattle.trace_reader.specs.Orders.{AreRising}
 use Rattle.trace_reader.proofs.OppsLaws.{entry-opps, opps_rising}
-use Rattle.link_core.specs.View.{Span, span_opps}
+use Rattle.link_core.specs.views.Span.{Span, span_opps}
 use Rattle.link_core.proofs.OppsLemmas.{some_within}
 use Rattle.link_core.proofs.opportunities.Opportunities.take.Goals as goal
 

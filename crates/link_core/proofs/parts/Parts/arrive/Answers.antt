@@ -2,8 +2,8 @@ use Rattle.std.proofs.Common.{◌≡◌, ◌++◌, ◌∷◌, [], List, drop, le
 use Rattle.packet_record.specs.declared.packet.Timed.{Timed}
 use Rattle.packet_record.specs.Moments.{AreUpTo}
 use Rattle.trace_reader.specs.Opps.{up_to}
-use Rattle.link_core.specs.Arriving.{Arriving}
-use Rattle.link_core.specs.View.{span_opps}
+use Rattle.link_core.specs.views.Arriving.{Arriving}
+use Rattle.link_core.specs.views.Span.{span_opps}
 use Rattle.link_core.proofs.CountLemmas.{counted}
 use Rattle.link_core.proofs.parts.Parts.arrive.Goals as goal
 

@@ -1,4 +1,4 @@
-use Rattle.link_core.specs.Sound.{nothing}
+use Rattle.link_core.specs.inside.Sound.{nothing}
 use Rattle.link_core.proofs.parts.Parts.arrive.Given as goal
 
 abbrev pub ghost-reserve : goal.ghost-reserve

@@ -1,7 +1,7 @@
 use Rattle.std.proofs.Common.{◌≡◌, ℕ, ◌++◌, Bool, false, length, arith, rules, subst, sym}
-use Rattle.link_core.specs.State.{pending}
-use Rattle.link_core.specs.Sound.{Sound}
-use Rattle.link_core.specs.View.{span_opps}
+use Rattle.link_core.specs.inside.State.{pending}
+use Rattle.link_core.specs.inside.Sound.{Sound}
+use Rattle.link_core.specs.views.Span.{span_opps}
 use Rattle.link_core.proofs.IdleBurns.{idle_burns}
 use Rattle.link_core.proofs.parts.Parts.burn_some.Goals as goal
 

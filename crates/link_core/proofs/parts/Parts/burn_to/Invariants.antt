@@ -1,6 +1,6 @@
 use Rattle.std.proofs.Common.{◌≡◌, ◌+◌, ◌-◌, ◌≤◌, length, vec_len, vec_capacity}
-use Rattle.link_core.specs.State.{inside_line}
-use Rattle.link_core.specs.Sound.{IsSoundAfter}
+use Rattle.link_core.specs.inside.State.{inside_line}
+use Rattle.link_core.specs.inside.Sound.{IsSoundAfter}
 use Rattle.link_core.proofs.parts.Parts.burn_to.Given as goal
 
 abbrev pub invariant-burning : goal.invariant-burning

@@ -4,7 +4,7 @@ use Rattle.packet_record.specs.Packets.{moved_to}
 use Rattle.packet_queue.specs.Queues.{enqueued, dropped}
 use Rattle.packet_queue.specs.View.{Queue}
 use Rattle.shell_log.specs.declared.entry.Entry.TheVariants as entries
-use Rattle.link_core.specs.Written.{written}
+use Rattle.link_core.specs.inside.Written.{written}
 use Rattle.link_core.specs.Links.{drop_line, drop_line_by}
 use Rattle.link_core.proofs.SoundLemmas.{behind, sound_enter}
 use Rattle.link_core.proofs.Fronts.{log_behind_enter}

@@ -1,6 +1,7 @@
 use Rattle.std.proofs.Common.{◌≡◌, ◌++◌, true}
-use Rattle.link_core.specs.Sound.{IsSoundAfter}
-use Rattle.link_core.specs.Play.{CanPlay, rest_of, work}
+use Rattle.link_core.specs.inside.Sound.{IsSoundAfter}
+use Rattle.link_core.specs.inside.Play.{CanPlay, work}
+use Rattle.link_core.specs.views.Play.{rest_of}
 use Rattle.link_core.proofs.parts.Parts.fill.Given as goal
 
 abbrev pub invariant-filling : goal.invariant-filling

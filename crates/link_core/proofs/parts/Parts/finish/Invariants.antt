@@ -1,7 +1,7 @@
 use Rattle.std.proofs.Common.{◌≡◌}
-use Rattle.link_core.specs.Same.{IsSameLink}
-use Rattle.link_core.specs.Sound.{IsSoundAfter}
-use Rattle.link_core.specs.Play.{CanPlay, all_arrivals, work}
+use Rattle.link_core.specs.inside.Same.{IsSameLink}
+use Rattle.link_core.specs.inside.Sound.{IsSoundAfter}
+use Rattle.link_core.specs.inside.Play.{CanPlay, all_arrivals, work}
 use Rattle.link_core.proofs.parts.Parts.finish.Given as goal
 
 abbrev pub invariant-finishing : goal.invariant-finishing

@@ -2,8 +2,8 @@ use Rattle.std.proofs.Common.{◌≡◌, ◌++◌, ◌∷◌, [], drop, length, 
 use Rattle.packet_record.specs.Moments.{AreUpTo}
 use Rattle.trace_reader.specs.Opps.{up_to}
 use Rattle.link_core.specs.Promises.{count_to}
-use Rattle.link_core.specs.Arriving.{Arriving}
-use Rattle.link_core.specs.View.{span_opps}
+use Rattle.link_core.specs.views.Arriving.{Arriving}
+use Rattle.link_core.specs.views.Span.{span_opps}
 use Rattle.link_core.proofs.CountLemmas.{counted}
 use Rattle.link_core.proofs.PlayLemmas.{next_order, next_within, playable_entered}
 use Rattle.link_core.proofs.parts.Parts.go_to.Goals as goal

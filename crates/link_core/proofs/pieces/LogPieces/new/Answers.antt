@@ -1,4 +1,4 @@
-use Rattle.link_core.specs.Sound.{nothing}
+use Rattle.link_core.specs.inside.Sound.{nothing}
 use Rattle.link_core.proofs.PlayLemmas.{sound_gone}
 use Rattle.link_core.proofs.pieces.LogPieces.new.Goals as goal
 

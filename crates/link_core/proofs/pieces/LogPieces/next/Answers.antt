@@ -2,7 +2,8 @@ use Rattle.std.proofs.Common.{◌≡◌, ◌<◌, ◌++◌, List, length, arith,
 use Rattle.std.proofs.lemmas.Result.{on_err_weaker}
 use Rattle.shell_log.specs.declared.entry.Entry.{Entry}
 use Rattle.link_core.specs.Pieces.{Pieces}
-use Rattle.link_core.specs.Play.{gone_of, gone_with, rest_of}
+use Rattle.link_core.specs.inside.Play.{gone_of, gone_with}
+use Rattle.link_core.specs.views.Play.{rest_of}
 use Rattle.link_core.proofs.PlayLemmas.{sound_gone}
 use Rattle.link_core.proofs.pieces.LogPieces.next.Goals as goal
 

@@ -1,4 +1,4 @@
-use Rattle.link_core.specs.Play.{gone_of}
+use Rattle.link_core.specs.inside.Play.{gone_of}
 use Rattle.link_core.proofs.pieces.LogPieces.next.Given as goal
 
 abbrev pub ghost-let_go : goal.ghost-let_go

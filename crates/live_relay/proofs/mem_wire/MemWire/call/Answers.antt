@@ -1,7 +1,7 @@
 use Rattle.std.proofs.Common.{Contains, Err, List, subst, ℕ}
 use Rattle.mm_base.specs.declared.errors.EndError.TheVariants.{Failed}
 use Rattle.live_relay.specs.MemWires.{IsWireCall, MemWireState}
-use Rattle.live_relay.specs.MemWireViews.{wire_view}
+use Rattle.live_relay.specs.views.MemWire.{wire_view}
 use Rattle.live_relay.proofs.SendLemmas.{failed_call}
 use Rattle.live_relay.proofs.mem_wire.MemWire.call.Goals as goal
 

@@ -1,5 +1,5 @@
 use Rattle.std.proofs.Common.{◌≡◌, ◌∙◌, ℕ, List, Option, length, option_map, subst}
-use Rattle.live_relay.specs.Stamped.{turn}
+use Rattle.live_relay.specs.inside.Stamped.{turn}
 use Rattle.live_relay.specs.Wires.{Datagram, WireTold, datagram_in, receiving}
 use Rattle.live_relay.proofs.Results.{on_err_any}
 use Rattle.live_relay.proofs.SendLemmas.{same_map}

@@ -4,7 +4,7 @@ use Rattle.packet_record.specs.declared.packet.Timed.{Timed}
 use Rattle.packet_record.specs.Moments.{Rise}
 use Rattle.nest_line.specs.Lines.{up_to}
 use Rattle.live_relay.specs.Due.{bytes_in}
-use Rattle.live_relay.specs.Ways.{StopsSending}
+use Rattle.live_relay.specs.inside.Ways.{StopsSending}
 use Rattle.live_relay.specs.Wires.{sending_all}
 use Rattle.live_relay.proofs.Results.{on_err_any}
 use Rattle.live_relay.proofs.UpTo.{up_to_rest}

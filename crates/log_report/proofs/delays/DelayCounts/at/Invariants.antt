@@ -1,5 +1,5 @@
 use Rattle.std.proofs.Common.{◌≡◌, ◌<◌, ℕ, List, sum, take}
-use Rattle.log_report.specs.Counted.{AreRanked}
+use Rattle.log_report.specs.inside.Counted.{AreRanked}
 use Rattle.log_report.proofs.RankLaws.{below}
 use Rattle.log_report.proofs.delays.DelayCounts.at.Given as goal
 

@@ -1,5 +1,6 @@
 use Rattle.std.proofs.Common.{sym, subst}
-use Rattle.mark_channel.specs.Ends.{End, MayPass}
+use Rattle.mark_channel.specs.Ends.{End}
+use Rattle.mark_channel.specs.inside.Ends.{MayPass}
 use Rattle.mark_channel.proofs.Keeps.{sends}
 use Rattle.mark_channel.proofs.sender.Sender.send_at_once.Goals as goal
 

@@ -1,6 +1,6 @@
 use Rattle.std.proofs.Common.{◌≡◌, ◌≤◌, ◌<◌, ◌-◌, arith}
 use Rattle.nest_core.specs.WorldSteps.{actors_of}
-use Rattle.nest_core.specs.OrderViews.{worlds_view}
+use Rattle.nest_core.specs.views.Worlds.{worlds_view}
 use Rattle.nest_core.proofs.Ordering.{stepped_up, stepped_down}
 use Rattle.nest_core.proofs.order.Worlds.step.Goals as goal
 

@@ -1,7 +1,7 @@
 use Rattle.std.proofs.Common.{subst}
 use Rattle.nest_core.specs.Worlds.{WorldParts}
 use Rattle.nest_core.specs.Promises.{departed_of, sent_stream, IsFrontUntil, IsSettled}
-use Rattle.nest_core.specs.WorldViews.{world_view}
+use Rattle.nest_core.specs.views.World.{world_view}
 use Rattle.nest_core.proofs.Leading.{world_keeps}
 use Rattle.nest_core.proofs.Settling.{settled_front}
 use Rattle.nest_core.proofs.world.World.collected.Goals as goal

@@ -2,7 +2,7 @@ use Rattle.std.proofs.Common.{◌≡◌, subst, true, rules}
 use Rattle.std.proofs.lemmas.Bool.{OnTrue_from}
 use Rattle.packet_record.specs.declared.item.FlowEnd.TheVariants.{Ended}
 use Rattle.nest_core.specs.Promises.{IsWhole}
-use Rattle.nest_core.specs.WorldViews.{world_view}
+use Rattle.nest_core.specs.views.World.{world_view}
 use Rattle.nest_core.proofs.Settling.{finished_whole, quiet_if}
 use Rattle.nest_core.proofs.world.World.finished.Goals as goal
 

@@ -1,5 +1,5 @@
 use Rattle.std.proofs.lemmas.Result.{IfOk-weaker}
-use Rattle.nest_core.specs.WorldViews.{world_view}
+use Rattle.nest_core.specs.views.World.{world_view}
 use Rattle.nest_core.proofs.Settling.{passed_by}
 use Rattle.nest_core.proofs.world.World.into_states.Goals as goal
 

@@ -3,7 +3,7 @@ use Rattle.packet_record.proofs.RowsLemmas.{rises-in_order}
 use Rattle.nest_spec.specs.Nests.{directions_of}
 use Rattle.nest_core.specs.Worlds.{WorldParts}
 use Rattle.nest_core.specs.Promises.{IsRunOf}
-use Rattle.nest_core.specs.Standing.{WorldStands}
+use Rattle.nest_core.specs.inside.Standing.{WorldStands}
 use Rattle.nest_core.proofs.Beginning.{made_is, new_run, new_world_stands}
 use Rattle.nest_core.proofs.world.World.new.Goals as goal
 

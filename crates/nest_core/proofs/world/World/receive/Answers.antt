@@ -3,9 +3,9 @@ use Rattle.std.proofs.lemmas.List.{with_items_is}
 use Rattle.nest_core.specs.declared.stage.Stage.{Stage}
 use Rattle.nest_core.specs.declared.actor.Actor.TheVariants.{Receiver}
 use Rattle.nest_core.specs.Worlds.{line, world}
-use Rattle.nest_core.specs.Standing.{WorldStands}
-use Rattle.nest_core.specs.Does.{MayCollect}
-use Rattle.nest_core.specs.WorldViews.{world_view}
+use Rattle.nest_core.specs.inside.Standing.{WorldStands}
+use Rattle.nest_core.specs.inside.Does.{MayCollect}
+use Rattle.nest_core.specs.views.World.{world_view}
 use Rattle.nest_core.proofs.Meeting.{act_stands}
 use Rattle.nest_core.proofs.Changing.{may_collect, received_stands}
 use Rattle.nest_core.proofs.world.World.receive.Goals as goal

@@ -3,9 +3,9 @@ use Rattle.nest_core.specs.declared.stage.Stage.{Stage}
 use Rattle.nest_core.specs.Stages.{sent_stage}
 use Rattle.nest_core.specs.Worlds.{WorldParts}
 use Rattle.nest_core.specs.WorldSteps.{with_stages, changed_at}
-use Rattle.nest_core.specs.Standing.{WorldStands}
-use Rattle.nest_core.specs.Does.{at_stage, sends}
-use Rattle.nest_core.specs.WorldViews.{world_view}
+use Rattle.nest_core.specs.inside.Standing.{WorldStands}
+use Rattle.nest_core.specs.inside.Does.{at_stage, sends}
+use Rattle.nest_core.specs.views.World.{world_view}
 use Rattle.nest_core.specs.declared.actor.Actor.TheVariants.{Sender}
 use Rattle.nest_core.proofs.Meeting.{act_stands}
 use Rattle.nest_core.proofs.Changing.{set-changed_at, at_stage-is}

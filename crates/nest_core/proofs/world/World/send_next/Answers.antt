@@ -1,8 +1,8 @@
 use Rattle.std.proofs.Common.{◌≡◌, ◌∙◌, true, sym, subst}
 use Rattle.nest_core.specs.Channels.{ChannelParts, has_room}
 use Rattle.nest_core.specs.Worlds.{line, world}
-use Rattle.nest_core.specs.Standing.{WorldStands}
-use Rattle.nest_core.specs.WorldViews.{world_view}
+use Rattle.nest_core.specs.inside.Standing.{WorldStands}
+use Rattle.nest_core.specs.views.World.{world_view}
 use Rattle.nest_core.specs.declared.actor.Actor.TheVariants.{Source}
 use Rattle.nest_core.proofs.Meeting.{act_stands}
 use Rattle.nest_core.proofs.Changing.{sourced}

@@ -1,6 +1,6 @@
 use Rattle.std.proofs.Common.{subst}
 use Rattle.nest_core.specs.Promises.{Keeps}
-use Rattle.nest_core.specs.WorldViews.{world_view}
+use Rattle.nest_core.specs.views.World.{world_view}
 use Rattle.nest_core.proofs.Leading.{world_keeps}
 use Rattle.nest_core.proofs.world.World.stands.Goals as goal
 

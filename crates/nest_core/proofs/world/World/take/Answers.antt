@@ -1,8 +1,8 @@
 use Rattle.std.proofs.Common.{◌<◌, sym, subst, length}
 use Rattle.nest_core.specs.Stages.{taken_stage}
 use Rattle.nest_core.specs.Worlds.{WorldParts}
-use Rattle.nest_core.specs.Does.{takes}
-use Rattle.nest_core.specs.WorldViews.{world_view}
+use Rattle.nest_core.specs.inside.Does.{takes}
+use Rattle.nest_core.specs.views.World.{world_view}
 use Rattle.nest_core.specs.declared.actor.Actor.TheVariants.{Taker}
 use Rattle.nest_core.proofs.Meeting.{act_stands}
 use Rattle.nest_core.proofs.Changing.{changed_stands, changed_ok, changed_did}

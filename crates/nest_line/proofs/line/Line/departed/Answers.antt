@@ -1,6 +1,6 @@
 use Rattle.std.proofs.Common.{◌≡◌, ◌∙◌, [], ap, sym, subst}
 use Rattle.nest_line.specs.Lines.{LineParts, IsSettled}
-use Rattle.nest_line.specs.Meeting.{fed_of, last_taken}
+use Rattle.nest_line.specs.views.Meeting.{fed_of, last_taken}
 use Rattle.nest_line.proofs.Carrying.{last_any}
 use Rattle.nest_line.proofs.Lining.{line_settles}
 use Rattle.nest_line.proofs.line.Line.departed.Goals as goal

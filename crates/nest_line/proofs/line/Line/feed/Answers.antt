@@ -1,7 +1,8 @@
 use Rattle.std.proofs.Common.{◌≡◌, ◌∙◌, ap, sym, subst, List}
 use Rattle.shell_state.specs.States.{State}
 use Rattle.nest_line.specs.Lines.{LineParts}
-use Rattle.nest_line.specs.Meeting.{Follow, fed_of}
+use Rattle.nest_line.specs.inside.Meeting.{Follow}
+use Rattle.nest_line.specs.views.Meeting.{fed_of}
 use Rattle.nest_line.proofs.Carrying.{meet_follow}
 use Rattle.nest_line.proofs.line.Line.feed.Goals as goal
 

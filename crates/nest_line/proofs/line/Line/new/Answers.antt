@@ -1,7 +1,8 @@
 use Rattle.std.proofs.Common.{◌≡◌, ap, sym, subst, List, length, arith, ◌≤◌}
 use Rattle.std.proofs.lemmas.List.{with_items_is}
 use Rattle.shell_state.specs.States.{State}
-use Rattle.nest_line.specs.Meeting.{AreNew, Follow, Meet, fed_of}
+use Rattle.nest_line.specs.inside.Meeting.{AreNew, Follow, Meet}
+use Rattle.nest_line.specs.views.Meeting.{fed_of}
 use Rattle.nest_line.proofs.Carrying.{fed_of_new, meet_own, new_follow}
 use Rattle.nest_line.proofs.Lining.{some_states}
 use Rattle.nest_line.proofs.line.Line.new.Goals as goal

@@ -3,7 +3,7 @@ use Rattle.std.proofs.lemmas.List.{length-map}
 use Rattle.packet_record.specs.declared.packet.Row.{Row}
 use Rattle.nest_spec.specs.declared.fate.Fate.TheVariants.{Unsent}
 use Rattle.nest_spec.specs.Fates.{fate_row}
-use Rattle.nest_spec.specs.Index.{AreFromOne}
+use Rattle.nest_spec.specs.inside.Index.{AreFromOne}
 use Rattle.nest_spec.proofs.Scheduled.{numbered}
 use Rattle.nest_spec.proofs.marking.Marking.of_schedule.Goals as goal
 

@@ -1,7 +1,7 @@
 use Rattle.std.proofs.Common.{◌∷◌, ◌++◌, [], List, subst, sym}
 use Rattle.sender_merge.specs.declared.inlet.Inlet.{Inlet}
 use Rattle.sender_merge.specs.declared.outlet.Outlet.{Outlet}
-use Rattle.sender_merge.specs.Gates.{AllFresh}
+use Rattle.sender_merge.specs.inside.Gates.{AllFresh}
 use Rattle.sender_merge.proofs.Gating.{fresh-snoc}
 use Rattle.sender_merge.proofs.gates.Gates.add.Goals as goal
 

@@ -1,5 +1,5 @@
 use Rattle.std.proofs.Common.{◌≡◌, length}
-use Rattle.sender_merge.specs.Gates.{AllFresh}
+use Rattle.sender_merge.specs.inside.Gates.{AllFresh}
 use Rattle.sender_merge.proofs.gates.Gates.open.Given as goal
 
 abbrev pub invariant-loop : goal.invariant-loop

@@ -1,6 +1,6 @@
 use Rattle.std.specs.Vec.Iter.{into_iter_items}
-use Rattle.sender_merge.specs.Gates.{AllEnds, AreSettled}
-use Rattle.sender_merge.specs.Inlets.{AllClosed}
+use Rattle.sender_merge.specs.inside.Gates.{AllEnds, AreSettled}
+use Rattle.sender_merge.specs.inside.Inlets.{AllClosed}
 use Rattle.sender_merge.proofs.gates.Gates.settle.Given as goal
 
 abbrev pub invariant-loop-outlet : goal.invariant-loop-outlet

@@ -3,8 +3,8 @@ use Rattle.std.proofs.Math.ListN.{length-set}
 use Rattle.packet_record.specs.declared.item.Stream.{Stream}
 use Rattle.packet_record.specs.Streams.{MayFollow}
 use Rattle.sender_merge.specs.Inflows.{Inflow, Merging, fresh, merging, sender_at, with_item}
-use Rattle.sender_merge.specs.Lefts.{left_of, packets_in}
-use Rattle.sender_merge.specs.Standing.{Stands}
+use Rattle.sender_merge.specs.inside.Lefts.{left_of, packets_in}
+use Rattle.sender_merge.specs.inside.Standing.{Stands}
 use Rattle.sender_merge.proofs.Adding.{added_at, front, left_added, stands-added}
 use Rattle.sender_merge.proofs.Stepping.{get_or_any}
 use Rattle.sender_merge.proofs.merge_core.MergeCore.add.Goals as goal

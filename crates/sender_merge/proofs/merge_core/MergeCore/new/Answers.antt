@@ -2,8 +2,8 @@ use Rattle.std.proofs.Common.{◌≡◌, ◌∙◌, sym, ap, subst, arith, lengt
 use Rattle.std.proofs.lemmas.List.{length-replicate}
 use Rattle.packet_record.specs.declared.item.Stream.{Stream}
 use Rattle.sender_merge.specs.Inflows.{Inflow, fresh, merging}
-use Rattle.sender_merge.specs.Lefts.{left_of}
-use Rattle.sender_merge.specs.Standing.{Stands}
+use Rattle.sender_merge.specs.inside.Lefts.{left_of}
+use Rattle.sender_merge.specs.inside.Standing.{Stands}
 use Rattle.sender_merge.proofs.Adding.{front, left_new, stands-new}
 use Rattle.sender_merge.proofs.merge_core.MergeCore.new.Goals as goal
 

@@ -8,9 +8,9 @@ use Rattle.sender_merge.specs.declared.step.MergeStep.TheVariants.{Item as Gives
 use Rattle.packet_record.specs.Streams.{MayFollow}
 use Rattle.sender_merge.specs.Inflows.{Inflow, Merging, merging}
 use Rattle.sender_merge.specs.Laws.{AllUpTo, IfNeeds, IsMergeFront, IsStepUpTo, IsNeeded}
-use Rattle.sender_merge.specs.Lefts.{left_of}
+use Rattle.sender_merge.specs.inside.Lefts.{left_of}
 use Rattle.sender_merge.specs.Steps.{next_step, step_of, senders_after}
-use Rattle.sender_merge.specs.Standing.{Stands}
+use Rattle.sender_merge.specs.inside.Standing.{Stands}
 use Rattle.sender_merge.proofs.Stepping.{is_given, step_needs, step_within}
 use Rattle.sender_merge.proofs.Adding.{front}
 use Rattle.sender_merge.proofs.merge_core.MergeCore.next.Goals as goal

@@ -1,5 +1,6 @@
 use Rattle.std.proofs.Common.{◌≡◌, ◌+◌, ◌∙◌, ◌++◌, ◌∷◌, ◌<◌, [], get_or, length, List}
 use Rattle.std.proofs.Common.{drop, take, subst, sym, ap, refl, arith}
+use Rattle.std.proofs.Common.{◌≤◌, map, option_to_list}
 use Rattle.std.proofs.lemmas.List.{drop_more, take_more}
 use Rattle.packet_record.specs.declared.item.Stream.{Stream}
 use Rattle.packet_record.specs.declared.packet.Row.{Row}
@@ -7,11 +8,10 @@ use Rattle.packet_record.specs.declared.packet.Direction.TheVariants.{Up, Down}
 use Rattle.packet_record.specs.Rows.{Rises, entering}
 use Rattle.packet_record.proofs.RowsLemmas.{rises-in_order}
 use Rattle.packet_record.specs.Sources.{sent_after, source_item}
-use Rattle.std.proofs.Common.{◌≤◌, map, option_to_list}
 use Rattle.sender_merge.specs.Merges.{merged_row}
 use Rattle.sender_merge.proofs.Sending.{all_on, items_on, none_yet, packets_on, rises_lower, schedule_numbered}
 use Rattle.sender_merge.proofs.Sending.{take_whole}
-use Rattle.sender_merge.specs.RowMerges.{AllNumbered}
+use Rattle.sender_merge.specs.inside.RowMerges.{AllNumbered}
 use Rattle.sender_merge.proofs.outlet.Outlet.send_schedule.Goals as goal
 
 pub loop-row-init : goal.loop-row-init

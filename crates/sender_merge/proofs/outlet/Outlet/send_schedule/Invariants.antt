@@ -3,8 +3,8 @@ use Rattle.packet_record.specs.declared.item.FlowEnd.TheVariants.{Open}
 use Rattle.packet_record.specs.declared.packet.Direction.TheVariants.{Up, Down}
 use Rattle.packet_record.specs.Rows.{Rises, entering}
 use Rattle.sender_merge.specs.Merges.{merged_row}
-use Rattle.sender_merge.specs.Outlets.{IsSameOutlet}
-use Rattle.sender_merge.specs.RowMerges.{AllNumbered}
+use Rattle.sender_merge.specs.inside.Outlets.{IsSameOutlet}
+use Rattle.sender_merge.specs.inside.RowMerges.{AllNumbered}
 use Rattle.sender_merge.proofs.Sending.{GoesOn}
 use Rattle.sender_merge.proofs.outlet.Outlet.send_schedule.Given as goal
 

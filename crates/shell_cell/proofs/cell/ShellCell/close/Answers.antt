@@ -1,5 +1,5 @@
 use Rattle.std.proofs.Common.{rules, ap}
-use Rattle.shell_cell.specs.Rule.{Place}
+use Rattle.shell_cell.specs.inside.Rule.{Place}
 use Rattle.shell_cell.specs.Seats.{Cell}
 use Rattle.shell_cell.proofs.Keeps.{unites}
 use Rattle.shell_cell.proofs.Calls.{closes}

@@ -1,6 +1,6 @@
 use Rattle.std.proofs.Common.{rules, sym, subst}
 use Rattle.shell_cell.specs.declared.view.Call.{Call}
-use Rattle.shell_cell.specs.Rule.{IsDone}
+use Rattle.shell_cell.specs.inside.Rule.{IsDone}
 use Rattle.shell_cell.proofs.Keeps.{spends_turn}
 use Rattle.shell_cell.proofs.turns.TurnTable.spend.Goals as goal
 

@@ -3,7 +3,7 @@ use Rattle.std.specs.Str.{bytes_eq}
 use Rattle.std.proofs.lemmas.Slice.Eq.{bytes_eq-Decides}
 use Rattle.shell_log.specs.LogText.{header}
 use Rattle.shell_log.specs.LogParts.{LogPart, IsRead}
-use Rattle.shell_log.specs.LogTexts.{text_view}
+use Rattle.shell_log.specs.views.LogTexts.{text_view}
 use Rattle.shell_log.proofs.PartLaws.{read_header, read_other_header}
 use Rattle.shell_log.proofs.text.LogText.end_header.Goals as goal
 

@@ -1,8 +1,9 @@
 use Rattle.std.proofs.Common.{ap, sym, subst, refl, ◌∙◌, ◌∷◌, ◌+◌, Option}
 use Rattle.shell_log.specs.declared.entry.Entry.{Entry}
 use Rattle.shell_log.specs.Reading.{entry_of, fault_of}
-use Rattle.shell_log.specs.LogParts.{LogPart, IsRead, IsRefusing, keeping}
-use Rattle.shell_log.specs.LogTexts.{text_view}
+use Rattle.shell_log.specs.LogParts.{LogPart, IsRead}
+use Rattle.shell_log.specs.inside.LogParts.{IsRefusing, keeping}
+use Rattle.shell_log.specs.views.LogTexts.{text_view}
 use Rattle.shell_log.proofs.PartLaws.{some_is, none_is, read_line, refuse_line}
 use Rattle.shell_log.proofs.text.LogText.end_line.Goals as goal
 

@@ -1,7 +1,7 @@
 use Rattle.std.proofs.Common.{◌≡◌, ◌<◌, ◌==◌, true, false, None, Some, [], length, ap, sym, subst, ◌∙◌}
-use Rattle.text_base.specs.Lines.{is_one_line}
+use Rattle.text_base.specs.inside.Lines.{is_one_line}
 use Rattle.shell_log.specs.LogParts.{LogPart, IsRead, IsLeft}
-use Rattle.shell_log.specs.LogTexts.{text_view}
+use Rattle.shell_log.specs.views.LogTexts.{text_view}
 use Rattle.shell_log.proofs.PartLaws.{read_end, read_open_end, left_read, none_kept, some_kept}
 use Rattle.shell_log.proofs.text.LogText.finish.Goals as goal
 use Rattle.shell_log.proofs.text.LogText.finish.Goals.{then-not-self-via-then-not-self}
@@ -18,7 +18,7 @@ returns-then-not-self-clause-exact c = λ whole es left other.
     ] in
     read_open_end whole es p c.self.invariant.one_line some
     (left_read whole [] es p c.in_default.is (subst (IsLeft whole [] es) (sym c.self.view_is) left))
-    ∙ ap (λ (q : LogPart). Some (Rattle.shell_log.specs.LogParts.bad_line q)) c.self.view_is
+    ∙ ap (λ (q : LogPart). Some (Rattle.shell_log.specs.inside.LogParts.bad_line q)) c.self.view_is
     ∙ ap Some (sym c.bad_line.ensures)
 
 pub returns-clause-exact : goal.returns-clause-exact

@@ -1,7 +1,8 @@
 use Rattle.std.proofs.Common.{subst, sym, ap, ◌∙◌, ◌≡◌, rules}
 use Rattle.packet_record.specs.declared.item.FlowEnd.TheVariants.{Open}
 use Rattle.shell_state.specs.States.{State}
-use Rattle.shell_state.specs.Inside.{state_of, IsWhole}
+use Rattle.shell_state.specs.views.Whole.{state_of}
+use Rattle.shell_state.specs.inside.Fed.{IsWhole}
 use Rattle.shell_state.specs.Standing.{Stands}
 use Rattle.shell_state.specs.Steps.{after_take, answer_of}
 use Rattle.shell_state.proofs.Causing.{caused}

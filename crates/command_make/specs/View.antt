@@ -1,6 +1,0 @@
--- For proofs: what the values of the code stand for.
-use Rattle.command_make.specs.Make as make
-use Rattle.command_make.specs.declared.make_job.MakeJob.{MakeJob}
-
-abbrev pub make_values : MakeJob → make.MakeJob
-make_values job = record { number = job.number; packets = job.packets }

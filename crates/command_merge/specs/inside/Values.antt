@@ -1,0 +1,13 @@
+-- What the values of the code stand for.
+use Rattle.std.specs.Prelude.{map, string_bytes}
+use Rattle.command_merge.specs.Merge as merge
+use Rattle.command_merge.specs.declared.job.MergeJob.{MergeJob}
+
+abbrev pub merge_values : MergeJob → merge.MergeJob
+merge_values job = record {
+  until = job.until;
+  senders = job.senders.now;
+  out = job.out.now;
+  seed = job.seed;
+  shells = map string_bytes job.shells.now;
+}

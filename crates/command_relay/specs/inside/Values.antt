@@ -1,0 +1,15 @@
+-- What the values of the code stand for.
+use Rattle.std.specs.Prelude.{map, string_bytes}
+use Rattle.command_relay.specs.Jobs as jobs
+use Rattle.command_relay.specs.declared.job.RelayJob.{RelayJob}
+
+abbrev pub relay_values : RelayJob → jobs.RelayJob
+relay_values job = record {
+  until = job.until;
+  listen = job.listen;
+  to = job.to;
+  turns = job.turns;
+  out = job.out.now;
+  seed = job.seed;
+  shells = map string_bytes job.shells.now;
+}

@@ -1,6 +1,0 @@
--- For proofs: what the values of the code stand for.
-use Rattle.command_report.specs.Report as report
-use Rattle.command_report.specs.declared.report.ReportJob.{ReportJob}
-
-abbrev pub report_values : ReportJob → report.ReportJob
-report_values job = record { log = job.log.now }

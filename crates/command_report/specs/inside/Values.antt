@@ -1,0 +1,6 @@
+-- What the values of the code stand for.
+use Rattle.command_report.specs.Report as report
+use Rattle.command_report.specs.declared.report.ReportJob.{ReportJob}
+
+abbrev pub report_values : ReportJob → report.ReportJob
+report_values job = record { log = job.log.now }

@@ -1,0 +1,15 @@
+-- What the values of the code stand for.
+use Rattle.std.specs.Prelude.{map, option_map, string_bytes}
+use Rattle.command_run.specs.Run as run
+use Rattle.command_run.specs.declared.run_job.RunJob.{RunJob}
+
+abbrev pub run_values : RunJob → run.RunJob
+run_values job = record {
+  until = job.until;
+  schedule = job.schedule.now;
+  out = job.out.now;
+  seed = job.seed;
+  plain = job.plain;
+  order = option_map (λ s. s.now) job.order;
+  shells = map string_bytes job.shells.now;
+}

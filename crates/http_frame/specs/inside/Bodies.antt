@@ -1,0 +1,12 @@
+-- Beside Bodies, for proofs alone: a message's body, by its framing.
+use Rattle.std.specs.Prelude.{ℕ, List}
+use Rattle.http_frame.specs.Chunks.{StandsAt}
+use Rattle.http_frame.specs.declared.framing.Framing.{Framing}
+use Rattle.http_frame.specs.declared.framing.Framing.TheVariants.{Length, Chunked, ToEnd}
+use Rattle.http_frame.specs.Bodies.{most}
+
+-- a reader of such a body may go on at a place
+abbrev pub MayGoOn : Framing → List ℕ → ℕ → Type 0
+MayGoOn (Length n) bytes place = Unit {0}
+MayGoOn Chunked bytes place = StandsAt most bytes place
+MayGoOn ToEnd bytes place = Unit {0}

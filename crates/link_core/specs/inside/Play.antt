@@ -1,0 +1,53 @@
+-- For proofs alone: a link that goes over all its arrivals, and what is still to come of its log.
+use Rattle.std.specs.Prelude.{◌≡◌, ℕ, ◌+◌, ◌-◌, ◌≤◌, ◌++◌, List, [], ◌∷◌, length, take}
+use Rattle.packet_record.specs.declared.packet.Timed.{Timed}
+use Rattle.packet_record.specs.Moments.{AreUpTo, Rise}
+use Rattle.trace_reader.specs.declared.opportunity.Opportunity.{Opportunity}
+use Rattle.link_core.specs.declared.parts.Parts.{Parts}
+use Rattle.link_core.specs.Promises.{count_to}
+use Rattle.link_core.specs.Links.{link_out, link_log}
+use Rattle.link_core.specs.views.Span.{span_opps}
+use Rattle.link_core.specs.inside.Sound.{Gone}
+
+-- the opportunities that are burnt are not after the next arrival
+abbrev pub IsInTime : List Opportunity → ℕ → List Timed → Type 0
+IsInTime os b [] = Unit {0}
+IsInTime os b (t ∷ ts) = b ≤ count_to os t.moment
+
+-- where b opportunities are burnt, these packets were let in and those are to come
+pub record IsPlayable (os : List Opportunity) (horizon b : ℕ) (come coming : List Timed) : Type 0 where
+  pub rises : Rise (come ++ coming)
+  pub within : AreUpTo horizon (come ++ coming)
+  pub in_time : IsInTime os b coming
+
+abbrev pub CanPlay : Parts → Type 0
+CanPlay c = IsPlayable (span_opps c.opportunities) c.opportunities.horizon c.burnt c.arrived.come c.arrived.coming
+
+-- all arrivals are in, and all opportunities are burnt
+pub record IsPlayed (c : Parts) : Type 0 where
+  pub all_in : c.arrived.coming ≡ []
+  pub all_burnt : c.burnt ≡ length (span_opps c.opportunities)
+
+abbrev pub all_arrivals : Parts → List Timed
+all_arrivals c = c.arrived.come ++ c.arrived.coming
+
+-- how many steps there may be
+abbrev pub work : Parts → ℕ
+work c = length c.arrived.coming + (length (span_opps c.opportunities) - c.burnt)
+
+-- all but the last so many
+abbrev pub without_last : {X : Type 0} → List X → List X → List X
+without_last last all = take (length all - length last) all
+
+-- the departures and entries that aren't in hand any more
+abbrev pub gone_of : Parts → Gone
+gone_of c = record {
+  left = without_last c.left.items (link_out c.line.queue.spec (take c.burnt (span_opps c.opportunities))
+      c.arrived.come);
+  log = without_last c.log.entries (link_log c.line.queue.spec (take c.burnt (span_opps c.opportunities))
+      c.arrived.come);
+}
+
+-- those that were let go, where those in hand are let go too
+abbrev pub gone_with : Gone → Parts → Gone
+gone_with gone c = record { left = gone.left ++ c.left.items; log = gone.log ++ c.log.entries }

@@ -1,0 +1,37 @@
+-- What is true of the parts of a link at all times.
+use Rattle.std.specs.Prelude.{ℕ, ◌<◌, ◌≤◌, ◌++◌, Bool, List, [], Option, length, take, drop, reverse}
+use Rattle.packet_record.specs.declared.packet.Timed.{Timed}
+use Rattle.packet_queue.specs.declared.spec.QueueSpec.{QueueSpec}
+use Rattle.shell_log.specs.declared.entry.Entry.{Entry}
+use Rattle.trace_reader.specs.declared.opportunity.Opportunity.{Opportunity}
+use Rattle.link_core.specs.declared.parts.Parts.{Parts}
+use Rattle.trace_reader.specs.Orders.{Each, AreRising}
+use Rattle.link_core.specs.views.Span.{span_opps}
+use Rattle.link_core.specs.inside.State.{pending, IsPart, Tied}
+
+pub record Sound (q : QueueSpec) (opps : List Opportunity) (burnt : ℕ) (arrivals : List Timed) (packet : Option Timed)
+    (used : ℕ)
+    (queue left lost : List Timed) (logged : Bool) (log : List Entry) : Type 0 where
+  pub tied : Tied q (reverse (take burnt opps)) (reverse arrivals) (pending packet queue) used left lost logged log
+  pub part : IsPart packet used
+  pub few : burnt ≤ length opps
+  pub order : AreRising opps
+  pub later : Each (λ o. Each (λ t. t.moment < o.moment) (reverse arrivals)) (drop burnt opps)
+
+-- the first departures and entries, where they were let go
+pub record Gone : Type 0 where
+  pub left : List Timed
+  pub log : List Entry
+
+abbrev pub nothing : Gone
+nothing = record { left = []; log = [] }
+
+-- the parts, where these were let go
+abbrev pub IsSoundAfter : Gone → Parts → Type 0
+IsSoundAfter gone c =
+    Sound c.line.queue.spec (span_opps c.opportunities) c.burnt c.arrived.come c.line.packet c.line.used
+    c.line.queue.packets (gone.left ++ c.left.items) c.line.queue.lost c.log.kept
+    (gone.log ++ c.log.entries)
+
+abbrev pub IsSound : Parts → Type 0
+IsSound c = IsSoundAfter nothing c

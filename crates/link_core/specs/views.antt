@@ -1,0 +1,5 @@
+-- What `.now` of a type means, by the type's fields, and what is true of these.
+pub mod Arriving
+pub mod Play
+pub mod Span
+pub mod Written

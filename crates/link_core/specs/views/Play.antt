@@ -1,0 +1,16 @@
+-- A link that goes over all its arrivals, and what is still to come of its log.
+use Rattle.std.specs.Prelude.{ℕ, ◌++◌, List, length, take, drop}
+use Rattle.packet_record.specs.declared.packet.Timed.{Timed}
+use Rattle.packet_queue.specs.declared.spec.QueueSpec.{QueueSpec}
+use Rattle.shell_log.specs.declared.entry.Entry.{Entry}
+use Rattle.trace_reader.specs.declared.opportunity.Opportunity.{Opportunity}
+use Rattle.link_core.specs.declared.parts.Parts.{Parts}
+use Rattle.link_core.specs.Links.{link_log}
+use Rattle.link_core.specs.views.Span.{span_opps}
+
+-- what the log still gets
+abbrev pub rest_from : QueueSpec → List Opportunity → ℕ → List Timed → List Timed → List Entry
+rest_from q os b come coming = drop (length (link_log q (take b os) come)) (link_log q os (come ++ coming))
+
+abbrev pub rest_of : Parts → List Entry
+rest_of c = rest_from c.line.queue.spec (span_opps c.opportunities) c.burnt c.arrived.come c.arrived.coming

@@ -1,0 +1,5 @@
+-- What proofs and the clauses of inner functions cite, and no caller needs.
+pub mod MemWires
+pub mod Stamped
+pub mod Turns
+pub mod Ways

@@ -1,0 +1,51 @@
+-- Whether a step changes the world.
+use Rattle.std.specs.Prelude.{ℕ, zero, suc, ◌<◌, Bool, false, ◌&&◌, IfSome, List, [], ◌∷◌, is_some}
+use Rattle.packet_record.specs.declared.item.Stream.{Stream}
+use Rattle.packet_record.specs.Streams.{MayFollow}
+use Rattle.nest_core.specs.declared.stage.Stage.{Stage}
+use Rattle.nest_core.specs.declared.actor.Actor.{Actor}
+use Rattle.nest_core.specs.declared.actor.Actor.TheVariants.{Source, Receiver, Feeder, Taker, Sender}
+use Rattle.nest_core.specs.Channels.{ChannelParts, has_room, first_of}
+use Rattle.nest_core.specs.Stages.{receives}
+use Rattle.nest_core.specs.inside.Stages.{takes_where}
+use Rattle.nest_core.specs.Worlds.{WorldParts}
+
+abbrev pub feeds : Stage → Bool
+feeds s = is_some s.feeder
+
+abbrev pub takes : Stage → Bool
+takes s = takes_where s.drain s.state.taken.end s
+
+abbrev pub sends : Stage → Bool
+sends s = is_some s.drain && has_room s.channel
+
+abbrev pub at_stage : (Stage → Bool) → ℕ → List Stage → Bool
+at_stage p j [] = false
+at_stage p zero (s ∷ stages) = p s
+at_stage p (suc j) (s ∷ stages) = at_stage p j stages
+
+abbrev pub receives_at : ℕ → ChannelParts → List Stage → Bool
+receives_at zero channel [] = is_some (first_of channel.items)
+receives_at (suc j) channel [] = false
+receives_at zero channel (s ∷ stages) = receives (first_of channel.items) s
+receives_at (suc j) channel (s ∷ stages) = receives_at j s.channel stages
+
+abbrev pub does : WorldParts → Actor → Bool
+does w Source = has_room w.line.channel && is_some (first_of w.unsent)
+does w (Receiver j) = receives_at j w.line.channel w.line.stages
+does w (Feeder j) = at_stage feeds j w.line.stages
+does w (Taker j) = at_stage takes j w.line.stages
+does w (Sender j) = at_stage sends j w.line.stages
+
+-- what the collector would receive may follow what was collected
+abbrev pub MayCollect : ChannelParts → List Stage → Stream → Type 0
+MayCollect channel [] collected = IfSome (first_of channel.items) (MayFollow collected)
+MayCollect channel (s ∷ stages) collected = MayCollect s.channel stages collected
+
+-- the actor's shell is one of so many
+abbrev pub IsAmong : ℕ → Actor → Type 0
+IsAmong k Source = Unit {0}
+IsAmong k (Receiver j) = Unit {0}
+IsAmong k (Feeder j) = j < k
+IsAmong k (Taker j) = j < k
+IsAmong k (Sender j) = j < k

@@ -1,0 +1,5 @@
+-- What `.now` of a type means, by the type's fields, and what is true of these.
+pub mod Channel
+pub mod Source
+pub mod World
+pub mod Worlds

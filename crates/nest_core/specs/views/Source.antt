@@ -1,0 +1,12 @@
+-- A source by what is left to it.
+use Rattle.std.specs.Prelude.{List, [], Bool, true, false, drop}
+use Rattle.packet_record.specs.Sources.{items_from}
+use Rattle.packet_record.specs.declared.item.Item.{Item}
+use Rattle.nest_core.specs.declared.source.Source.TheInside.{Inside}
+
+abbrev pub unless_over : Bool → List Item → List Item
+unless_over true items = []
+unless_over false items = items
+
+abbrev pub source_view : Inside → List Item
+source_view s = unless_over s.is_over (items_from s.direction s.horizon s.sent (drop s.place s.rows.now))

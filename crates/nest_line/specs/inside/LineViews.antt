@@ -1,0 +1,9 @@
+-- For proofs alone: a line by the states of its shells.
+use Rattle.std.specs.Prelude.{◌≤◌, length}
+use Rattle.nest_line.specs.inside.Meeting.{Meet}
+use Rattle.nest_line.specs.views.Meeting.{fed_of}
+use Rattle.nest_line.specs.declared.line.Line.TheInside.{Inside}
+
+pub record IsLine (l : Inside) : Type 0 where
+  pub some : 1 ≤ length l.states.items
+  pub meet : Meet l.horizon (fed_of l.states.items) l.states.items

@@ -1,0 +1,7 @@
+-- A run as its callers see it.
+use Rattle.nest_spec.specs.Nests.{RunLists}
+use Rattle.nest_plain.specs.Unwritten.{unwritten}
+use Rattle.nest_plain.specs.declared.nest_run.NestRun.TheInside.{Inside}
+
+abbrev pub run_view : Inside → RunLists
+run_view r = record { fates = r.fates.items; logs = unwritten r.logs.items }

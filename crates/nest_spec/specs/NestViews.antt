@@ -1,9 +1,0 @@
--- For proofs: a nest as its callers see it.
-use Rattle.nest_spec.specs.Nests.{NestParts, IsNest}
-use Rattle.nest_spec.specs.declared.nest.Nest.TheInside.{Inside}
-
-abbrev pub nest_view : Inside → NestParts
-nest_view n = record { shells = n.shells.items; seed = n.seed; horizon = n.horizon }
-
-abbrev pub HasNest : Inside → Type 0
-HasNest n = IsNest (nest_view n)

@@ -1,0 +1,6 @@
+-- A marking as its callers see it.
+use Rattle.nest_spec.specs.Marks.{Marks, marks}
+use Rattle.nest_spec.specs.declared.marking.Marking.TheInside.{Inside}
+
+abbrev pub marking_view : Inside → Marks
+marking_view m = marks m.rows.now m.list.items

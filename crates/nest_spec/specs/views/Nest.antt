@@ -1,0 +1,6 @@
+-- A nest as its callers see it.
+use Rattle.nest_spec.specs.Nests.{NestParts}
+use Rattle.nest_spec.specs.declared.nest.Nest.TheInside.{Inside}
+
+abbrev pub nest_view : Inside → NestParts
+nest_view n = record { shells = n.shells.items; seed = n.seed; horizon = n.horizon }

@@ -1,0 +1,22 @@
+-- Fates as they are kept in 12 bytes. A fate in 12 bytes as its callers see it.
+use Rattle.std.specs.Prelude.{ℕ, ◌==◌, if◌then◌else◌}
+use Rattle.std.specs.Prelude.{◌/◌, ◌%◌, nat_lt, if◌then◌else◌}
+use Rattle.nest_spec.specs.declared.fate.Fate.{Fate}
+use Rattle.nest_spec.specs.declared.fate.Fate.TheVariants as fates
+use Rattle.packet_record.specs.declared.packet.Direction.TheVariants.{Up, Down}
+use Rattle.nest_spec.specs.declared.fate.FateRow.{FateRow}
+use Rattle.nest_spec.specs.declared.packed_fate.PackedFate.TheInside.{Inside}
+
+-- the fate of a kind, with this shell and this moment where it has them
+abbrev pub fate_at : ℕ → ℕ → ℕ → Fate
+fate_at kind shell moment =
+    if kind == 0 then fates.Departed moment
+    else (if kind == 1 then fates.Dropped shell moment
+    else (if kind == 2 then fates.Inside shell else fates.Unsent))
+
+abbrev pub packed_view : Inside → FateRow
+packed_view p = record {
+  id = p.id;
+  direction = if nat_lt (p.number % 8) 4 then Up else Down;
+  fate = fate_at (p.number % 4) p.shell (p.number / 8);
+}

@@ -1,0 +1,6 @@
+-- What `.now` of a type means, by the type's fields, and what is true of these.
+pub mod Flow
+pub mod Gathered
+pub mod Gatherers
+pub mod Readers
+pub mod TextReaders

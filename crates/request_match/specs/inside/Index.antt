@@ -1,0 +1,105 @@
+-- What an index keeps of the records that it was made from.
+use Rattle.std.specs.Prelude.{◌≡◌, ◌⊎◌, ◌||◌, ◌&&◌, ◌==◌, ℕ, ◌+◌, ◌-◌, ◌*◌, ◌%◌, ◌^◌, ◌<◌, ◌≤◌, List, [], fold, length}
+use Rattle.std.specs.Prelude.{slice_get, slice_index_or, Option, None, Some, unwrap_or, All, Contains, nat_lt}
+use Rattle.std.specs.Prelude.{if◌then◌else◌}
+use Rattle.std.specs.List.Sorted.{IsNonDecreasingBy}
+use Rattle.http_frame.specs.declared.messages.RequestHead.{RequestHead}
+use Rattle.record_store.specs.declared.record.Record.{Record}
+use Rattle.request_match.specs.Match.{stripped, common, FitsPort, Agrees, score}
+use Rattle.request_match.specs.inside.Match.{better_of}
+
+-- one byte more of a hash
+abbrev pub hash_step : ℕ → ℕ → ℕ
+hash_step hash byte = ((hash * 1099511628211) % 2 ^ 64 + byte) % 2 ^ 64
+
+abbrev pub hash_of_bytes : ℕ → List ℕ → ℕ
+hash_of_bytes hash bytes = fold hash_step hash bytes
+
+-- a number of what must agree: the stripped line, Host and User-Agent
+unfoldable pub key_of : RequestHead → ℕ
+key_of head = hash_of_bytes (hash_of_bytes (hash_of_bytes 0 (stripped head.line)) (unwrap_or head.host []))
+    (unwrap_or head.agent [])
+
+-- a key and a place
+abbrev pub Entry : Type 0
+Entry = ℕ × ℕ
+
+abbrev pub entry_at : List Entry → ℕ → Entry
+entry_at es k = slice_index_or es k (0, 0)
+
+-- an entry has the key of the record at its place, which fits the port
+pub record IsEntry (rs : List Record) (port : Option ℕ) (e : Entry) : Type 0 where
+  pub place : e.1 < length rs
+  pub key : (r : Record) → slice_get rs e.1 ≡ Some r → e.0 ≡ key_of r.request.head
+  pub fits : (r : Record) → slice_get rs e.1 ≡ Some r → FitsPort r.port port
+
+-- each record up to a place that fits the port has its entry
+abbrev pub HasAllTo : List Record → Option ℕ → ℕ → List Entry → Type 0
+HasAllTo rs port count es = (k : ℕ) (r : Record) → k < count → slice_get rs k ≡ Some r → FitsPort r.port port
+    → Contains es (key_of r.request.head, k)
+
+-- What a record agrees with the other one does too, but for the port, and their lines have so much in common.
+pub record IsShared (before now : Record) (front : ℕ) : Type 0 where
+  pub same : Agrees before.request.head None now
+  pub front_is : front ≡ common before.request.head.line now.request.head.line
+
+-- what the record of an entry shares with that of the entry before
+abbrev pub HasFront : List Record → List Entry → ℕ → Option ℕ → Type 0
+HasFront rs es i None = Unit {0}
+HasFront rs es i (Some front) = (0 < i) × ((a b : Record) → slice_get rs (entry_at es (i - 1)).1 ≡ Some a
+    → slice_get rs (entry_at es i).1 ≡ Some b → IsShared a b front)
+
+-- the same of the first entries
+pub record HasFrontsTo (rs : List Record) (es : List Entry) (count : ℕ) (fronts : List (Option ℕ)) : Type 0 where
+  pub as_many : length fronts ≡ count
+  pub each : (k : ℕ) (d : Option ℕ) → k < count → HasFront rs es k (slice_index_or fronts k d)
+
+-- the entries of the records that fit the port, by their keys, and what neighbours share
+pub record IsIndex (rs : List Record) (port : Option ℕ) (es : List Entry) (shared : List (Option ℕ)) : Type 0 where
+  pub entries : All (IsEntry rs port) es
+  pub whole : HasAllTo rs port (length rs) es
+  pub ordered : IsNonDecreasingBy (λ (e : Entry). e.0) es
+  pub fronts : HasFrontsTo rs es (length es) shared
+
+-- what was found, with the record at a place
+abbrev pub WithRecord : RequestHead → Option ℕ → Record → ℕ → Option (ℕ × ℕ) → Option (ℕ × ℕ) → Type 0
+WithRecord q asked r place found next = (Agrees q asked r × (next ≡ better_of found place (score q r)))
+    ⊎ ((Agrees q asked r → ⊥) × (next ≡ found))
+
+-- a record's score, if it agrees
+abbrev pub HasScore : RequestHead → Option ℕ → Record → Option ℕ → Type 0
+HasScore q asked r None = Agrees q asked r → ⊥
+HasScore q asked r (Some n) = Agrees q asked r × (n ≡ score q r)
+
+-- the score of the record of the entry before i
+abbrev pub HasNear : RequestHead → Option ℕ → List Record → List Entry → ℕ → Option ℕ → Type 0
+HasNear q asked rs es i near = (r : Record) → 0 < i → slice_get rs (entry_at es (i - 1)).1 ≡ Some r
+    → HasScore q asked r near
+
+-- a place with its score, or a new one where that is greater, or equal and of an earlier place
+abbrev pub offered : Option (ℕ × ℕ) → ℕ → Option ℕ → Option (ℕ × ℕ)
+offered found place None = found
+offered None place (Some n) = Some (place, n)
+offered (Some f) place (Some n) =
+    if nat_lt f.1 n || (f.1 == n && nat_lt place f.0) then Some (place, n) else Some (f.0, f.1)
+
+-- no entry before i has an agreeing record
+abbrev pub NoneBefore : RequestHead → Option ℕ → List Record → List Entry → ℕ → Type 0
+NoneBefore q asked rs es i = (k : ℕ) (r : Record) → k < i → slice_get rs (entry_at es k).1 ≡ Some r → Agrees q asked r
+    → ⊥
+
+-- the best record of the entries before i
+pub record BestBefore (q : RequestHead) (asked : Option ℕ) (rs : List Record) (es : List Entry) (i place most : ℕ) :
+    Type 0 where
+  pub best : Record
+  pub is : slice_get rs place ≡ Some best
+  pub agrees : Agrees q asked best
+  pub most_is : most ≡ score q best
+  pub greatest : (k : ℕ) (r : Record) → k < i → slice_get rs (entry_at es k).1 ≡ Some r → Agrees q asked r
+      → score q r ≤ most
+  pub first : (k : ℕ) (r : Record) → k < i → slice_get rs (entry_at es k).1 ≡ Some r → Agrees q asked r
+      → (entry_at es k).1 < place → score q r < most
+
+abbrev pub Scanned : RequestHead → Option ℕ → List Record → List Entry → ℕ → Option (ℕ × ℕ) → Type 0
+Scanned q asked rs es i None = NoneBefore q asked rs es i
+Scanned q asked rs es i (Some f) = BestBefore q asked rs es i f.0 f.1

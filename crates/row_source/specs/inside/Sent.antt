@@ -1,0 +1,18 @@
+-- What a source has sent in a direction, before the end.
+use Rattle.std.specs.Prelude.{◌≡◌, ◌++◌, ℕ, List}
+use Rattle.packet_record.specs.declared.item.Item.{Item}
+use Rattle.packet_record.specs.declared.packet.Direction.{Direction}
+use Rattle.packet_record.specs.declared.packet.Row.{Row}
+use Rattle.packet_record.specs.Rows.{Rises, entering}
+use Rattle.packet_record.specs.Sources.{items_from, source_items}
+use Rattle.mark_channel.specs.Ends.{End}
+
+-- What these rows give was sent up to the horizon, of which this is the greatest moment, behind these first items.
+-- Whatever rows follow, what is to be sent of all is what was sent and what they give, and none of them is below that
+-- moment.
+pub record HasSent (d : Direction) (horizon : ℕ) (first : List Item) (rows : List Row) (sent : ℕ) (to : End)
+    : Type 0 where
+  pub packets : to.flow.packets ≡ entering d horizon rows
+  pub items : (more : List Row)
+      → to.items ++ items_from d horizon sent more ≡ first ++ source_items d horizon (rows ++ more)
+  pub rises : (more : List Row) → Rises 0 (rows ++ more) → Rises sent more

@@ -1,0 +1,39 @@
+-- The sending ends of senders.
+use Rattle.std.specs.Prelude.{◌≡◌, ◌+◌, ℕ, List, [], ◌∷◌}
+use Rattle.packet_record.specs.declared.packet.Row.{Row}
+use Rattle.packet_record.specs.Streams.{no_items}
+use Rattle.mark_channel.specs.Ends.{IsSameEnd}
+use Rattle.sender_merge.specs.declared.outlet.Outlet.{Outlet}
+use Rattle.sender_merge.specs.inside.Feeding.{SentOrBroken}
+
+-- nothing was sent, and both have this horizon
+pub record IsEmpty (horizon : ℕ) (o : Outlet) : Type 0 where
+  pub up : o.up.to.flow ≡ no_items
+  pub down : o.down.to.flow ≡ no_items
+  pub none : (o.up.to.items ≡ []) × (o.down.to.items ≡ [])
+  pub sent : (o.up.sent ≡ 0) × (o.down.sent ≡ 0)
+  pub up_horizon : o.up.to.horizon ≡ horizon
+  pub down_horizon : o.down.to.horizon ≡ horizon
+
+abbrev pub AllEmpty : ℕ → List Outlet → Type 0
+AllEmpty horizon [] = Unit {0}
+AllEmpty horizon (o ∷ outlets) = IsEmpty horizon o × AllEmpty horizon outlets
+
+-- both keep their horizons and channels
+abbrev pub IsSameOutlet : Outlet → Outlet → Type 0
+IsSameOutlet old new = IsSameEnd old.up.to new.up.to × IsSameEnd old.down.to new.down.to
+
+abbrev pub AllSameOutlets : List Outlet → List Outlet → Type 0
+AllSameOutlets [] [] = Unit {0}
+AllSameOutlets [] (p ∷ new) = ⊥
+AllSameOutlets (o ∷ old) [] = ⊥
+AllSameOutlets (o ∷ old) (p ∷ new) = IsSameOutlet o p × AllSameOutlets old new
+
+-- each sender, the first with this number, has sent its rows under their numbers in the merge, or was broken off with
+-- nothing sent
+abbrev pub AllSentOrBroken : ℕ → ℕ → List (List Row) → List Outlet → Type 0
+AllSentOrBroken horizon sender [] [] = Unit {0}
+AllSentOrBroken horizon sender [] (o ∷ outlets) = ⊥
+AllSentOrBroken horizon sender (rows ∷ schedules) [] = ⊥
+AllSentOrBroken horizon sender (rows ∷ schedules) (o ∷ outlets) =
+    SentOrBroken horizon sender rows o × AllSentOrBroken horizon (sender + 1) schedules outlets

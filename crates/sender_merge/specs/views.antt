@@ -1,0 +1,4 @@
+-- What `.now` of a type means, by the type's fields, and what is true of these.
+pub mod Inflow
+pub mod MergeCore
+pub mod Senders

@@ -1,0 +1,6 @@
+-- A sender as its callers see it.
+use Rattle.sender_merge.specs.Inflows.{Inflow, inflow}
+use Rattle.sender_merge.specs.declared.incoming.Incoming.TheInside.{Inside}
+
+abbrev pub inflow_view : Inside → Inflow
+inflow_view s = inflow s.flow.stream s.passed

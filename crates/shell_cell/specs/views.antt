@@ -1,0 +1,3 @@
+-- What `.now` of a type means, by the type's fields, and what is true of these.
+pub mod Seats
+pub mod Sides

@@ -1,0 +1,5 @@
+-- What proofs and the clauses of inner functions cite, and no caller needs.
+pub mod Fed
+pub mod Fronts
+pub mod Standing
+pub mod StateInside
