@@ -42,9 +42,9 @@ module _ {A N : Type 0} (work : A → Work N) (reading : Reading A) where
       let ends : IsRefused reading (outside old out net) (outside new out net) refusal =
       record { first = first; absent = counts; unchanged = unchanged old new out net keep } in
       subst (λ (c : Cause). Ends work reading (outside old out net) (outside new out net) (Some c)) (sym is) ends
-  ends_stopped old new out net cause keep (ReadingFault name is next rose) =
+  ends_stopped old new out net cause keep (ReadingFault name is next fails) =
       let ends : HasReadFault reading (outside old out net) (outside new out net) name =
-      record { next = next; rose = rose; unchanged = unchanged old new out net keep } in
+      record { next = next; fails = fails; unchanged = unchanged old new out net keep } in
       subst (λ (c : Cause). Ends work reading (outside old out net) (outside new out net) (Some c)) (sym is) ends
   ends_stopped old new out net cause keep (ReadingWants is) =
       subst (λ (c : Cause). Ends work reading (outside old out net) (outside new out net) (Some c)) (sym is)

@@ -3,7 +3,7 @@ use Rattle.std.proofs.Common.{◌≡◌, ℕ, ◌<◌, true, cond, nat_lt, List,
 use Rattle.std.proofs.Common.{refl, ap, ◌∙◌, rules, tests, arith}
 use Rattle.std.proofs.lemmas.List.{length-replicate}
 use Rattle.mm_base.specs.Counts.{Rose}
-use Rattle.mm_base.specs.Disk.{DiskView}
+use Rattle.mm_base.specs.Disk.{DiskView, FailsReading}
 use Rattle.mm_base.specs.Files.{Files, file, IsAbsent, IsThere, IfHeld}
 use Rattle.mm_base.specs.declared.errors.DiskError.{DiskError}
 use Rattle.mm_base.specs.declared.errors.DiskError.TheVariants as disk_errors
@@ -59,7 +59,7 @@ large_stops name old new size long =
 pub disk_stops : (name : Text) (old new : DiskView) (error : DiskError)
     → (error ≡ disk_errors.Absent → IsAbsent old.files name)
     → (error ≡ disk_errors.Absent → Rose old.absences new.absences)
-    → (error ≡ disk_errors.Failed → Rose old.read_faults new.read_faults)
+    → (error ≡ disk_errors.Failed → FailsReading name old new)
     → StopsAtFile name old new (cause_of_disk name error)
 disk_stops name old new disk_errors.Absent absent lacks faults = absent_stops name old new (absent refl) (lacks refl)
 disk_stops name old new disk_errors.Failed absent lacks faults = FileFault refl (faults refl)
@@ -68,7 +68,7 @@ disk_stops name old new disk_errors.OutOfMemory absent lacks faults = FileWants 
 pub load_stops : (name : Text) (old new : DiskView) (error : LoadError)
     → (error ≡ load_errors.Absent → IsAbsent old.files name)
     → (error ≡ load_errors.Absent → Rose old.absences new.absences)
-    → (error ≡ load_errors.Failed → Rose old.read_faults new.read_faults)
+    → (error ≡ load_errors.Failed → FailsReading name old new)
     → ((size : ℕ) → error ≡ load_errors.TooLong size → (67108864 < size) × IsThere old.files name
     × IfHeld old.files name (λ bytes. size ≡ length bytes))
     → StopsAtFile name old new (cause_of_load name error)

@@ -139,7 +139,7 @@ module _ {A B N M : Type 0} (f : A → B) (work : A → Work N) (whole : B → W
   }
   ends_widened (Some (ReadFault name)) e = record {
     next = reaches_mapped f old.files reading (AtFile name) e.next;
-    rose = e.rose;
+    fails = e.fails;
     unchanged = unchanged e.unchanged;
   }
   ends_widened (Some (WriteFault name)) e = record { partly = partly_written name e.partly; rose = e.rose }

@@ -3,7 +3,7 @@ use Rattle.std.proofs.Common.{◌≡◌, ◌≢◌, inl, inr, ℕ, ◌≤◌, Bo
 use Rattle.std.proofs.Common.{Result, Ok, Err, IfErr, MatchResult, length, subst, refl, ap, sym, ◌∙◌, rules, tests}
 use Rattle.std.proofs.Common.{arith}
 use Rattle.mm_base.specs.Disk.{DiskView, OnlyReads}
-use Rattle.mm_base.proofs.Then.{Rose-later}
+use Rattle.mm_base.proofs.Then.{Rose-later, FailsReading-later}
 use Rattle.mm_base.specs.Files.{Files}
 use Rattle.command_ends.specs.Causes.{Text, status_of_refusal}
 use Rattle.command_ends.specs.Readings.{Reading, Done, Refuses, Reads, Judges, Holds, Reaches, ReachesPast, Stop}
@@ -266,7 +266,7 @@ pub stops_at : {A : Type 0} (name : Text) (next : List ℕ → Reading A) (old n
 stops_at name next old new cause (FileRefused refusal is given holds e counts) =
     ReadingRefused refusal is ((leads_refused old.files name next given refusal holds e).on (AtRefusal refusal) refl)
     counts
-stops_at name next old new cause (FileFault is rose) = ReadingFault name is (inl refl) rose
+stops_at name next old new cause (FileFault is fails) = ReadingFault name is (inl refl) fails
 stops_at name next old new cause (FileWants is) = ReadingWants is
 
 -- what stops a later reading stops an earlier one that leads to it
@@ -277,10 +277,10 @@ stops_later {A} a b old mid new cause leads reads (ReadingRefused refusal is fir
     ReadingRefused refusal is (leads.on (AtRefusal refusal)
     (subst (λ (told : Option Files). Reaches told b (AtRefusal refusal)) reads.same_files first))
     (λ name e. Rose-later _ _ _ reads.lacks (counts name e))
-stops_later {A} a b old mid new cause leads reads (ReadingFault name is next rose) =
+stops_later {A} a b old mid new cause leads reads (ReadingFault name is next fails) =
     ReadingFault name is (leads.on (AtFile name)
     (subst (λ (told : Option Files). Reaches told b (AtFile name)) reads.same_files next))
-    (Rose-later _ _ _ reads.reads rose)
+    (FailsReading-later reads fails)
 stops_later a b old mid new cause leads reads (ReadingWants is) = ReadingWants is
 
 -- what is refused without reading
@@ -400,8 +400,8 @@ pub stops_alike : {A B : Type 0} (one : Reading A) (other : Reading B) (old new 
     → StopsAlike old.files one other → StopsReading one old new cause → StopsReading other old new cause
 stops_alike one other old new cause alike (ReadingRefused refusal is first counts) =
     ReadingRefused refusal is (alike.refused refusal first) counts
-stops_alike one other old new cause alike (ReadingFault name is next rose) =
-    ReadingFault name is (alike.fault name next) rose
+stops_alike one other old new cause alike (ReadingFault name is next fails) =
+    ReadingFault name is (alike.fault name next) fails
 stops_alike one other old new cause alike (ReadingWants is) = ReadingWants is
 
 -- the reading of a text stops alike whatever comes next
@@ -427,7 +427,7 @@ pub file_later : (name : Text) (old mid new : DiskView) (cause : Cause) → Only
 file_later name old mid new cause reads (FileRefused refusal is given holds e counts) =
     FileRefused refusal is given (subst (λ (told : Option Files). Holds told name given) reads.same_files holds) e
     (λ missing h. Rose-later _ _ _ reads.lacks (counts missing h))
-file_later name old mid new cause reads (FileFault is rose) = FileFault is (Rose-later _ _ _ reads.reads rose)
+file_later name old mid new cause reads (FileFault is fails) = FileFault is (FailsReading-later reads fails)
 file_later name old mid new cause reads (FileWants is) = FileWants is
 
 -- what is refused where no more is read

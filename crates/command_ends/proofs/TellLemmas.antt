@@ -183,14 +183,14 @@ module _ {A N : Type 0} (work : A → Work N) (reading : Reading A) (old : Outsi
     words = λ e. absurd (omega arith);
     usage = λ e _. absurd (omega arith);
     absent = λ e. absurd (omega arith);
-    read_fault = λ e. ends.rose;
+    read_fault = λ e. ends.fails.rose;
     write_fault = λ e. absurd (omega arith);
     net_fault = λ e. absurd (omega arith);
     keeps = λ _ _ _. ends.unchanged.keeps;
     by_words = λ refusal e. absurd (let no : AtFile name ≡ AtRefusal refusal =
         first_kept old.disk.files reading (AtFile name) refusal e ends.next in cc no);
-    by_files = λ m refusal single told e calm. absurd (calm ends.rose);
-    complete = λ m task single told e faultless. absurd (faultless.read ends.rose);
+    by_files = λ m refusal single told e calm. absurd (calm ends.fails.rose);
+    complete = λ m task single told e faultless. absurd (faultless.read ends.fails.rose);
   }
 
   tells_write_fault : (name : List ℕ) → Ends work reading old (outside disk mid net) (Some (WriteFault name)) → Tells 7

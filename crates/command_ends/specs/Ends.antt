@@ -1,7 +1,7 @@
 -- How a command ends, by its cause, before the cause is explained. `work task` is what a task does.
 use Rattle.std.specs.Prelude.{◌≡◌, ◌<◌, ℕ, take, [], Option, Some, None, length}
 use Rattle.mm_base.specs.Counts.{Rose}
-use Rattle.mm_base.specs.Disk.{DiskView}
+use Rattle.mm_base.specs.Disk.{DiskView, FailsReading}
 use Rattle.mm_base.specs.Files.{Files}
 use Rattle.mm_base.specs.Sink.{SinkView, sending}
 use Rattle.command_ends.specs.Causes.{Text}
@@ -58,10 +58,10 @@ pub record IsRefused {A N : Type 0} (reading : Reading A) (old new : Outside N) 
   pub absent : (name : Text) → refusal ≡ Absent name → Rose old.disk.absences new.disk.absences
   pub unchanged : IsUnchanged old new
 
--- The files lead to the file of this name, and a fault was counted in reading. Nothing is changed.
+-- The files lead to the file of this name, and a fault was counted in reading it. Nothing is changed.
 pub record HasReadFault {A N : Type 0} (reading : Reading A) (old new : Outside N) (name : Text) : Type 0 where
   pub next : Reaches old.disk.files reading (AtFile name)
-  pub rose : Rose old.disk.read_faults new.disk.read_faults
+  pub fails : FailsReading name old.disk new.disk
   pub unchanged : IsUnchanged old new
 
 -- Writing stopped at the file of this name: those before are whole, it is as before or has a front of its text, later

@@ -2,7 +2,7 @@
 use Rattle.std.specs.Prelude.{◌≡◌, ◌⊎◌, ◌≤◌, ◌<◌, ℕ, take, List, Option, Some, Err}
 use Rattle.std.specs.Prelude.{length}
 use Rattle.mm_base.specs.Counts.{Rose}
-use Rattle.mm_base.specs.Disk.{DiskView}
+use Rattle.mm_base.specs.Disk.{DiskView, FailsReading}
 use Rattle.mm_base.specs.Files.{Files}
 use Rattle.file_pieces.specs.Pieces.{GoesOnBy}
 use Rattle.mm_base.specs.Sink.{SinkView, sending}
@@ -33,7 +33,7 @@ pub data StopsAtFile (name : Text) (old new : DiskView) (cause : Cause) : Type 0
   FileRefused : (refusal : Refusal) → cause ≡ Refused refusal → (given : Option (List ℕ)) → Holds old.files name given
       → input_of name given ≡ Err refusal
       → CountsAbsence refusal old new → StopsAtFile name old new cause
-  FileFault : cause ≡ ReadFault name → Rose old.read_faults new.read_faults → StopsAtFile name old new cause
+  FileFault : cause ≡ ReadFault name → FailsReading name old new → StopsAtFile name old new cause
   FileWants : cause ≡ OutOfMemory → StopsAtFile name old new cause
 
 -- why a reading isn't done: its refusal, a fault at the file that is next, or want of memory
@@ -42,7 +42,7 @@ pub data StopsReading {A : Type 0} (reading : Reading A) (old new : DiskView) (c
       → CountsAbsence refusal old new
       → StopsReading reading old new cause
   ReadingFault : (name : Text) → cause ≡ ReadFault name → Reaches old.files reading (AtFile name)
-      → Rose old.read_faults new.read_faults → StopsReading reading old new cause
+      → FailsReading name old new → StopsReading reading old new cause
   ReadingWants : cause ≡ OutOfMemory → StopsReading reading old new cause
 
 -- All bytes of an input were read.

@@ -1,7 +1,7 @@
 -- Why a schedule that is read while its packets pass gives no run.
 use Rattle.std.proofs.Common.{◌≡◌, ◌≢◌, ℕ, ◌<◌, List, Option, Some, length, refl, ap, sym, subst, ◌∙◌}
 use Rattle.mm_base.specs.Counts.{Rose}
-use Rattle.mm_base.specs.Disk.{DiskView}
+use Rattle.mm_base.specs.Disk.{DiskView, FailsReading}
 use Rattle.mm_base.specs.Files.{Files, IfHeld, IsAbsent, IsThere, file}
 use Rattle.text_base.specs.Lines.{lines_of}
 use Rattle.mm_base.specs.declared.errors.LoadError.TheVariants as load_errors
@@ -47,7 +47,7 @@ pub absent_stop : (name : Text) (old new : DiskView) → IsAbsent old.files name
 absent_stop name old new h = at_file name old new _ (load_stops name old new load_errors.Absent (λ _. h.0) (λ _. h.1)
     (λ e. absurd (cc e)) (λ size e. absurd (cc e)))
 
-pub failed_stop : (name : Text) (old new : DiskView) → Rose old.read_faults new.read_faults
+pub failed_stop : (name : Text) (old new : DiskView) → FailsReading name old new
     → StopsReading (reading_schedule name Done) old new (ReadFault name)
 failed_stop name old new h = at_file name old new _ (load_stops name old new load_errors.Failed
     (λ e. absurd (cc e)) (λ e. absurd (cc e)) (λ _. h) (λ size e. absurd (cc e)))

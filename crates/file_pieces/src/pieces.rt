@@ -45,7 +45,7 @@ pub fn read_piece<D: Disk>(
     ensures only_reads { OnlyReads (D.view disk.old) (D.view disk.new) }
     ensures no_absence { IfThere (D.view disk.old).files name.now
         ((D.view disk.new).absences ≡ (D.view disk.old).absences) }
-    ensures cause { HasReadCause (D.view disk.old) (D.view disk.new) result }
+    ensures cause { HasReadCause name.now (D.view disk.old) (D.view disk.new) result }
 {
     let read = disk.read_at(name, at, piece)?;
     let wanted = (size - at).min(read as u64);
@@ -70,7 +70,7 @@ fn push_piece<D: Disk, P: PieceReader>(
     ensures only_reads { OnlyReads (D.view disk.old) (D.view disk.new) }
     ensures no_absence { IfThere (D.view disk.old).files name.now
         ((D.view disk.new).absences ≡ (D.view disk.old).absences) }
-    ensures cause { HasReadCause (D.view disk.old) (D.view disk.new) result }
+    ensures cause { HasReadCause name.now (D.view disk.old) (D.view disk.new) result }
 {
     let read = read_piece(disk, name, at, size, piece)?;
     reader.push(&piece[..read]);
@@ -94,7 +94,7 @@ pub fn push_pieces<D: Disk, P: PieceReader>(
     ensures only_reads { OnlyReads (D.view disk.old) (D.view disk.new) }
     ensures no_absence { IfThere (D.view disk.old).files name.now
         ((D.view disk.new).absences ≡ (D.view disk.old).absences) }
-    ensures cause { HasReadCause (D.view disk.old) (D.view disk.new) result }
+    ensures cause { HasReadCause name.now (D.view disk.old) (D.view disk.new) result }
 {
     let mut at = at;
     'pieces: while at < size {

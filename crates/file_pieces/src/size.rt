@@ -2,7 +2,7 @@
 ghost use Rattle.std.specs.Prelude.{◌≡◌, ◌<◌, ℕ, length, IfOk, IsErrOf};
 ghost use Rattle.mm_base.specs.Counts.{Rose};
 ghost use Rattle.mm_base.specs.Files.{IfHeld, IfThere, IsAbsent, IsThere};
-ghost use Rattle.mm_base.specs.Disk.{OnlyReads};
+ghost use Rattle.mm_base.specs.Disk.{FailsReading, OnlyReads};
 ghost use Rattle.file_pieces.specs.Pieces.{HasSize};
 
 use mm_base::{Disk, LoadError};
@@ -23,7 +23,7 @@ pub fn size_within<D: Disk>(disk: &mut D, name: &str) -> Result<u64, LoadError>
     ensures no_absence { IfThere (D.view disk.old).files name.now
         ((D.view disk.new).absences ≡ (D.view disk.old).absences) }
     ensures failed_cause { IsErrOf result LoadError.Failed
-        → Rose (D.view disk.old).read_faults (D.view disk.new).read_faults }
+        → FailsReading name.now (D.view disk.old) (D.view disk.new) }
     ensures absent_cause { IsErrOf result LoadError.Absent
         → Rose (D.view disk.old).absences (D.view disk.new).absences }
 {

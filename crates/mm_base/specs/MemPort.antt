@@ -1,14 +1,15 @@
 -- A port in memory as its callers see it.
-use Rattle.std.specs.Prelude.{◌≡◌, ◌↔◌, ◌==◌, ℕ, List, [], ◌∷◌, length, Some, Contains, Result, IsErrOf}
+use Rattle.std.specs.Prelude.{◌≡◌, ◌↔◌, ◌==◌, ℕ, List, [], ◌∷◌, length, Option, Some, Contains, Result, IsErrOf}
 use Rattle.mm_base.specs.declared.errors.EndError.{EndError}
 use Rattle.mm_base.specs.declared.errors.EndError.TheVariants.{Failed}
 use Rattle.mm_base.specs.Counts.{one_more}
 use Rattle.mm_base.specs.MemLink.{MemLinkState, IsUnused}
 use Rattle.mm_base.specs.Port.{PortView}
 
--- the links still to be given, those that are finished, how many were given, the calls that are to fail, and how many
--- calls and faults there were
+-- the number at which it listened last, the links still to be given, those that are finished, how many were given, the
+-- calls that are to fail, and how many calls and faults there were
 pub record MemPortState : Type 0 where
+  pub listened : Option ℕ
   pub waiting : List MemLinkState
   pub finished : List MemLinkState
   pub accepted : ℕ
@@ -19,6 +20,7 @@ pub record MemPortState : Type 0 where
 -- It tells its finished links, is drained where no link is left, and never fails where no call is to fail.
 abbrev pub mem_port_view : MemPortState → PortView MemLinkState
 mem_port_view port = record {
+  listened = port.listened;
   finished = Some port.finished;
   accepted = port.accepted;
   drained = length port.waiting == 0;

@@ -1,10 +1,11 @@
 // A port in memory, which fails by a list.
-ghost use Rattle.std.specs.Prelude.{◌≡◌, ◌+◌, ◌∷◌, [], true, Some, IfOk, OnErr, IfSome, IfNone, IsErrOf, MatchOption};
+ghost use Rattle.std.specs.Prelude.{◌≡◌, ◌+◌, ◌∷◌, [], true, None, Some, IfOk, OnErr, IfSome, IfNone, IsErrOf};
+ghost use Rattle.std.specs.Prelude.{MatchOption};
 ghost use Rattle.mm_base.specs.Counts.{Rose};
 ghost use Rattle.mm_base.specs.Link.{IsFresh};
 ghost use Rattle.mm_base.specs.MemLink.{mem_link_view, IsUnused};
 ghost use Rattle.mm_base.specs.MemPort.{mem_port_view, AllUnused, IsPortCall};
-ghost use Rattle.mm_base.specs.Port.{KeepsPort, after_finish};
+ghost use Rattle.mm_base.specs.Port.{KeepsPort, after_finish, listened_after};
 
 use crate::fails::is_failing;
 use crate::{EndError, MemLink, Port};
@@ -16,6 +17,7 @@ use std::marker::Model;
 /// and fails exactly those that its list names. It is drained where no link is left.
 #[derive(Drop)]
 pub struct MemPort {
+    listened: Option<u16>,
     waiting: VecDeque<MemLink>,
     finished: Vec<MemLink>,
     accepted: u64,
@@ -31,6 +33,7 @@ impl Model for MemPort {
     ghost Value = { MemPortState };
 
     ghost view = { λ p. record {
+      listened = p.listened;
       waiting = p.waiting.items;
       finished = p.finished.items;
       accepted = p.accepted;
@@ -47,6 +50,7 @@ impl MemPort {
     pub fn new(alloc: Global, links: Vec<MemLink>, fails: Vec<u64>) -> Self
         requires { AllUnused links.items }
         ensures { result ≡ record {
+          listened = None;
           waiting = links.items;
           finished = [];
           accepted = 0;
@@ -56,6 +60,7 @@ impl MemPort {
         } }
     {
         MemPort {
+            listened: None,
             waiting: VecDeque::from(links),
             finished: Vec::new(alloc),
             accepted: 0,
@@ -63,6 +68,13 @@ impl MemPort {
             calls: 0,
             faults: 0,
         }
+    }
+
+    /// The number at which it listened last. None before it did.
+    pub fn listened(&self) -> Option<u16>
+        ensures { result ≡ self.now.listened }
+    {
+        self.listened
     }
 
     /// The finished links, in the order in which they were finished.
@@ -75,6 +87,7 @@ impl MemPort {
     // Counts a call, and a fault where it is to fail.
     fn call(&mut self) -> Result<(), EndError>
         ensures call { IsPortCall self.old self.new result }
+        ensures listened { self.new.listened ≡ self.old.listened }
         ensures waiting { self.new.waiting ≡ self.old.waiting }
         ensures finished { self.new.finished ≡ self.old.finished }
         ensures accepted { self.new.accepted ≡ self.old.accepted }
@@ -94,15 +107,18 @@ impl Port for MemPort {
 
     ghost view = { mem_port_view };
 
-    fn listen(&mut self, _number: u16) -> Result<(), EndError>
+    fn listen(&mut self, number: u16) -> Result<(), EndError>
         ensures call { IsPortCall self.old self.new result }
+        ensures listened { self.new.listened ≡ listened_after number result self.old.listened }
         ensures waiting { self.new.waiting ≡ self.old.waiting }
         ensures finished { Some self.new.finished ≡ Some self.old.finished }
         ensures accepted { self.new.accepted ≡ self.old.accepted }
         ensures keeps { KeepsPort (mem_port_view self.old) (mem_port_view self.new) }
         ensures failed_cause { IsErrOf result EndError.Failed → Rose self.old.faults self.new.faults }
     {
-        self.call()
+        self.call()?;
+        self.listened = Some(number);
+        Ok(())
     }
 
     fn accept(&mut self) -> Result<Option<MemLink>, EndError>
@@ -114,6 +130,7 @@ impl Port for MemPort {
             ((self.new.accepted ≡ self.old.accepted) × ((mem_port_view self.new).drained ≡ true))
             (λ conn. (self.new.accepted ≡ self.old.accepted + 1) × IsFresh (mem_link_view conn))) }
         ensures err { OnErr result (self.new.accepted ≡ self.old.accepted) }
+        ensures listened { self.new.listened ≡ self.old.listened }
         ensures waiting { OnErr result (self.new.waiting ≡ self.old.waiting) }
         ensures finished { Some self.new.finished ≡ Some self.old.finished }
         ensures keeps { KeepsPort (mem_port_view self.old) (mem_port_view self.new) }
@@ -125,6 +142,7 @@ impl Port for MemPort {
 
     fn finish(&mut self, conn: MemLink) -> Result<(), EndError>
         ensures call { IsPortCall self.old self.new result }
+        ensures listened { self.new.listened ≡ self.old.listened }
         ensures waiting { self.new.waiting ≡ self.old.waiting }
         ensures finished { Some self.new.finished ≡ after_finish conn result (Some self.old.finished) }
         ensures accepted { self.new.accepted ≡ self.old.accepted }

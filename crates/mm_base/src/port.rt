@@ -2,7 +2,7 @@
 ghost use Rattle.std.specs.Prelude.{◌≡◌, ◌+◌, true, IfOk, OnErr, IsErrOf, MatchOption};
 ghost use Rattle.mm_base.specs.Counts.{Rose};
 ghost use Rattle.mm_base.specs.Link.{IsFresh};
-ghost use Rattle.mm_base.specs.Port.{PortView, KeepsPort, after_finish};
+ghost use Rattle.mm_base.specs.Port.{PortView, KeepsPort, after_finish, listened_after};
 
 use crate::{EndError, Link};
 use std::marker::Send;
@@ -16,8 +16,9 @@ pub trait Port {
 
     /// Listens at the port of this number.
     ///
-    /// `Failed` is counted as a fault.
+    /// `Failed` is counted as a fault. After a refusal it is taken to listen as before.
     fn listen(&mut self, number: u16) -> Result<(), EndError>
+        ensures listened { (view self.new).listened ≡ listened_after number result (view self.old).listened }
         ensures finished { (view self.new).finished ≡ (view self.old).finished }
         ensures accepted { (view self.new).accepted ≡ (view self.old).accepted }
         ensures keeps { KeepsPort (view self.old) (view self.new) }
@@ -32,6 +33,7 @@ pub trait Port {
             (((view self.new).accepted ≡ (view self.old).accepted) × ((view self.new).drained ≡ true))
             (λ conn. ((view self.new).accepted ≡ (view self.old).accepted + 1) × IsFresh (Self.Conn.view conn))) }
         ensures err { OnErr result ((view self.new).accepted ≡ (view self.old).accepted) }
+        ensures listened { (view self.new).listened ≡ (view self.old).listened }
         ensures finished { (view self.new).finished ≡ (view self.old).finished }
         ensures keeps { KeepsPort (view self.old) (view self.new) }
         ensures failed_cause { IsErrOf result EndError.Failed → Rose (view self.old).faults (view self.new).faults };
@@ -40,6 +42,7 @@ pub trait Port {
     ///
     /// `Failed` is counted as a fault.
     fn finish(&mut self, conn: Self::Conn) -> Result<(), EndError>
+        ensures listened { (view self.new).listened ≡ (view self.old).listened }
         ensures finished { (view self.new).finished ≡ after_finish conn result (view self.old).finished }
         ensures accepted { (view self.new).accepted ≡ (view self.old).accepted }
         ensures keeps { KeepsPort (view self.old) (view self.new) }

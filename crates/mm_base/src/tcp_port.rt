@@ -20,8 +20,10 @@ pub struct TcpPort<R: Net<Stream = TcpStream, Listener = TcpListener> + Clock + 
     rt: R,
     limits: TcpLimits,
     listener: Option<TcpListener>,
+    listened: Option<u16>,
     accepted: u64,
     faults: u64,
+    last_error: Option<i32>,
 }
 
 impl<R: Net<Stream = TcpStream, Listener = TcpListener> + Clock + Copy + Drop> TcpPort<R> {
@@ -40,8 +42,10 @@ impl<R: Net<Stream = TcpStream, Listener = TcpListener> + Clock + Copy + Drop> T
             rt,
             limits,
             listener: None,
+            listened: None,
             accepted: 0,
             faults: 0,
+            last_error: None,
         }
     }
 
@@ -51,12 +55,19 @@ impl<R: Net<Stream = TcpStream, Listener = TcpListener> + Clock + Copy + Drop> T
         Some(address.port())
     }
 
+    /// The number of the system's error at the last call that was refused. None where none was, or not by the system.
+    pub fn last_error(&self) -> Option<i32> {
+        self.last_error
+    }
+
     // Counts a fault, unless memory was wanting.
     fn refuse(&mut self, error: io::Error) -> EndError
         ensures failed { result ≡ EndError.Failed → Rose self.old.faults self.new.faults }
         ensures grows { self.old.faults ≤ self.new.faults }
         ensures accepted { self.new.accepted ≡ self.old.accepted }
+        ensures listened { self.new.listened ≡ self.old.listened }
     {
+        self.last_error = error.raw_os_error();
         if error.kind() == ErrorKind::OutOfMemory {
             return EndError::OutOfMemory;
         }
@@ -98,6 +109,7 @@ impl<R: Net<Stream = TcpStream, Listener = TcpListener> + Clock + Send + Copy + 
     type Conn = TcpLink<R>;
 
     ghost view = { λ p. record {
+      listened = p.listened;
       finished = None;
       accepted = p.accepted;
       drained = false;
@@ -112,6 +124,7 @@ impl<R: Net<Stream = TcpStream, Listener = TcpListener> + Clock + Send + Copy + 
         {
             Ok(listener) => {
                 self.listener = Some(listener);
+                self.listened = Some(number);
                 Ok(())
             }
             Err(error) => Err(self.refuse(error)),

@@ -1,7 +1,7 @@
 -- A schedule that is read while its packets pass the nest.
 use Rattle.std.specs.Prelude.{◌≡◌, ◌≢◌, ◌≤◌, ◌<◌, ℕ, List, Option, Some, None, length}
 use Rattle.mm_base.specs.Counts.{Rose}
-use Rattle.mm_base.specs.Disk.{DiskView}
+use Rattle.mm_base.specs.Disk.{DiskView, FailsReading}
 use Rattle.mm_base.specs.Files.{Files, IfHeld, IsAbsent, IsThere}
 use Rattle.text_base.specs.Lines.{lines_of}
 use Rattle.mm_base.specs.declared.errors.DiskError.{DiskError}
@@ -42,7 +42,7 @@ pub record IsRefusedFor (told : Option Files) (name : List ℕ) (error : Schedul
 -- why a streamed run gives no result
 abbrev pub HasStreamCause : DiskView → DiskView → List ℕ → StreamError → Type 0
 HasStreamCause old new name stream_errors.Absent = IsAbsent old.files name × Rose old.absences new.absences
-HasStreamCause old new name stream_errors.Failed = Rose old.read_faults new.read_faults
+HasStreamCause old new name stream_errors.Failed = FailsReading name old new
 HasStreamCause old new name stream_errors.OutOfMemory = Unit {0}
 HasStreamCause old new name (stream_errors.TooLong size) = (67108864 < size) × IsThere old.files name
     × IfHeld old.files name (λ bytes. size ≡ length bytes)

@@ -166,7 +166,7 @@ fn stream_lanes<D: Disk, Q: Pace + Sync, R: Threads + Wait + Sync>(
     ensures same { IsSameLane up.old up.new × IsSameLane down.old down.new }
     ensures absent { IsErrOf result.1 DiskError.Absent → IsAbsent (D.view disk.old).files name.now }
     ensures only_reads { OnlyReads (D.view disk.old) (D.view disk.new) }
-    ensures cause { HasReadCause (D.view disk.old) (D.view disk.new) result.1 }
+    ensures cause { HasReadCause name.now (D.view disk.old) (D.view disk.new) result.1 }
 {
     let Lane {
         head: up_head,
@@ -204,7 +204,7 @@ fn stream_lanes<D: Disk, Q: Pace + Sync, R: Threads + Wait + Sync>(
             ensures absent { IsErrOf result DiskError.Absent
                 → IsAbsent (D.view disk.entry.now).files name.entry.now }
             ensures only_reads { OnlyReads (D.view disk.entry.now) (D.view disk.exit.now) }
-            ensures cause { HasReadCause (D.view disk.entry.now) (D.view disk.exit.now) result }
+            ensures cause { HasReadCause name.entry.now (D.view disk.entry.now) (D.view disk.exit.now) result }
         {
             stream_source(
                 rt, disk, name, size, piece, text, horizon, up_head, down_head, pace, &begun,

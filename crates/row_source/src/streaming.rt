@@ -63,7 +63,7 @@ fn stream_piece<D: Disk, Q: Pace, R: Wait>(
     ensures same { IsSameEnd up.old up.new × IsSameEnd down.old down.new }
     ensures absent { IsErrOf result DiskError.Absent → IsAbsent (D.view disk.old).files name.now }
     ensures only_reads { OnlyReads (D.view disk.old) (D.view disk.new) }
-    ensures cause { HasReadCause (D.view disk.old) (D.view disk.new) result }
+    ensures cause { HasReadCause name.now (D.view disk.old) (D.view disk.new) result }
 {
     let done = text.rows().len();
     let read = read_piece(disk, name, at, size, piece)?;
@@ -103,7 +103,7 @@ fn stream_pieces<D: Disk, Q: Pace, R: Wait>(
     ensures same { IsSameEnd up.old up.new × IsSameEnd down.old down.new }
     ensures absent { IsErrOf result DiskError.Absent → IsAbsent (D.view disk.old).files name.now }
     ensures only_reads { OnlyReads (D.view disk.old) (D.view disk.new) }
-    ensures cause { HasReadCause (D.view disk.old) (D.view disk.new) result }
+    ensures cause { HasReadCause name.now (D.view disk.old) (D.view disk.new) result }
 {
     let mut at = 0;
     let mut sent = Sent::new();
@@ -132,7 +132,7 @@ fn skip_pieces<D: Disk>(
     requires some { 0 < length piece.old }
     ensures absent { IsErrOf result DiskError.Absent → IsAbsent (D.view disk.old).files name.now }
     ensures only_reads { OnlyReads (D.view disk.old) (D.view disk.new) }
-    ensures cause { HasReadCause (D.view disk.old) (D.view disk.new) result }
+    ensures cause { HasReadCause name.now (D.view disk.old) (D.view disk.new) result }
 {
     let mut at = at;
     'pieces: while at < size {
@@ -212,7 +212,7 @@ pub fn stream_source<D: Disk, Q: Pace, R: Wait>(
     ensures same { IsSameEnd up.old up.new × IsSameEnd down.old down.new }
     ensures absent { IsErrOf result DiskError.Absent → IsAbsent (D.view disk.old).files name.now }
     ensures only_reads { OnlyReads (D.view disk.old) (D.view disk.new) }
-    ensures cause { HasReadCause (D.view disk.old) (D.view disk.new) result }
+    ensures cause { HasReadCause name.now (D.view disk.old) (D.view disk.new) result }
 {
     begun.wait(rt, up, down)?;
     let (at, sent) = match stream_pieces(

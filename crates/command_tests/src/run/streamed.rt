@@ -111,6 +111,7 @@ impl Disk for NotingDisk<'_> {
       files = None;
       reads = 2 ^ 64 - 1;
       read_faults = 2 ^ 64 - 1;
+      last_fault = None;
       write_faults = 2 ^ 64 - 1;
       absences = 2 ^ 64 - 1;
       never_fails = false;
