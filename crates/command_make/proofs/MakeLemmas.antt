@@ -1,4 +1,4 @@
--- Words of `make` are refused by themselves.
+-- The words of `make` are refused by themselves.
 use Rattle.std.proofs.Common.{List}
 use Rattle.command_ends.specs.Causes.{Text}
 use Rattle.command_ends.proofs.ReadingLemmas.{RefusesWordsFirst, asked_first}

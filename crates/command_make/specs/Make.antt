@@ -13,32 +13,32 @@ pub record MakeJob : Type 0 where
   pub number : ℕ
   pub packets : ℕ
 
--- there are 1 to 1,000,000 packets
+-- the job, where there are 1 to 1,000,000 packets
 abbrev pub make_within : ℕ → ℕ → Option MakeJob
 make_within number packets =
     if nat_le 1 packets && nat_le packets 1000000 then Some (record { number = number; packets = packets }) else None
 
--- the numbers are decimals
+-- the job of the options' texts, where the numbers are decimals
 unfoldable pub make_with : MakeTexts → Option MakeJob
 make_with texts = do
   number ← decimal_of texts.number
   packets ← decimal_of texts.packets
   make_within number packets
 
--- the job of `make`'s words
+-- the job of the words after `make`
 unfoldable pub make_job_of : List Text → Option MakeJob
 make_job_of words = option_and_then make_with (make_texts words)
 
--- The summary of the number's run is printed.
+-- The summary of the run that is made of the number is printed.
 pub record GivesMake (job : MakeJob) (output : Output) : Type 0 where
   pub text : List ℕ
   pub is : IsSummary job.number job.packets text
   pub output_is : output ≡ prints text
 
--- It reads nothing.
+-- nothing is read, and the job is the task
 abbrev pub make_reading : MakeJob → Reading MakeJob
 make_reading job = Done job
 
--- the words after `make`
+-- what `make` refuses by the words after it
 abbrev pub make_words : List Text → Reading MakeJob
 make_words words = asked (make_job_of words) make_reading

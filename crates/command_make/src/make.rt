@@ -18,7 +18,8 @@ use option_words::{MakeWords, parse_make};
 use std::alloc::Global;
 use text_base::{OutOfMemory, read_decimal};
 
-// The job of the words after `make`, if they have one. `OutOfMemory` is want of memory.
+// Returns the job of `words`, the words after `make`, or `None` where they name none. Returns `OutOfMemory` where an
+// allocation fails.
 #[tactic(auto, unfolding(crate::specs::Make::make_job_of))]
 fn read_make(alloc: Global, words: &[String]) -> Result<Option<MakeJob>, OutOfMemory>
     ensures { IfOk result (λ found. option_map make_values found ≡ make_job_of (map string_bytes words.now)) }
@@ -29,7 +30,7 @@ fn read_make(alloc: Global, words: &[String]) -> Result<Option<MakeJob>, OutOfMe
     }
 }
 
-// The job of the options' values, where the numbers are decimals within their ranges.
+// Returns the job of the options' values, where the numbers are decimals and there are 1 to 1,000,000 packets.
 #[tactic(auto, unfolding(crate::specs::Make::make_with))]
 fn with_numbers(texts: MakeWords<'_>) -> Option<MakeJob>
     ensures { option_map make_values result ≡ make_with (make_texts_of texts.entry) }
@@ -45,7 +46,7 @@ fn with_numbers(texts: MakeWords<'_>) -> Option<MakeJob>
     None
 }
 
-// Does the job: nothing is read, and the summary of the run is printed.
+// Does the job: reads nothing, and prints the summary of the run.
 fn make<O: Sink>(alloc: Global, job: &MakeJob, out: &mut O) -> Result<(), Cause>
     ensures ends { (disk : DiskView) → Ends (only GivesMake) (make_reading (make_values job.now))
         (offline disk (O.view out.old)) (offline disk (O.view out.new)) (cause_in result) }
@@ -55,8 +56,10 @@ fn make<O: Sink>(alloc: Global, job: &MakeJob, out: &mut O) -> Result<(), Cause>
     print(out, summary.as_slice())
 }
 
-/// Does what the words after `make` say: prints the summary of a run that is made of a number. No file is read or
-/// written, and no net is touched.
+/// Carries out the command `make`, whose further words are `words`: prints the summary of the run that is made of a
+/// number. No file is read or written, and no net is touched.
+///
+/// The cause of an error is a refusal of words, a fault of `out`, or out of memory.
 pub fn answer_make<O: Sink>(alloc: Global, words: &[String], out: &mut O) -> Result<(), Cause>
     ensures ends { (disk : DiskView) → Ends (only GivesMake) (make_words (map string_bytes words.now))
         (offline disk (O.view out.old)) (offline disk (O.view out.new)) (cause_in result) }

@@ -1,7 +1,7 @@
-// What `make` is asked for.
+// What `make` is asked for by its words.
 ghost use Rattle.std.specs.Prelude.{◌≤◌};
 
-// The number of the generator, and how many packets its load has: 1 to 1,000,000.
+// The job of `make`: the number of the generator, and how many packets its load has, 1 to 1,000,000.
 #[derive(Drop)]
 pub(crate) struct MakeJob {
     pub number: u64,

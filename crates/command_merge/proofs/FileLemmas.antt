@@ -25,7 +25,7 @@ pub fate_lines : (fates : List SenderFate)
 fate_lines [] = refl
 fate_lines (fate ∷ fates) = ap (λ l. merged_fate_line fate.0 ++ l) (fate_lines fates)
 
--- a file is written, and the answer says it
+-- what holds after a file was written holds where success is returned for it
 pub same_done : (P : Type 0) (answer : Result (Unit {0}) DiskError) (result : Result (Unit {0}) Cause) → IsOk result
     ↔ IsOk answer → OnOk answer P → OnOk result P
 same_done P (Ok a) (Ok b) same holds = holds
@@ -65,7 +65,7 @@ fates_stop (Err cause) run logs fates out old mid new logs_are fates_are so_far 
     subst (λ (l : List NamedText). StopsWriting l old new cause)
     (are_files run logs fates out logs_are fates_are) stop
 
--- there is no memory for the fates
+-- out of memory for the fates
 pub unwritten_stop : (run : RunLists) (logs : List NamedEntries) (fates : List FateRow) (out : Text)
     (old mid : DiskView) (cause : Cause) → logs ≡ run.logs → fates ≡ run.fates
     → mid.files ≡ holding_all (map log_file logs) old.files → OnlyWrites old mid → cause ≡ OutOfMemory

@@ -30,7 +30,7 @@ pub name_isnt : (line : List ℕ) → ¬ (IsUtf8 line) → is_name line ≡ fals
 name_isnt [] bad = refl
 name_isnt (byte ∷ bytes) bad = not_text (byte ∷ bytes) (is_utf8 (byte ∷ bytes)) refl bad
 
--- a line that is read as text is a name, and one that isn't is none
+-- a line that is UTF-8 is a name, and another isn't
 pub name_found : {S E : Type 0} (now : S → List ℕ) (Bad : E → Type 0) (line : List ℕ) (read : Result S E)
     (found : Option S) → found ≡ result_ok read → 0 < length line
     → MatchResult read (λ s. (now s ≡ line) × IsUtf8 line) Bad
@@ -78,13 +78,13 @@ line_over count line rest many =
     ap (λ b. cond b (Some TooMany) (cond (is_name line) (line_fault (count + 1 + 1) rest) (Some (BadName (count + 1)))))
     over
 
--- one name more is read
+-- one name more was read
 pub names_more : {S : Type 0} (f : S → List ℕ) (names : List S) (name : S) (line : List ℕ) (rest : List (List ℕ))
     → f name ≡ line → map f (names ++ name ∷ []) ++ rest ≡ map f names ++ (line ∷ rest)
 names_more f [] name line rest e = λ j. e j ∷ rest
 names_more f (x ∷ xs) name line rest e = ap (λ l. f x ∷ l) (names_more f xs name line rest e)
 
--- the text of a list
+-- a list's text is refused for its error
 pub list_said : (name : Text) (text : List ℕ) (error : ListError) (refusal : Refusal) (cause : Cause)
     → list_fault text ≡ Some error → list_refused name (Some error) ≡ Some refusal
     → cause ≡ Refused refusal → RefusesText (list_refusal name text) cause

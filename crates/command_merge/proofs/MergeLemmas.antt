@@ -41,20 +41,20 @@ use Rattle.command_merge.specs.MergeReading.{refused_outputs, refused_total, sch
 use Rattle.command_merge.proofs.ListLemmas.{list_text}
 use Rattle.command_merge.proofs.ScheduleLemmas.{leads_schedules, schedule_texts, schedules_stop}
 
--- a merge's reading after its nest is known
+-- what is read and refused once the nest is known
 abbrev after_nest : MergeJob → NestPlan → Reading MergeTask
 after_nest job plan = unless (refused_outputs job plan) (unless (refused_horizon job.until) (merge_inputs job plan))
 
--- and after its traces were read
+-- what is read and refused once the traces were read
 abbrev pub after_traces : MergeJob → NestPlan → List (List ℕ) → Reading MergeTask
 after_traces job plan traces =
     unless (refused_count job.until plan.shells (map trace_in traces)) (sender_inputs job plan traces)
 
--- and after its list
+-- what is read and refused once the list was read
 abbrev after_list : MergeJob → NestPlan → List (List ℕ) → List ℕ → Reading MergeTask
 after_list job plan traces list = unless (refused_listed job plan list) (schedule_inputs job plan traces list)
 
--- and after all schedules
+-- the end, once all schedules were read
 abbrev done_with : MergeJob → NestPlan → List (List ℕ) → List (List ℕ) → Reading MergeTask
 done_with job plan traces schedules =
     Done (record { job = job; plan = plan; traces = traces; schedules = schedules })
@@ -65,7 +65,7 @@ nest_known told job plan e =
     subst (λ (r : Result NestPlan NestError). Leads told (with_nest r (λ p. after_nest job p)) (after_nest job plan))
     (sym e) (stays (after_nest job plan))
 
--- the words are no nest
+-- the words name no nest
 pub nest_stop : (job : MergeJob) (error : NestError) (cause : Cause)
     → (error ≢ nest_errors.OutOfMemory → nest_of job.shells ≡ Err error)
     → (cause ≡ OutOfMemory) ⊎ ((error ≢ nest_errors.OutOfMemory) × (cause ≡ Refused (nest_refusal error)))
@@ -164,7 +164,7 @@ list_next : (told : Option Files) (job : MergeJob) (plan : NestPlan) (list : Lis
 list_next told job plan list texts input accepted =
     leads_text told (list_refusal job.senders) job.senders (after_list job plan texts) list input accepted
 
--- a listed name is taken
+-- a name on a line of the list is taken
 pub listed_stop : (job : MergeJob) (plan : NestPlan) (list : List ℕ) (old mid : DiskView) (cause : Cause)
     → IsInput old.files job.senders list → list_refusal job.senders list ≡ None → OnlyReads old mid
     → RefusesText (refused_listed job plan list) cause
@@ -194,7 +194,7 @@ listed_schedules_stop job plan list names old mid new cause input accepted free 
     (schedules_stop 0 (lines_of list) mid new cause (done_with job plan texts)
     (subst (λ (l : List Text). StopsReading (reading_schedules 0 l Done) mid new cause) same stopped))
 
--- the list and the schedules are read
+-- the list and the schedules were read
 pub senders_found : (job : MergeJob) (plan : NestPlan) (list : List ℕ) (names : List Text)
     (schedules added : List (List Row)) (old mid : DiskView)
     → IsInput old.files job.senders list → list_refusal job.senders list ≡ None → refused_listed job plan list ≡ None
@@ -213,7 +213,7 @@ senders_found job plan list names schedules added old mid input accepted free re
           adds.have));
     }
 
--- all is read
+-- all was read
 pub merge_finishes : (job : MergeJob) (plan : NestPlan) (nest : NestParts) (traces : List TraceView)
     (schedules : List (List Row)) (old mid : DiskView) (run : RunLists) → HasTraces old.files job plan traces
     → OnlyReads old mid → HasSenders mid.files job plan schedules → nest ≡ nest_for job plan traces
@@ -239,7 +239,7 @@ merge_finishes job plan nest traces schedules old mid run has reads now nest_is 
     (leads_then (schedules_next old.files job plan senders.list has.texts senders.input senders.accepted senders.free)
     (leads_schedules (done_with job plan has.texts) senders.have))) gives
 
--- files that are told lead to one end
+-- a reading with one end has one behind a refusal that may come
 unless_one : {A : Type 0} (found : Option Refusal) (next : Reading A) → HasOneEnd next
     → HasOneEnd (unless found next)
 unless_one None next one = one
@@ -280,5 +280,6 @@ words_one : (found : Option MergeJob) → HasOneEnd (asked found merge_reading)
 words_one None = tt
 words_one (Some job) = nest_one job (nest_of job.shells)
 
+-- files that are told lead a merge to one end
 pub merge_one : (words : List Text) → HasOneEnd (merge_words words)
 merge_one words = words_one (merge_of words)

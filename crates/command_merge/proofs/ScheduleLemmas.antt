@@ -71,7 +71,7 @@ pub total_text : (name : Text) (lines : ℕ) (refusal : Refusal) → refused_tot
 unfolding refused_total
 total_text name lines refusal e = total_status name (nat_lt 1000000 lines) refusal e
 
--- after so many lines, a schedule that is read
+-- what is refused and read once a schedule was read, after schedules with `before` lines in all
 abbrev rest_of : {A : Type 0} → ℕ → Text → (List ℕ → Reading A) → List ℕ → Reading A
 rest_of before name next text = unless (refused_total name (before + length (lines_of text))) (next text)
 
@@ -83,7 +83,7 @@ leads_next {told = told} {before = before} {name = name} {text = text} next has 
     has.has.accepted)
     (leads_unless told (refused_total name (before + length (lines_of text))) (next text) has.accepted)
 
--- there are too many lines with it
+-- with this schedule there are too many lines
 pub total_stop : (before lines : ℕ) (name : Text) (text : List ℕ) (rows : List Row) (old mid : DiskView) (cause : Cause)
     → HasSchedule old.files name text rows → lines ≡ before + length rows → OnlyReads old mid
     → RefusesText (refused_total name lines) cause
@@ -97,7 +97,7 @@ total_stop before lines name text rows old mid cause has same reads refused =
     (λ refusal e three. let five = total_text name (before + length (lines_of text)) refusal e in omega arith)
     (subst (λ (n : ℕ). RefusesText (refused_total name n) cause) long refused))
 
--- it is read, and there are few enough
+-- this schedule was read, and there are few enough lines
 pub next_found : (told : Option Files) (before lines : ℕ) (name : Text) (rows : List Row)
     → ((text : List ℕ) × HasSchedule told name text rows) → lines ≡ before + length rows
     → refused_total name lines ≡ None → (text : List ℕ) × HasNext told before name text rows
@@ -106,7 +106,7 @@ next_found told before lines name rows has same few =
     ∙ ap (λ n. before + n) (schedule_long has.0 rows has.1.rows_are) in
     (has.0, record { has = has.1; accepted = ap (refused_total name) (sym long) ∙ few })
 
--- what stops the reading of a schedule stops it whatever would have come next
+-- what stops the reading of a schedule stops it, whatever would have come next
 pub schedule_stop : (before : ℕ) (name : Text) (old new : DiskView) (cause : Cause)
     → StopsReading (reading_schedule name Done) old new cause
     → StopsReading (reading_next before name Done) old new cause
@@ -124,7 +124,7 @@ next_stop before name old new cause next stopped =
     (λ t. alike_unless old.files (refused_total name (before + length (lines_of t))) (Done t) (next t)
     (alike_done old.files t (next t)))) stopped
 
--- schedules that are read lead on
+-- schedules that were read lead on
 pub leads_schedules : {A : Type 0} {told : Option Files} {before : ℕ} {names : List Text} {texts : List (List ℕ)}
     {schedules : List (List Row)} (next : List (List ℕ) → Reading A)
     → HaveSchedules told before names texts schedules → Leads told (reading_schedules before names next) (next texts)
@@ -161,7 +161,7 @@ schedules_alike told before (name ∷ names) last next =
     (schedules_alike told (before + length (lines_of t)) names (λ texts. last (t ∷ texts))
     (λ texts. next (t ∷ texts))))
 
--- what stops their reading stops it whatever would have come next
+-- what stops the reading of schedules stops it, whatever would have come next
 pub schedules_stop : {A : Type 0} (before : ℕ) (names : List Text) (old new : DiskView) (cause : Cause)
     (next : List (List ℕ) → Reading A) → StopsReading (reading_schedules before names Done) old new cause
     → StopsReading (reading_schedules before names next) old new cause
@@ -169,7 +169,7 @@ schedules_stop before names old new cause next stopped =
     stops_alike (reading_schedules before names Done) (reading_schedules before names next) old new cause
     (schedules_alike old.files before names (λ texts. texts) next) stopped
 
--- none is read
+-- no schedule was read
 pub adds_none : (told : Option Files) (before : ℕ) (names : List Text) (items : List (List Row)) → names ≡ []
     → AddsSchedules told before names items items
 adds_none told before names items none = record {
@@ -179,7 +179,7 @@ adds_none told before names items none = record {
   added = sym (append-nil items);
 }
 
--- one is read, and then the others
+-- one schedule was read, and then the others
 pub adds_more : (told now : Option Files) (before lines : ℕ) (name : Text) (all names : List Text)
     (old pushed new : List (List Row)) (rows : List Row) → all ≡ name ∷ names
     → ((text : List ℕ) × HasNext told before name text rows) → lines ≡ before + length rows
@@ -199,7 +199,7 @@ adds_more told now before lines name all names old pushed new rows is has same p
       added = adds.added ∙ ap (λ l. l ++ adds.more) push ∙ append_assoc old (rows ∷ []) adds.more;
     }
 
--- reading stops at the first of these, or at a later one
+-- reading stops at the first schedule
 pub first_stop : (before : ℕ) (name : Text) (all names : List Text) (old new : DiskView) (cause : Cause)
     → all ≡ name ∷ names → StopsReading (reading_next before name Done) old new cause
     → StopsReading (reading_schedules before all Done) old new cause
@@ -208,6 +208,7 @@ first_stop before name all names old new cause is stopped =
     (next_stop before name old new cause
     (λ t. reading_schedules (before + length (lines_of t)) names (λ texts. Done (t ∷ texts))) stopped)
 
+-- reading stops at a later schedule
 pub later_stop : (before lines : ℕ) (name : Text) (all names : List Text) (rows : List Row) (old mid new : DiskView)
     (cause : Cause) → all ≡ name ∷ names → ((text : List ℕ) × HasNext old.files before name text rows)
     → lines ≡ before + length rows → OnlyReads old mid
@@ -227,7 +228,7 @@ later_stop before lines name all names rows old mid new cause is has same reads 
     (leads_next (λ t. reading_schedules (before + length (lines_of t)) names (λ texts. Done (t ∷ texts))) has.1) reads
     here)
 
--- they have few enough rows in all
+-- the schedules have few enough rows in all
 pub rows_few : (told : Option Files) (before : ℕ) (names : List Text) (texts : List (List ℕ))
     (schedules : List (List Row)) → HaveSchedules told before names texts schedules → before ≤ 1000000
     → before + rows_in schedules ≤ 1000000
@@ -238,7 +239,7 @@ rows_few told before names texts schedules (MoreSchedules b name ns text ts rows
     let rest_few = rows_few told (before + length (lines_of text)) ns ts more rest within in
     omega arith
 
--- a cause that is one for this is one for that
+-- a weaker claim about the cause of an error
 pub if_err_weaker : {T : Type 0} {P Q : Cause → Type 0} (result : Result T Cause)
     → ((cause : Cause) → P cause → Q cause)
     → IfErr result P → IfErr result Q

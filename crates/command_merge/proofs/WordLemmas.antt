@@ -1,4 +1,4 @@
--- Words as texts.
+-- Words that are seen as texts.
 use Rattle.std.proofs.Common.{◌≡◌, ℕ, ◌+◌, List, Some, None, map, take, drop, ap, ◌∙◌}
 use Rattle.std.specs.List.{position, drop-map, take-map}
 use Rattle.std.specs.Prelude.{option_and_then}
@@ -8,7 +8,7 @@ use Rattle.nest_command.specs.Words.{ends_options}
 use Rattle.nest_command.proofs.WordLemmas.{position-map}
 use Rattle.command_merge.specs.Merge.{merge_at, merge_numbers, merge_of}
 
--- the job of words that have an end of options
+-- the job of words in which the options end at `place`
 pub merge_parts : {S : Type 0} (f : S → Text) (words : List S) (place : ℕ)
     → position (λ w. ends_options (f w)) words ≡ Some place
     → merge_of (map f words) ≡ option_and_then (merge_numbers (map f (drop (place + 1) words)))

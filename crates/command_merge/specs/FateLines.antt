@@ -1,22 +1,25 @@
--- The text of a merge's fates: `SENDER LINE` and then, as in a run's, the direction and the fate, for each packet.
+-- The text of a merge's fates: for each packet `SENDER LINE` and then, as in a run's, the direction and the fate.
 use Rattle.std.specs.Prelude.{ℕ, ◌+◌, ◌-◌, ◌/◌, ◌%◌, ◌++◌, List, codes, decimal}
 use Rattle.std.specs.List.{flat_map}
 use Rattle.packet_record.specs.Printing.{direction_text}
 use Rattle.nest_spec.specs.FateTexts.{fate_text}
 use Rattle.nest_spec.specs.declared.fate.FateRow.{FateRow}
 
--- The packet of a line of a sender has the number 16 * (line - 1) + sender. So these are the sender and the line.
+-- The sender of the packet with the number `id`: line `line` of sender `sender` has the number
+-- `16 * (line - 1) + sender`.
 abbrev pub sender_of : ℕ → ℕ
 sender_of id = (id - 1) % 16 + 1
 
+-- the line of the packet with the number `id`
 abbrev pub line_of : ℕ → ℕ
 line_of id = (id - 1) / 16 + 1
 
+-- the line of a packet
 abbrev pub merged_fate_line : FateRow → List ℕ
 merged_fate_line row =
     decimal (sender_of row.id) ++ codes " " ++ decimal (line_of row.id) ++ direction_text row.direction
     ++ fate_text row.fate ++ codes "\n"
 
--- the lines of these packets, in their order
+-- the lines of packets, in their order
 abbrev pub merged_fates_text : List FateRow → List ℕ
 merged_fates_text rows = flat_map merged_fate_line rows

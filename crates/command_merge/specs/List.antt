@@ -8,21 +8,23 @@ use Rattle.command_ends.specs.declared.cause.Refusal.TheVariants.{BadInput}
 use Rattle.command_merge.specs.declared.list.ListError.{ListError}
 use Rattle.command_merge.specs.declared.list.ListError.TheVariants.{Empty, BadName, TooMany, OutOfMemory}
 
+-- whether a line is a name
 abbrev pub is_name : List ℕ → Bool
 is_name [] = false
 is_name (byte ∷ bytes) = is_utf8 (byte ∷ bytes)
 
--- the first refusal of lines, the first of which has this number; after the last line, no lines are refused too
+-- The first refusal of the lines from line `place` on, counted from 1. At the end a list without lines is refused.
 abbrev pub line_fault : ℕ → List (List ℕ) → Option ListError
 line_fault place [] = if place == 1 then Some Empty else None
 line_fault place (line ∷ lines) =
     if nat_lt 16 place then Some TooMany
     else (if is_name line then line_fault (place + 1) lines else Some (BadName place))
 
+-- the first refusal of a list's text
 abbrev pub list_fault : List ℕ → Option ListError
 list_fault text = line_fault 1 (lines_of text)
 
--- the number of a refusal; want of memory is none of them
+-- the number of a refusal; out of memory is none
 abbrev pub number_of : ListError → ℕ
 number_of Empty = 1
 number_of (BadName line) = 2
@@ -36,11 +38,12 @@ place_of (BadName line) = line
 place_of TooMany = 0
 place_of OutOfMemory = 0
 
--- the refusal of a list in the file of this name
+-- the refusal of a list in the file `name` for its error
 abbrev pub list_refused : Text → Option ListError → Option Refusal
 list_refused name None = None
 list_refused name (Some OutOfMemory) = None
 list_refused name (Some error) = Some (BadInput name (number_of error) (place_of error))
 
+-- the refusal of a list's text in the file `name`, if it is refused
 unfoldable pub list_refusal : Text → List ℕ → Option Refusal
 list_refusal name text = list_refused name (list_fault text)

@@ -19,8 +19,8 @@ use Rattle.nest_command.specs.Words.{ends_options}
 use Rattle.nest_command.specs.RunFiles.{log_file}
 use Rattle.command_merge.specs.FateLines.{merged_fates_text}
 
--- its horizon in milliseconds, the name of the list of its senders, that of its fates, its seed, and the words of its
--- shells
+-- the horizon in milliseconds, the names of the list of senders and of the file of the fates, the seed, and the words
+-- of the shells
 pub record MergeJob : Type 0 where
   pub until : ℕ
   pub senders : Text
@@ -28,42 +28,42 @@ pub record MergeJob : Type 0 where
   pub seed : ℕ
   pub shells : List Text
 
--- the numbers are decimals
+-- the job, where the numbers are decimals
 unfoldable pub merge_numbers : List Text → MergeTexts → Option MergeJob
 merge_numbers shells texts = do
   until ← decimal_of texts.until
   seed ← seed_of texts.seed
   Some (record { until = until; senders = texts.senders; out = texts.out; seed = seed; shells = shells })
 
--- the words before the one at this place are options, and those after it are the shells'
+-- the job, where the options end at `place`: the words before it are options, and those after it are the shells'
 abbrev pub merge_at : Option ℕ → List Text → Option MergeJob
 merge_at None words = None
 merge_at (Some place) words = option_and_then (merge_numbers (drop (place + 1) words)) (merge_texts (take place words))
 
--- The job of `merge`'s words: the first `--` ends the options and must be there.
+-- The job of the words after `merge`. The first `--` ends the options and must be there.
 unfoldable pub merge_of : List Text → Option MergeJob
 merge_of words = merge_at (position ends_options words) words
 
--- a merge whose words ask for this nest, and the texts of its traces and of its senders' schedules
+-- a job whose words ask for the nest `plan`, and the texts of its traces and of its senders' schedules
 pub record MergeTask : Type 0 where
   pub job : MergeJob
   pub plan : NestPlan
   pub traces : List (List ℕ)
   pub schedules : List (List ℕ)
 
--- the nest of the shells' words with these traces
+-- the nest of the shells' words with `traces`
 abbrev pub nest_for : MergeJob → NestPlan → List TraceView → NestParts
 nest_for job plan traces = built plan traces job.seed job.until
 
--- these are the texts of these schedules, one each
+-- each text is that of the schedule at the same place
 abbrev pub AreScheduleTexts : List (List ℕ) → List (List Row) → Type 0
 AreScheduleTexts [] [] = Unit {0}
 AreScheduleTexts [] (rows ∷ schedules) = ⊥
 AreScheduleTexts (text ∷ texts) [] = ⊥
 AreScheduleTexts (text ∷ texts) (rows ∷ schedules) = IsScheduleText text rows × AreScheduleTexts texts schedules
 
--- the text of each log that has a name, in the order of the shells, up before down, and then the text of the fates, in
--- the order of the merge
+-- the files of a merge: of each log that has a name, in the order of the shells, up before down; and then of the fates,
+-- in the order of the merge
 abbrev pub merge_files : Text → RunLists → List NamedText
 merge_files out run = map log_file run.logs ++ named_text out (merged_fates_text run.fates) ∷ []
 

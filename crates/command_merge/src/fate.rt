@@ -1,4 +1,4 @@
-// The fates of a merge's packets.
+// The fates of a merge's packets, each printed with its sender and line.
 ghost use Rattle.std.specs.Prelude.{◌≡◌, ◌+◌, ◌<◌, ◌≤◌, ◌++◌, IfOk, decimal, length, map};
 ghost use Rattle.command_merge.specs.FateLines.{line_of, merged_fate_line, sender_of};
 
@@ -6,12 +6,12 @@ use nest_spec::{FateRow, PackedFate, put_fate};
 use std::alloc::Global;
 use text_base::{LineBuffer, OutOfMemory, PrintLine};
 
-// The fate of a packet that a line of a sender gave, by the packet's number in the merge.
+// The fate of a packet of a merge. Its number in the merge tells its sender and its line.
 #[derive(Clone, Copy, PartialEq, Eq)]
 pub(crate) struct SenderFate(pub FateRow);
 
 impl SenderFate {
-    // The number of the sender, from 1.
+    // Returns the number of the sender, counted from 1.
     fn sender(&self) -> u32
         ensures number { result ≡ sender_of self.now.0.id }
         ensures few { result ≤ 16 }
@@ -19,7 +19,7 @@ impl SenderFate {
         self.0.id.saturating_sub(1) % 16 + 1
     }
 
-    // The line of its schedule, from 1.
+    // Returns the line in the sender's schedule, counted from 1.
     fn line(&self) -> u32
         ensures { result ≡ line_of self.now.0.id }
     {
@@ -30,6 +30,7 @@ impl SenderFate {
 impl PrintLine for SenderFate {
     ghost line = { λ fate. merged_fate_line fate.0 };
 
+    // A line is put from its last byte to its first.
     #[tactic(auto, using(text_base::proofs::TextLemmas::is_ended_line))]
     fn put_line(&self, out: &mut LineBuffer) {
         out.put_byte(b'\n');
@@ -41,7 +42,7 @@ impl PrintLine for SenderFate {
     }
 }
 
-// Puts the number of a sender, of one or two digits, in front.
+// Puts the number of a sender, one or two digits, in front of `out`.
 fn put_sender(out: &mut LineBuffer, sender: u32)
     requires short { sender < 100 }
     requires room { length out.old + 2 ≤ 147456 }
@@ -54,7 +55,7 @@ fn put_sender(out: &mut LineBuffer, sender: u32)
     }
 }
 
-// The fates of a merge's packets, in their order.
+// Returns the fates of a merge's packets, in their order.
 pub(crate) fn sender_fates(
     alloc: Global,
     fates: &[PackedFate],

@@ -1,4 +1,4 @@
-// The files that a merge writes: its logs, in order, and then its fates.
+// The files that a merge writes: its logs in order, and then its fates.
 ghost use Rattle.std.specs.Prelude.{◌≡◌, ◌⊎◌, ◌≤◌, ◌-◌, ℕ, length, take, map, IfErr, OnOk, OnErr};
 ghost use Rattle.mm_base.specs.Disk.{OnlyWrites};
 ghost use Rattle.mm_base.specs.Files.{holding};
@@ -14,7 +14,7 @@ use nest_command::write_logs;
 use nest_plain::NestRun;
 use std::alloc::Global;
 
-// Writes the file of the fates.
+// Writes the file of the fates: a line for each.
 fn write_fates<D: Disk>(
     alloc: Global,
     disk: &mut D,
@@ -32,7 +32,7 @@ fn write_fates<D: Disk>(
     file_written(alloc, name, written)
 }
 
-// Writes the files of a merge: its logs, in order, and then its fates.
+// Writes the files of a merge: its logs in order, and then its fates to `out`.
 pub(crate) fn write_files<D: Disk>(
     alloc: Global,
     disk: &mut D,

@@ -1,5 +1,5 @@
-// The inputs of merges: the traces of a nest, the list of the senders, and the schedules that it names, each read
-// before the next.
+// The inputs of a merge: the traces of its nest, the list of its senders, and the schedules that the list names. Each
+// is read before the next.
 ghost use Rattle.std.specs.Prelude.{◌≡◌, ◌≢◌, ◌+◌, ◌≤◌, ℕ, List, IfErr, IfOk, MatchResult, None, OnOk, Some, length};
 ghost use Rattle.std.specs.Prelude.{map};
 ghost use Rattle.mm_base.specs.Disk.{OnlyReads};
@@ -25,7 +25,7 @@ use text_base::Text;
 use text_base::limits::MOST_LINES;
 use trace_reader::Trace;
 
-// The traces of a nest, which have few enough opportunities.
+// Returns the traces of a nest. Refuses traces with too many opportunities up to the horizon.
 pub(crate) fn load_nest_traces<D: Disk>(
     alloc: Global,
     disk: &mut D,
@@ -45,7 +45,7 @@ pub(crate) fn load_nest_traces<D: Disk>(
     Ok(traces)
 }
 
-// Why the text of the list of this name isn't accepted.
+// Returns the cause of a list's text, in the file `name`, that isn't accepted.
 fn list_cause(name: Text, error: ListError) -> Cause
     ensures { (text : List ℕ) → (error ≢ ListError.OutOfMemory → list_fault text ≡ Some error)
         → RefusesText (list_refusal name text) result }
@@ -60,7 +60,7 @@ fn list_cause(name: Text, error: ListError) -> Cause
     }
 }
 
-// The names on the lines of a list's text.
+// Returns the names on the lines of a list's text. A refusal names the file `name`.
 fn listed_names<'a>(alloc: Global, name: &str, text: &'a [u8]) -> Result<Vec<&'a str>, Cause>
     ensures some { IfOk result (λ names. 1 ≤ length names.items) }
     ensures few { IfOk result (λ names. length names.items ≤ 16) }
@@ -74,7 +74,8 @@ fn listed_names<'a>(alloc: Global, name: &str, text: &'a [u8]) -> Result<Vec<&'a
     }
 }
 
-// Refuses the first output that has a name on a line of the list.
+// Refuses the first output that has one of `names`, the names on the lines of the list, or the name of an output before
+// it.
 fn check_listed(
     alloc: Global,
     job: &MergeJob<'_>,
@@ -89,7 +90,8 @@ fn check_listed(
     check_outputs(alloc, names, outputs.as_slice())
 }
 
-// Refuses the schedule of this name, where the schedules so far have so many lines in all.
+// Refuses the schedule `name`, where the schedules up to it have more than 1,000,000 lines; `lines` is how many they
+// have.
 fn check_total(alloc: Global, name: &str, lines: usize) -> Result<(), Cause>
     ensures refused { MatchResult result (λ _. refused_total name.now lines ≡ None)
         (λ cause. RefusesText (refused_total name.now lines) cause) }
@@ -101,7 +103,7 @@ fn check_total(alloc: Global, name: &str, lines: usize) -> Result<(), Cause>
     Ok(())
 }
 
-// The schedule of the file of this name, after schedules with so many lines.
+// Returns the schedule in the file `name`. The schedules before it have `before` lines in all.
 fn load_next<D: Disk>(
     alloc: Global,
     disk: &mut D,
@@ -121,7 +123,7 @@ fn load_next<D: Disk>(
     Ok(schedule)
 }
 
-// Adds the schedules of the files of these names, after schedules with so many lines.
+// Adds the schedules in the files `names` to `schedules`. The schedules before them have `before` lines in all.
 fn load_schedules<D: Disk>(
     alloc: Global,
     disk: &mut D,
@@ -146,7 +148,7 @@ fn load_schedules<D: Disk>(
     load_schedules(alloc, disk, names, lines, schedules)
 }
 
-// The schedules that the list of a merge names.
+// Reads the list of a merge, and returns the schedules that it names.
 pub(crate) fn load_senders<D: Disk>(
     alloc: Global,
     disk: &mut D,

@@ -1,4 +1,4 @@
-// What `merge` is asked for, by its words.
+// What `merge` is asked for by its words.
 ghost use Rattle.std.specs.Prelude.{◌≡◌, IfOk, map, string_bytes};
 ghost use Rattle.std.specs.Option.{option_map};
 ghost use Rattle.option_words.specs.View.{merge_texts_of};
@@ -10,8 +10,8 @@ use option_words::{MergeWords, parse_merge, read_seed};
 use std::alloc::Global;
 use text_base::{OutOfMemory, read_decimal};
 
-// The horizon in milliseconds, the name of the list of the senders, that of the fates, the seed, and the words of the
-// shells.
+// The job of a merge: the horizon `until` in milliseconds, the names of the list of senders and of the file of the
+// fates, the seed, and the words of the shells.
 #[derive(Drop)]
 pub(crate) struct MergeJob<'a> {
     pub until: u64,
@@ -21,7 +21,8 @@ pub(crate) struct MergeJob<'a> {
     pub shells: &'a [String],
 }
 
-// The job of the words after `merge`, if they have one. `OutOfMemory` is want of memory.
+// Returns the job of `words`, the words after `merge`, or `None` where they name none. Returns `OutOfMemory` where an
+// allocation fails.
 #[tactic(auto, unfolding(crate::specs::Merge::merge_of))]
 pub(crate) fn read_merge<'a>(
     alloc: Global,
@@ -38,7 +39,7 @@ pub(crate) fn read_merge<'a>(
     }
 }
 
-// The job of the options' values, where the numbers are decimals.
+// Returns the job of the options' values, where the numbers among them are decimals.
 #[tactic(auto, unfolding(crate::specs::Merge::merge_numbers))]
 fn merge_job<'a>(texts: MergeWords<'a>, shells: &'a [String]) -> Option<MergeJob<'a>>
     ensures { option_map merge_values result ≡ merge_numbers (map string_bytes shells.now)

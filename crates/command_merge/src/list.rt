@@ -8,24 +8,24 @@ ghost use Rattle.command_merge.specs.declared.list.ListError.TheVariants as erro
 use std::alloc::{AllocError, AllocFailed, Global};
 use text_base::Lines;
 
-// The most senders.
+// How many senders a list names at most.
 const MOST_SENDERS: usize = 16;
 
 // Why a text is no list of senders: its first refusal, line by line.
 #[derive(Clone, Copy, Debug, PartialEq, Eq)]
 pub(crate) enum ListError {
-    // It has no line.
+    // The text has no line.
     Empty,
-    // The line is empty, or isn't UTF-8.
+    // Line `line`, counted from 1, is empty or isn't UTF-8.
     BadName { line: u32 },
     // There is a 17th line, whatever it holds.
     TooMany,
-    // Memory was wanting. The text wasn't refused.
+    // Out of memory; the text wasn't refused.
     OutOfMemory,
 }
 
 impl ListError {
-    // The number of the refusal, 1 to 3 in the order of the variants, or 0 for want of memory.
+    // Returns the number of the refusal: 1 to 3, in the order of the variants, or 0 for out of memory.
     pub fn number(self) -> u32
         ensures { result ≡ number_of self }
     {
@@ -37,7 +37,7 @@ impl ListError {
         }
     }
 
-    // The line that the refusal names, or 0 where it names none.
+    // Returns the line that the refusal names, or 0 where it names none.
     pub fn line(self) -> u64
         ensures { result ≡ place_of self }
     {
@@ -48,7 +48,7 @@ impl ListError {
     }
 }
 
-// The name on a line, if it is one.
+// Returns the name on a line, or `None` where the line isn't a name.
 fn name_on(line: &[u8]) -> Option<&str>
     ensures some { IfSome result (λ name. (name.now ≡ line.now) × (is_name line.now ≡ true)) }
     ensures none { IfNone result (is_name line.now ≡ false) }
@@ -59,7 +59,7 @@ fn name_on(line: &[u8]) -> Option<&str>
     std::str::from_utf8(line).ok()
 }
 
-// The name on a line, after so many.
+// Returns the name on line `count + 1`; the `count` lines before it have names.
 fn next_name(count: usize, line: &[u8]) -> Result<&str, ListError>
     requires { count ≤ 16 }
     ensures few { OnOk result (count < 16) }
@@ -75,7 +75,7 @@ fn next_name(count: usize, line: &[u8]) -> Result<&str, ListError>
     name_on(line).ok_or(ListError::BadName { line: number })
 }
 
-// The names on the lines of a text.
+// Returns the names on the lines of a text.
 pub(crate) fn read_list(alloc: Global, text: &[u8]) -> Result<Vec<&str>, ListError>
     ensures some { IfOk result (λ names. 1 ≤ length names.items) }
     ensures few { IfOk result (λ names. length names.items ≤ 16) }

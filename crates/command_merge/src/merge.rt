@@ -38,7 +38,8 @@ fn check_names(alloc: Global, job: &MergeJob<'_>, nest: &NestWords) -> Result<()
     check_outputs(alloc, inputs.as_slice(), outputs.as_slice())
 }
 
-// The nest of a merge's words, where these refuse nothing.
+// Returns the words of the job's nest. Refuses words that name no nest, then a name that is taken, then a horizon past
+// an hour.
 fn read_words(alloc: Global, job: &MergeJob<'_>) -> Result<NestWords, Cause>
     ensures read { (disk : DiskView) → ReadsOn (merge_reading (merge_values job.now))
         (merge_inputs (merge_values job.now)) disk disk result }
@@ -53,8 +54,8 @@ fn read_words(alloc: Global, job: &MergeJob<'_>) -> Result<NestWords, Cause>
     Ok(nest)
 }
 
-// The run of a merge's inputs. Its nest and its schedules are let go before any file is written, but for the traces of
-// links whose logs have a name.
+// Reads the inputs of a job and returns its run. The nest and the schedules are dropped before any file is written, but
+// for the traces of links whose logs have a name.
 fn merge_packets<R: Threads + Wait + Sync, D: Disk, Q: Pace + Sync>(
     rt: &R,
     alloc: Global,
@@ -77,7 +78,7 @@ fn merge_packets<R: Threads + Wait + Sync, D: Disk, Q: Pace + Sync>(
     Ok(run_nest_feeds(rt, alloc, &nest, &mut senders, pace)?)
 }
 
-// Runs the job: its inputs are read, its packets pass the nest, and then its logs and its fates are written.
+// Runs the job: reads its inputs, passes its packets through the nest, and then writes its logs and its fates.
 fn merge<R: Threads + Wait + Sync, D: Disk, Q: Pace + Sync>(
     rt: &R,
     alloc: Global,
@@ -94,10 +95,12 @@ fn merge<R: Threads + Wait + Sync, D: Disk, Q: Pace + Sync>(
     write_files(alloc, disk, job.out, run)
 }
 
-/// Does what the words after `merge` say: passes the packets of up to 16 senders, each with a schedule and a thread of
-/// its own, through a nest of shells, and writes the logs that the shells' words name and then the fates of the packets
-/// in the order of their merge: by moment, then sender, then line. The pace is asked before the turns of the threads.
-/// Nothing is printed, and no net is touched.
+/// Carries out the command `merge`, whose further words are `words`: passes the packets of up to 16 senders, each with
+/// a schedule and a thread of its own, through a nest of shells. Writes the logs that the shells' words name, and then
+/// the fates of the packets in the order of their merge: by moment, then sender, then line. The pace is asked before
+/// the turns of the threads. Nothing is printed, and no net is touched.
+///
+/// The cause of an error is a refusal of words or of an input, a fault of the disk, or out of memory.
 pub fn answer_merge<R: Threads + Wait + Sync, D: Disk, Q: Pace + Sync>(
     rt: &R,
     alloc: Global,

@@ -53,7 +53,7 @@ pub log_of_text : (name : Text) (text : List ℕ) (refusal : Refusal) → log_re
 unfolding log_refusal
 log_of_text name text refusal e = log_status name (log_fault text) refusal e
 
--- the report is made
+-- the report was made
 pub report_found : (job : ReportJob) (told : Option Files) (text : List ℕ) (result : Result (Option Report) Cause)
     → IsInput told job.log text
     → IfOk result (λ report. IsReport text report) → MatchResult result (λ _. log_refusal job.log text ≡ None)
@@ -65,7 +65,7 @@ report_found job told text (Ok report) input is accepted =
     (record { report = report; is = is; output_is = refl })
 report_found job told text (Err cause) input is accepted = tt
 
--- or its text is refused
+-- the log's text is refused
 pub report_stop : (job : ReportJob) (old new : DiskView) (text : List ℕ) (result : Result (Option Report) Cause)
     → IsInput old.files job.log text
     → MatchResult result (λ _. log_refusal job.log text ≡ None) (λ cause. RefusesText (log_refusal job.log text) cause)

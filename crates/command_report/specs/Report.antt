@@ -11,18 +11,19 @@ use Rattle.option_words.specs.Commands.{ReportTexts, report_texts}
 use Rattle.command_ends.specs.Causes.{Text}
 use Rattle.command_ends.specs.Outputs.{Output, prints}
 
--- the name of the file of a log
+-- the name of the log's file
 pub record ReportJob : Type 0 where
   pub log : Text
 
+-- the job of the options' texts
 abbrev pub report_with : ReportTexts → ReportJob
 report_with texts = record { log = texts.log }
 
--- the job of `report`'s words
+-- the job of the words after `report`
 unfoldable pub report_job_of : List Text → Option ReportJob
 report_job_of words = option_map report_with (report_texts words)
 
--- the report of the log whose text this is, or none, where it has no entry
+-- `report` is that of the log with the text `text`, or none where the log has no entry.
 pub record IsReport (text : List ℕ) (report : Option Report) : Type 0 where
   pub entries : List Entry
   pub log : IsLog entries

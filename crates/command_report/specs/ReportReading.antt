@@ -9,19 +9,20 @@ use Rattle.command_ends.specs.declared.cause.Refusal.{Refusal}
 use Rattle.command_ends.specs.declared.cause.Refusal.TheVariants.{BadInput}
 use Rattle.command_report.specs.Report.{ReportJob, report_job_of}
 
--- The refusal of a log's text. Want of memory is none of a text's.
+-- the refusal of a log's text for its error; out of memory is no error of a text
 abbrev pub log_refused : Text → Option LogError → Option Refusal
 log_refused name None = None
 log_refused name (Some OutOfMemory) = None
 log_refused name (Some error) = Some (BadInput name (number_of error) (line_named error))
 
+-- the refusal of a log's text, if it is refused
 unfoldable pub log_refusal : Text → List ℕ → Option Refusal
 log_refusal name text = log_refused name (log_fault text)
 
--- The task is the log's text.
+-- the log is read, and its text is the task
 abbrev pub report_reading : ReportJob → Reading (List ℕ)
 report_reading job = reading_text (log_refusal job.log) job.log (λ text. Done text)
 
--- the words after `report`
+-- what `report` reads and refuses by the words after it
 abbrev pub report_words : List Text → Reading (List ℕ)
 report_words words = asked (report_job_of words) report_reading

@@ -24,13 +24,14 @@ use shell_log::LogError;
 use std::alloc::Global;
 use text_base::{Bytes, OutOfMemory, Text};
 
-// The name of the file of a log.
+// The job of a report: the name of the log's file.
 #[derive(Drop)]
 pub(crate) struct ReportJob<'a> {
     pub log: &'a str,
 }
 
-// The job of the words after `report`, if they have one. `OutOfMemory` is want of memory.
+// Returns the job of `words`, the words after `report`, or `None` where they name none. Returns `OutOfMemory` where an
+// allocation fails.
 #[tactic(auto, unfolding(crate::specs::Report::report_job_of))]
 fn read_report<'a>(alloc: Global, words: &'a [String]) -> Result<Option<ReportJob<'a>>, OutOfMemory>
     ensures { IfOk result (λ found. option_map report_values found ≡ report_job_of (map string_bytes words.now)) }
@@ -41,7 +42,7 @@ fn read_report<'a>(alloc: Global, words: &'a [String]) -> Result<Option<ReportJo
     }
 }
 
-// Why the text of the log of this name isn't accepted.
+// Returns the cause of a log's text, in the file `name`, that isn't accepted.
 fn log_cause(name: Text, error: LogError) -> Cause
     ensures { (text : List ℕ) → (error ≢ LogError.OutOfMemory → log_fault text ≡ Some error)
         → RefusesText (log_refusal name text) result }
@@ -56,7 +57,7 @@ fn log_cause(name: Text, error: LogError) -> Cause
     }
 }
 
-// The text of the log of this name, read in pieces.
+// Reads a log's text from the file `name`, in pieces.
 fn read_log_file<D: Disk>(alloc: Global, disk: &mut D, name: &str) -> Result<ReportText, Cause>
     ensures read { IfOk result (λ text. ((bytes : List ℕ) × IsInput (D.view disk.old).files name.now bytes
         × HasRead bytes text)) }
@@ -69,7 +70,8 @@ fn read_log_file<D: Disk>(alloc: Global, disk: &mut D, name: &str) -> Result<Rep
     Ok(text)
 }
 
-// The report of a log's text that was read, or none, where the log has no entry.
+// Returns the report of the log whose text was read, or `None` where the log has no entry. A refusal names the file
+// `name`.
 fn report_of(alloc: Global, name: &str, text: ReportText) -> Result<Option<Report>, Cause>
     ensures report { (bytes : List ℕ) → HasRead bytes text → IfOk result (λ report. IsReport bytes report) }
     ensures refused { (bytes : List ℕ) → HasRead bytes text
@@ -82,7 +84,7 @@ fn report_of(alloc: Global, name: &str, text: ReportText) -> Result<Option<Repor
     }
 }
 
-// The report of the log of a job.
+// Reads the log of a job and returns its report, or `None` where the log has no entry.
 fn load_report<D: Disk>(
     alloc: Global,
     disk: &mut D,
@@ -98,7 +100,7 @@ fn load_report<D: Disk>(
     report_of(alloc, job.log, text)
 }
 
-// The text of a report.
+// Returns the text of a report, or `EMPTY` where there is none.
 fn text_of(alloc: Global, report: Option<Report>) -> Result<Bytes, OutOfMemory>
     ensures { IfOk result (λ text. text ≡ report_text report) }
 {
@@ -108,7 +110,7 @@ fn text_of(alloc: Global, report: Option<Report>) -> Result<Bytes, OutOfMemory>
     }
 }
 
-// Does the job: its log is read, and then its report is printed.
+// Does the job: reads its log, and then prints its report.
 fn report<D: Disk, O: Sink>(
     alloc: Global,
     job: &ReportJob<'_>,
@@ -125,8 +127,10 @@ fn report<D: Disk, O: Sink>(
     print(out, text.as_slice())
 }
 
-/// Does what the words after `report` say: prints the report of a log, or `empty` where the log has no entry. No file
-/// is written, and no net is touched.
+/// Carries out the command `report`, whose further words are `words`: prints the report of a log, or `empty` where the
+/// log has no entry. No file is written, and no net is touched.
+///
+/// The cause of an error is a refusal of words or of the log, a fault of the disk or of `out`, or out of memory.
 pub fn answer_report<D: Disk, O: Sink>(
     alloc: Global,
     words: &[String],

@@ -1,4 +1,4 @@
--- Words of a run are refused before any file is read.
+-- The words of a run are refused before any file is read.
 use Rattle.std.proofs.Common.{ℕ, List, [], ◌∷◌, Option, Some, None, Result, Ok, Err, map}
 use Rattle.nest_spec.specs.Words.{NestPlan, nest_of}
 use Rattle.nest_spec.specs.declared.error.NestError.{NestError}
@@ -17,7 +17,7 @@ use Rattle.trace_reader.specs.TraceIn.{trace_in}
 use Rattle.nest_command.proofs.InputLemmas.{schedule_text, trace_text}
 use Rattle.nest_command.proofs.NestLemmas.{count_text}
 
--- after a trace is read no words are refused
+-- once a trace is read no words are refused
 traces_no_words : (names : List Text) (next : List (List ℕ) → Reading RunTask)
     → ((texts : List (List ℕ)) → RefusesNoWords (next texts)) → RefusesNoWords (reading_traces names next)
 traces_no_words [] next none = none []
@@ -32,7 +32,7 @@ schedule_no_words name next none = λ text.
     unless_no_words (schedule_refusal name text) (next text)
     (λ refusal e. (schedule_text name text refusal e).not_words) (none text)
 
--- nor after an order
+-- once an order is read no words are refused
 order_no_words : (order : Option Text) (next : Reading RunTask) → RefusesNoWords next
     → RefusesNoWords (reading_order order next)
 order_no_words None next none = none

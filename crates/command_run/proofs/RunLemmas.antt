@@ -39,11 +39,11 @@ use Rattle.command_run.specs.inside.Passed.{passed_lists}
 use Rattle.command_run.specs.declared.passing.Passed.{Passed}
 use Rattle.nest_command.proofs.NestLemmas.{count_text, count_within, horizon_text, names_there}
 
--- a run's reading after its nest is known
+-- what is read and refused once the nest is known
 abbrev after_nest : RunJob → NestPlan → Reading RunTask
 after_nest job plan = unless (refused_outputs job plan) (unless (refused_horizon job.until) (run_inputs job plan))
 
--- and after its traces were read
+-- what is read and refused once the traces were read
 abbrev pub after_traces : RunJob → NestPlan → List (List ℕ) → Reading RunTask
 after_traces job plan traces =
     unless (refused_count job.until plan.shells (map trace_in traces)) (
@@ -51,12 +51,12 @@ after_traces job plan traces =
     reading_schedule job.schedule (λ schedule.
     Done (record { job = job; plan = plan; traces = traces; schedule = schedule }))))
 
--- and after its schedule
+-- the end, once the schedule was read
 abbrev done_with : RunJob → NestPlan → List (List ℕ) → List ℕ → Reading RunTask
 done_with job plan traces schedule =
     Done (record { job = job; plan = plan; traces = traces; schedule = schedule })
 
--- and after its order
+-- what is read once the order was
 abbrev after_order : RunJob → NestPlan → List (List ℕ) → Reading RunTask
 after_order job plan traces = reading_schedule job.schedule (done_with job plan traces)
 
@@ -66,7 +66,7 @@ nest_known told job plan e =
     subst (λ (r : Result NestPlan NestError). Leads told (with_nest r (λ p. after_nest job p)) (after_nest job plan))
     (sym e) (stays (after_nest job plan))
 
--- the words are no nest
+-- the words name no nest
 pub nest_stop : (job : RunJob) (error : NestError) (cause : Cause)
     → (error ≢ nest_errors.OutOfMemory → nest_of job.shells ≡ Err error)
     → (cause ≡ OutOfMemory) ⊎ ((error ≢ nest_errors.OutOfMemory) × (cause ≡ Refused (nest_refusal error)))
@@ -135,7 +135,7 @@ order_next told job plan nest has =
     (leads_unless told (refused_count job.until plan.shells (map trace_in has.texts))
     (reading_order job.order (after_order job plan has.texts)) few)
 
--- past the order
+-- an order that was read leads on
 order_read : {A : Type 0} (told : Option Files) (order : Option Text) (next : Reading A) → HasOrder told order
     → Leads told (reading_order order next) next
 order_read told None next has = stays next
@@ -155,7 +155,7 @@ order_stop job plan nest old mid new cause has reads stopped =
     (order_next old.files job plan nest has) reads
     (order_stops job.order (after_order job plan has.texts) mid new cause stopped)
 
--- the traces and the order of a run are read, and nothing else changes
+-- the traces and the order of a run were read, and nothing else changed
 pub record HasInputs (old mid late : DiskView) (job : RunJob) (plan : NestPlan) (nest : NestParts) : Type 0 where
   pub has : HasNest old.files job plan nest
   pub first : OnlyReads old mid
@@ -180,7 +180,7 @@ schedule_stop job plan nest old mid late new cause read stopped =
     (text_stops_before late new (schedule_refusal job.schedule) job.schedule cause
     (done_with job plan read.has.texts) stopped)
 
--- all is read
+-- all was read
 pub run_finishes : (job : RunJob) (plan : NestPlan) (nest : NestParts) (old mid late : DiskView) (rows : List Row)
     (run : RunLists) → HasInputs old mid late job plan nest
     → ((text : List ℕ) × HasSchedule late.files job.schedule text rows) → run ≡ result_of nest rows
@@ -208,7 +208,7 @@ run_finishes job plan nest old mid late rows run read schedule is once =
     (leads_text old.files (schedule_refusal job.schedule) job.schedule (done_with job plan has.texts) text
     held.input held.accepted)) gives
 
--- all is read, and the packets pass
+-- all was read, and the packets passed
 pub passed_finishes : (job : RunJob) (plan : NestPlan) (nest : NestParts) (old mid late : DiskView)
     (result : Result Passed Cause) → HasInputs old mid late job plan nest
     → IfOk result (λ run. HasRun late.files job.schedule nest (passed_lists run))

@@ -1,4 +1,4 @@
--- Why a schedule that is read while its packets pass gives no run.
+-- Why a streamed run gives no result.
 use Rattle.std.proofs.Common.{◌≡◌, ◌≢◌, ℕ, ◌<◌, List, Option, Some, length, refl, ap, sym, subst, ◌∙◌}
 use Rattle.mm_base.specs.Counts.{Rose}
 use Rattle.mm_base.specs.Disk.{DiskView, FailsReading}
@@ -72,7 +72,7 @@ text_stop name old new error cause refused says =
     (text_input old.files name refused.bytes refused.text)
     (λ refusal e. (schedule_text name refused.bytes refusal e).not_absent) (says refused.bytes (λ _. refused.fault_is))
 
--- the run of an accepted schedule
+-- the run of a schedule that was read while its packets passed
 pub streamed_run : (told : Option Files) (name : Text) (nest : NestParts) (run : RunLists)
     → StreamsTo told name nest run → HasRun told name nest run
 streamed_run told name nest run to = record {

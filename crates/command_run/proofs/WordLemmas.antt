@@ -1,4 +1,4 @@
--- Words as texts.
+-- Words that are seen as texts.
 use Rattle.std.proofs.Common.{◌≡◌, ℕ, ◌+◌, List, Some, None, map, take, drop}
 use Rattle.std.proofs.Common.{ap, ◌∙◌}
 use Rattle.std.specs.List.{position}
@@ -10,7 +10,7 @@ use Rattle.nest_command.specs.Words.{ends_options}
 use Rattle.nest_command.proofs.WordLemmas.{position-map}
 use Rattle.command_run.specs.Run.{run_at, run_of, run_with}
 
--- the job of words that have an end of options
+-- the job of words in which the options end at `place`
 pub run_parts : {S : Type 0} (f : S → Text) (words : List S) (place : ℕ)
     → position (λ w. ends_options (f w)) words ≡ Some place
     → run_of (map f words) ≡ option_and_then (run_with (map f (drop (place + 1) words)))

@@ -17,11 +17,12 @@ use Rattle.nest_command.specs.RunFiles.{run_files}
 use Rattle.nest_command.specs.Words.{ends_options}
 
 infixl 10 ◌>>=◌
+-- `f` of the value, if there is one
 abbrev pub ◌>>=◌ : {A B : Type 0} → Option A → (A → Option B) → Option B
 o >>= f = option_and_then f o
 
--- its horizon in milliseconds, the names of its files, with that of its order if it has one, its seed, and the words
--- of its shells
+-- the horizon in milliseconds, the names of the files, with that of the order if there is one, the seed, whether
+-- packets pass shell by shell, and the words of the shells
 pub record RunJob : Type 0 where
   pub until : ℕ
   pub schedule : Text
@@ -31,7 +32,7 @@ pub record RunJob : Type 0 where
   pub order : Option Text
   pub shells : List Text
 
--- the numbers are decimals
+-- the job, where the numbers are decimals
 unfoldable pub run_numbers : List Text → RunTexts → Option RunJob
 run_numbers shells texts = do
   until ← decimal_of texts.until
@@ -46,27 +47,27 @@ run_numbers shells texts = do
     shells = shells;
   })
 
--- `--plain` and `--order` exclude each other
+-- the job of the options' texts; `--plain` and `--order` exclude each other
 abbrev pub run_with : List Text → RunTexts → Option RunJob
 run_with shells texts = if texts.plain && is_some texts.order then None else run_numbers shells texts
 
--- the words before the one at this place are options, and those after it are the shells'
+-- the job, where the options end at `place`: the words before it are options, and those after it are the shells'
 abbrev pub run_at : Option ℕ → List Text → Option RunJob
 run_at None words = None
 run_at (Some place) words = option_and_then (run_with (drop (place + 1) words)) (run_texts (take place words))
 
--- The job of `run`'s words: the first `--` ends the options and must be there.
+-- The job of the words after `run`. The first `--` ends the options and must be there.
 unfoldable pub run_of : List Text → Option RunJob
 run_of words = run_at (position ends_options words) words
 
--- a run whose words ask for this nest, and the texts of its traces and of its schedule
+-- a job whose words ask for the nest `plan`, and the texts of its traces and of its schedule
 pub record RunTask : Type 0 where
   pub job : RunJob
   pub plan : NestPlan
   pub traces : List (List ℕ)
   pub schedule : List ℕ
 
--- the nest of the shells' words with these traces
+-- the nest of the shells' words with `traces`
 abbrev pub nest_with : RunJob → NestPlan → List TraceView → NestParts
 nest_with job plan traces = built plan traces job.seed job.until
 

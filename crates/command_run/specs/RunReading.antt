@@ -15,16 +15,17 @@ use Rattle.trace_reader.specs.TraceIn.{trace_in}
 abbrev pub input_names : RunJob → NestPlan → List Text
 input_names job plan = (plan.traces ++ job.schedule ∷ []) ++ option_to_list job.order
 
--- The outputs are the logs, in the order of the shells, up before down, and the fates.
+-- An output that has the name of an input, or of an output before it, is refused. The outputs are the logs, in the
+-- order of the shells, up before down, and the fates.
 abbrev pub refused_outputs : RunJob → NestPlan → Option Refusal
 refused_outputs job plan = refused_names (input_names job plan) (plan.logs ++ job.out ∷ [])
 
--- The file of the order is read, where there is one. Any bytes are an order, and the run gives the same by each.
+-- The file of the order is read, if there is one. Any bytes are an order, and the run gives the same by each.
 abbrev pub reading_order : {A : Type 0} → Option Text → Reading A → Reading A
 reading_order None next = next
 reading_order (Some name) next = Reads name (λ order. next)
 
--- the traces, in the order of the shells, up before down, the order if there is one, and the schedule
+-- The traces are read, in the order of the shells, up before down; then the order, if there is one; then the schedule.
 abbrev pub run_inputs : RunJob → NestPlan → Reading RunTask
 run_inputs job plan =
     reading_traces plan.traces (λ traces.
@@ -33,6 +34,7 @@ run_inputs job plan =
     reading_schedule job.schedule (λ schedule.
     Done (record { job = job; plan = plan; traces = traces; schedule = schedule })))))
 
+-- Words that name no nest, names that are taken and a horizon past an hour are refused before any file is read.
 abbrev pub run_reading : RunJob → Reading RunTask
 run_reading job =
     with_nest (nest_of job.shells) (λ plan.
@@ -40,6 +42,6 @@ run_reading job =
     unless (refused_horizon job.until) (
     run_inputs job plan)))
 
--- the words after `run`
+-- what `run` reads and refuses by the words after it
 abbrev pub run_words : List Text → Reading RunTask
 run_words words = asked (run_of words) run_reading

@@ -1,5 +1,5 @@
-// The packets of a run pass its nest: over threads as the schedule is read, or after it shell by shell, or by single
-// steps in an order.
+// How the packets of a run pass its nest: over threads while the schedule is read, or after it shell by shell, or by
+// single steps in an order.
 ghost use Rattle.std.specs.Prelude.{IfErr, IfOk};
 ghost use Rattle.mm_base.specs.Disk.{DiskView, OnlyReads};
 ghost use Rattle.nest_runner.specs.Streaming.{HasStreamCause};
@@ -27,12 +27,13 @@ use text_base::{Bytes, Text};
 pub(crate) enum Way {
     Threads,
     ShellByShell,
-    // By steps in the order that these bytes state.
+    // By single steps, in the order that the bytes state.
     Steps(Bytes),
 }
 
 impl Way {
-    // An order goes before all, and threads are the way of a run that asks for nothing.
+    // Returns the way of a run: the order's, if there is one; else shell by shell with `plain`, and over threads
+    // without it.
     pub fn new(plain: bool, order: Option<Bytes>) -> Self {
         match order {
             Some(order) => Way::Steps(order),
@@ -42,14 +43,14 @@ impl Way {
     }
 }
 
-// What a run gives, with its logs made in pieces, or whole.
+// What a run gives: its fates, with its logs made in pieces, or whole.
 #[derive(Drop)]
 pub(crate) enum Passed {
     InPieces(NestRun),
     Whole(RunResult),
 }
 
-// Why the schedule of this name, read while its packets pass, gives no result.
+// Returns the cause of a streamed run that gives no result; `name` is that of the schedule's file.
 fn stream_cause(name: Text, error: StreamError) -> Cause
     ensures { (old new : DiskView) → HasStreamCause old new name error
         → StopsReading (reading_schedule name Done) old new result }
@@ -63,7 +64,7 @@ fn stream_cause(name: Text, error: StreamError) -> Cause
     }
 }
 
-// The result of a nest and the schedule in a file, which is read while its packets pass.
+// Returns the result of a nest and the schedule in the file `name`, which is read while its packets pass.
 fn stream_packets<R: Threads + Wait + Sync, D: Disk, Q: Pace + Sync>(
     rt: &R,
     alloc: Global,
@@ -83,7 +84,7 @@ fn stream_packets<R: Threads + Wait + Sync, D: Disk, Q: Pace + Sync>(
     }
 }
 
-// The result of a nest and the schedule in a file.
+// Returns the result of a nest and the schedule in the file `name`, whose packets pass by `way`.
 pub(crate) fn pass_packets<R: Threads + Wait + Sync, D: Disk, Q: Pace + Sync>(
     rt: &R,
     alloc: Global,

@@ -30,7 +30,7 @@ use std::sync::Wait;
 use std::thread::Threads;
 use text_base::OutOfMemory;
 
-// The names of a run's inputs.
+// Returns the names of a run's inputs: the traces, the schedule, and the order if there is one.
 fn input_names<'a>(
     alloc: Global,
     job: &RunJob<'a>,
@@ -45,7 +45,7 @@ fn input_names<'a>(
     Ok(names)
 }
 
-// Refuses the first output that has the name of an input or of an output before it.
+// Refuses the first output that has the name of an input, or of an output before it.
 fn check_names(alloc: Global, job: &RunJob<'_>, nest: &NestWords) -> Result<(), Cause>
     ensures { MatchResult result (λ _. refused_outputs (run_values job.now) nest.now ≡ None)
         (λ cause. RefusesText (refused_outputs (run_values job.now) nest.now) cause) }
@@ -55,7 +55,8 @@ fn check_names(alloc: Global, job: &RunJob<'_>, nest: &NestWords) -> Result<(), 
     check_outputs(alloc, inputs.as_slice(), outputs.as_slice())
 }
 
-// The nest of a run's words, where these refuse nothing.
+// Returns the words of the job's nest. Refuses words that name no nest, then a name that is taken, then a horizon past
+// an hour.
 fn read_words(alloc: Global, job: &RunJob<'_>) -> Result<NestWords, Cause>
     ensures read { (disk : DiskView) → ReadsOn (run_reading (run_values job.now)) (run_inputs (run_values job.now))
         disk disk result }
@@ -70,7 +71,7 @@ fn read_words(alloc: Global, job: &RunJob<'_>) -> Result<NestWords, Cause>
     Ok(nest)
 }
 
-// The nest of these words with its traces.
+// Returns the nest of `words` with its traces, which are read from their files.
 fn load_nest<D: Disk>(
     alloc: Global,
     job: &RunJob<'_>,
@@ -88,8 +89,8 @@ fn load_nest<D: Disk>(
     Ok(build(alloc, words, traces, job.seed, job.until)?)
 }
 
-// The run of a job's inputs. Its nest and its schedule are let go before any file is written, but for the traces of
-// links whose logs have a name.
+// Reads the inputs of a job and returns its run. The nest and the schedule are dropped before any file is written, but
+// for the traces of links whose logs have a name.
 fn run_packets<R: Threads + Wait + Sync, D: Disk, Q: Pace + Sync>(
     rt: &R,
     alloc: Global,
@@ -111,7 +112,7 @@ fn run_packets<R: Threads + Wait + Sync, D: Disk, Q: Pace + Sync>(
     pass_packets(rt, alloc, &nest, disk, job.schedule, way, pace)
 }
 
-// Runs the job: its inputs are read, its packets pass the nest, and then its logs and its fates are written.
+// Runs the job: reads its inputs, passes its packets through the nest, and then writes its logs and its fates.
 fn run<R: Threads + Wait + Sync, D: Disk, Q: Pace + Sync>(
     rt: &R,
     alloc: Global,
@@ -128,10 +129,12 @@ fn run<R: Threads + Wait + Sync, D: Disk, Q: Pace + Sync>(
     write_files(alloc, disk, job.out, run)
 }
 
-/// Does what the words after `run` say: passes the packets of a schedule through a nest of shells, and writes the logs
-/// that the shells' words name and then the fates of the packets. They pass over threads, with `--plain` shell by
-/// shell, and with `--order` by single steps in the order that a file states. The pace is asked before the turns of the
-/// threads. Nothing is printed, and no net is touched.
+/// Carries out the command `run`, whose further words are `words`: passes the packets of a schedule through a nest of
+/// shells, and writes the logs that the shells' words name and then the fates of the packets. The packets pass over
+/// threads; with `--plain` shell by shell; with `--order` by single steps in the order that a file states. The pace is
+/// asked before the turns of the threads. Nothing is printed, and no net is touched.
+///
+/// The cause of an error is a refusal of words or of an input, a fault of the disk, or out of memory.
 pub fn answer_run<R: Threads + Wait + Sync, D: Disk, Q: Pace + Sync>(
     rt: &R,
     alloc: Global,

@@ -12,7 +12,7 @@ use mm_base::Disk;
 use nest_command::{write_in_pieces, write_whole};
 use std::alloc::Global;
 
-// Writes the files of a run: its logs, in order, and then its fates.
+// Writes the files of a run: its logs in order, and then its fates to `out`.
 pub(crate) fn write_files<D: Disk>(
     alloc: Global,
     disk: &mut D,

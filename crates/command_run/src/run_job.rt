@@ -1,4 +1,4 @@
-// What `run` is asked for, by its words.
+// What `run` is asked for by its words.
 ghost use Rattle.std.specs.Prelude.{◌≡◌, ◌<◌, IfOk, map, string_bytes};
 ghost use Rattle.std.specs.Option.{option_map};
 ghost use Rattle.option_words.specs.View.{texts_of};
@@ -10,8 +10,8 @@ use option_words::{RunWords, parse_run, read_seed};
 use std::alloc::Global;
 use text_base::{OutOfMemory, read_decimal};
 
-// The horizon in milliseconds, the names of the files, with that of the order if there is one, the seed, and the words
-// of the shells.
+// The job of a run: the horizon `until` in milliseconds, the names of the files, with that of the order if there is
+// one, the seed, whether packets pass shell by shell (`plain`), and the words of the shells.
 #[derive(Drop)]
 pub(crate) struct RunJob<'a> {
     pub until: u64,
@@ -23,7 +23,8 @@ pub(crate) struct RunJob<'a> {
     pub shells: &'a [String],
 }
 
-// The job of the words after `run`, if they have one. `OutOfMemory` is want of memory.
+// Returns the job of `words`, the words after `run`, or `None` where they name none. Returns `OutOfMemory` where an
+// allocation fails.
 #[tactic(auto, unfolding(crate::specs::Run::run_of))]
 pub(crate) fn read_run<'a>(
     alloc: Global,
@@ -40,7 +41,7 @@ pub(crate) fn read_run<'a>(
     }
 }
 
-// The job of the options' values. `--plain` and `--order` exclude each other.
+// Returns the job of the options' values. `--plain` and `--order` exclude each other.
 fn run_job<'a>(texts: RunWords<'a>, shells: &'a [String]) -> Option<RunJob<'a>>
     ensures { option_map run_values result ≡ run_with (map string_bytes shells.now) (texts_of texts.entry) }
 {
@@ -50,7 +51,7 @@ fn run_job<'a>(texts: RunWords<'a>, shells: &'a [String]) -> Option<RunJob<'a>>
     with_numbers(texts, shells)
 }
 
-// The job of the options' values, where the numbers are decimals.
+// Returns the job of the options' values, where the numbers among them are decimals.
 #[tactic(auto, unfolding(crate::specs::Run::run_numbers))]
 fn with_numbers<'a>(texts: RunWords<'a>, shells: &'a [String]) -> Option<RunJob<'a>>
     ensures { option_map run_values result ≡ run_numbers (map string_bytes shells.now) (texts_of texts.entry) }

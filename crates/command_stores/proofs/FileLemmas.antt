@@ -1,4 +1,4 @@
--- The text of a store, of which a front is written.
+-- The text of a store, a front of which is written.
 use Rattle.std.proofs.Common.{◌≡◌, ◌⊎◌, inl, inr, ◌↔◌, ℕ, ◌<◌, ◌≤◌, ◌-◌, ◌++◌, Bool, true, false, IsTrue, List, [], ◌∷◌}
 use Rattle.std.proofs.Common.{Option, Result, Ok, Err, IsOk, OnErr, IfErr, length, take, drop, refl, ap, sym, ◌∙◌}
 use Rattle.std.proofs.Common.{arith}
@@ -15,7 +15,7 @@ use Rattle.command_ends.specs.Outputs.{HoldsSome, NamedText, named_text}
 use Rattle.command_ends.specs.Stops.{StopsAtOutput, StopsWriting}
 use Rattle.command_ends.specs.declared.cause.Cause.{Cause}
 
--- what is written is a front, and more is to come
+-- a front was written, and more is to come
 pub front_held : (told after : Option Files) (name whole front rest : List ℕ) → front ++ rest ≡ whole
     → 0 < length rest → after ≡ holding name front told → HoldsSome (named_text name whole) told after
 front_held told after name whole front rest is some held =
@@ -28,7 +28,7 @@ front_held told after name whole front rest is some held =
       held ∙ ap (λ l. holding name l told) (sym same),
     )
 
--- a front of the next piece is written
+-- a front of the next piece was written
 pub piece_held : (told before after : Option Files) (name whole front left piece rest : List ℕ)
     → front ++ left ≡ whole → left ≡ piece ++ rest → before ≡ holding name front told
     → ((n : ℕ) × (n < length piece) × (after ≡ lengthened name (take n piece) before))
@@ -45,7 +45,7 @@ piece_held told before after name whole front left piece rest is split held cut 
     front_held told after name whole (front ++ take n piece) (drop n piece ++ rest) whole_is some
     (holding-lengthened told before after name front (take n piece) held cut.2)
 
--- the next piece is written whole
+-- the next piece was written whole
 pub piece_written : (told before after : Option Files) (name whole front left piece rest : List ℕ)
     → front ++ left ≡ whole → left ≡ piece ++ rest → before ≡ holding name front told
     → after ≡ lengthened name piece before
@@ -56,7 +56,7 @@ piece_written told before after name whole front left piece rest is split held a
   holding-lengthened told before after name front piece held added,
 )
 
--- nothing else is to come
+-- nothing more is to come
 pub all_written : (told before : Option Files) (name whole front left piece rest : List ℕ)
     → front ++ left ≡ whole → left ≡ piece ++ rest → (piece ≡ []) × (rest ≡ []) → before ≡ holding name front told
     → before ≡ holding name whole told
@@ -64,7 +64,7 @@ all_written told before name whole front left piece rest is split none held =
     let empty : left ≡ [] = split ∙ ap (λ l. l ++ rest) none.0 ∙ none.1 in
     held ∙ ap (λ l. holding name l told) (sym (append-nil front) ∙ ap (λ l. front ++ l) (sym empty) ∙ is)
 
--- the file isn't made, or is made and has nothing yet
+-- the file wasn't made, or was made and has nothing yet
 pub none_held : (told after : Option Files) (name : List ℕ) (records : List Record)
     → (after ≡ told) ⊎ (after ≡ holding name [] told)
     → HoldsSome (named_text name (store_text Two records)) told after
@@ -74,7 +74,7 @@ none_held told after name records (inr made) = inr (0, omega arith, made)
 pub at_false : {P : Type 0} (b : Bool) → b ≡ false → (¬ IsTrue b → P) → P
 at_false b is holds = holds (λ t. let no : true ≡ false = sym t ∙ is in cc no)
 
--- what stops writing the file stops writing all files
+-- what stops the writing of the file stops that of all files
 pub written_stops : {T U : Type 0} (entry : NamedText) (answer : Result T DiskError) (result : Result U Cause)
     (old new : DiskView) → IsOk result ↔ IsOk answer → OnErr answer (HoldsSome entry old.files new.files)
     → IfErr result (λ cause. StopsAtOutput entry.name old new cause)

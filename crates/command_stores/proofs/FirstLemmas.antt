@@ -1,4 +1,4 @@
--- Words of these commands are refused before any file is read.
+-- The words of these commands are refused before any file is read.
 use Rattle.std.proofs.Common.{List, [], ◌∷◌}
 use Rattle.command_ends.specs.Causes.{Text}
 use Rattle.command_ends.specs.Names.{refused_names}

@@ -35,7 +35,7 @@ pub name_taken : (inputs outputs : List Text) (name : Text) (cause : Cause) → 
 unfolding refused_names
 name_taken inputs outputs name cause e is = inr (Words (Name name), is, ap refused_name e)
 
--- where it isn't refused the reading goes on
+-- an output that isn't refused leads on
 pub names_read : {A T : Type 0} (inputs : List Text) (out : Text) (next : Reading A) (result : Result T Cause)
     → MatchResult result (λ _. refused_names inputs (out ∷ []) ≡ None)
     (λ cause. RefusesText (refused_names inputs (out ∷ [])) cause) → (disk : DiskView)

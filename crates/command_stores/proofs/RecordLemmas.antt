@@ -61,11 +61,12 @@ pairs_refused job client server error cause other pairs is =
       (error, other, pairs, refl),
     )
 
--- what comes after the client's stream, and after the server's
+-- what is read once the client's stream was
 abbrev pub after_client : RecordJob → List ℕ → Reading RecordTask
 after_client job client = Reads job.server (λ server.
     Judges (PairVerdict job client server) (Done (record { job = job; client = client; server = server })))
 
+-- what is judged once the server's stream was read
 abbrev after_server : RecordJob → List ℕ → List ℕ → Reading RecordTask
 after_server job client server =
     Judges (PairVerdict job client server) (Done (record { job = job; client = client; server = server }))

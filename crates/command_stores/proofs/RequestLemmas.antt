@@ -1,4 +1,4 @@
--- What a reader of requests answers for a text that is all there.
+-- What a reader of requests returns for a text that is all there.
 use Rattle.std.proofs.Common.{◌≡◌, ◌≢◌, ◌∙◌, ◌⊎◌, inl, inr, ℕ, false, List, [], ◌++◌, Option, Some, None, Result, Ok}
 use Rattle.std.proofs.Common.{Err}
 use Rattle.std.proofs.Common.{◌∷◌, true, length, refl, sym, ap, subst, append-nil, arith}
@@ -33,11 +33,11 @@ use Rattle.command_stores.specs.Requests.{reading_request}
 use Rattle.command_stores.specs.declared.request_file.RequestError.{RequestError}
 use Rattle.command_stores.specs.declared.request_file.RequestError.TheVariants as errors
 
--- a reader that has the text, and has answered nothing
+-- a reader that has the text, and has returned nothing
 abbrev pub started : List ℕ → Frames
 started text = record { unread = text; ended = false; failed = None }
 
--- it gives a message
+-- the text begins with a request of the head `head`, and `left` follows
 pub record Gives (text left : List ℕ) (head : RequestHead) : Type 0 where
   pub request : Request
   pub is : IsRequestOf request
@@ -81,7 +81,7 @@ fault_of text new fault (Err (faults.Frame other)) says e =
     subst (λ (k : FrameError). FaultCause request_form false text k) same (fault_cause text other None refl says.cause)
 fault_of text new fault (Err faults.OutOfMemory) says e = absurd (cc e)
 
--- the reader gives what begins with the text's request
+-- where the unread bytes begin with a request, the reader gives its head
 abbrev pub First : Frames → Result (Step RequestHead) FrameFault → Frames → Type 0
 First old result new = (bytes after : List ℕ) (h : Head) → IsRequest bytes h → old.unread ≡ bytes ++ after
     → old.failed ≡ None → GivesHead h after result new
@@ -103,7 +103,7 @@ module _ (text : List ℕ) (old new : Frames) (result : Result (Step RequestHead
   given : (head : RequestHead) → result ≡ Ok (steps.Message head) → Gives text new.unread head
   given head is = gives_of text new head says_here.whole says_here.says (sym is ∙ says_here.alone)
 
-  -- a message, and nothing else
+  -- the reader gives a message, and nothing follows
   pub one_request : (head : RequestHead) → result ≡ Ok (steps.Message head) → new.unread ≡ [] → IsOneRequest text head
   one_request head is empty =
       let g = given head is in record {
@@ -113,7 +113,7 @@ module _ (text : List ℕ) (old new : Frames) (result : Result (Step RequestHead
         head_is = g.head_is;
       }
 
-  -- a message, and bytes after it
+  -- the reader gives a message, and bytes follow
   pub other_bytes : (head : RequestHead) → result ≡ Ok (steps.Message head) → (new.unread ≡ [] → ⊥)
       → RefusesRequest text errors.NotOne
   other_bytes head is some =
@@ -147,8 +147,7 @@ empty_list (x ∷ xs) e = absurd (let long = (Decides-eqb (length (x ∷ xs)) 0)
 pub some_list : (xs : List ℕ) → (length xs == 0) ≡ false → xs ≡ [] → ⊥
 some_list xs e none = let no : true ≡ false = sym (ap (λ (l : List ℕ). length l == 0) none) ∙ e in cc no
 
--- ---- the judgement
-
+-- a refusal of a request has the status 4
 request_status : (name text : List ℕ) (refusal : Refusal) → RequestVerdict name text (Some refusal)
     → status_of_refusal refusal ≡ 4
 request_status name text refusal says = ap status_of_refusal says.3
@@ -167,6 +166,7 @@ request_alike name text (Some a) None x y = no_head text x.0 y.0 x.1 x.2 y.1
 request_alike name text (Some a) (Some b) x y =
     request_status name text a x ∙ sym (request_status name text b y)
 
+-- a request's text is accepted, or refused with one status
 pub judges_request : (name text : List ℕ) → IsJudgement (RequestVerdict name text)
 judges_request name text = record {
   no_words = λ refusal says two. let four = request_status name text refusal says in omega arith;

@@ -13,21 +13,23 @@ use Rattle.store_input.specs.Stores.{reading_store}
 use Rattle.command_stores.specs.Ports.{given_port}
 use Rattle.command_stores.specs.Requests.{IsOneRequest, reading_request}
 
--- the names of the files of a store and of a request, and the port that it is asked at, or none
+-- the names of the files of a store and of a request, and the port that the request is asked at, if one is given
 pub record MatchJob : Type 0 where
   pub store : Text
   pub request : Text
   pub port : Option ℕ
 
+-- the job of the options' texts and their port
 abbrev pub match_at : MatchTexts → Option ℕ → MatchJob
 match_at texts port = record { store = texts.store; request = texts.request; port = port }
 
+-- the job of the options' texts, where that of the port, if given, is a port
 unfoldable pub match_with : MatchTexts → Option MatchJob
 match_with texts = do
   port ← given_port texts.port
   Some (match_at texts port)
 
--- the job of `match`'s words
+-- the job of the words after `match`
 unfoldable pub match_job_of : List Text → Option MatchJob
 match_job_of words = option_and_then match_with (match_texts words)
 
@@ -37,12 +39,13 @@ pub record MatchTask : Type 0 where
   pub store : List ℕ
   pub request : List ℕ
 
--- the number of the best record, from 1, or none, where no record agrees
+-- the number of the best record, counted from 1, or none where no record agrees
 abbrev pub HasNumber : RequestHead → Option ℕ → List Record → Option ℕ → Type 0
 HasNumber head port records None = BestCause head port records None
 HasNumber head port records (Some number) =
     (place : ℕ) × BestCause head port records (Some place) × (number ≡ place + 1)
 
+-- the line of a number, or of none
 abbrev pub number_text : Option ℕ → List ℕ
 number_text None = codes "none\n"
 number_text (Some number) = decimal number ++ 10 ∷ []
@@ -57,11 +60,11 @@ pub record GivesMatch (task : MatchTask) (output : Output) : Type 0 where
   pub best : HasNumber head task.job.port records number
   pub output_is : output ≡ prints (number_text number)
 
--- the store, and then the request
+-- the store is read, and then the request
 abbrev pub match_reading : MatchJob → Reading MatchTask
 match_reading job = reading_store job.store (λ store. reading_request job.request (λ request.
     Done (record { job = job; store = store; request = request })))
 
--- the words after `match`
+-- what `match` reads and refuses by the words after it
 abbrev pub match_words : List Text → Reading MatchTask
 match_words words = asked (match_job_of words) match_reading

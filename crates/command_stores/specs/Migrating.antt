@@ -11,36 +11,38 @@ use Rattle.command_ends.specs.Readings.{Reading, Done, asked, unless}
 use Rattle.store_input.specs.Stores.{reading_store}
 use Rattle.command_stores.specs.Written.{store_file}
 
--- the names of the files of a store in either form, and of the same in form 2
+-- the names of the files of a store in either form, and of the same store in form 2
 pub record MigrateJob : Type 0 where
   pub store : Text
   pub out : Text
 
+-- the job of the options' texts
 abbrev pub migrate_with : MigrateTexts → MigrateJob
 migrate_with texts = record { store = texts.store; out = texts.out }
 
--- the job of `migrate`'s words
+-- the job of the words after `migrate`
 unfoldable pub migrate_job_of : List Text → Option MigrateJob
 migrate_job_of words = option_map migrate_with (migrate_texts words)
 
--- a job and the text of the store
+-- a job, and the text of the store
 pub record MigrateTask : Type 0 where
   pub job : MigrateJob
   pub store : List ℕ
 
--- The text of the store is written in form 2.
+-- The text of the store in form 2 is written.
 pub record GivesMigrate (task : MigrateTask) (output : Output) : Type 0 where
   pub records : List Record
   pub says : StoreSays task.store (Ok records)
   pub output_is : output ≡ writes (store_file task.job.out records)
 
+-- the store is read
 abbrev pub migrate_inputs : MigrateJob → Reading MigrateTask
 migrate_inputs job = reading_store job.store (λ store. Done (record { job = job; store = store }))
 
--- names, and then the store
+-- an output that has the name of the input is refused, and then the store is read
 abbrev pub migrate_reading : MigrateJob → Reading MigrateTask
 migrate_reading job = unless (refused_names (job.store ∷ []) (job.out ∷ [])) (migrate_inputs job)
 
--- the words after `migrate`
+-- what `migrate` reads and refuses by the words after it
 abbrev pub migrate_words : List Text → Reading MigrateTask
 migrate_words words = asked (migrate_job_of words) migrate_reading

@@ -16,28 +16,30 @@ use Rattle.command_ends.specs.declared.cause.Refusal.TheVariants.{BadInput}
 use Rattle.command_stores.specs.Ports.{given_port}
 use Rattle.command_stores.specs.Written.{store_file}
 
--- the names of the files of the two streams and of the store, and the port that it was recorded from
+-- the names of the files of the two streams and of the store, and the port that each record gets, which is that of the
+-- server, or 0 for any
 pub record RecordJob : Type 0 where
   pub client : Text
   pub server : Text
   pub out : Text
   pub port : ℕ
 
+-- the job of the options' texts and their port, which is 0 where none is given
 abbrev pub record_at : RecordTexts → Option ℕ → RecordJob
 record_at texts port =
     record { client = texts.client; server = texts.server; out = texts.out; port = unwrap_or port 0 }
 
--- the port is 0 where it isn't given
+-- the job of the options' texts, where that of the port, if given, is a port
 unfoldable pub record_with : RecordTexts → Option RecordJob
 record_with texts = do
   port ← given_port texts.port
   Some (record_at texts port)
 
--- the job of `record`'s words
+-- the job of the words after `record`
 unfoldable pub record_job_of : List Text → Option RecordJob
 record_job_of words = option_and_then record_with (record_texts words)
 
--- the file that a refusal of the streams names: the client's where a request is refused, else the server's
+-- the file that a refusal of the streams names: the client's for a bad request, else the server's
 abbrev pub stream_named : RecordJob → PairError → Text
 stream_named job (errors.BadRequest n) = job.client
 stream_named job (errors.BadResponse n) = job.server
@@ -45,15 +47,15 @@ stream_named job (errors.Unanswered n) = job.server
 stream_named job errors.ExtraResponse = job.server
 stream_named job errors.OutOfMemory = job.server
 
--- The streams are pairs, or they are refused so: the line names a file, the number of the refusal, and the request
--- that it names.
+-- The streams pair, or they are refused. The refusal names a file, the number of the error, and the request that the
+-- error names.
 abbrev pub PairVerdict : RecordJob → List ℕ → List ℕ → Option Refusal → Type 0
 PairVerdict job client server None = (rs : List Record) × Pairs client server job.port (Ok rs)
 PairVerdict job client server (Some refusal) =
     (e : PairError) × (e ≢ errors.OutOfMemory) × Pairs client server job.port (Err e)
     × (refusal ≡ BadInput (stream_named job e) (pair_number e) (request_named e))
 
--- a job and the two streams
+-- a job, and the two streams
 pub record RecordTask : Type 0 where
   pub job : RecordJob
   pub client : List ℕ
@@ -65,15 +67,15 @@ pub record GivesRecord (task : RecordTask) (output : Output) : Type 0 where
   pub pairs : Pairs task.client task.server task.job.port (Ok records)
   pub output_is : output ≡ writes (store_file task.job.out records)
 
--- both streams
+-- both streams are read, and must pair
 abbrev pub record_inputs : RecordJob → Reading RecordTask
 record_inputs job = Reads job.client (λ client. Reads job.server (λ server.
     Judges (PairVerdict job client server) (Done (record { job = job; client = client; server = server }))))
 
--- names, and then the streams
+-- an output that has the name of an input is refused, and then the streams are read
 abbrev pub record_reading : RecordJob → Reading RecordTask
 record_reading job = unless (refused_names (job.client ∷ job.server ∷ []) (job.out ∷ [])) (record_inputs job)
 
--- the words after `record`
+-- what `record` reads and refuses by the words after it
 abbrev pub record_words : List Text → Reading RecordTask
 record_words words = asked (record_job_of words) record_reading

@@ -6,6 +6,6 @@ use Rattle.record_store.specs.declared.record.Record.{Record}
 use Rattle.command_ends.specs.Causes.{Text}
 use Rattle.command_ends.specs.Outputs.{NamedText, named_text}
 
--- It has the store's text in form 2.
+-- The file has the store's text in form 2.
 abbrev pub store_file : Text → List Record → List NamedText
 store_file name records = named_text name (store_text Two records) ∷ []

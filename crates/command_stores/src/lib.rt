@@ -1,5 +1,5 @@
-//! The commands over stores: `record` makes one of the two streams of a connection, `match` asks one which recorded
-//! exchange answers a request, and `migrate` writes one in the newer form.
+//! The commands over stores. `record` makes a store of the two streams of a connection, `match` asks a store which
+//! record answers a request, and `migrate` writes a store in form 2.
 #![tactic(auto)]
 
 mod matching;

@@ -26,7 +26,8 @@ use std::alloc::Global;
 use store_input::load_store;
 use text_base::{Bytes, OutOfMemory, write_decimal};
 
-// The names of the files of a store and of a request, and the port that it is asked at, or none.
+// The job of `match`: the names of the files of a store and of a request, and the port that the request is asked at, if
+// one is given.
 #[derive(Drop)]
 pub(crate) struct MatchJob<'a> {
     pub store: &'a str,
@@ -34,7 +35,8 @@ pub(crate) struct MatchJob<'a> {
     pub port: Option<u16>,
 }
 
-// The job of the words after `match`, if they have one. `OutOfMemory` is want of memory.
+// Returns the job of `words`, the words after `match`, or `None` where they name none. Returns `OutOfMemory` where an
+// allocation fails.
 #[tactic(auto, unfolding(crate::specs::Matching::match_job_of))]
 fn read_match<'a>(alloc: Global, words: &'a [String]) -> Result<Option<MatchJob<'a>>, OutOfMemory>
     ensures { IfOk result (λ found. option_map match_values found ≡ match_job_of (map string_bytes words.now)) }
@@ -45,7 +47,7 @@ fn read_match<'a>(alloc: Global, words: &'a [String]) -> Result<Option<MatchJob<
     }
 }
 
-// The job of the options' values, where the port is one.
+// Returns the job of the options' values, where the text of the port, if given, is a port.
 #[tactic(auto, unfolding(crate::specs::Matching::match_with))]
 fn with_port<'a>(texts: MatchWords<'a>) -> Option<MatchJob<'a>>
     ensures { option_map match_values result ≡ match_with (match_texts_of texts.entry) }
@@ -60,17 +62,17 @@ fn with_port<'a>(texts: MatchWords<'a>) -> Option<MatchJob<'a>>
     }
 }
 
-// The number of the record at a place, from 1.
+// Returns the number of the record at `place`, counted from 1.
 fn number_at(store: &Store, place: usize) -> u64
     requires { place < length store.now }
     ensures { result ≡ place + 1 }
 {
-    let count = store.records().len();
+    let count = store.records().len(); // fact: a `usize` counts the records, so `place + 1` doesn't overflow
     prove!(place < count);
     place as u64 + 1
 }
 
-// The number of the best record, from 1, or none.
+// Returns the number of the best record for `request`, counted from 1, or `None` where no record agrees with it.
 fn best_number(store: &Store, request: &RequestHead, port: Option<u16>) -> Option<u64>
     ensures { HasNumber request.now port store.now result }
 {
@@ -80,7 +82,7 @@ fn best_number(store: &Store, request: &RequestHead, port: Option<u16>) -> Optio
     }
 }
 
-// The number of the best record of a job's store for its request.
+// Reads the store and the request of a job, and returns the number of the best record.
 fn find_best<D: Disk>(alloc: Global, job: &MatchJob<'_>, disk: &mut D) -> Result<Option<u64>, Cause>
     ensures found { IfOk result (λ number. FinishesOnly GivesMatch (match_reading (match_values job.now))
         (D.view disk.old).files (prints (number_text number))) }
@@ -93,7 +95,7 @@ fn find_best<D: Disk>(alloc: Global, job: &MatchJob<'_>, disk: &mut D) -> Result
     Ok(best_number(&store, &request, job.port))
 }
 
-// The line of a number, or of none.
+// Returns the line of a number, or `none`.
 fn text_of(alloc: Global, number: Option<u64>) -> Result<Bytes, OutOfMemory>
     ensures { IfOk result (λ text. text ≡ number_text number) }
 {
@@ -108,7 +110,7 @@ fn text_of(alloc: Global, number: Option<u64>) -> Result<Bytes, OutOfMemory>
     Ok(text)
 }
 
-// Does the job: the store and the request are read, and then the number is printed.
+// Does the job: reads the store and the request, and then prints the number.
 fn print_best<D: Disk, O: Sink>(
     alloc: Global,
     job: &MatchJob<'_>,
@@ -125,8 +127,10 @@ fn print_best<D: Disk, O: Sink>(
     print(out, text.as_slice())
 }
 
-/// Does what the words after `match` say: prints the number, from 1, of the record of a store that answers a request,
-/// or `none`. No file is written, and no net is touched.
+/// Carries out the command `match`, whose further words are `words`: prints the number, counted from 1, of the record
+/// of a store that answers a request, or `none`. No file is written, and no net is touched.
+///
+/// The cause of an error is a refusal of words or of an input, a fault of the disk or of `out`, or out of memory.
 pub fn answer_match<D: Disk, O: Sink>(
     alloc: Global,
     words: &[String],

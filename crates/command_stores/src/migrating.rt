@@ -25,14 +25,15 @@ use std::alloc::Global;
 use store_input::load_store;
 use text_base::OutOfMemory;
 
-// The names of the files of a store in either form, and of the same in form 2.
+// The job of `migrate`: the names of the files of a store in either form, and of the same store in form 2.
 #[derive(Drop)]
 pub(crate) struct MigrateJob<'a> {
     pub store: &'a str,
     pub out: &'a str,
 }
 
-// The job of the words after `migrate`, if they have one. `OutOfMemory` is want of memory.
+// Returns the job of `words`, the words after `migrate`, or `None` where they name none. Returns `OutOfMemory` where an
+// allocation fails.
 #[tactic(auto, unfolding(crate::specs::Migrating::migrate_job_of))]
 fn read_migrate<'a>(
     alloc: Global,
@@ -57,7 +58,7 @@ fn check_migrate(alloc: Global, job: &MigrateJob<'_>) -> Result<(), Cause>
     check_names(alloc, &[job.store], job.out)
 }
 
-// The store of a job.
+// Returns the store of a job.
 fn load_old<D: Disk>(alloc: Global, job: &MigrateJob<'_>, disk: &mut D) -> Result<Store, Cause>
     ensures found { IfOk result (λ store. FinishesOnly GivesMigrate (migrate_inputs (migrate_values job.now))
         (D.view disk.old).files (writes (store_file job.now.out.now store))) }
@@ -68,7 +69,7 @@ fn load_old<D: Disk>(alloc: Global, job: &MigrateJob<'_>, disk: &mut D) -> Resul
     load_store(alloc, disk, job.store)
 }
 
-// Does the job: the store is read in either form, and then written in form 2.
+// Does the job: reads the store in either form, and then writes it in form 2.
 fn migrate<D: Disk>(alloc: Global, job: &MigrateJob<'_>, disk: &mut D) -> Result<(), Cause>
     ensures ends { (out : SinkView) → Ends (only GivesMigrate) (migrate_reading (migrate_values job.now))
         (offline (D.view disk.old) out) (offline (D.view disk.new) out) (cause_in result) }
@@ -79,8 +80,10 @@ fn migrate<D: Disk>(alloc: Global, job: &MigrateJob<'_>, disk: &mut D) -> Result
     write_store(alloc, disk, job.out, &store)
 }
 
-/// Does what the words after `migrate` say: reads a store in either form, and writes it in form 2. Nothing is printed,
-/// and no net is touched.
+/// Carries out the command `migrate`, whose further words are `words`: reads a store in either form, and writes it in
+/// form 2. Nothing is printed, and no net is touched.
+///
+/// The cause of an error is a refusal of words or of the store, a fault of the disk, or out of memory.
 pub fn answer_migrate<D: Disk>(alloc: Global, words: &[String], disk: &mut D) -> Result<(), Cause>
     ensures ends { (out : SinkView) → Ends (only GivesMigrate) (migrate_words (map string_bytes words.now))
         (offline (D.view disk.old) out) (offline (D.view disk.new) out) (cause_in result) }

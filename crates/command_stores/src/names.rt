@@ -1,4 +1,4 @@
-// Names of files, of which the output's is to be none of the inputs'.
+// Names of files: that of an output must be none of the inputs'.
 ghost use Rattle.std.specs.Prelude.{◌≡◌, ◌∷◌, [], None, MatchResult, map};
 ghost use Rattle.command_ends.specs.Names.{refused_names};
 ghost use Rattle.command_ends.specs.Stops.{RefusesText};

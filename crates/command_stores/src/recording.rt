@@ -28,7 +28,8 @@ use record_store::{PairError, Store, pair};
 use std::alloc::Global;
 use text_base::{OutOfMemory, Text};
 
-// The names of the files of the two streams and of the store, and the port that it was recorded from.
+// The job of `record`: the names of the files of the two streams and of the store, and the port that each record gets,
+// which is that of the server, or 0 for any.
 #[derive(Drop)]
 pub(crate) struct RecordJob<'a> {
     pub client: &'a str,
@@ -37,7 +38,8 @@ pub(crate) struct RecordJob<'a> {
     pub port: u16,
 }
 
-// The job of the words after `record`, if they have one. `OutOfMemory` is want of memory.
+// Returns the job of `words`, the words after `record`, or `None` where they name none. Returns `OutOfMemory` where an
+// allocation fails.
 #[tactic(auto, unfolding(crate::specs::Recording::record_job_of))]
 fn read_record<'a>(alloc: Global, words: &'a [String]) -> Result<Option<RecordJob<'a>>, OutOfMemory>
     ensures { IfOk result (λ found. option_map record_values found ≡ record_job_of (map string_bytes words.now)) }
@@ -48,7 +50,7 @@ fn read_record<'a>(alloc: Global, words: &'a [String]) -> Result<Option<RecordJo
     }
 }
 
-// The job of the options' values, where the port is one.
+// Returns the job of the options' values, where the text of the port, if given, is a port. It is 0 where none is given.
 #[tactic(auto, unfolding(crate::specs::Recording::record_with))]
 fn with_port<'a>(texts: RecordWords<'a>) -> Option<RecordJob<'a>>
     ensures { option_map record_values result ≡ record_with (record_texts_of texts.entry) }
@@ -64,7 +66,7 @@ fn with_port<'a>(texts: RecordWords<'a>) -> Option<RecordJob<'a>>
     }
 }
 
-// The file that a refusal of the streams names.
+// Returns the name of the file that a refusal of the streams names: the client's for a bad request, else the server's.
 fn stream_named<'a>(job: &RecordJob<'a>, error: PairError) -> &'a str
     ensures { result.now ≡ stream_named (record_values job.now) error }
 {
@@ -77,7 +79,7 @@ fn stream_named<'a>(job: &RecordJob<'a>, error: PairError) -> &'a str
     }
 }
 
-// Why the streams are no pairs.
+// Returns the cause of streams that don't pair.
 fn pair_cause(alloc: Global, job: &RecordJob<'_>, error: PairError) -> Cause
     ensures { (client server : List ℕ) → Pairs client server job.now.port (Err error)
         → RefusesBy (PairVerdict (record_values job.now) client server) result }
@@ -95,7 +97,7 @@ fn pair_cause(alloc: Global, job: &RecordJob<'_>, error: PairError) -> Cause
     }
 }
 
-// The store of the pairs of a job's streams.
+// Reads the streams of a job, and returns the store of their pairs.
 fn load_pairs<D: Disk>(alloc: Global, job: &RecordJob<'_>, disk: &mut D) -> Result<Store, Cause>
     ensures found { IfOk result (λ store. FinishesOnly GivesRecord (record_inputs (record_values job.now))
         (D.view disk.old).files (writes (store_file job.now.out.now store))) }
@@ -119,7 +121,7 @@ fn check_record(alloc: Global, job: &RecordJob<'_>) -> Result<(), Cause>
     check_names(alloc, &[job.client, job.server], job.out)
 }
 
-// Does the job: its streams are read and paired, and then the store is written.
+// Does the job: reads its streams, pairs them, and then writes the store.
 fn make_store<D: Disk>(alloc: Global, job: &RecordJob<'_>, disk: &mut D) -> Result<(), Cause>
     ensures ends { (out : SinkView) → Ends (only GivesRecord) (record_reading (record_values job.now))
         (offline (D.view disk.old) out) (offline (D.view disk.new) out) (cause_in result) }
@@ -130,8 +132,10 @@ fn make_store<D: Disk>(alloc: Global, job: &RecordJob<'_>, disk: &mut D) -> Resu
     write_store(alloc, disk, job.out, &store)
 }
 
-/// Does what the words after `record` say: pairs the two byte streams of a connection, and writes the store of the
-/// pairs. Nothing is printed, and no net is touched.
+/// Carries out the command `record`, whose further words are `words`: pairs the two byte streams of a connection, and
+/// writes the store of the pairs. Nothing is printed, and no net is touched.
+///
+/// The cause of an error is a refusal of words or of an input, a fault of the disk, or out of memory.
 pub fn answer_record<D: Disk>(alloc: Global, words: &[String], disk: &mut D) -> Result<(), Cause>
     ensures ends { (out : SinkView) → Ends (only GivesRecord) (record_words (map string_bytes words.now))
         (offline (D.view disk.old) out) (offline (D.view disk.new) out) (cause_in result) }

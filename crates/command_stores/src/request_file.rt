@@ -11,14 +11,15 @@ use command_ends::{Cause, Refusal, read_input};
 use http_frame::{FrameError, FrameFault, RequestFrames, RequestHead, Step};
 use mm_base::Disk;
 use std::alloc::Global;
+/// Out of memory; the text wasn't refused.
 use text_base::{OutOfMemory, Text};
 
 /// Why a text isn't accepted as a request.
 #[derive(Clone, Copy, Debug, PartialEq, Eq)]
 pub(crate) enum RequestError {
-    /// 1 to 8: the reader of requests refuses it.
+    /// The reader of requests refuses it. The number is the reader's, 1 to 8.
     Frame(FrameError),
-    /// 9: it holds no whole request, or bytes after one.
+    /// The text lacks bytes of a request, or has bytes behind one. The number is 9.
     NotOne,
     OutOfMemory,
 }
@@ -26,7 +27,7 @@ pub(crate) enum RequestError {
 impl RequestError {
     ghost use Rattle.command_stores.specs.Requests.{number_of};
 
-    // The number of the refusal, 1 to 9, or 0 for want of memory.
+    // Returns the number of the refusal: 1 to 9, or 0 for out of memory.
     fn number(self) -> u32
         ensures { result ≡ number_of self }
     {
@@ -46,7 +47,7 @@ impl From<OutOfMemory> for RequestError {
     }
 }
 
-// The head of the request that a text is. Its body isn't kept.
+// Returns the head of the request that a text is. The body isn't kept.
 fn read_head(alloc: Global, text: &[u8]) -> Result<RequestHead, RequestError>
     ensures whole { IfOk result (IsOneRequest text.now) }
     ensures refused { IfErr result (RefusesRequest text.now) }
@@ -55,7 +56,7 @@ fn read_head(alloc: Global, text: &[u8]) -> Result<RequestHead, RequestError>
     only_head(&mut frames, text)
 }
 
-// The head of the request that a text is, by a reader that has read nothing.
+// Returns the head of the request that a text is, by a reader that has read nothing.
 fn only_head(frames: &mut RequestFrames, text: &[u8]) -> Result<RequestHead, RequestError>
     requires { frames.old ≡ record { unread = []; ended = false; failed = None } }
     ensures whole { IfOk result (IsOneRequest text.now) }
@@ -76,7 +77,7 @@ fn only_head(frames: &mut RequestFrames, text: &[u8]) -> Result<RequestHead, Req
     }
 }
 
-// Why the text of the request's file of this name isn't accepted.
+// Returns the cause of a request's text, in the file `name`, that isn't accepted.
 fn request_cause(name: Text, error: RequestError) -> Cause
     ensures { (text : List ℕ) → RefusesRequest text error → RefusesBy (RequestVerdict name text) result }
 {
@@ -90,7 +91,8 @@ fn request_cause(name: Text, error: RequestError) -> Cause
     }
 }
 
-/// The head of the request that is the file of this name.
+/// Returns the head of the request in the file `name`. The cause of what can't be read is its refusal, a fault of the
+/// disk, or out of memory.
 pub(crate) fn load_request<D: Disk>(
     alloc: Global,
     disk: &mut D,

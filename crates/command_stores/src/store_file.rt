@@ -13,7 +13,7 @@ use mm_base::{Disk, DiskError};
 use record_store::{Store, StorePieces};
 use std::alloc::Global;
 
-// Adds these bytes at the end of a file.
+// Appends `bytes` to a file. Where it stops, a front of them was appended, but not all.
 fn append_all<D: Disk>(disk: &mut D, name: &str, bytes: &[u8]) -> Result<(), DiskError>
     ensures ok { OnOk result ((D.view disk.new).files ≡ lengthened name.now bytes.now (D.view disk.old).files) }
     ensures err { OnErr result ((n : ℕ) × (n < length bytes.now)
@@ -28,8 +28,8 @@ fn append_all<D: Disk>(disk: &mut D, name: &str, bytes: &[u8]) -> Result<(), Dis
     Ok(())
 }
 
-// Makes the file hold a store's text in form 2. After a refusal it is as before, or it holds a front of the text: none,
-// or not all.
+// Makes the file `name` hold a store's text in form 2. Where it stops, the file is as before, or holds a front of the
+// text, but not all.
 fn save_store<D: Disk>(
     alloc: Global,
     disk: &mut D,
@@ -51,7 +51,8 @@ fn save_store<D: Disk>(
     Ok(())
 }
 
-/// Writes the file of a store, in form 2.
+/// Writes the file of a store, in form 2. Where writing stops, the file is as before or holds a front of its text. The
+/// cause is a fault of the disk or out of memory.
 pub fn write_store<D: Disk>(
     alloc: Global,
     disk: &mut D,

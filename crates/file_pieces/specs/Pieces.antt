@@ -8,7 +8,7 @@ pub record HasSize (told : Option Files) (name : List ℕ) (size : ℕ) : Type 0
   pub held : IfHeld told name (λ bytes. size ≡ length bytes)
   pub few : size ≤ 67108864
 
--- A reader that had read `text` at `old` has read `text` and then `bytes` at `new`.
+-- Where a reader had read some text at `old`, it has read that text and then `bytes` at `new`.
 abbrev pub GoesOnBy : {R : Type 0} → (List ℕ → R → Type 0) → List ℕ → R → R → Type 0
 GoesOnBy has_read bytes old new = (text : List ℕ) → has_read text old → has_read (text ++ bytes) new
 

@@ -34,7 +34,7 @@ use Rattle.nest_command.specs.Loaded.{HasSchedule, HasTrace, HaveTraces, NoTrace
 use Rattle.trace_reader.specs.TraceIn.{trace_in}
 use Rattle.nest_command.proofs.TraceLemmas.{trace_is}
 
--- the text of a trace
+-- a trace's text is refused for its error
 pub trace_said : (name : Text) (text : List ℕ) (error : TraceError) (refusal : Refusal) (cause : Cause)
     → trace_fault text ≡ Some error → trace_refused name (Some error) ≡ Some refusal
     → cause ≡ Refused refusal → RefusesText (trace_refusal name text) cause
@@ -74,7 +74,7 @@ pub trace_text : (name : Text) (text : List ℕ) (refusal : Refusal) → trace_r
 unfolding trace_refusal
 trace_text name text refusal e = trace_status name (trace_fault text) refusal e
 
--- the text of a schedule
+-- a schedule's text is refused for its error
 pub schedule_said : (name : Text) (text : List ℕ) (error : ScheduleError) (refusal : Refusal) (cause : Cause)
     → first_fault 1 0 (lines_of text) ≡ Some error
     → schedule_refused name (Some error) ≡ Some refusal → cause ≡ Refused refusal
@@ -136,7 +136,7 @@ schedule_found told name text (Ok rows) input are accepted =
     (text, record { input = input; accepted = accepted; rows_are = are })
 schedule_found told name text (Err cause) input are accepted = tt
 
--- traces that are read lead on
+-- traces that were read lead on
 pub leads_traces : {A : Type 0} {told : Option Files} {names : List Text} {texts : List (List ℕ)}
     {traces : List TraceView} (next : List (List ℕ) → Reading A)
     → HaveTraces told names texts traces → Leads told (reading_traces names next) (next texts)
@@ -182,7 +182,7 @@ have_said (MoreTraces n ns t ts r rs first more) =
     let rest : map trace_in ts ≡ rs = have_said more in
     λ j. one j ∷ rest j
 
--- one trace more is read
+-- one trace more was read
 pub have_more : (told now : Option Files) (names : List Text) (i : ℕ) (name text : Text) (texts : List (List ℕ))
     (traces all : List TraceView) (trace : TraceView) → i < length names
     → name ≡ get_or names i name → text ≡ name → HaveTraces told (take i names) texts traces → now ≡ told
@@ -201,7 +201,7 @@ have_more told now names i name text texts traces all trace lt read same have st
           (subst (λ (l : List Text). HaveTraces told l (texts ++ is.0 ∷ []) (traces ++ trace ∷ [])) next more),
     )
 
--- reading stops at this one
+-- reading stops at the trace at index `i`
 pub traces_stop : (names : List Text) (i : ℕ) (name text : Text) (old mid new : DiskView)
     (texts : List (List ℕ)) (traces : List TraceView) (cause : Cause) → i < length names
     → name ≡ get_or names i name → text ≡ name → HaveTraces old.files (take i names) texts traces → OnlyReads old mid
@@ -230,7 +230,7 @@ traces_alike told (name ∷ names) last next =
     (λ text. reading_traces names (λ texts. next (text ∷ texts)))
     (λ text. traces_alike told names (λ texts. last (text ∷ texts)) (λ texts. next (text ∷ texts)))
 
--- what stops the reading of traces stops it whatever would have come next
+-- what stops the reading of traces stops it, whatever would have come next
 pub traces_stop_before : {A : Type 0} (names : List Text) (old new : DiskView) (cause : Cause)
     (next : List (List ℕ) → Reading A) → StopsReading (reading_traces names Done) old new cause
     → StopsReading (reading_traces names next) old new cause

@@ -85,7 +85,7 @@ pub names_taken : (inputs outputs : List Text) (name : Text) (cause : Cause) →
 unfolding refused_names
 names_taken inputs outputs name cause e is = inr (Words (Name name), is, ap refused_name e)
 
--- what is said of names is said of equal ones
+-- what is shown of names holds of equal names
 pub names_checked : {inputs outputs ins outs : List Text} (result : Result (Unit {0}) Cause) → inputs ≡ ins
     → outputs ≡ outs
     → MatchResult result (λ _. refused_names inputs outputs ≡ None)

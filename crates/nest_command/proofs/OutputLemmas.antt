@@ -17,7 +17,7 @@ use Rattle.command_ends.specs.declared.cause.Cause.{Cause}
 use Rattle.command_ends.proofs.OutputLemmas.{one_written, stops_at_file}
 use Rattle.nest_command.specs.RunFiles.{log_file, run_files}
 
--- the files of logs, of which this gives the names and the entries
+-- the files of logs; `f` gives the name and the entries of each
 abbrev pub files_by : {A : Type 0} → (A → NamedEntries) → List A → List NamedText
 files_by f logs = map log_file (map f logs)
 
@@ -45,7 +45,7 @@ stops_at_log f all logs rest log old mid new cause is so_far some writes refused
     stops_at_file (files_by f all) (files_by f logs) (files_by f rest) (log_file (f log)) old mid new cause
     (ap (files_by f) is ∙ files_by-append f logs (log ∷ rest)) so_far some writes refused
 
--- the same of a log in its place
+-- the log at index `i` is written
 pub next_written : {A : Type 0} (f : A → NamedEntries) (logs : List A) (i : ℕ) (log : A)
     (told now after : Option Files) → i < length logs → log ≡ get_or logs i log
     → now ≡ holding_all (files_by f (take i logs)) told
@@ -67,7 +67,7 @@ stops_at_next f logs i log old mid new cause lt read so_far some writes refused 
     ∙ ap (λ l. take i logs ++ l) (drop_more logs i log lt ∙ ap (λ x. x ∷ drop (i + 1) logs) (sym read)) in
     stops_at_log f logs (take i logs) (drop (i + 1) logs) log old mid new cause split so_far some writes refused
 
--- the files of a run, where those of its logs are written
+-- the files of a run are written, where those of its logs are
 pub fates_written : (result : Result (Unit {0}) Cause) (run : RunLists) (logs : List NamedEntries)
     (fates : List FateRow) (out : Text) (told now after : Option Files) → logs ≡ run.logs
     → fates ≡ run.fates → now ≡ holding_all (map log_file logs) told
@@ -95,7 +95,7 @@ fates_stop (Err cause) run logs fates out old mid new logs_are fates_are so_far 
     ++ named_text out (fates_text (fates_are j)) ∷ [] in
     subst (λ (l : List NamedText). StopsWriting l old new cause) same stop
 
--- what a refusal of the disk leaves is what the cause that is answered for it leaves
+-- what an error of the disk leaves, the cause that is returned for it leaves too
 pub same_answer : (P : Type 0) (answer : Result (Unit {0}) DiskError) (result : Result (Unit {0}) Cause) → IsOk result
     ↔ IsOk answer → OnErr answer P → OnErr result P
 same_answer P (Ok a) (Ok b) same holds = tt

@@ -1,4 +1,4 @@
--- What reading traces and a schedule leaves, for the bodies that read them.
+-- What reading traces and a schedule tells about them.
 use Rattle.std.specs.Prelude.{◌≡◌, ℕ, List, [], ◌∷◌, Option, None}
 use Rattle.mm_base.specs.Files.{Files}
 use Rattle.packet_record.specs.Schedules.{IsScheduleText}
@@ -9,19 +9,19 @@ use Rattle.command_ends.specs.Causes.{Text}
 use Rattle.command_ends.specs.Stops.{IsInput}
 use Rattle.nest_command.specs.Inputs.{schedule_refusal, trace_refusal}
 
--- the file of this name has this text, which is that of this trace
+-- the file `name` has `text`, which is that of `trace`
 pub record HasTrace (told : Option Files) (name : Text) (text : List ℕ) (trace : TraceView) : Type 0 where
   pub input : IsInput told name text
   pub accepted : trace_refusal name text ≡ None
   pub trace_is : IsTraceText text trace
 
--- it has this text, which is that of these rows
+-- the file `name` has `text`, which is that of `rows`
 pub record HasSchedule (told : Option Files) (name : Text) (text : List ℕ) (rows : List Row) : Type 0 where
   pub input : IsInput told name text
   pub accepted : schedule_refusal name text ≡ None
   pub rows_are : IsScheduleText text rows
 
--- the files of these names have these texts, which are those of these traces
+-- the files have the texts, which are those of the traces
 pub data HaveTraces (told : Option Files) : List Text → List (List ℕ) → List TraceView → Type 0 where
   NoTraces : HaveTraces told [] [] []
   MoreTraces : (name : Text) (names : List Text) (text : List ℕ) (texts : List (List ℕ)) (trace : TraceView)

@@ -12,19 +12,20 @@ use Rattle.command_ends.specs.declared.cause.Refusal.{Refusal}
 use Rattle.command_ends.specs.declared.cause.Refusal.TheVariants.{Words, Limit}
 use Rattle.command_ends.specs.declared.cause.WordsRefusal.TheVariants.{Nest}
 
+-- the refusal of words that name no nest
 abbrev pub nest_refusal : NestError → Refusal
 nest_refusal error = Words (Nest (number_of error) (place_of error) (inner_of error))
 
--- the words of a nest come first
+-- words that name no nest are refused; `next` goes on with the plan of others
 abbrev pub with_nest : {A : Type 0} → Result NestPlan NestError → (NestPlan → Reading A) → Reading A
 with_nest (Err error) next = Refuses (nest_refusal error)
 with_nest (Ok plan) next = next plan
 
--- the horizon is at most an hour
+-- a horizon past an hour is refused
 unfoldable pub refused_horizon : ℕ → Option Refusal
 refused_horizon until = if nat_lt 3600000 until then Some (Limit Horizon) else None
 
--- the links of the shells have at most 16,000,000 opportunities up to the horizon, both directions together
+-- more than 16,000,000 opportunities up to the horizon are refused, both directions together
 unfoldable pub refused_count : ℕ → List ShellWords → List TraceView → Option Refusal
 refused_count until shells traces = if nat_lt 16000000 (opportunities_of until shells traces)
     then Some (Limit Opportunities) else None

@@ -1,4 +1,4 @@
-// What commands that run a nest ask of its words, its names, its horizon and its traces.
+// What commands that run a nest check: its words, the names of outputs, the horizon and the traces.
 ghost use Rattle.std.specs.Prelude.{◌≡◌, ◌≢◌, ◌⊎◌, ◌≤◌, ◌∷◌, ◌++◌, [], None, IfErr, IfOk, MatchResult, OnOk, length};
 ghost use Rattle.std.specs.Prelude.{map};
 ghost use Rattle.command_ends.specs.Names.{refused_names};
@@ -14,7 +14,8 @@ use text_base::limits::{HOUR, MOST_OPPORTUNITIES};
 use text_base::{OutOfMemory, Text};
 use trace_reader::Trace;
 
-/// Why the words of the shells are no nest: the number, the place and the inner number of the error, or want of memory.
+/// Returns the cause of words that name no nest: the refusal with the number, the place and the inner number of
+/// `error`, or `OutOfMemory`.
 pub fn nest_cause(error: NestError) -> Cause
     ensures { (result ≡ causes.OutOfMemory)
         ⊎ ((error ≢ NestError.OutOfMemory) × (result ≡ causes.Refused (nest_refusal error))) }
@@ -29,7 +30,7 @@ pub fn nest_cause(error: NestError) -> Cause
     }
 }
 
-/// The names of these texts, and then one more. `OutOfMemory` is want of memory.
+/// Returns the names in `first`, and then `last`. Returns `OutOfMemory` where an allocation fails.
 pub fn names_of<'a>(
     alloc: Global,
     first: &'a [Text],
@@ -45,7 +46,8 @@ pub fn names_of<'a>(
     Ok(names)
 }
 
-/// Refuses the first output that has the name of an input or of an output before it.
+/// Refuses the first output that has the name of an input, or of an output before it. Returns `OutOfMemory` where
+/// memory for the refusal runs out.
 pub fn check_outputs(alloc: Global, inputs: &[&str], outputs: &[&str]) -> Result<(), Cause>
     ensures { MatchResult result
         (λ _. refused_names (map (λ name. name.now) inputs.now) (map (λ name. name.now) outputs.now) ≡ None)
@@ -58,7 +60,7 @@ pub fn check_outputs(alloc: Global, inputs: &[&str], outputs: &[&str]) -> Result
     }
 }
 
-/// Refuses a horizon past an hour.
+/// Refuses a horizon `until` past an hour, 3,600,000 milliseconds.
 pub fn check_horizon(until: u64) -> Result<(), Cause>
     ensures refused { MatchResult result (λ _. refused_horizon until ≡ None)
         (λ cause. RefusesText (refused_horizon until) cause) }
@@ -70,7 +72,7 @@ pub fn check_horizon(until: u64) -> Result<(), Cause>
     Ok(())
 }
 
-/// Refuses traces with too many opportunities up to the horizon.
+/// Refuses traces with more than 16,000,000 opportunities up to the horizon `until`, in both directions together.
 pub fn check_count(until: u64, words: &NestWords, traces: &[Trace]) -> Result<(), Cause>
     requires horizon { until ≤ 3600000 }
     requires count { length traces.now ≡ length words.now.traces }

@@ -1,4 +1,4 @@
-// The inputs of runs, read from their files: traces, in order, and a schedule.
+// The inputs of runs, read from their files: traces in order, and a schedule.
 ghost use Rattle.std.specs.Prelude.{◌≡◌, ◌≢◌, ℕ, List, length, None, Some, IfOk, IfErr, MatchResult};
 ghost use Rattle.mm_base.specs.Disk.{OnlyReads};
 ghost use Rattle.packet_record.specs.PartsRead.{HasRead};
@@ -19,7 +19,7 @@ use std::alloc::Global;
 use text_base::Text;
 use trace_reader::{Trace, TraceError, read_trace};
 
-// Why the text of the trace of this name isn't accepted.
+// Returns the cause of a trace's text, in the file `name`, that isn't accepted.
 fn trace_cause(name: Text, error: TraceError) -> Cause
     ensures { (text : List ℕ) → (error ≢ TraceError.OutOfMemory → trace_fault text ≡ Some error)
         → RefusesText (trace_refusal name text) result }
@@ -35,8 +35,8 @@ fn trace_cause(name: Text, error: TraceError) -> Cause
     }
 }
 
-/// Why the text of the schedule `name` isn't accepted: `error` as the refusal of that file, its limit of packets, or out
-/// of memory.
+/// Returns the cause of a schedule's text, in the file `name`, that isn't accepted: its limit of packets, out of
+/// memory, or `error` as the refusal of that file.
 pub fn schedule_cause(name: Text, error: ScheduleError) -> Cause
     ensures { (text : List ℕ) → (error ≢ ScheduleError.OutOfMemory → first_fault 1 0 (lines_of text) ≡ Some error)
         → RefusesText (schedule_refusal name text) result }
@@ -52,7 +52,7 @@ pub fn schedule_cause(name: Text, error: ScheduleError) -> Cause
     }
 }
 
-// The trace of a text.
+// Returns the trace of a text. A refusal names the file `name`.
 fn trace_of(alloc: Global, name: &str, text: &[u8]) -> Result<Trace, Cause>
     ensures trace { IfOk result (λ trace. IsTraceText text.now trace) }
     ensures refused { MatchResult result (λ _. trace_refusal name.now text.now ≡ None)
@@ -64,7 +64,7 @@ fn trace_of(alloc: Global, name: &str, text: &[u8]) -> Result<Trace, Cause>
     }
 }
 
-// The trace of the file of this name.
+// Returns the trace in the file `name`.
 fn load_trace<D: Disk>(alloc: Global, disk: &mut D, name: &str) -> Result<Trace, Cause>
     ensures found { IfOk result (λ trace. ((text : List ℕ) × HasTrace (D.view disk.old).files name.now text trace)) }
     ensures stopped { IfErr result (λ cause. StopsReading (reading_trace name.now Done) (D.view disk.old)
@@ -75,8 +75,8 @@ fn load_trace<D: Disk>(alloc: Global, disk: &mut D, name: &str) -> Result<Trace,
     trace_of(alloc, name, bytes.as_slice())
 }
 
-/// The traces of the files of these names, each read before the next. The cause of what isn't read is its refusal, a
-/// fault of the disk, or want of memory.
+/// Returns the traces in the files `names`, each of which is read before the next. The cause of what can't be read is
+/// its refusal, a fault of the disk, or out of memory.
 pub fn load_traces<D: Disk>(
     alloc: Global,
     disk: &mut D,
@@ -97,7 +97,7 @@ pub fn load_traces<D: Disk>(
     Ok(traces)
 }
 
-// The text of the schedule of this name, read in pieces.
+// Reads a schedule's text from the file `name`, in pieces.
 fn read_schedule_file<D: Disk>(
     alloc: Global,
     disk: &mut D,
@@ -114,7 +114,7 @@ fn read_schedule_file<D: Disk>(
     Ok(text)
 }
 
-// The rows of a schedule's text that was read.
+// Returns the schedule whose text was read. A refusal names the file `name`.
 fn schedule_of(alloc: Global, name: &str, text: ScheduleText) -> Result<Schedule, Cause>
     ensures rows { (bytes : List ℕ) → HasRead bytes text → IfOk result (λ rows. IsScheduleText bytes rows) }
     ensures refused { (bytes : List ℕ) → HasRead bytes text
@@ -127,8 +127,8 @@ fn schedule_of(alloc: Global, name: &str, text: ScheduleText) -> Result<Schedule
     }
 }
 
-/// The schedule of the file of this name. The cause of what isn't read is its refusal, a fault of the disk, or want of
-/// memory.
+/// Returns the schedule in the file `name`. The cause of what can't be read is its refusal, a fault of the disk, or out
+/// of memory.
 pub fn load_schedule<D: Disk>(alloc: Global, disk: &mut D, name: &str) -> Result<Schedule, Cause>
     ensures found { IfOk result (λ rows. ((text : List ℕ) × HasSchedule (D.view disk.old).files name.now text rows)) }
     ensures stopped { IfErr result (λ cause. StopsReading (reading_schedule name.now Done) (D.view disk.old)

@@ -1,5 +1,5 @@
-//! What the commands with a nest share: where their options end, what words, horizon and traces are refused for, the
-//! reading of traces and schedules, and the files of logs and fates.
+//! What the commands that run a nest share: where their options end, what words, a horizon and traces are refused for,
+//! the reading of traces and schedules, and the files of logs and fates.
 #![tactic(auto)]
 
 mod checks;

@@ -1,4 +1,4 @@
-// The files that a run writes: its logs, in order, and then its fates.
+// The files that a run writes: its logs in order, and then its fates.
 ghost use Rattle.std.specs.Prelude.{◌≡◌, ◌<◌, ◌-◌, ℕ, length, take, map, IfErr, OnOk, OnErr};
 ghost use Rattle.std.specs.List.{flat_map};
 ghost use Rattle.mm_base.specs.Disk.{OnlyWrites, HasWriteCause};
@@ -19,8 +19,8 @@ use shell_log::HEADER;
 use std::alloc::Global;
 use text_base::{LineBuffer, PrintLine};
 
-// Adds a line for each entry that is to come at the end of a file, piece by piece as they are made. After a refusal a
-// front of their text was added: none of it, or not all.
+// Appends a line to the file `name` for each entry that `pieces` still makes, piece by piece. Where it stops, a front
+// of these lines was appended, but not all.
 fn append_pieces<D: Disk>(
     disk: &mut D,
     name: &str,
@@ -40,8 +40,8 @@ fn append_pieces<D: Disk>(
     Ok(())
 }
 
-// Makes the file hold a log's text: its first line, and then a line for each entry, written piece by piece as the log
-// is made. After a refusal the file is as before, or it holds a front of the text: none, or not all.
+// Makes the file `name` hold a log's text: its header, and then a line for each entry, written piece by piece as the
+// log is made. Where it stops, the file is as before, or holds a front of the text, but not all.
 fn save_pieces<D: Disk>(
     disk: &mut D,
     name: &str,
@@ -59,7 +59,7 @@ fn save_pieces<D: Disk>(
     append_pieces(disk, name, lines, &mut pieces)
 }
 
-// The same with a buffer of its own.
+// Makes the file `name` hold a log's text as `save_pieces` does, with a line buffer of its own.
 fn save_log<D: Disk>(alloc: Global, disk: &mut D, name: &str, log: LinkLog) -> Result<(), DiskError>
     ensures ok { OnOk result ((D.view disk.new).files ≡ holding name.now (log_text log) (D.view disk.old).files) }
     ensures err { OnErr result (HoldsSome (named_text name.now (log_text log)) (D.view disk.old).files
@@ -71,7 +71,7 @@ fn save_log<D: Disk>(alloc: Global, disk: &mut D, name: &str, log: LinkLog) -> R
     save_pieces(disk, name, &mut lines, log)
 }
 
-// Writes the file of a log, and lets the log go.
+// Writes the file of a log, and drops the log.
 fn write_log<D: Disk>(alloc: Global, disk: &mut D, log: UnwrittenLog) -> Result<(), Cause>
     ensures ok { OnOk result ((D.view disk.new).files ≡ holding log.name (log_text log.log) (D.view disk.old).files) }
     ensures partly { OnErr result (HoldsSome (named_text log.name (log_text log.log)) (D.view disk.old).files
@@ -84,9 +84,9 @@ fn write_log<D: Disk>(alloc: Global, disk: &mut D, log: UnwrittenLog) -> Result<
     file_written(alloc, name.as_str(), written)
 }
 
-/// Writes the files of the logs in order, and lets each log go when its file is written. Where writing stops, the files
-/// before are whole, and this one is as before or has a front of its text; the cause is a fault of the disk or want of
-/// memory.
+/// Writes the files of `logs` in order, and drops each log once its file is written. Where writing stops, the files
+/// before are whole, and the file that it stops at is as before or holds a front of its text. The cause is a fault of
+/// the disk or out of memory.
 pub fn write_logs<D: Disk>(
     alloc: Global,
     disk: &mut D,
@@ -104,7 +104,7 @@ pub fn write_logs<D: Disk>(
     Ok(())
 }
 
-// Writes the file of the fates, in any form that is printed.
+// Writes the file of the fates, a line for each. `F` is any form of a fate that is printed.
 fn write_fates<D: Disk, F: PrintLine>(
     alloc: Global,
     disk: &mut D,
@@ -122,9 +122,9 @@ fn write_fates<D: Disk, F: PrintLine>(
     file_written(alloc, name, written)
 }
 
-/// Writes the files of a run whose logs are made in pieces: its logs, in order, and then its fates. Where writing stops,
-/// the files before are whole, and this one is as before or has a front of its text; the cause is a fault of the disk or
-/// out of memory.
+/// Writes the files of a run whose logs are made in pieces: its logs in order, and then its fates to `out`. Where
+/// writing stops, the files before are whole, and the file that it stops at is as before or holds a front of its text.
+/// The cause is a fault of the disk or out of memory.
 pub fn write_in_pieces<D: Disk>(
     alloc: Global,
     disk: &mut D,
@@ -141,9 +141,9 @@ pub fn write_in_pieces<D: Disk>(
     write_fates(alloc, disk, out, fates.as_slice())
 }
 
-/// Writes the files of a run whose logs are whole: its logs, in order, and then its fates. Where writing stops, the
-/// files before are whole, and this one is as before or has a front of its text; the cause is a fault of the disk or
-/// want of memory.
+/// Writes the files of a run whose logs are whole: its logs in order, and then its fates to `out`. Where writing stops,
+/// the files before are whole, and the file that it stops at is as before or holds a front of its text. The cause is a
+/// fault of the disk or out of memory.
 pub fn write_whole<D: Disk>(
     alloc: Global,
     disk: &mut D,

@@ -1,4 +1,4 @@
-// The files of logs that are written out.
+// The files of logs whose entries are all in memory.
 ghost use Rattle.std.specs.Prelude.{◌≡◌, map, IfErr, OnOk, OnErr};
 ghost use Rattle.mm_base.specs.Disk.{OnlyWrites, HasWriteCause};
 ghost use Rattle.mm_base.specs.Files.{holding};
@@ -14,8 +14,8 @@ use nest_spec::NamedLog;
 use shell_log::{HEADER, Log};
 use std::alloc::Global;
 
-// Makes the file hold a log's text: its first line, and then a line for each entry. After a refusal the file is as
-// before, or it holds a front of the text: none, or not all.
+// Makes the file `name` hold a log's text: its header, and then a line for each entry. Where it stops, the file is as
+// before, or holds a front of the text, but not all.
 fn save_whole_log<D: Disk>(
     alloc: Global,
     disk: &mut D,
@@ -46,7 +46,7 @@ fn write_whole_log<D: Disk>(alloc: Global, disk: &mut D, log: &NamedLog) -> Resu
     file_written(alloc, name, written)
 }
 
-// Writes the files of the logs in order.
+// Writes the files of `logs` in order.
 pub(crate) fn write_whole_logs<D: Disk>(
     alloc: Global,
     disk: &mut D,

@@ -65,8 +65,8 @@ pub fn run_feeds<F: Feeds + Send, Q: Pace + Sync, R: Threads + Wait + Sync>(
     run_nest_feeds(rt, alloc, nest, feeds, pace)?.into_result()
 }
 
-// Runs the rows that `feeds` sends through both directions of a nest. Returns the lanes up and down where every stream
-// in them came to its end, else `OutOfMemory`: an item `Broken` was sent.
+// Runs the rows that `feeds` sends through both directions of a nest. Returns the lanes up and down, in which every
+// stream came to its end. Returns `OutOfMemory` where a stream was broken off.
 fn run_fed<F: Feeds + Send, Q: Pace + Sync, R: Threads + Wait + Sync>(
     rt: &R,
     alloc: Global,

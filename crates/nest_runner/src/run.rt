@@ -62,8 +62,8 @@ pub fn run_threads<Q: Pace + Sync, R: Threads + Wait + Sync>(
     run_nest_threads(rt, alloc, nest, schedule, pace)?.into_result()
 }
 
-// Runs rows through both directions of a nest. Returns the lanes up and down where every stream in them came to its
-// end, else `OutOfMemory`: an item `Broken` was sent.
+// Runs rows through both directions of a nest. Returns the lanes up and down, in which every stream came to its end.
+// Returns `OutOfMemory` where a stream was broken off.
 fn run_rows<Q: Pace + Sync, R: Threads + Wait + Sync>(
     rt: &R,
     alloc: Global,

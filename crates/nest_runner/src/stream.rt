@@ -37,7 +37,8 @@ use std::thread::{Threads, join_mut};
 /// Returns `TooLong` exactly where the disk says that the file has more than 67,108,864 bytes. Returns `Absent` where
 /// the disk has no such file, and `Failed` where the disk failed; the disk counts each. Returns `Schedule` with the
 /// first refusal of the bytes. They are read to their end before, and a fault met there is returned instead. Returns
-/// `OutOfMemory` where memory runs out in any thread, but not where the schedule is refused.
+/// `OutOfMemory` where memory runs out in any thread. A refusal of the schedule comes before out of memory in another
+/// thread.
 pub fn run_nest_stream<D: Disk, Q: Pace + Sync, R: Threads + Wait + Sync>(
     rt: &R,
     alloc: Global,

@@ -48,7 +48,7 @@ piece_sent d h sent old new done rows to is_done is_new prefix has =
     subst (λ l. HasSent d h [] l sent to)
     (ap (λ (l : List Row). old ++ l) (after_is old new done rows is_done is_new) ∙ rest_of old new prefix) has
 
--- where all rows were sent and then the end, all was
+-- where all rows were sent and then the end, `AllSent` holds
 pub end_sent : (d : Direction) (h sent : ℕ) (rows : List Row) (old new : End) → HasSent d h [] rows sent old
     → new.items ≡ old.items ++ Over ∷ [] → new.flow.packets ≡ old.flow.packets → new.flow.end ≡ IsOver
     → AllSent d h rows new

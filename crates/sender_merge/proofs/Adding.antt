@@ -1,4 +1,4 @@
--- What is added to a merge, and the law.
+-- An item that is added keeps what every merge keeps; a new merge keeps it too; and the law that follows from it.
 use Rattle.std.proofs.Common.{◌≡◌, ◌≢◌, ℕ, zero, suc, ◌+◌, ◌-◌, ◌<◌, ◌≤◌, true}
 use Rattle.std.proofs.Common.{List, [], ◌∷◌, ◌++◌, length, get_or, set, drop, map, replicate, refl, ap, sym, subst, ◌∙◌}
 use Rattle.std.proofs.Common.{append_assoc, arith}
@@ -22,7 +22,7 @@ use Rattle.sender_merge.specs.Merges.{by_moment, packet_moment}
 use Rattle.sender_merge.specs.inside.Standing.{AllFrom, AllMayCome, AllSound, IsFrom, IsSound, MayCome, Stands}
 use Rattle.sender_merge.specs.inside.Standing.{all_left, all_sent, waits}
 
--- a sender after one more item
+-- the senders with one more item added of the one at index `i`
 abbrev pub added_at : List Inflow → ℕ → Item → List Inflow
 added_at ss i x = set ss i (with_item (get_or ss i fresh) x)
 
@@ -82,13 +82,14 @@ from-added b i [] x lt may sound from = from
 from-added b zero (s ∷ ss) x lt may sound from = (from-item b s x may sound.0 from.0, from.1)
 from-added b (suc i) (s ∷ ss) x lt may sound from = (from.0, from-added b i ss x (omega arith) may sound.1 from.1)
 
--- what comes after an item came before as that item's packet and then this
+-- the packet of an item, if it is one, and then packets that come after it
 abbrev pub packet_then : Item → List Timed → List Timed
 packet_then (Packet t) ts = t ∷ ts
 packet_then (Mark m) ts = ts
 packet_then End ts = ts
 packet_then Broken ts = ts
 
+-- what comes of each sender, with the item `x` before what comes of the one at index `i`
 abbrev came : ℕ → Item → List (List Timed) → List (List Timed)
 came i x [] = []
 came zero x (c ∷ cs) = packet_then x c ∷ cs
@@ -193,14 +194,14 @@ left_item s (Mark m) sound = omega arith
 left_item s End sound = omega arith
 left_item s Broken sound = omega arith
 
--- and its packet is left
+-- the packets of an item that is added wait
 pub left_added : (i : ℕ) (ss : List Inflow) (x : Item) → i < length ss → AllSound ss
     → left_of (added_at ss i x) ≡ left_of ss + packets_in x
 left_added i [] x lt sound = absurd (omega arith)
 left_added zero (s ∷ ss) x lt sound = let one = left_item s x sound.0 in omega arith
 left_added (suc i) (s ∷ ss) x lt sound = let rest = left_added i ss x (omega arith) sound.1 in omega arith
 
--- a merge of which nothing was added
+-- nothing was added of any sender
 abbrev pub AllFresh : List Inflow → Type 0
 AllFresh [] = Unit {0}
 AllFresh (s ∷ ss) = (s ≡ fresh) × AllFresh ss
@@ -241,6 +242,7 @@ fresh_left (s ∷ ss) all =
 pub left_new : (n : ℕ) → left_of (replicate n fresh) ≡ 0
 left_new n = fresh_left (replicate n fresh) (all_fresh n)
 
+-- a new merge has what every merge keeps
 pub stands-new : (n : ℕ) → Stands (new_merging n)
 stands-new n = record {
   sound = fresh_sound (replicate n fresh) (all_fresh n);
@@ -250,7 +252,7 @@ stands-new n = record {
   whole = λ over. absurd cc;
 }
 
--- the packets of items
+-- the packets among items
 abbrev packets_among : List Item → List Timed
 packets_among [] = []
 packets_among (x ∷ xs) = packet_then x (packets_among xs)
@@ -265,6 +267,7 @@ after_all-packets : (f : Stream) (xs : List Item) → (after_all f xs).packets �
 after_all-packets f [] = sym (append-nil f.packets)
 after_all-packets f (x ∷ xs) = after_all-packets (after f x) xs ∙ after_one f x (packets_among xs)
 
+-- packets that rise, none of which is before `bound`
 pub record Comes (bound : ℕ) (ts : List Timed) : Type 0 where
   pub rises : Rise ts
   pub later : AreFrom bound ts
@@ -317,7 +320,7 @@ items_sent h (s ∷ ss) (xs ∷ coming) all =
     ap (λ (ts : List Timed). ts ++ all_sent ss (coming_of coming)) (sym (after_all-packets s.flow xs))
     ∙ ap (λ (ts : List Timed). (after_all s.flow xs).packets ++ ts) (items_sent h ss coming all.1)
 
--- the law: what was given is a front of the merge of whatever may come
+-- the law: what was given is a front of the merge of whatever may still come
 pub front : (m : Merging) → Stands m → IsMergeFront m
 front m stands = record {
   front = λ horizon coming all. (

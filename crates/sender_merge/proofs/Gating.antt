@@ -6,6 +6,7 @@ use Rattle.sender_merge.specs.inside.Gates.{AllEnds, AllFresh, IsFresh}
 use Rattle.sender_merge.specs.inside.Inlets.{AllEmpty, AllSame}
 use Rattle.sender_merge.specs.inside.Outlets.{AllEmpty as AllUnsent, AllSameOutlets}
 
+-- the channels of one more sender
 pub fresh-snoc : (h : ℕ) (os : List Outlet) (us ds : List Inlet) (o : Outlet) (u d : Inlet) → AllFresh h os us ds
     → IsFresh h o u d → AllFresh h (os ++ o ∷ []) (us ++ u ∷ []) (ds ++ d ∷ [])
 fresh-snoc h [] [] [] o u d all one = (one, tt)
@@ -15,7 +16,7 @@ fresh-snoc h (p ∷ os) [] ds o u d all one = absurd all
 fresh-snoc h (p ∷ os) (v ∷ us) [] o u d all one = absurd all
 fresh-snoc h (p ∷ os) (v ∷ us) (e ∷ ds) o u d all one = (all.0, fresh-snoc h os us ds o u d all.1 one)
 
--- what is fresh, by itself
+-- what fresh channels are, part by part
 pub record FreshParts (h : ℕ) (os : List Outlet) (us ds : List Inlet) : Type 0 where
   pub unsent : AllUnsent h os
   pub ups : AllEmpty h us
@@ -42,7 +43,7 @@ fresh_parts h (o ∷ os) (u ∷ us) (d ∷ ds) all =
       downs_long = ap suc rest.downs_long;
     }
 
--- what went through leaves the ends those of their channels
+-- the ends stay those of their channels, whatever went through
 pub still_ends : (os os' : List Outlet) (us us' ds ds' : List Inlet) → AllEnds os us ds → AllSameOutlets os os'
     → AllSame us us' → AllSame ds ds' → AllEnds os' us' ds'
 still_ends [] [] [] [] [] [] ends p q r = tt

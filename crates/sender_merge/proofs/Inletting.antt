@@ -67,7 +67,7 @@ closed-before k zero (i ∷ inlets) lt all is = omega arith
 closed-before zero (suc place) (i ∷ inlets) lt all is = all.0 is
 closed-before (suc k) (suc place) (i ∷ inlets) lt all is = closed-before k place inlets (omega arith) all.1 is
 
--- the least of the places before this one, with its bound
+-- `p` is the least of the open places before `place`, with its bound
 pub record IsLeastOf (place : ℕ) (inlets : List Inlet) (p : ℕ × ℕ) : Type 0 where
   pub within : p.0 < place
   pub going : IsOpenAt p.0 inlets
@@ -75,11 +75,12 @@ pub record IsLeastOf (place : ℕ) (inlets : List Inlet) (p : ℕ × ℕ) : Type
   pub least : (k : ℕ) → k < place → IsOpenAt k inlets → p.1 ≤ bound_at k inlets
   pub first : (k : ℕ) → k < p.0 → IsOpenAt k inlets → p.1 < bound_at k inlets
 
+-- `least` is the least of the open places before `place`, if there is one
 pub record IsFurthest (place : ℕ) (inlets : List Inlet) (least : Option (ℕ × ℕ)) : Type 0 where
   pub some : IfSome least (λ (p : ℕ × ℕ). IsLeastOf place inlets p)
   pub none : IfNone least (AllClosed (take place inlets))
 
--- a bound below the least so far is below all that are open before
+-- a bound below the least so far is below those of all open places before
 below-all : (place b : ℕ) (inlets : List Inlet) (old : Option (ℕ × ℕ)) → IsFurthest place inlets old
     → IfSome old (λ (q : ℕ × ℕ). b < q.1) → (k : ℕ) → k < place → IsOpenAt k inlets → b < bound_at k inlets
 below-all place b inlets None was lt k before is = absurd (closed-before k place inlets before was.none is)
@@ -117,7 +118,7 @@ new-least place inlets i old p lt at was is bound going less =
       first = λ k before open'. let one = below k (omega arith) open' in omega arith;
     }
 
--- one place more
+-- the least so far with one place more
 pub furthest-more : (place : ℕ) (inlets : List Inlet) (i : Inlet) (old new : Option (ℕ × ℕ)) → place < length inlets
     → i ≡ get_or inlets place i → IsFurthest place inlets old → IfSome new (IsFurther old place i)
     → IfNone new ((old ≡ None) × (i.from.flow.end ≢ Open)) → IsFurthest (place + 1) inlets new
@@ -140,7 +141,7 @@ furthest-more place inlets i old (Some p) lt at was some none = record {
   none = tt;
 }
 
--- after the last place it is the least of all
+-- after the last place the least so far is the least of all
 pub furthest-of : (place : ℕ) (inlets : List Inlet) (p : ℕ × ℕ) → length inlets ≤ place → IsLeastOf place inlets p
     → IsFurthestBehind p.0 inlets
 furthest-of place inlets p whole is = record {
@@ -174,7 +175,7 @@ same-on (x ∷ a) [] c p q = absurd p
 same-on (x ∷ a) (y ∷ b) [] p q = absurd q
 same-on (x ∷ a) (y ∷ b) (z ∷ c) p q = ((q.0.0 ∙ p.0.0, q.0.1 ∙ p.0.1), same-on a b c p.1 q.1)
 
--- an item that was received and added
+-- there is a sender for each inlet
 pub added-long : (inlets : List Inlet) (senders : List Inflow) → AreAdded inlets senders
     → length senders ≡ length inlets
 added-long [] [] all = refl
@@ -182,6 +183,7 @@ added-long [] (s ∷ senders) all = absurd all
 added-long (i ∷ inlets) [] all = absurd all
 added-long (i ∷ inlets) (s ∷ senders) all = ap suc (added-long inlets senders all.1)
 
+-- what was added of the sender at a place is what was received there
 pub added-at : (place : ℕ) (inlets : List Inlet) (senders : List Inflow) (d : Inlet) → place < length inlets
     → AreAdded inlets senders → (get_or senders place fresh).flow ≡ (get_or inlets place d).from.flow
 added-at place [] senders d lt all = absurd (omega arith)
@@ -189,6 +191,7 @@ added-at place (i ∷ inlets) [] d lt all = absurd all
 added-at zero (i ∷ inlets) (s ∷ senders) d lt all = all.0
 added-at (suc place) (i ∷ inlets) (s ∷ senders) d lt all = added-at place inlets senders d (omega arith) all.1
 
+-- one item more, received and added
 pub added-set : (place : ℕ) (inlets : List Inlet) (senders : List Inflow) (new : Inlet) (s : Inflow)
     → AreAdded inlets senders → s.flow ≡ new.from.flow → AreAdded (set inlets place new) (set senders place s)
 added-set place [] [] new s all is = tt
@@ -221,7 +224,7 @@ within-set h zero (i ∷ inlets) new d x all up is same =
 within-set h (suc place) (i ∷ inlets) new d x all up is same =
     (all.0, within-set h place inlets new d x all.1 up is same)
 
--- nothing is open where all are closed
+-- no sender is open where all inlets are closed
 pub none-open : (inlets : List Inlet) (senders : List Inflow) → AreAdded inlets senders → AllClosed inlets
     → SomeOpen senders → ⊥
 none-open [] [] all closed open' = open'
@@ -231,7 +234,7 @@ none-open (i ∷ inlets) (s ∷ senders) all closed open' = ⊎_elim
     (λ (here : s.flow.end ≡ Open). closed.0 (sym (ap (λ (f : Stream). f.end) all.0) ∙ here))
     (λ (there : SomeOpen senders). none-open inlets senders all.1 closed.1 there) open'
 
--- a step changes no flow
+-- a packet that is given changes no flow that was added
 added-given : (inlets : List Inlet) (senders : List Inflow) (n : ℕ) → AreAdded inlets senders
     → AreAdded inlets (set senders n (with_passed (get_or senders n fresh)))
 added-given [] [] n all = tt
@@ -299,7 +302,7 @@ pub ended-closed : (inlets : List Inlet) → AllEnded inlets → AllClosed inlet
 ended-closed [] all = tt
 ended-closed (i ∷ inlets) all = (over_not_open i.from.flow.end all.0, ended-closed inlets all.1)
 
--- before anything was received
+-- before anything was received, what was received is up to the horizon
 pub empty-within : (h : ℕ) (inlets : List Inlet) → AllEmpty h inlets → AllWithin h inlets
 empty-within h [] all = tt
 empty-within h (i ∷ inlets) all = (
@@ -316,12 +319,12 @@ pub empty-added : (h : ℕ) (inlets : List Inlet) → AllEmpty h inlets
 empty-added h [] all = tt
 empty-added h (i ∷ inlets) all = (sym all.0.0, empty-added h inlets all.1)
 
--- what follows where a call went well
+-- what follows from a value of a call that went well
 pub on_ok : {A E : Type 0} (r : Result A E) (P Q : Type 0) → (P → Q) → OnOk r P → OnOk r Q
 on_ok (Ok a) P Q f h = f h
 on_ok (Err e) P Q f h = h
 
--- what is given by the merge of what was received
+-- what was given to the end is the merge of what was received
 pub merged : (inlets : List Inlet) (m : Merging) (sent : Stream) → AreAdded inlets m.senders → IsMergeFront m
     → m.given.end ≡ Ended → sent ≡ m.given → AllClosed inlets × IsMerged inlets sent
 merged inlets m sent all front over is =
@@ -334,14 +337,14 @@ merged inlets m sent all front over is =
       ),
     )
 
--- a step leaves the flows that were added
+-- a step changes no flow that was added
 pub added-step : (inlets : List Inlet) (old new : Merging) (step : MergeStep) → new ≡ after_step old step
     → AreAdded inlets old.senders → AreAdded inlets new.senders
 added-step inlets old new (Gives x) is all =
     subst (λ (m : Merging). AreAdded inlets m.senders) (sym is) (added-item inlets old.senders x all)
 added-step inlets old new (Need sender) is all = subst (λ (m : Merging). AreAdded inlets m.senders) (sym is) all
 
--- how the flow given stands after the item of a step
+-- the end of the flow given after a step that gives an item
 pub end-after : (old new : Merging) (step : MergeStep) (x : Item) → new ≡ after_step old step → step ≡ Gives x
     → new.given.end ≡ (after old.given x).end
 end-after old new step x is gives =
@@ -352,6 +355,7 @@ abbrev pub Goes : List Inlet → List Inlet → Merging → ChannelEnd → Chann
 Goes before inlets core first to = (to.flow.end ≡ Open) × (core.given ≡ to.flow) × AreAdded inlets core.senders
     × AllWithin to.horizon inlets × AllSame before inlets × IsSameEnd first to
 
+-- `Goes` still holds where a step gives an item that is sent
 pub sent-on : (before inlets : List Inlet) (core new : Merging) (first to sent : ChannelEnd) (step : MergeStep)
     (x : Item) → Goes before inlets core first to → new ≡ after_step core step → step ≡ Gives x
     → (after core.given x).end ≡ core.given.end → sent.flow ≡ new.given → IsSameEnd to sent
@@ -365,7 +369,7 @@ sent-on before inlets core new first to sent step x i is gives goes alike same =
   (same.0 ∙ i.5.0, same.1 ∙ i.5.1),
 )
 
--- where a sender is needed, nothing is sent, and one item more is received
+-- `Goes` still holds where a sender is needed, nothing is sent, and one item more is received
 pub received-on : (before inlets received : List Inlet) (core new added : Merging) (first to sent : ChannelEnd)
     → Goes before inlets core first to → new ≡ core → sent.flow ≡ new.given → IsSameEnd to sent
     → added.given ≡ new.given → AreAdded received added.senders → AllWithin to.horizon received

@@ -27,7 +27,7 @@ use Rattle.sender_merge.specs.inside.RowMerges.{From}
 use Rattle.sender_merge.proofs.Looking.{Clears, IsLeast, NoHeads, NotAfter, cleared, none_wait, one_waits, up_to_got}
 use Rattle.sender_merge.proofs.Looking.{AllBounded, found, wait_from, within}
 
--- packets from a moment, as any entries are
+-- packets from moment `m` on, as entries from it on
 from_of : (m : ℕ) (ts : List Timed) → AreFrom m ts → From packet_moment m ts
 from_of m [] h = tt
 from_of m (t ∷ ts) h = (h.0, from_of m ts h.1)
@@ -52,8 +52,8 @@ drop_next m (suc n) [] h = tt
 drop_next m zero (t ∷ ts) h = h.1
 drop_next m (suc n) (t ∷ ts) h = drop_next m n ts h
 
--- What waits of a sender and what may still come of it: none is before the candidate, and all are after it where the
--- sender's number is the lesser.
+-- What waits of sender `k` and what comes of it: none is before the candidate, and all are after it where `k` is below
+-- the number of the candidate's sender.
 pub record Ready (c : Head) (k : ℕ) (ts : List Timed) : Type 0 where
   pub from : From packet_moment c.packet.moment ts
   pub strict : k < c.sender → From packet_moment (c.packet.moment + 1) ts
@@ -99,6 +99,7 @@ ready_either c k s None coming at sound may not clear =
     (ready_without c k s coming may (cleared c k s at clear))
 ready_either c k s (Some t) coming at sound may not clear = ready_with c k s t coming sound may at not
 
+-- `Ready` of each sender, with what waits and comes of it; `k` is the number of the first one
 abbrev AllReady : Head → ℕ → List Inflow → List (List Timed) → Type 0
 AllReady c k [] [] = Unit {0}
 AllReady c k [] (x ∷ cs) = ⊥
@@ -125,10 +126,11 @@ ready-from c k (s ∷ ss) (x ∷ cs) ready =
     sorting-append packet_moment c.packet.moment (waits s ++ x) (all_left ss cs) ready.0.from
     (ready-from c (k + 1) ss cs ready.1)
 
--- the senders after the candidate was given
+-- the senders once the head of the one at index `i` was given
 abbrev pub given_at : List Inflow → ℕ → List Inflow
 given_at ss i = set ss i (with_passed (get_or ss i fresh))
 
+-- a head that is least is first in the merge, where its sender is the first
 first_of : (c : Head) (k : ℕ) (s : Inflow) (x rest : List Timed) → head_of s ≡ Some c.packet → Ready c k (waits s ++ x)
     → From packet_moment c.packet.moment rest
     → by_moment packet_moment ((waits s ++ x) ++ rest)
@@ -154,7 +156,7 @@ comes_first c k (suc i) (s ∷ ss) (x ∷ cs) is lt at ready =
     (ready.0.strict (omega arith))
     (comes_first c (k + 1) i ss cs (omega arith) (omega arith) at ready.1)
 
--- what was sent, and what may come, are as before
+-- a head that is given changes neither what was sent nor what may come
 sent-given : (i : ℕ) (ss : List Inflow) (cs : List (List Timed)) → all_sent (given_at ss i) cs ≡ all_sent ss cs
 sent-given i [] cs = refl
 sent-given zero (s ∷ ss) [] = refl
@@ -223,7 +225,7 @@ all_from_clear c k (s ∷ ss) sound least clear =
       all_from_clear c (k + 1) ss sound.1 least.1 both.1,
     )
 
--- and nothing is before the merged bound where that is not above the heads
+-- no head is before moment `b`
 abbrev HeadsFrom : ℕ → List Inflow → Type 0
 HeadsFrom b [] = Unit {0}
 HeadsFrom b (s ∷ ss) = ((t : Timed) → head_of s ≡ Some t → b ≤ t.moment) × HeadsFrom b ss
@@ -260,12 +262,13 @@ from_bounded b s (Some t) at sound heads bounded =
       bound = λ going. omega arith;
     }
 
+-- where no head is before the merged bound, nothing that waits or comes is
 pub all_from_bounded : (b : ℕ) (ss : List Inflow) → AllSound ss → HeadsFrom b ss → AllBounded b ss → AllFrom b ss
 all_from_bounded b [] sound heads bounded = tt
 all_from_bounded b (s ∷ ss) sound heads bounded =
     (from_bounded b s (head_of s) refl sound.0 heads.0 bounded.0, all_from_bounded b ss sound.1 heads.1 bounded.1)
 
--- the merge stands after the candidate was given
+-- after the candidate was given the merge keeps what it kept
 pub stands-packet : (m : Merging) (c : Head) → Stands m → m.given.end ≡ Open → candidate_from 1 m.senders ≡ Some c
     → all_clear c 1 m.senders ≡ true
     → Stands (merging (given_at m.senders (c.sender - 1)) (after m.given (Packet c.packet)))
@@ -290,7 +293,7 @@ stands-packet m c stands going is clear =
       whole = λ over. absurd (let o = going in cc);
     }
 
--- after a mark that is not above anything that waits or comes
+-- after a mark the merge keeps what it kept, where nothing that waits or comes is before the mark
 pub stands-mark : (m : Merging) (b : ℕ) → Stands m → m.given.end ≡ Open → AllFrom b m.senders
     → Stands (merging m.senders (after m.given (Mark b)))
 stands-mark m b stands going from = record {
@@ -301,7 +304,7 @@ stands-mark m b stands going from = record {
   whole = λ over. absurd (let o = going in cc);
 }
 
--- after it was broken off
+-- a merge that is broken off keeps what it kept
 pub stands-broken : (m : Merging) → Stands m → Stands (merging m.senders (after m.given Broken))
 stands-broken m stands = record {
   sound = stands.sound;
@@ -311,7 +314,7 @@ stands-broken m stands = record {
   whole = λ over. absurd cc;
 }
 
--- nothing comes
+-- nothing comes of any sender
 abbrev nothings : List Inflow → List (List Timed)
 nothings [] = []
 nothings (s ∷ ss) = [] ∷ nothings ss
@@ -332,7 +335,7 @@ nothing_sent (s ∷ ss) =
     ap (λ (ts : List Timed). ts ++ all_sent ss (nothings ss)) (append-nil s.flow.packets)
     ∙ ap (λ (ts : List Timed). s.flow.packets ++ ts) (nothing_sent ss)
 
--- after the end
+-- after the end the merge keeps what it kept, where no packet waits and all senders have ended
 pub stands-end : (m : Merging) → Stands m → NoHeads m.senders → list_all has_ended m.senders ≡ true
     → Stands (merging m.senders (after m.given End))
 stands-end m stands none over = record {

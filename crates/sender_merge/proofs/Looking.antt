@@ -1,4 +1,4 @@
--- What looks at senders tell.
+-- What the looks at all senders tell.
 use Rattle.std.proofs.Common.{◌≡◌, ◌⊎◌, inl, inr, ⊎_elim, ℕ, zero, suc, ◌+◌, ◌-◌, ◌<◌, ◌≤◌, Bool, true, false, not}
 use Rattle.std.proofs.Common.{◌&&◌, ◌||◌, cond, ltb, eqb, List, [], ◌∷◌, length, get_or, drop, refl, ap, sym, subst}
 use Rattle.std.proofs.Common.{◌∙◌}
@@ -12,7 +12,7 @@ use Rattle.sender_merge.specs.Inflows.{Inflow, fresh, has_ended, head_of}
 use Rattle.sender_merge.specs.Steps.{all_clear, bound_of, candidate_from, clears, earlier, head, is_needed, lesser}
 use Rattle.sender_merge.specs.Steps.{merged_bound, moment_or, needed_from}
 
--- what waits, by its first packet
+-- no packet waits where there is no head
 pub none_wait : (xs : List Timed) (n : ℕ) → slice_get xs n ≡ None → drop n xs ≡ []
 none_wait [] zero is = refl
 none_wait [] (suc n) is = refl
@@ -24,6 +24,7 @@ one_waits_suc [] n t is = absurd cc
 one_waits_suc (x ∷ xs) zero t is = let e : x ≡ t = cc in ap (λ (y : Timed). y ∷ xs) e
 one_waits_suc (x ∷ xs) (suc n) t is = one_waits_suc xs n t is
 
+-- the head is the first packet that waits
 pub one_waits : (xs : List Timed) (n : ℕ) (t : Timed) → slice_get xs n ≡ Some t → drop n xs ≡ t ∷ drop (n + 1) xs
 one_waits xs n t is = let e : suc n ≡ n + 1 = omega arith in
     one_waits_suc xs n t is ∙ ap (λ k. t ∷ drop k xs) e
@@ -44,18 +45,20 @@ rise_drop [] (suc n) r = tt
 rise_drop (x ∷ xs) zero r = r
 rise_drop (x ∷ xs) (suc n) r = rise_drop xs n r.1
 
--- no packet that waits is before the first one
+-- no packet that waits is before the head
 pub wait_from : (xs : List Timed) (n : ℕ) (t : Timed) → Rise xs → slice_get xs n ≡ Some t → AreFrom t.moment (drop n xs)
 wait_from xs n t r is = let e = one_waits xs n t is in
     let rise : Rise (t ∷ drop (n + 1) xs) = subst Rise e (rise_drop xs n r) in
     let all : AreFrom t.moment (t ∷ drop (n + 1) xs) = (omega arith, rise.0) in
     subst (AreFrom t.moment) (sym e) all
 
--- a candidate isn't after a head, and is before it where that sender comes first
+-- the candidate isn't after the head of sender `k`, and is before it where `k` is below the number of the candidate's
+-- sender
 abbrev pub NotAfter : Head → ℕ → Option Timed → Type 0
 NotAfter c k None = Unit {0}
 NotAfter c k (Some t) = (c.packet.moment ≤ t.moment) × (k < c.sender → c.packet.moment < t.moment)
 
+-- `NotAfter` of each sender's head; `k` is the number of the first one
 abbrev pub IsLeast : Head → ℕ → List Inflow → Type 0
 IsLeast c k [] = Unit {0}
 IsLeast c k (s ∷ ss) = NotAfter c k (head_of s) × IsLeast c (k + 1) ss
@@ -64,6 +67,7 @@ abbrev pub NoHeads : List Inflow → Type 0
 NoHeads [] = Unit {0}
 NoHeads (s ∷ ss) = (head_of s ≡ None) × NoHeads ss
 
+-- the candidate is the head of its sender, and the least of all
 pub record Found (c : Head) (k : ℕ) (ss : List Inflow) : Type 0 where
   pub low : k ≤ c.sender
   pub high : c.sender < k + length ss
@@ -97,13 +101,14 @@ no_head : (k : ℕ) (h : Option Timed) (r : Option Head) → earlier (option_map
 no_head k None r is = (refl, is)
 no_head k (Some t) r is = absurd (some_earlier (head k t) r is)
 
+-- where there is no candidate, no sender has a head
 pub none_found : (k : ℕ) (ss : List Inflow) → candidate_from k ss ≡ None → NoHeads ss
 none_found k [] is = tt
 none_found k (s ∷ ss) is =
     let both = no_head k (head_of s) (candidate_from (k + 1) ss) is in
     (both.0, none_found (k + 1) ss both.1)
 
--- a candidate of the rest, with one sender before it
+-- a candidate of later senders, with one sender in front of them
 found_behind : (c : Head) (k : ℕ) (s : Inflow) (ss : List Inflow) → Found c (k + 1) ss → NotAfter c k (head_of s)
     → Found c k (s ∷ ss)
 found_behind c k s ss f not = record {
@@ -157,13 +162,12 @@ found_with c k s ss (Some t) None at none some is =
 found_with c k s ss (Some t) (Some b) at none some is =
     found_either (ltb b.packet.moment t.moment) c (head k t) b k t s ss refl at (some b refl) refl is
 
--- the candidate is the head that is least
+-- the candidate is the least head
 pub found : (c : Head) (k : ℕ) (ss : List Inflow) → candidate_from k ss ≡ Some c → Found c k ss
 found c k [] is = absurd cc
 found c k (s ∷ ss) is = found_with c k s ss (head_of s) (candidate_from (k + 1) ss) refl (none_found (k + 1) ss)
     (λ b e. found b (k + 1) ss e) is
 
--- what it means that a sender without a head clears the candidate
 cleared_by : (e l q g : Bool) → (false || e || l || (q && g)) ≡ true
     → (e ≡ true) ⊎ ((l ≡ true) ⊎ ((q ≡ true) × (g ≡ true)))
 cleared_by true l q g is = inl refl
@@ -176,6 +180,8 @@ pub record Clears (c : Head) (k : ℕ) (s : Inflow) : Type 0 where
   pub is : (has_ended s ≡ true) ⊎ ((c.packet.moment < s.flow.bound)
       ⊎ ((s.flow.bound ≡ c.packet.moment) × (c.sender < k)))
 
+-- a sender without a head that clears the candidate has ended, or its bound is after the candidate, by moment and then
+-- sender
 pub cleared : (c : Head) (k : ℕ) (s : Inflow) → head_of s ≡ None → clears c k s ≡ true → Clears c k s
 cleared c k s none is =
     let e : (false || has_ended s || ltb c.packet.moment s.flow.bound
@@ -192,7 +198,6 @@ cleared c k s none is =
           (ltb c.sender k) e);
     }
 
--- and that it doesn't
 not_cleared_by : (h e l r : Bool) → (h || e || l || r) ≡ false → (h ≡ false) × (e ≡ false) × (l ≡ false)
 not_cleared_by true e l r is = absurd cc
 not_cleared_by false true l r is = absurd cc
@@ -208,6 +213,7 @@ pub record NotClears (c : Head) (s : Inflow) : Type 0 where
   pub open' : has_ended s ≡ false
   pub low : s.flow.bound ≤ c.packet.moment
 
+-- a sender that doesn't clear the candidate has no head, hasn't ended, and its bound isn't after the candidate
 pub not_cleared : (c : Head) (k : ℕ) (s : Inflow) → clears c k s ≡ false → NotClears c s
 not_cleared c k s is =
     let parts = not_cleared_by (is_some (head_of s)) (has_ended s) (ltb c.packet.moment s.flow.bound)
@@ -218,7 +224,7 @@ not_cleared c k s is =
       low = ltb-false c.packet.moment s.flow.bound parts.2;
     }
 
--- each sender that isn't at its end has this bound from below
+-- `b` is at most the bound of each sender that hasn't ended, or its head's moment where it has a head
 abbrev pub AllBounded : ℕ → List Inflow → Type 0
 AllBounded b [] = Unit {0}
 AllBounded b (s ∷ ss) = (has_ended s ≡ false → b ≤ moment_or s.flow.bound (head_of s)) × AllBounded b ss
@@ -264,12 +270,12 @@ none_bounded b (s ∷ ss) is =
     let both = lesser_none (bound_of s) (merged_bound ss) is in
     ((λ e. let some = bound_some s e in absurd cc), none_bounded b ss both.1)
 
--- the merged bound is such
 rest_bounded : (b : ℕ) (ss : List Inflow) (r : Option ℕ) → merged_bound ss ≡ r → IsBelow r b
     → ((y : ℕ) → r ≡ Some y → AllBounded y ss) → AllBounded b ss
 rest_bounded b ss None is below all = none_bounded b ss is
 rest_bounded b ss (Some y) is below all = bounded_lower b y ss (below.is y refl) (all y refl)
 
+-- the merged bound is at most the bound of each sender
 pub bounded : (b : ℕ) (ss : List Inflow) → merged_bound ss ≡ Some b → AllBounded b ss
 bounded b [] is = absurd cc
 bounded b (s ∷ ss) is =
@@ -278,7 +284,7 @@ bounded b (s ∷ ss) is =
       rest_bounded b ss (merged_bound ss) refl both.1 (λ y e. bounded y ss e),
     )
 
--- where a sender doesn't clear the candidate, the merged bound isn't above it
+-- where a sender doesn't clear the candidate, the merged bound isn't after the candidate
 pub bound_low : (c : Head) (k b : ℕ) (ss : List Inflow) → all_clear c k ss ≡ false → AllBounded b ss
     → b ≤ c.packet.moment
 bound_low c k b [] is all = absurd cc
@@ -289,7 +295,6 @@ bound_low c k b (s ∷ ss) is all = ⊎_elim
     (λ (there : all_clear c (k + 1) ss ≡ false). bound_low c (k + 1) b ss there all.1)
     (and_cases (clears c k s) (all_clear c (k + 1) ss) is)
 
--- then some sender is needed
 some_first : (t : Bool) (k : ℕ) (r : Option ℕ) → t ≡ true → IsSome (cond t (Some k) r)
 some_first true k r is = search rules
 some_first false k r is = absurd cc
@@ -309,6 +314,7 @@ missing_by true n p q = absurd cc
 missing_by false false p q = absurd cc
 missing_by false true p q = refl
 
+-- where a sender doesn't clear the candidate, a sender is needed
 pub one_needed : (c : Head) (k : ℕ) (ss : List Inflow) → all_clear c k ss ≡ false → IsSome (needed_from (Some c) k ss)
 one_needed c k [] is = absurd cc
 one_needed c k (s ∷ ss) is = ⊎_elim
@@ -320,6 +326,7 @@ one_needed c k (s ∷ ss) is = ⊎_elim
     (needed_from (Some c) (k + 1) ss) (one_needed c (k + 1) ss there))
     (and_cases (clears c k s) (all_clear c (k + 1) ss) is)
 
+-- where no sender has a head and not all have ended, a sender is needed
 pub one_missing : (k : ℕ) (ss : List Inflow) → NoHeads ss → list_all has_ended ss ≡ false
     → IsSome (needed_from None k ss)
 one_missing k [] none is = absurd cc
@@ -330,11 +337,12 @@ one_missing k (s ∷ ss) none is = ⊎_elim
     (one_missing (k + 1) ss none.1 there))
     (and_cases (has_ended s) (list_all has_ended ss) is)
 
--- the same of a candidate as it is passed
+-- the claim of `one_needed`, of a candidate that is passed as an option
 pub needed_for : (o : Option Head) (c : Head) (ss : List Inflow) → o ≡ Some c → all_clear c 1 ss ≡ false
     → IsSome (needed_from o 1 ss)
 needed_for o c ss is fails = subst (λ (h : Option Head). IsSome (needed_from h 1 ss)) (sym is) (one_needed c 1 ss fails)
 
+-- the claim of `one_missing`, where the option is none
 pub needed_without : (o : Option Head) (ss : List Inflow) → o ≡ candidate_from 1 ss → o ≡ None
     → list_all has_ended ss ≡ false → IsSome (needed_from o 1 ss)
 needed_without o ss is none fails = subst (λ (h : Option Head). IsSome (needed_from h 1 ss)) (sym none)

@@ -1,4 +1,4 @@
--- The rows of the merge of schedules have numbers of their own.
+-- No two rows of a merge of schedules have one number.
 use Rattle.std.proofs.Common.{◌≡◌, ◌≢◌, ℕ, zero, suc, ◌+◌, ◌-◌, ◌*◌, ◌<◌, ◌≤◌, Bool, true, false, cond, leb}
 use Rattle.std.proofs.Common.{ap, sym, subst, refl, List, [], ◌∷◌, ◌++◌, length, map, get_or, arith}
 use Rattle.packet_record.specs.declared.packet.Row.{Row}
@@ -10,12 +10,12 @@ use Rattle.sender_merge.specs.inside.RowLists.{AllSchedules}
 abbrev id_of : Row → ℕ
 id_of r = r.timed.packet.id
 
--- no row has this number
+-- no row has the number `n`
 abbrev LacksId : ℕ → List Row → Type 0
 LacksId n [] = Unit {0}
 LacksId n (r ∷ rows) = (n ≢ id_of r) × LacksId n rows
 
--- no two have one
+-- no two rows have one number
 abbrev Apart : List Row → Type 0
 Apart [] = Unit {0}
 Apart (r ∷ rows) = LacksId (id_of r) rows × Apart rows
@@ -54,7 +54,7 @@ apart-by_moment [] apart = tt
 apart-by_moment (r ∷ rows) apart = apart-put r (by_moment row_moment rows)
     (lacks-by_moment (id_of r) rows apart.0) (apart-by_moment rows apart.1)
 
--- a sender's lines have numbers of their own
+-- a line's number is that of no later line of its sender
 own_lacks : (c p place low : ℕ) (rows : List Row) → 1 ≤ p → p < place → AreInOrder place low rows
     → LacksId (merged_id c p) (map (merged_row c) rows)
 own_lacks c p place low [] one lt order = tt
@@ -64,7 +64,7 @@ own_lacks c p place low (r ∷ rows) one lt order =
       own_lacks c p (place + 1) r.timed.moment rows one (omega arith) order.2,
     )
 
--- and none of another sender has one of them
+-- a line's number is that of no line of a later sender
 other_lacks : (c k p place low : ℕ) (rows : List Row) → 1 ≤ p → 1 ≤ place → 1 ≤ c → c < k → k ≤ 16
     → AreInOrder place low rows → LacksId (merged_id c p) (map (merged_row k) rows)
 other_lacks c k p place low [] one first some lt few order = tt
@@ -119,6 +119,7 @@ by_places rows apart = λ i j d lt below same. go rows apart i j d lt below same
   go (r ∷ rows) apart (suc i) (suc j) d lt below same =
       ap suc (go rows apart.1 i j d (omega arith) (omega arith) same)
 
+-- no two rows of the merge have one number
 pub merged_apart : (schedules : List (List Row)) → length schedules ≤ 16 → AllSchedules schedules
     → AreApart (merge_rows schedules)
 merged_apart schedules few all = by_places (merge_rows schedules)

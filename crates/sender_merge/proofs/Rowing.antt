@@ -1,4 +1,4 @@
--- The rows of the merge of schedules.
+-- The rows of a merge of schedules.
 use Rattle.std.proofs.Common.{◌≡◌, ◌⊎◌, ⊎_elim, inl, inr, ℕ, zero, suc, ◌+◌, ◌<◌, ◌≤◌, ◌∙◌, ◌&&◌, Bool, true, false}
 use Rattle.std.proofs.Common.{cond, leb}
 use Rattle.std.proofs.Common.{nat_le}
@@ -31,7 +31,7 @@ use Rattle.sender_merge.proofs.Sorting.{behind, first as first_row, from-append}
 use Rattle.sender_merge.specs.inside.RowMerges.{AllNumbered, From, IsBefore, IsFirst, Sorted, left_over}
 use Rattle.std.proofs.lemmas.List.{append-nil}
 
--- rows that rise are in order, and stay so under other numbers
+-- rows that rise are in order, and stay so with their numbers in the merge
 pub rises_from : (m : ℕ) (rows : List Row) → Rises m rows → From row_moment m rows
 rises_from m [] rises = tt
 rises_from m (r ∷ rows) rises =
@@ -58,10 +58,11 @@ pub merged_rise : (rows : List Row) → Rises 0 (by_moment row_moment rows)
 merged_rise rows = sorted_rises 0 (by_moment row_moment rows) (from_zero (by_moment row_moment rows))
     (by_moment-sorted row_moment rows)
 
--- the packets that enter of rows in order are those that enter, in order
+-- `ts`, with `t` in front of them where `b` is true
 abbrev keep : Bool → Timed → List Timed → List Timed
 keep b t ts = cond b (t ∷ ts) ts
 
+-- whether the row enters in direction `d` up to the horizon `h`
 abbrev passes : Direction → ℕ → Row → Bool
 passes d h r = goes d r.direction && nat_le r.timed.moment h
 
@@ -79,13 +80,14 @@ from_kept : (b : Bool) (m : ℕ) (t : Timed) (ts : List Timed) → m ≤ t.momen
 from_kept true m t ts le h = (le, h)
 from_kept false m t ts le h = h
 
+-- what enters of rows from moment `m` on is from it on
 from-entering : (d : Direction) (h m : ℕ) (rows : List Row) → From row_moment m rows
     → From packet_moment m (entering d h rows)
 from-entering d h m [] from = tt
 from-entering d h m (r ∷ rows) from = subst (From packet_moment m) (sym (entering-cons d h r rows))
     (from_kept (passes d h r) m r.timed (entering d h rows) from.0 (from-entering d h m rows from.1))
 
--- a row put into rows in order: its packet, if it enters, put into those that enter
+-- `ts`, with `t` put among them where `b` is true
 put_kept : Bool → Timed → List Timed → List Timed
 put_kept true t ts = put packet_moment t ts
 put_kept false t ts = ts
@@ -118,6 +120,7 @@ put_either d h false r y ys zs e sorted rest =
     ∙ kept_later (passes d h r) (passes d h y) r.timed y.timed (entering d h ys) lt
     ∙ ap (put_kept (passes d h r) r.timed) (sym (entering-cons d h y ys))
 
+-- where a row is put among rows in order, its packet, if it enters, is put among those that enter
 entering-put : (d : Direction) (h : ℕ) (r : Row) (rows : List Row) → Sorted row_moment rows
     → entering d h (put row_moment r rows) ≡ put_kept (passes d h r) r.timed (entering d h rows)
 unfolding put_kept
@@ -159,14 +162,14 @@ entering-rows_from d h sender (rows ∷ schedules) =
     ∙ ap (λ (ts : List Timed). entering d h (map (merged_row sender) rows) ++ ts)
     (entering-rows_from d h (sender + 1) schedules)
 
--- the merge of what senders send in a direction are the packets that enter of the merge of their rows
+-- the merge of what the senders send in a direction is what enters of the merge of their rows
 pub merge-entering : (d : Direction) (h : ℕ) (schedules : List (List Row))
     → merge (entering_from d h 1 schedules) ≡ entering d h (merge_rows schedules)
 merge-entering d h schedules =
     ap (by_moment packet_moment) (sym (entering-rows_from d h 1 schedules))
     ∙ sym (entering-by_moment d h (rows_from 1 schedules))
 
--- rows at a place
+-- the rows from a place on
 row_none : (xs : List Row) (n : ℕ) → slice_get xs n ≡ None → drop n xs ≡ []
 row_none [] zero is = refl
 row_none [] (suc n) is = refl
@@ -189,7 +192,7 @@ sorted_drop (suc n) [] h = tt
 sorted_drop zero (x ∷ xs) h = h
 sorted_drop (suc n) (x ∷ xs) h = sorted_drop n xs h.1
 
--- the rows from one on are not before it
+-- no row from a place on is before the row there
 from_row : (xs : List Row) (n : ℕ) (r : Row) → Sorted row_moment xs → slice_get xs n ≡ Some r
     → From row_moment r.timed.moment (drop n xs)
 from_row xs n r sorted is =
@@ -198,6 +201,7 @@ from_row xs n r sorted is =
     let from : From row_moment r.timed.moment (r ∷ drop (suc n) xs) = (omega arith, all.0) in
     subst (From row_moment r.timed.moment) (sym e) from
 
+-- the next row of the first list is first where none is left of the others
 pub first_alone : (first others : List Row) (i j : ℕ) → i < length first → slice_get others j ≡ None
     → IsFirst (drop i first) (drop j others)
 first_alone first others i j lt is = subst (IsFirst (drop i first)) (sym (row_none others j is)) (go first i lt) where
@@ -206,12 +210,14 @@ first_alone first others i j lt is = subst (IsFirst (drop i first)) (sym (row_no
   go (x ∷ xs) zero lt = tt
   go (x ∷ xs) (suc n) lt = go xs n (omega arith)
 
+-- the next row of the others is first where none is left of the first list
 pub other_alone : (first others : List Row) (i j : ℕ) (o : Row) → slice_get first i ≡ None → slice_get others j ≡ Some o
     → IsBefore (drop j others) (drop i first)
 other_alone first others i j o none some =
     subst (λ (l : List Row). IsBefore l (drop i first)) (sym (row_some others j o some))
     (subst (From row_moment (o.timed.moment + 1)) (sym (row_none first i none)) tt)
 
+-- the next row of the first list is first where that of the others isn't earlier
 pub first_earlier : (first others : List Row) (i j : ℕ) (r o : Row) → Sorted row_moment others
     → slice_get first i ≡ Some r → slice_get others j ≡ Some o → r.timed.moment ≤ o.timed.moment
     → IsFirst (drop i first) (drop j others)
@@ -219,6 +225,7 @@ first_earlier first others i j r o sorted at other le =
     subst (λ (l : List Row). IsFirst l (drop j others)) (sym (row_some first i r at))
     (from_lower row_moment r.timed.moment o.timed.moment (drop j others) le (from_row others j o sorted other))
 
+-- the next row of the others is first where it is earlier
 pub other_earlier : (first others : List Row) (i j : ℕ) (r o : Row) → Sorted row_moment first
     → slice_get first i ≡ Some r → slice_get others j ≡ Some o → o.timed.moment < r.timed.moment
     → IsBefore (drop j others) (drop i first)
@@ -232,7 +239,7 @@ row_within [] n r is = absurd cc
 row_within (x ∷ xs) zero r is = omega arith
 row_within (x ∷ xs) (suc n) r is = let rest = row_within xs n r is in omega arith
 
--- the row of the first list comes next
+-- the merge of what is left, where the next row of the first list is first
 pub next_first : (c i j : ℕ) (first others : List Row) (d : Row) → i < length first → Sorted row_moment first
     → IsFirst (drop i first) (drop j others)
     → left_over c first others (i, j) ≡ merged_row c (get_or first i d) ∷ left_over c first others (i + 1, j)
@@ -250,7 +257,7 @@ next_first c i j first others d lt sorted is =
     (from-merged c r.timed.moment (drop (suc i) first) all.0) from)
     ∙ ap (λ (k : ℕ). merged_row c r ∷ left_over c first others (k, j)) n
 
--- or that of the other
+-- the merge of what is left, where the next row of the others is first
 pub next_other : (c i j : ℕ) (first others : List Row) (d : Row) → j < length others → Sorted row_moment others
     → IsBefore (drop j others) (drop i first)
     → left_over c first others (i, j) ≡ get_or others j d ∷ left_over c first others (i, j + 1)
@@ -268,7 +275,7 @@ next_other c i j first others d lt sorted is =
     (first_row row_moment o (drop (suc j) others) all.0)
     ∙ ap (λ (k : ℕ). o ∷ left_over c first others (i, k)) n
 
--- one row more of what is left
+-- what was added and what is left stay the same when one row more is added
 pub one_more : (c i j i' j' : ℕ) (first others : List Row) (old new : List Row) (r : Row) → new ≡ old ++ r ∷ []
     → left_over c first others (i, j) ≡ r ∷ left_over c first others (i', j')
     → new ++ left_over c first others (i', j') ≡ old ++ left_over c first others (i, j)
@@ -287,7 +294,7 @@ drop_whole : (xs : List Row) → drop (length xs) xs ≡ []
 drop_whole [] = refl
 drop_whole (x ∷ xs) = drop_whole xs
 
--- nothing is left
+-- nothing is left behind the ends of both lists
 pub none_left : (c i j : ℕ) (first others : List Row) → i ≡ length first → j ≡ length others
     → left_over c first others (i, j) ≡ []
 none_left c i j first others is also =
@@ -297,6 +304,7 @@ none_left c i j first others is also =
     (drop_whole first)
     ∙ ap (by_moment row_moment) (drop_whole others)
 
+-- the rows that were added when nothing is left are the merge
 pub rows_done : (c i j n : ℕ) (first others rows : List Row) → i ≤ length first → j ≤ length others → i + j ≡ n
     → length first + length others ≤ n → rows ++ left_over c first others (i, j) ≡ left_over c first others (0, 0)
     → rows ≡ by_moment row_moment (map (merged_row c) first ++ others)
@@ -310,7 +318,7 @@ row_past [] n is = omega arith
 row_past (x ∷ xs) zero is = absurd cc
 row_past (x ∷ xs) (suc n) is = let rest = row_past xs n is in omega arith
 
--- A sender whose flow came to its end has sent its rows: what was received of it is what enters of them.
+-- a sender whose flow came to its end has sent its rows: what was received of it is what enters of them
 received_whole : (d : Direction) (h : ℕ) (rows : List Row) (got sent : Stream) → got.end ≡ IsOver → got ≡ sent
     → HasSentRows d h rows sent ⊎ IsBrokenOff sent → got.packets ≡ entering d h rows
 received_whole d h rows got sent over same left = ⊎_elim

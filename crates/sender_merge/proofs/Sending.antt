@@ -1,4 +1,4 @@
--- Rows of a sender, one by one.
+-- The rows that a sender sends, one by one.
 use Rattle.std.proofs.Common.{◌≡◌, ℕ, ◌+◌, ◌≤◌, ◌∙◌, ap, sym, List, [], ◌∷◌, ◌++◌, length, map, arith, refl}
 use Rattle.std.proofs.Common.{append_assoc, option_to_list, suc, take, zero}
 use Rattle.std.proofs.lemmas.List.{append-nil, map-append}
@@ -23,15 +23,16 @@ numbered_from place low (r ∷ rows) one few order =
       numbered_from (place + 1) r.timed.moment rows (omega arith) (omega arith) order.2,
     )
 
+-- each row of a schedule has a number that a line may have
 pub schedule_numbered : (rows : List Row) → IsSchedule rows → AllNumbered rows
 schedule_numbered rows is = let few = is.few in numbered_from 1 0 rows (omega arith) (omega arith) is.order
 
--- rows that rise from a moment rise from an earlier one
+-- rows that rise from `b` rise from an earlier `a`
 pub rises_lower : (a b : ℕ) (rows : List Row) → a ≤ b → Rises b rows → Rises a rows
 rises_lower a b [] le rises = tt
 rises_lower a b (r ∷ rows) le rises = ((let first = rises.0 in omega arith), rises.1)
 
--- the packets that were sent are those that enter of the rows so far
+-- the packets sent are those that enter of the rows so far, with one row more
 pub packets_on : (d : Direction) (h c : ℕ) (front : List Row) (row : Row) (old new : List Timed) (longer : List Row)
     → new ≡ old ++ entering d h (merged_row c row ∷ []) → old ≡ entering d h (map (merged_row c) front)
     → longer ≡ front ++ row ∷ [] → new ≡ entering d h (map (merged_row c) longer)
@@ -41,7 +42,7 @@ packets_on d h c front row old new longer is so split =
     ∙ ap (entering d h) (sym (map-append (merged_row c) front (row ∷ [])))
     ∙ ap (λ (l : List Row). entering d h (map (merged_row c) l)) (sym split)
 
--- whatever rows follow, what is to be sent of all is what was sent and what they give
+-- `items` is what `rows` give: whatever rows follow, they give what is still to be sent
 pub record GoesOn (d : Direction) (h sent : ℕ) (rows : List Row) (items : List Item) : Type 0 where
   pub is : (more : List Row) → items ++ items_from d h sent more ≡ source_items d h (rows ++ more)
 
@@ -51,6 +52,7 @@ none_yet d h sent items none zero' = record {
       ∙ ap (λ (n : ℕ). items_from d h n more) zero';
 }
 
+-- `GoesOn` with one row more
 pub items_on : (d : Direction) (h c sent next : ℕ) (front : List Row) (row : Row) (old new : List Item)
     (longer : List Row) → new ≡ old ++ option_to_list (source_item d h sent (merged_row c row))
     → next ≡ sent_after sent (merged_row c row) (source_item d h sent (merged_row c row))
@@ -70,13 +72,14 @@ items_on d h c sent next front row old new longer is after was split =
           ∙ ap (λ (l : List Row). source_items d h (l ++ more)) (sym split');
     }
 
--- after the last row and the end
+-- a front as long as the list is the list
 pub take_whole : (n : ℕ) (rows : List Row) → length rows ≤ n → take n rows ≡ rows
 take_whole zero [] le = refl
 take_whole (suc n) [] le = refl
 take_whole zero (r ∷ rows) le = absurd (omega arith)
 take_whole (suc n) (r ∷ rows) le = ap (λ (l : List Row). r ∷ l) (take_whole n rows (omega arith))
 
+-- what was sent after the last row and the end
 pub all_on : (d : Direction) (h sent : ℕ) (rows whole : List Row) (old new : List Item) → GoesOn d h sent rows old
     → rows ≡ whole → new ≡ old ++ Over ∷ [] → new ≡ source_items d h whole
 all_on d h sent rows whole old new was same is =

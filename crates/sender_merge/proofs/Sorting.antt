@@ -1,4 +1,4 @@
--- Lists put into the order of their moments.
+-- Lists that are put into the order of their moments.
 use Rattle.std.proofs.Common.{◌≡◌, ℕ, ◌+◌, ◌<◌, ◌≤◌, Bool, true, false, cond, leb, List, [], ◌∷◌, ◌++◌, refl, ap, ◌∙◌}
 use Rattle.std.proofs.Common.{arith}
 use Rattle.std.proofs.lemmas.Bool.{le-leb, leb-false, leb-true, lt-leb}
@@ -13,11 +13,12 @@ pub from-append : {A : Type 0} (f : A → ℕ) (m : ℕ) (xs ys : List A) → Fr
 from-append f m [] ys h k = k
 from-append f m (x ∷ xs) ys h k = (h.0, from-append f m xs ys h.1 k)
 
+-- an entry is put in front of entries that aren't earlier
 pub put_first : {A : Type 0} (f : A → ℕ) (x : A) (ys : List A) → From f (f x) ys → put f x ys ≡ x ∷ ys
 put_first f x [] h = refl
 put_first f x (y ∷ ys) h = ap (λ (b : Bool). cond b (x ∷ (y ∷ ys)) (y ∷ put f x ys)) (le-leb (f x) (f y) h.0)
 
--- a later entry is put behind
+-- an entry is put behind an earlier one
 pub put_later : {A : Type 0} (f : A → ℕ) (x y : A) (ys : List A) → f y < f x → put f x (y ∷ ys) ≡ y ∷ put f x ys
 put_later f x y ys lt = ap (λ (b : Bool). cond b (x ∷ (y ∷ ys)) (y ∷ put f x ys)) (lt-leb (f x) (f y) lt)
 
@@ -34,11 +35,11 @@ pub by_moment-from : {A : Type 0} (f : A → ℕ) (m : ℕ) (xs : List A) → Fr
 by_moment-from f m [] h = tt
 by_moment-from f m (x ∷ xs) h = put-from f m x (by_moment f xs) h.0 (by_moment-from f m xs h.1)
 
--- an entry that none is before stays first
+-- an entry that no other is before is first
 pub first : {A : Type 0} (f : A → ℕ) (x : A) (xs : List A) → From f (f x) xs → by_moment f (x ∷ xs) ≡ x ∷ by_moment f xs
 first f x xs h = put_first f x (by_moment f xs) (by_moment-from f (f x) xs h)
 
--- an entry that is first stays so behind entries that are all later
+-- an entry that is first stays first behind entries that are all later
 pub behind : {A : Type 0} (f : A → ℕ) (x : A) (before xs ys : List A) → From f (f x + 1) before
     → by_moment f xs ≡ x ∷ by_moment f ys → by_moment f (before ++ xs) ≡ x ∷ by_moment f (before ++ ys)
 behind f x [] xs ys h is = is
@@ -62,7 +63,7 @@ pub by_moment-sorted : {A : Type 0} (f : A → ℕ) (xs : List A) → Sorted f (
 by_moment-sorted f [] = tt
 by_moment-sorted f (x ∷ xs) = put-sorted f x (by_moment f xs) (by_moment-sorted f xs)
 
--- what is in order stays as it is
+-- entries in order stay as they are
 pub by_moment-same : {A : Type 0} (f : A → ℕ) (xs : List A) → Sorted f xs → by_moment f xs ≡ xs
 by_moment-same f [] h = refl
 by_moment-same {A = A} f (x ∷ xs) h = first f x xs h.0 ∙ ap (λ (l : List A). x ∷ l) (by_moment-same f xs h.1)

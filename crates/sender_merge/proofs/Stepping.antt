@@ -1,4 +1,4 @@
--- The steps of a merge, and what is added to one.
+-- The steps of a merge: what each keeps, and what it may give or need.
 use Rattle.std.proofs.Common.{◌≡◌, ◌⊎◌, inl, inr, ⊎_elim, ℕ, zero, suc, ◌+◌, ◌-◌, ◌<◌, ◌≤◌, Bool, true, false}
 use Rattle.std.proofs.Common.{cond, ltb}
 use Rattle.std.proofs.Common.{List, [], ◌∷◌, length, get_or, drop, refl, ap, sym, subst, ◌∙◌}
@@ -81,7 +81,7 @@ pub stands-step : (m : Merging) → Stands m → m.given.end ≡ Open → Stands
 stands-step m stands going = broken_or m (list_any is_broken m.senders) _ stands
     (at_candidate m (candidate m.senders) refl stands going)
 
--- What holds of every item that a step may give holds of the step.
+-- `P` holds of the item that the step gives, if it gives one
 abbrev pub Gives-of : (Item → Type 0) → MergeStep → Type 0
 Gives-of P (Gives x) = P x
 Gives-of P (Need sender) = Unit {0}
@@ -109,13 +109,14 @@ step_at-gives P ss g None over packet mark = either_gives P (list_all has_ended 
 step_at-gives P ss g (Some c) over packet mark = either_gives P (all_clear c 1 ss) (Packet c.packet) _
     (λ e. packet c refl) (mark_or_need-gives P ss g (Some c) (merged_bound ss) mark)
 
+-- what holds of each item that a step may give holds of the item that it gives
 pub gives : (P : Item → Type 0) (m : Merging) → P Broken → P End
     → ((c : Head) → candidate m.senders ≡ Some c → P (Packet c.packet))
     → ((b : ℕ) → merged_bound m.senders ≡ Some b → m.given.bound < b → P (Mark b)) → Gives-of P (next_step m)
 gives P m broken over packet mark = either_gives P (list_any is_broken m.senders) Broken _ (λ e. broken)
     (step_at-gives P m.senders m.given.bound (candidate m.senders) over packet mark)
 
--- what is given may come next
+-- a head is at moment `b` or later, where all that waits and comes is
 from_at : (b i : ℕ) (ss : List Inflow) (t : Timed) → i < length ss → AllFrom b ss
     → head_of (get_or ss i fresh) ≡ Some t → b ≤ t.moment
 from_at b i [] t lt from at = absurd (omega arith)
@@ -135,11 +136,12 @@ candidate_from-low m c stands is =
     let high = f.high in let low = f.low in
     from_at m.given.bound (c.sender - 1) m.senders c.packet (omega arith) stands.low f.at
 
+-- an item that a step gives may come next
 pub step_follows : (m : Merging) → Stands m → m.given.end ≡ Open → MayFollowStep m.given (next_step m)
 step_follows m stands going = as_following m.given (next_step m) (gives (MayFollow m.given) m (going, tt) (going, tt)
     (λ c is. (going, candidate_from-low m c stands is)) (λ b is lt. (going, omega arith)))
 
--- and is within the horizon
+-- a step is up to the horizon, where the item that it gives is
 as_within : (h : ℕ) (step : MergeStep) → Gives-of (IsUpTo h) step → IsStepUpTo h step
 as_within h (Gives x) w = w
 as_within h (Need sender) w = tt
@@ -176,13 +178,14 @@ bound_within h b (s ∷ ss) up is = ⊎_elim
     (λ (there : merged_bound ss ≡ Some b). bound_within h b ss up.1 there)
     (lesser_one (bound_of s) (merged_bound ss) b is)
 
+-- an item that a step gives is up to the horizon
 pub step_within : (m : Merging) (h : ℕ) → AllUpTo h m.senders → IsStepUpTo h (next_step m)
 step_within m h up = as_within h (next_step m) (gives (IsUpTo h) m tt tt
     (λ c is. let f = found c 1 m.senders is in let high = f.high in let low = f.low in
     head_within h (c.sender - 1) m.senders c.packet (omega arith) up f.at)
     (λ b is lt. bound_within h b m.senders up is))
 
--- one packet less is left after the candidate was given
+-- one packet less waits once a head was given
 left_given : (i : ℕ) (ss : List Inflow) (t : Timed) → i < length ss → head_of (get_or ss i fresh) ≡ Some t
     → 1 + left_of (given_at ss i) ≡ left_of ss
 left_given i [] t lt at = absurd (omega arith)
@@ -200,7 +203,7 @@ get_or_any [] i d e lt = absurd (omega arith)
 get_or_any (s ∷ ss) zero d e lt = refl
 get_or_any (s ∷ ss) (suc i) d e lt = get_or_any ss i d e (omega arith)
 
--- the sender of the candidate, and what is left where it has passed its head
+-- the candidate's sender is there, and its head is the candidate
 pub record Passes (c : Head) (ss : List Inflow) : Type 0 where
   pub some : 1 ≤ c.sender
   pub few : c.sender - 1 < length ss
@@ -218,7 +221,7 @@ passes c ss is =
       head = f.at;
     }
 
--- what holds of an item that is given next
+-- what holds of an item that a step gives
 pub record IsGiven (m : Merging) (spare : ℕ) (x : Item) : Type 0 where
   pub follows : MayFollow m.given x
   pub room : HasRoomFor spare x
@@ -260,7 +263,7 @@ pub some_head : (o : Option Timed) (t : Timed) → o ≡ Some t → IsSome o
 some_head None t is = absurd cc
 some_head (Some u) t is = search rules
 
--- where a sender is needed, some sender is open
+-- a flow that was neither broken off nor ended is open
 not_broken_or_ended : (e : FlowEnd) → is_cut e ≡ false → is_ended e ≡ false → e ≡ Open
 not_broken_or_ended Open p q = refl
 not_broken_or_ended Ended p q = absurd cc
@@ -284,15 +287,17 @@ mark_or_need-needs : (P : ℕ → Type 0) (ss : List Inflow) (g : ℕ) (o : Opti
 mark_or_need-needs P ss g o None p = p
 mark_or_need-needs P ss g o (Some b) p = needs_either P (ltb g b) (Mark b) _ (λ e. p)
 
--- the one that is needed is there, and may send
+-- a sender that is open at an index is an open sender
 open_where : (ss : List Inflow) (i : ℕ) → (get_or ss i fresh).flow.end ≡ Open → i < length ss → SomeOpen ss
 open_where [] i is lt = absurd (omega arith)
 open_where (s ∷ ss) zero is lt = inl is
 open_where (s ∷ ss) (suc i) is lt = inr (open_where ss i is (omega arith))
 
+-- where a sender is needed, some sender is open
 pub some_open : (ss : List Inflow) (n : ℕ) → IsNeeded ss n → SomeOpen ss
 some_open ss n is = let some = is.some in let few = is.few in open_where ss (n - 1) is.going (omega arith)
 
+-- the sender `n` is there, and hasn't ended; `k` is the number of the first one
 pub record NeededAt (k : ℕ) (ss : List Inflow) (n : ℕ) : Type 0 where
   pub low : k ≤ n
   pub high : n < k + length ss
@@ -363,6 +368,7 @@ step_at-needs ss g (Some c) is whole = needs_either (IsNeeded ss) (all_clear c 1
     (unwrapped (IsNeeded ss) (needed (Some c) ss) (one_needed c 1 ss e)
     (λ n some. is_needed_one ss n whole (ap (λ (o : Option Head). needed o ss) is ∙ some))))
 
+-- the sender that a step needs is there, and may still send
 pub step_needs : (m : Merging) → IfNeeds (next_step m) (IsNeeded m.senders)
 step_needs m = needs_either (IsNeeded m.senders) (list_any is_broken m.senders) Broken _
     (λ e. step_at-needs m.senders m.given.bound (candidate m.senders) refl e)

@@ -1,10 +1,12 @@
-// The threads of a feeding: one for each sender, and one for each direction that merges what they send.
+// The threads of a feeding: one for each sender, and one for each direction that merges what the senders send.
 //
-// Where no thread can be made, a join runs its second part in the thread that is there, and then its first. So
-// senders may begin after others of them have ended, and merges after senders or each other, but no sender after a
-// merge. A merge waits for senders alone; a sender waits until all have begun, not for ever. Where it sees that, none
-// has ended before, so all have threads of their own; where it doesn't, it breaks off, for which its channels have
-// room, and so do all who wait.
+// Where no thread can be made, a join runs its second part in the thread that is there, and then its first. So a sender
+// may begin after other senders have ended, and a merge after senders or the other merge, but no sender begins after a
+// merge.
+//
+// A merge waits for senders alone. A sender waits until all threads have begun, but not for ever. If it sees that they
+// have, none of them has ended before, so each has a thread of its own. If it doesn't, it breaks off, and so do all
+// senders that wait; their channels have room for that.
 ghost use Rattle.std.specs.Prelude.{◌≡◌, ◌≢◌, ◌≤◌, ◌+◌, List, length};
 ghost use Rattle.std.specs.Thread.{IsSync};
 ghost use Rattle.packet_record.specs.declared.item.FlowEnd.TheVariants.{Open};
@@ -29,8 +31,8 @@ use std::marker::Sync;
 use std::sync::Wait;
 use std::thread::{Threads, join_mut};
 
-// Sends the schedules of senders beside each other, the first of which has this number, up to the horizon, once all
-// senders and merges have begun.
+// Sends `schedules` beside each other up to `horizon`, each as one sender, once all senders and merges have begun.
+// `sender` is the number of the first one.
 pub(crate) fn send_all<Q: Pace + Sync, R: Threads + Wait + Sync>(
     rt: &R,
     sender: u32,
@@ -68,7 +70,7 @@ pub(crate) fn send_all<Q: Pace + Sync, R: Threads + Wait + Sync>(
     );
 }
 
-// How two threads ended: `Ended` where both did.
+// Returns how two threads ended together: `Ended` where both did.
 fn both(up: FeedEnd, down: FeedEnd) -> FeedEnd
     ensures { result ≡ both_of up down }
 {
@@ -78,7 +80,7 @@ fn both(up: FeedEnd, down: FeedEnd) -> FeedEnd
     }
 }
 
-// Merges both directions beside each other. Each merge is counted as it begins.
+// Merges both directions beside each other. Each merge counts itself in `begun` as it begins.
 pub(crate) fn merge_both<R: Threads + Wait + Sync>(
     rt: &R,
     alloc: Global,
@@ -124,8 +126,8 @@ pub(crate) fn merge_both<R: Threads + Wait + Sync>(
     both(up_end, down_end)
 }
 
-// Sends the schedules beside the merges of both directions. All channels keep their ends, and nothing more comes out of
-// any.
+// Sends `schedules` beside the merges of both directions. Returns how the merges ended. Each channel keeps its ends,
+// and nothing more comes out of it.
 pub(crate) fn run<Q: Pace + Sync, R: Threads + Wait + Sync>(
     rt: &R,
     alloc: Global,

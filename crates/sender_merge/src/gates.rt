@@ -1,5 +1,5 @@
-// The channels of all senders, and who has begun: how they are opened before any thread starts, and settled after all
-// have ended.
+// The channels of all senders, and who has begun. The channels are opened before any thread starts, and settled after
+// all have ended.
 ghost use Rattle.std.specs.Prelude.{◌≡◌, ◌≢◌, ◌≤◌, ◌+◌, length, IfOk, OnOk};
 ghost use Rattle.packet_record.specs.declared.item.FlowEnd.TheVariants.{Open};
 ghost use Rattle.sender_merge.specs.inside.Gates.{AllEnds, AllFresh, AreEnds, AreSettled, IsFresh, IsSettled};
@@ -11,7 +11,7 @@ use mark_channel::{Begun, settle};
 use std::alloc::Global;
 use text_base::OutOfMemory;
 
-// How many items a channel of a sender holds.
+// How many items a channel of a sender holds at most.
 const CAPACITY: u32 = 64;
 
 // The sending ends of each sender, its receiving ends in both directions, and which of the senders and merges have
@@ -25,7 +25,7 @@ pub(crate) struct Gates {
 }
 
 impl Gates {
-    // Opens the channels of so many senders, for a run up to a horizon, whose threads wait for each other by `begun`.
+    // Opens the channels of `senders` senders for a run up to `horizon`, whose threads wait for each other by `begun`.
     pub fn open(
         alloc: Global,
         horizon: u64,
@@ -60,7 +60,7 @@ impl Gates {
         Ok(())
     }
 
-    // Settles all channels, after nothing more comes out of any: all that was sent was received.
+    // Settles all channels, once nothing more comes out of any: all that was sent was received.
     pub fn settle(self)
         requires ends { AllEnds self.outlets.items self.ups.items self.downs.items }
         requires closed { AllClosed self.ups.items × AllClosed self.downs.items }
@@ -83,7 +83,7 @@ impl Gates {
     }
 }
 
-// Opens the channels of one sender.
+// Opens the channels of one sender. Returns its sending ends, and its receiving ends up and down.
 fn open_one(alloc: Global, horizon: u64) -> Result<(Outlet, Inlet, Inlet), OutOfMemory>
     ensures { IfOk result (λ ends. IsFresh horizon ends.0 ends.1 ends.2) }
 {

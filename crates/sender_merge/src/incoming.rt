@@ -1,4 +1,4 @@
-// What was added of one sender's flow.
+// One sender's flow as far as it was added to a merge.
 ghost use Rattle.std.specs.Prelude.{◌≡◌, ◌↔◌, OnOk, OnErr, IsSome, IsTrue};
 ghost use Rattle.packet_record.specs.Streams.{MayFollow};
 ghost use Rattle.packet_record.specs.Takes.{IsPacket};
@@ -28,7 +28,7 @@ impl Model for Incoming {
 impl Incoming {
     ghost use Rattle.sender_merge.specs.Inflows.{fresh, has_ended, head_of, is_broken, with_item, with_passed};
 
-    // A sender of which nothing was added.
+    // Returns a sender of which nothing was added.
     pub fn new(alloc: Global) -> Self
         ensures { result ≡ fresh }
     {
@@ -38,42 +38,42 @@ impl Incoming {
         }
     }
 
-    // The greatest moment that its flow named.
+    // Returns the greatest moment that its flow named, in milliseconds.
     pub fn bound(&self) -> u64
         ensures { result ≡ self.now.flow.bound }
     {
         self.flow.bound()
     }
 
-    // Whether its flow is at its end.
+    // Returns whether its flow came to its end.
     pub fn has_ended(&self) -> bool
         ensures { result ≡ has_ended self.now }
     {
         self.flow.end() == FlowEnd::Ended
     }
 
-    // Whether its flow was broken off.
+    // Returns whether its flow was broken off.
     pub fn is_broken(&self) -> bool
         ensures { result ≡ is_broken self.now }
     {
         self.flow.end() == FlowEnd::Broken
     }
 
-    // Its first packet that wasn't given.
+    // Returns its head: the first packet that wasn't given.
     pub fn head(&self) -> Option<Timed>
         ensures { result ≡ head_of self.now }
     {
         self.flow.packets().get(self.passed).copied()
     }
 
-    // Whether the item may come next.
+    // Returns whether `item` may come next.
     pub fn may_follow(&self, item: &Item) -> bool
         ensures { IsTrue result ↔ MayFollow self.now.flow item.now }
     {
         self.flow.may_follow(item)
     }
 
-    // Adds an item. Only a packet takes memory.
+    // Adds an item. Only a packet takes memory; out of memory nothing changes.
     pub fn add(&mut self, item: Item) -> Result<(), OutOfMemory>
         requires { MayFollow self.old.flow item }
         ensures ok { OnOk result (self.new ≡ with_item self.old item) }
@@ -82,7 +82,7 @@ impl Incoming {
         self.flow.push(item)
     }
 
-    // Its head was given.
+    // Counts its head as given.
     pub fn pass(&mut self)
         requires { IsSome (head_of self.old) }
         ensures { self.new ≡ with_passed self.old }

@@ -8,7 +8,7 @@ use mark_channel::Receiver;
 use packet_record::{FlowEnd, Item, Reach};
 use std::sync::Wait;
 
-// The receiving end of one sender, and how far it has come.
+// A receiving end of one sender, and how far its flow has come.
 #[derive(Drop)]
 pub(crate) struct Inlet {
     pub from: Receiver,
@@ -18,7 +18,7 @@ pub(crate) struct Inlet {
 }
 
 impl Inlet {
-    // An end from which nothing was received.
+    // Returns an inlet from which nothing was received.
     pub fn new(from: Receiver) -> Self
         requires { from.flow ≡ no_items }
         ensures { result.from ≡ from }
@@ -29,14 +29,14 @@ impl Inlet {
         }
     }
 
-    // Whether more may come.
+    // Returns whether more may come.
     pub fn is_open(&self) -> bool
         ensures { IsTrue result ↔ (self.now.from.flow.end ≡ Open) }
     {
         self.reach.end == FlowEnd::Open
     }
 
-    // Waits for the next item.
+    // Waits for the next item and returns it.
     pub fn receive<R: Wait>(&mut self, rt: &R) -> Item
         requires { self.old.from.flow.end ≡ Open }
         ensures follows { MayFollow self.old.from.flow result }

@@ -1,4 +1,4 @@
-//! Several senders as one: the merge of their flows, packet by packet, by what each has sent so far.
+//! Several senders as one: their flows are merged packet by packet, by what each has sent so far.
 #![tactic(auto)]
 
 mod feeding;

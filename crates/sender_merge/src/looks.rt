@@ -1,4 +1,4 @@
-// Looks at what was added of all senders, each one pass over them.
+// Looks at what was added of all senders, each in one pass over them.
 ghost use Rattle.std.specs.Prelude.{◌≡◌, ◌+◌, ◌<◌, ◌≤◌, length, IsSome, Some, is_some};
 ghost use Rattle.std.specs.List.{list_all, list_any};
 ghost use Rattle.sender_merge.specs.Inflows.{has_ended, is_broken};
@@ -12,7 +12,7 @@ use crate::incoming::Incoming;
 use crate::step::{Head, MergeStep};
 use packet_record::Item;
 
-// The number of the sender at an index.
+// Returns the number of the sender at `index`.
 fn number_at(index: usize) -> u32
     requires { index < 16 }
     ensures { result ≡ index + 1 }
@@ -20,21 +20,21 @@ fn number_at(index: usize) -> u32
     index as u32 + 1
 }
 
-// Whether a sender was broken off.
+// Returns whether a sender was broken off.
 fn any_broken(senders: &[Incoming]) -> bool
     ensures { result ≡ list_any is_broken senders.now }
 {
     senders.iter().any(|sender| sender.is_broken())
 }
 
-// Whether all senders are at their ends.
+// Returns whether all senders have ended.
 fn all_ended(senders: &[Incoming]) -> bool
     ensures { result ≡ list_all has_ended senders.now }
 {
     senders.iter().all(|sender| sender.has_ended())
 }
 
-// Of two heads the earlier one, and the first where they are at one moment.
+// Returns the earlier one of two heads, or the first where both are at one moment.
 fn earlier(first: Option<Head>, second: Option<Head>) -> Option<Head>
     ensures { result ≡ earlier_of first second }
 {
@@ -45,7 +45,7 @@ fn earlier(first: Option<Head>, second: Option<Head>) -> Option<Head>
     }
 }
 
-// The head that is least by moment, then sender.
+// Returns the candidate: the head that is least by moment, then sender.
 pub(crate) fn candidate(senders: &[Incoming]) -> Option<Head>
     requires { length senders.now ≤ 16 }
     ensures { result ≡ candidate_of senders.now }
@@ -59,7 +59,8 @@ pub(crate) fn candidate(senders: &[Incoming]) -> Option<Head>
     least
 }
 
-// Whether the sender clears the candidate.
+// Returns whether sender `number` clears the candidate: it has a head, or has ended, or its bound is above the
+// candidate's moment; or its bound is at that moment, and `number` is above that of the candidate's sender.
 fn clears_it(candidate: &Head, number: u32, incoming: &Incoming) -> bool
     ensures { result ≡ clears candidate.now number incoming.now }
 {
@@ -71,7 +72,7 @@ fn clears_it(candidate: &Head, number: u32, incoming: &Incoming) -> bool
         || (bound == moment && number > candidate.sender)
 }
 
-// Whether all senders clear the candidate.
+// Returns whether all senders clear the candidate.
 fn all_clear(candidate: &Head, senders: &[Incoming]) -> bool
     requires { length senders.now ≤ 16 }
     ensures { result ≡ is_clear candidate.now 1 senders.now }
@@ -84,7 +85,7 @@ fn all_clear(candidate: &Head, senders: &[Incoming]) -> bool
     true
 }
 
-// Of two moments the lesser, where there are such.
+// Returns the lesser of two moments, or the one that there is.
 fn lesser(first: Option<u64>, second: Option<u64>) -> Option<u64>
     ensures { result ≡ lesser_of first second }
 {
@@ -95,7 +96,7 @@ fn lesser(first: Option<u64>, second: Option<u64>) -> Option<u64>
     }
 }
 
-// The head's moment of a sender that isn't at its end, or its bound where it has no head.
+// Returns the moment of a sender's head, or its bound where it has no head. Returns `None` where it has ended.
 fn earliest(incoming: &Incoming) -> Option<u64>
     ensures { result ≡ bound_of incoming.now }
 {
@@ -108,7 +109,7 @@ fn earliest(incoming: &Incoming) -> Option<u64>
     }
 }
 
-// The least of these.
+// Returns the merged bound: the least that `earliest` returns for any sender.
 fn merged_bound(senders: &[Incoming]) -> Option<u64>
     ensures { result ≡ bound_in senders.now }
 {
@@ -119,7 +120,8 @@ fn merged_bound(senders: &[Incoming]) -> Option<u64>
     least
 }
 
-// Whether a sender isn't at its end and has no head and, where there is a candidate, doesn't clear it.
+// Returns whether sender `number` is missing: it hasn't ended, has no head and, where there is a candidate, doesn't
+// clear it.
 fn is_missing(candidate: &Option<Head>, number: u32, incoming: &Incoming) -> bool
     ensures { result ≡ is_needed candidate.now number incoming.now }
 {
@@ -132,7 +134,7 @@ fn is_missing(candidate: &Option<Head>, number: u32, incoming: &Incoming) -> boo
     }
 }
 
-// The least such sender.
+// Returns the number of the least sender that is missing.
 fn needed(candidate: &Option<Head>, senders: &[Incoming]) -> u32
     requires few { length senders.now ≤ 16 }
     requires some { IsSome (needed_of candidate.now senders.now) }
@@ -147,7 +149,8 @@ fn needed(candidate: &Option<Head>, senders: &[Incoming]) -> u32
     unreachable!()
 }
 
-// The mark at the merged bound where that is above the bound of the flow given, or else the sender that is needed.
+// Returns a mark at the merged bound where that is above `given`, the bound of the flow given. Otherwise returns the
+// sender that is needed.
 fn mark_or_need(candidate: &Option<Head>, senders: &[Incoming], given: u64) -> MergeStep
     requires few { length senders.now ≤ 16 }
     requires some { IsSome (needed_of candidate.now senders.now) }
@@ -161,7 +164,7 @@ fn mark_or_need(candidate: &Option<Head>, senders: &[Incoming], given: u64) -> M
     }
 }
 
-// What comes next after a flow of this bound, where this is the candidate.
+// Returns the next step of a merge, where `given` is the bound of the flow given.
 pub(crate) fn next_step(candidate: &Option<Head>, senders: &[Incoming], given: u64) -> MergeStep
     requires few { length senders.now ≤ 16 }
     requires candidate { candidate.now ≡ candidate_of senders.now }
@@ -177,7 +180,7 @@ pub(crate) fn next_step(candidate: &Option<Head>, senders: &[Incoming], given: u
     }
 }
 
-// Passes the candidate where it was given, and answers how many packets were: none or one.
+// Counts the candidate as given where `item` is a packet. Returns how many packets were given: 0 or 1.
 pub(crate) fn pass(senders: &mut [Incoming], item: &Item, candidate: &Option<Head>) -> usize
     requires few { length senders.old ≤ 16 }
     requires candidate { candidate.now ≡ candidate_of senders.old }

@@ -1,4 +1,4 @@
-// The merge of flows by what was added of them so far.
+// The merge of flows, by what was added of them so far.
 ghost use Rattle.std.specs.Prelude.{◌≡◌, ◌≤◌, ◌↔◌, ◌+◌, ℕ, IsTrue, length, OnOk, OnErr, IfOk};
 ghost use Rattle.packet_record.specs.declared.item.FlowEnd.TheVariants.{Open};
 ghost use Rattle.packet_record.specs.Streams.{MayFollow};
@@ -13,17 +13,17 @@ use std::alloc::Global;
 use std::marker::Model;
 use text_base::OutOfMemory;
 
-/// The merge of the flows of 1 to 16 senders, item by item: the flow of each as far as it was added, and the flow
-/// given. Senders are counted from 1.
+/// The merge of the flows of 1 to 16 senders, item by item. It has the flow of each sender as far as it was added, and
+/// the flow given. Senders are counted from 1.
 ///
-/// Whatever the order in which items are added, the packets given are a front of the merge of all that the senders
-/// send: the packets of all flows ordered by moment, then sender, then place. Where the end was given, they are that
-/// merge.
+/// The merge of flows has the packets of all, ordered by moment, then sender, then place. The packets given are a front
+/// of the merge of all that the senders send, whatever the order in which items are added. Where the end was given,
+/// they are that merge.
 #[derive(Drop)]
 pub struct MergeCore {
     senders: Vec<Incoming>,
     given: Flow,
-    // How many packets were added and not given: so many the flow given has room for.
+    // How many packets were added and not given. The flow given has room for them.
     waiting: usize,
 }
 
@@ -40,7 +40,7 @@ impl Model for MergeCore {
     ghost invariant = { IsMergeCore };
 }
 
-// How many packets wait with one more item.
+// Returns how many packets wait with one more item. Returns `OutOfMemory` where the count would overflow.
 fn count_with(waiting: usize, item: &Item) -> Result<usize, OutOfMemory>
     ensures ok { IfOk result (λ n. n ≡ waiting + packets_in item.now) }
     ensures err { OnErr result (IsPacket item.now) }
@@ -56,7 +56,8 @@ impl MergeCore {
     ghost use Rattle.sender_merge.specs.Laws.{AllUpTo, IfNeeds, IsMergeFront, IsNeeded, IsStepUpTo, MayFollowStep};
     ghost use Rattle.sender_merge.specs.Steps.{after_step, next_step};
 
-    /// A merge of so many senders, 1 to 16, of which nothing was added. `OutOfMemory` is the one refusal.
+    /// Returns a merge of `senders` senders, 1 to 16, of which nothing was added. Returns `OutOfMemory` where an
+    /// allocation fails.
     pub fn new(alloc: Global, senders: u32) -> Result<MergeCore, OutOfMemory>
         requires some { 1 ≤ senders }
         requires few { senders ≤ 16 }
@@ -74,7 +75,7 @@ impl MergeCore {
         })
     }
 
-    /// The flow given.
+    /// Returns the flow given.
     pub fn given(&self) -> &Flow
         ensures given { result.now.stream ≡ self.now.given }
         ensures front { IsMergeFront self.now }
@@ -82,14 +83,14 @@ impl MergeCore {
         &self.given
     }
 
-    /// How many senders there are.
+    /// Returns how many senders there are.
     pub fn senders(&self) -> u32
         ensures { result ≡ length self.now.senders }
     {
         self.senders.len() as u32
     }
 
-    /// Whether a sender may send the item next.
+    /// Returns whether `sender` may send `item` next.
     pub fn may_add(&self, sender: u32, item: &Item) -> bool
         requires some { 1 ≤ sender }
         requires few { sender ≤ length self.now.senders }
@@ -99,8 +100,8 @@ impl MergeCore {
         incoming.may_follow(item)
     }
 
-    /// Adds an item that a sender sends next, and takes the memory that `next` needs for it. `OutOfMemory` comes only
-    /// for a packet, and the merge is then as it was.
+    /// Adds `item`, which `sender` sends next, and takes the memory that `next` needs for it. Returns `OutOfMemory`
+    /// only for a packet, and the merge is then unchanged.
     pub fn add(&mut self, sender: u32, item: Item) -> Result<(), OutOfMemory>
         requires some { 1 ≤ sender }
         requires few { sender ≤ length self.old.senders }
@@ -117,16 +118,25 @@ impl MergeCore {
         Ok(())
     }
 
-    /// Gives the next item, or says which sender's next item is needed first. The flow given is open. The first of
-    /// these cases that holds counts: a sender was broken off: `Item::Broken`; there is a candidate, which is the
-    /// head (first packet that wasn't given) least by moment, then sender, and all senders clear it: that packet;
-    /// there is no candidate and all senders are at their ends: `Item::End`; the merged bound is above the bound of
-    /// the flow given: a mark at the merged bound; otherwise `Need`, with the least sender that isn't at its end and
-    /// has no head and, where there is a candidate, doesn't clear it.
+    /// Gives the next item, or says which sender's next item is needed first. The flow given is open. The first case
+    /// that holds decides:
     ///
-    /// A sender clears the candidate where it has a head, or is at its end, or its bound is above the candidate's
-    /// moment, or is that moment and its number above that of the candidate's sender. The merged bound is the least,
-    /// over the senders that aren't at their ends, of the head's moment, or of the bound where there is no head.
+    /// - A sender was broken off: it gives `Item::Broken`.
+    /// - There is a candidate, and all senders clear it: it gives the candidate's packet.
+    /// - There is no candidate, and all senders have ended: it gives `Item::End`.
+    /// - The merged bound is above the bound of the flow given: it gives a mark at the merged bound.
+    /// - Otherwise it returns `Need`, with the least sender that hasn't ended, has no head and, where there is a
+    ///   candidate, doesn't clear it.
+    ///
+    /// A sender's head is its first packet that wasn't given. The candidate is the head that is least by moment, then
+    /// sender.
+    ///
+    /// A sender clears the candidate where it has a head, or has ended, or its bound is above the candidate's moment.
+    /// Where its bound is at that moment, it clears the candidate if its number is above that of the candidate's
+    /// sender.
+    ///
+    /// The merged bound is the least, over the senders that haven't ended, of the head's moment, or of the bound where
+    /// there is no head.
     ///
     /// It takes no memory.
     pub fn next(&mut self) -> MergeStep

@@ -20,8 +20,8 @@ use std::alloc::Global;
 use std::sync::Wait;
 use text_base::OutOfMemory;
 
-// Of the open inlet that is furthest behind so far, by its place and bound, and the one at the next place, that which
-// is further behind; the first where both are at one moment.
+// Returns the place and the bound of the inlet that is further behind: `least`, the furthest open one so far, or
+// `inlet` at `place`, if it is open. Where both have one bound it is `least`.
 fn further_behind(least: Option<(usize, u64)>, place: usize, inlet: &Inlet) -> Option<(usize, u64)>
     ensures some { IfSome result (IsFurther least place inlet.now) }
     ensures none { IfNone result ((least ≡ None) × (inlet.now.from.flow.end ≢ Open)) }
@@ -35,9 +35,12 @@ fn further_behind(least: Option<(usize, u64)>, place: usize, inlet: &Inlet) -> O
     }
 }
 
-// The place of the open inlet that is furthest behind: the least by bound, then sender. It bars a merge that needs
-// anything. The one that the merge names may be further on: its sender may wait for room in the other direction, whose
-// merge may wait for a sender that waits for room in this one.
+// Returns the place of the open inlet that is furthest behind: the least by bound, then sender. Returns `None` where
+// none is open.
+//
+// A merge that needs an item is held up by this inlet. The sender that the merge names may be further on, and waiting
+// for it could last for ever: it may wait for room in the other direction, whose merge may wait for a sender that waits
+// for room in this one.
 fn furthest_behind(inlets: &[Inlet]) -> Option<usize>
     ensures within { IfSome result (λ place. place < length inlets.now) }
     ensures furthest { IfSome result (λ place. IsFurthestBehind place inlets.now) }
@@ -72,7 +75,7 @@ fn receive_one<R: Wait>(
     core.add(place as u32 + 1, item)
 }
 
-// Takes the next step of the merge, and sends the item that it gives, a mark too: what was sent is what was given.
+// Takes the next step of the merge, and sends the item that it gives: what was sent is what was given.
 fn send_next<R: Wait>(rt: &R, core: &mut MergeCore, to: &mut Sender) -> MergeStep
     requires going { core.old.given.end ≡ Open }
     requires alike { to.old.flow ≡ core.old.given }
@@ -92,8 +95,8 @@ fn send_next<R: Wait>(rt: &R, core: &mut MergeCore, to: &mut Sender) -> MergeSte
     step
 }
 
-// Sends the merge of what it receives, to its end: `OutOfMemory` where a sender broke off. Where memory is wanting
-// here, what was sent stays open.
+// Sends the merge of what it receives, to its end. Returns `Ok(FeedEnd::OutOfMemory)` where a sender was broken off; it
+// has sent `Item::Broken` then. Returns `Err` where memory runs out here; what it sent is open then.
 fn merge_all<R: Wait>(
     rt: &R,
     alloc: Global,
@@ -122,7 +125,7 @@ fn merge_all<R: Wait>(
     unreachable!()
 }
 
-// Receives until nothing more comes out of any, so that no sender is left by a receiver that went.
+// Receives until nothing more comes out of any inlet: a sender whose receiver is gone would wait for ever.
 fn receive_rest<R: Wait>(rt: &R, inlets: &mut [Inlet])
     ensures closed { AllClosed inlets.new }
     ensures same { AllSame inlets.old inlets.new }
@@ -137,8 +140,8 @@ fn receive_rest<R: Wait>(rt: &R, inlets: &mut [Inlet])
     unreachable!()
 }
 
-// Sends the merge of what it receives from 1 to 16 senders. After want of memory it sends `Item::Broken`, and receives
-// the rest.
+// Sends the merge of what it receives from 1 to 16 senders. Where a sender was broken off or memory runs out, it sends
+// `Item::Broken`, receives the rest and returns `OutOfMemory`.
 pub(crate) fn merge<R: Wait>(
     rt: &R,
     alloc: Global,

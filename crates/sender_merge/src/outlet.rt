@@ -14,7 +14,7 @@ use mm_base::{Pace, Role};
 use packet_record::{Direction, Item, Packet, Row, Schedule, Timed, source_item};
 use std::sync::Wait;
 
-// The sending end of one sender in a direction, and the greatest moment that was sent in it.
+// The sending end of one sender in a direction, and the greatest moment that was sent in it, in milliseconds.
 #[derive(Drop)]
 pub(crate) struct Way {
     pub to: Sender,
@@ -23,7 +23,7 @@ pub(crate) struct Way {
 }
 
 impl Way {
-    // An end in which nothing was sent.
+    // Returns an end in which nothing was sent.
     pub fn new(to: Sender) -> Self
         requires { to.flow ≡ no_items }
         ensures to { result.to ≡ to }
@@ -32,7 +32,7 @@ impl Way {
         Way { to, sent: 0 }
     }
 
-    // Sends what a row gives in the direction: its packet or a mark, or nothing.
+    // Sends what `row` gives in `direction`: its packet, or a mark, or nothing.
     fn send_row<R: Wait>(&mut self, rt: &R, direction: Direction, horizon: u64, row: &Row)
         requires going { self.old.to.flow.end ≡ Open }
         requires horizon { self.old.to.horizon ≡ horizon }
@@ -72,7 +72,7 @@ pub(crate) struct Outlet {
     pub down: Way,
 }
 
-// The row of a sender, 1 to 16, with the number that it has in the merge. It has the number of its line.
+// Returns the row of `sender`, 1 to 16, with its number in the merge. In `row` it has the number of its line.
 pub(crate) fn merged_row(sender: u32, row: &Row) -> Row
     requires some { 1 ≤ row.now.timed.packet.id }
     requires most { row.now.timed.packet.id ≤ 1000000 }
@@ -97,7 +97,7 @@ impl Outlet {
     ghost use Rattle.sender_merge.specs.inside.Feeding.{SentOrBroken};
     ghost use Rattle.sender_merge.specs.inside.Outlets.{IsEmpty, IsSameOutlet};
 
-    // Sends what a row gives in both directions, first in its own.
+    // Sends what `row` gives in both directions, first in its own.
     fn send_row<R: Wait>(&mut self, rt: &R, horizon: u64, row: &Row)
         requires going { (self.old.up.to.flow.end ≡ Open) × (self.old.down.to.flow.end ≡ Open) }
         requires horizon { (self.old.up.to.horizon ≡ horizon) × (self.old.down.to.horizon ≡ horizon) }
@@ -129,8 +129,8 @@ impl Outlet {
         }
     }
 
-    // Sends the rows of a sender, 1 to 16, up to the horizon, and then the end. The pace is asked before each row, with
-    // its place from 1. It takes no memory.
+    // Sends the rows of `schedule` as those of `sender`, 1 to 16, up to `horizon`, and then the end. The pace is asked
+    // before each row, with the row's place counted from 1. It takes no memory.
     pub fn send_schedule<Q: Pace, R: Wait>(
         &mut self,
         rt: &R,
@@ -157,8 +157,8 @@ impl Outlet {
         self.down.end(rt);
     }
 
-    // Sends them as `send_schedule` does once all senders and merges have begun. Where they can't, both directions are
-    // broken off.
+    // Sends the rows as `send_schedule` does, once all senders and merges have begun. Where they can't begin, both
+    // directions are broken off. Counts itself in `begun` as it begins.
     pub fn send_begun<Q: Pace, R: Wait>(
         &mut self,
         rt: &R,

@@ -1,4 +1,4 @@
-// The rows of several schedules as one list.
+// The rows of several schedules, merged into one list.
 ghost use Rattle.std.specs.Prelude.{◌≡◌, ◌≤◌, ◌<◌, ◌+◌, ◌*◌, ◌++◌, ℕ, drop, length, map, slice_get, IfOk, OnOk};
 ghost use Rattle.sender_merge.specs.Merges.{by_moment, merged_row as merged_row_of, row_moment, rows_from};
 ghost use Rattle.sender_merge.specs.inside.RowMerges.{AllNumbered, IsBefore, IsFirst, Sorted, left_over};
@@ -10,7 +10,7 @@ use packet_record::{Row, Schedule};
 use std::alloc::Global;
 use text_base::OutOfMemory;
 
-// The merge of schedules, the first of which is of the sender with this number.
+// Returns the merge of `schedules`. `sender` is the number of the first one's sender.
 pub(crate) fn merge_from(
     alloc: Global,
     sender: u32,
@@ -27,7 +27,8 @@ pub(crate) fn merge_from(
     merge_two(alloc, sender, first.rows(), rest.as_slice())
 }
 
-// The merge of the rows of a sender and of rows of later ones, which have their numbers in the merge.
+// Returns the merge of `first`, the rows of `sender`, and `others`, rows of later senders that have their numbers in
+// the merge.
 fn merge_two(
     alloc: Global,
     sender: u32,
@@ -49,8 +50,8 @@ fn merge_two(
     Ok(rows)
 }
 
-// Adds the next row of the two lists, where these are the places of those that come next, and answers the new places. A
-// row of the first list comes before one of the same moment.
+// Adds the next row of the two lists to `rows`. `places` are the places of the rows that come next in them. Returns the
+// places after that. A row of `first` comes before one of `others` at the same moment.
 fn push_next(
     rows: &mut Vec<Row>,
     sender: u32,
@@ -81,14 +82,14 @@ fn push_next(
     }
 }
 
-// The row at a place, if there is one.
+// Returns the row at `place`, if there is one.
 fn row_at(rows: &[Row], place: usize) -> Option<Row>
     ensures { result ≡ slice_get rows.now place }
 {
     rows.get(place).copied()
 }
 
-// Adds the next row of the first list, which is before what is left of the other.
+// Adds the next row of `first`. No row left in `others` is before it.
 fn push_first(
     rows: &mut Vec<Row>,
     sender: u32,
@@ -110,7 +111,7 @@ fn push_first(
     Ok((places.0 + 1, places.1))
 }
 
-// Adds the next row of the other list, which is before what is left of the first.
+// Adds the next row of `others`, which is before every row left in `first`.
 fn push_other(
     rows: &mut Vec<Row>,
     first: &[Row],
@@ -129,7 +130,7 @@ fn push_other(
     Ok((places.0, places.1 + 1))
 }
 
-/// How many rows these schedules, at most 16, have in all. `Senders::new` takes no more than 1,000,000.
+/// Returns how many rows `schedules`, at most 16, have in all. `Senders::new` takes at most 1,000,000.
 pub fn count_rows(schedules: &[Schedule]) -> u64
     requires { length schedules.now ≤ 16 }
     ensures rows { result ≡ rows_in schedules.now }

@@ -21,18 +21,18 @@ use std::sync::Wait;
 use std::thread::Threads;
 use text_base::OutOfMemory;
 
-// How many threads merge, one for each direction.
+// How many threads merge: one for each direction.
 const MERGES: u64 = 2;
 
-/// From 1 to 16 senders, each with a schedule and a thread of its own, that feed one nest up to a horizon in
-/// milliseconds. Contracts see the list of their schedules, the first sender's first.
+/// From 1 to 16 senders that feed one nest up to a horizon in milliseconds, each with a schedule and a thread of its
+/// own. Contracts see the list of their schedules, the first sender's first.
 ///
-/// What they feed is the merge of their rows, ordered by moment, then sender, then line, whatever the order in which
-/// their threads get their turns. The row of line `l` of sender `c`, both counted from 1, has the number
-/// `16 * (l - 1) + c` in it.
+/// They feed the merge of their rows, ordered by moment, then sender, then line, whatever the order in which their
+/// threads get their turns. In it the row of line `l` of sender `c`, both counted from 1, has the number
+/// `16 * (l - 1) + c`.
 ///
 /// No sender sends before all threads have begun. Where one can't begin beside the others, all senders break off after
-/// some seconds, and the feeding answers `OutOfMemory`.
+/// some seconds, and the feeding returns `OutOfMemory`.
 #[derive(Drop)]
 pub struct Senders {
     alloc: Global,
@@ -55,8 +55,8 @@ impl Model for Senders {
 }
 
 impl Senders {
-    /// Senders of these schedules, 1 to 16, with at most 1,000,000 lines in all, which `count_rows` counts.
-    /// `OutOfMemory` is the one refusal.
+    /// Returns senders of `schedules`, 1 to 16, with at most 1,000,000 lines in all, which `count_rows` counts. Returns
+    /// `OutOfMemory` where an allocation fails.
     pub fn new(alloc: Global, schedules: Vec<Schedule>) -> Result<Senders, OutOfMemory>
         requires some { 1 ≤ length schedules.items }
         requires few { length schedules.items ≤ 16 }
@@ -71,16 +71,16 @@ impl Senders {
         })
     }
 
-    /// How many threads feed: one for each sender, and one for each direction that merges what they send.
+    /// Returns how many threads feed: one for each sender, and one for each direction that merges what they send.
     pub fn threads(&self) -> u64
         ensures { result ≡ length self.now + 2 }
     {
         self.schedules.len() as u64 + MERGES
     }
 
-    /// Feeds as `feed` does, whose threads wait for each other by `begun`, and asks the pace before each row of each
-    /// sender, in its thread, with the row's place in its schedule from 1. Where `begun` waits for more than `threads`,
-    /// all senders break off, and the feeding answers `OutOfMemory`.
+    /// Feeds as `feed` does, by threads that wait for each other by `begun`. The pace is asked before each row of each
+    /// sender, in its thread, with the row's place in its schedule counted from 1. Where `begun` waits for more workers
+    /// than `threads` returns, all senders break off, and the feeding returns `OutOfMemory`.
     pub fn feed_at<Q: Pace + Sync, R: Threads + Wait + Sync>(
         &mut self,
         rt: &R,
@@ -108,7 +108,7 @@ impl Senders {
     }
 }
 
-// Feeds through these channels, and settles them.
+// Feeds through the channels of `gates`, and settles them.
 fn feed_through<Q: Pace + Sync, R: Threads + Wait + Sync>(
     rt: &R,
     alloc: Global,

@@ -13,9 +13,9 @@ pub(crate) struct Head {
 /// What a merge does next.
 #[derive(Clone, Copy, PartialEq, Eq)]
 pub enum MergeStep {
-    /// It gives an item.
+    /// It gives this item.
     Item(Item),
-    /// It can give nothing before an item is added that this sender sends.
+    /// It gives nothing before the next item of a sender is added.
     Need {
         /// The number of the sender, counted from 1.
         sender: u32,

@@ -5,17 +5,19 @@ use Rattle.packet_record.specs.declared.item.Stream.{Stream}
 use Rattle.shell_workers.specs.declared.ends.WorkEnd.{WorkEnd}
 use Rattle.shell_workers.specs.declared.ends.WorkEnd.TheVariants.{Ended, Broken, OutOfMemory}
 
--- the claim, where a worker ended as the name says
+-- `p` holds where the worker's stream came to its end
 abbrev pub IfEnded : WorkEnd → Type 0 → Type 0
 IfEnded Ended p = p
 IfEnded Broken p = Unit {0}
 IfEnded OutOfMemory p = Unit {0}
 
+-- `p` holds where the worker's stream was broken off
 abbrev pub IfBroken : WorkEnd → Type 0 → Type 0
 IfBroken Ended p = Unit {0}
 IfBroken Broken p = p
 IfBroken OutOfMemory p = Unit {0}
 
+-- `p` holds where the worker ran out of memory
 abbrev pub IfWants : WorkEnd → Type 0 → Type 0
 IfWants Ended p = Unit {0}
 IfWants Broken p = Unit {0}

@@ -26,7 +26,7 @@ pub record IsDone (s : Stage) : Type 0 where
   pub fed : s.feed.flow.end ≡ IsOver → s.feed.flow ≡ s.from.flow
   pub sent : IsPassedOn s.drain.flow s.to.flow
 
--- Either what the stage received was broken off, and then its state; or what it took was, and it was sent so.
+-- Either what the stage received was broken off, and then its state; or what it took was broken off, and was sent so.
 abbrev pub IsBroken : Stage → Type 0
 IsBroken s = ((s.from.flow.end ≡ IsCut) × (s.feed.broken ≡ true))
     ⊎ ((s.drain.flow.end ≡ IsCut) × (s.to.flow ≡ s.drain.flow))

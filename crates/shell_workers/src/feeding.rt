@@ -13,9 +13,8 @@ use packet_record::Item;
 use shell_cell::{FeedSeat, ShellCell};
 use std::sync::Wait;
 
-/// Receives and feeds what it receives to the state, until the end, `Item::Broken` or out of memory. The pace is asked
-/// before each feed, with the count of feeds from 1. A state that the drain broke off takes nothing more, but the rest
-/// is received.
+/// Feeds what it receives to the state, until the end, `Item::Broken` or out of memory. The pace is asked before each
+/// feed, with the count of feeds from 1. A state that the drain broke off takes nothing more, but the rest is received.
 ///
 /// Returns `Ended` after the end, and `Broken` after `Item::Broken`. Out of memory it breaks the state off and returns
 /// `OutOfMemory`, once it has received the rest: a sender whose receiver is gone would wait for ever.

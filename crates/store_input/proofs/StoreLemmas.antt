@@ -54,20 +54,20 @@ pub store_no_words : {A : Type 0} (name : Text) (next : List ℕ → Reading A)
     → ((text : List ℕ) → RefusesNoWords (next text)) → RefusesNoWords (reading_store name next)
 store_no_words name next none = λ text. (judges_store name text, none text)
 
--- past a store
+-- a store that was read leads on
 pub leads_store : {A : Type 0} (told : Option Files) (name : Text) (next : List ℕ → Reading A) (text : List ℕ)
     (rs : List Record) → IsInput told name text → StoreSays text (Ok rs)
     → Leads told (reading_store name next) (next text)
 leads_store told name next text rs input says =
     leads_judged_text told (StoreVerdict name) name next text input (rs, says)
 
--- what stops reading a store stops a command that reads it
+-- what stops the reading of a store stops a command that reads it
 pub store_stops : {A : Type 0} (old new : DiskView) (name : Text) (cause : Cause) (next : List ℕ → Reading A)
     → StopsReading (reading_store name Done) old new cause → StopsReading (reading_store name next) old new cause
 store_stops old new name cause next stopped =
     judged_stops_before old new (StoreVerdict name) name cause next stopped
 
--- a refusal of a text
+-- a store's text is refused for its error
 pub store_refused : (name text : List ℕ) (error : StoreError) (cause : Cause) → error ≢ errors.OutOfMemory
     → StoreSays text (Err error) → cause ≡ Refused (BadInput name (number_of error) (place_named error))
     → RefusesBy (StoreVerdict name text) cause

@@ -1,4 +1,4 @@
--- What the text of a store's file is judged to be.
+-- How the text of a store's file is judged.
 use Rattle.std.specs.Prelude.{◌≡◌, ◌≢◌, ℕ, List, Option, Some, None, Ok, Err}
 use Rattle.record_store.specs.Refusals.{number_of, place_named}
 use Rattle.record_store.specs.StoreText.{StoreSays}
@@ -10,14 +10,14 @@ use Rattle.command_ends.specs.Readings.{Reading, reading_judged}
 use Rattle.command_ends.specs.declared.cause.Refusal.{Refusal}
 use Rattle.command_ends.specs.declared.cause.Refusal.TheVariants.{BadInput}
 
--- It is the text of a store, or it is refused so: the line names the file, the number of the refusal, and the place or
--- the record that it names.
+-- The text is that of a store, or it is refused. The refusal names the file, the number of the error, and the place or
+-- the record that the error names.
 abbrev pub StoreVerdict : Text → List ℕ → Option Refusal → Type 0
 StoreVerdict name text None = (rs : List Record) × StoreSays text (Ok rs)
 StoreVerdict name text (Some refusal) =
     (e : StoreError) × (e ≢ OutOfMemory) × StoreSays text (Err e)
     × (refusal ≡ BadInput name (number_of e) (place_named e))
 
--- The file of this name is read, and must be a store.
+-- The file `name` is read, whose text must be a store.
 abbrev pub reading_store : {A : Type 0} → Text → (List ℕ → Reading A) → Reading A
 reading_store name next = reading_judged (StoreVerdict name) name next

@@ -1,4 +1,4 @@
-//! The store in a file, as commands that read one are given it.
+//! Reading a store from its file, for the commands that are given one.
 #![tactic(auto)]
 
 mod stores;

@@ -1,4 +1,4 @@
-// Stores from files.
+// Stores that are read from files.
 ghost use Rattle.std.specs.Prelude.{◌≡◌, ◌≢◌, ℕ, List, Ok, Err, IfOk, IfErr};
 ghost use Rattle.mm_base.specs.Disk.{OnlyReads};
 ghost use Rattle.record_store.specs.StoreText.{StoreSays};
@@ -13,7 +13,7 @@ use record_store::{Store, StoreError, read_store};
 use std::alloc::Global;
 use text_base::Text;
 
-// Why the text of the store of this name isn't accepted.
+// Returns the cause of a store's text, in the file `name`, that isn't accepted.
 fn store_cause(name: Text, error: StoreError) -> Cause
     ensures { (text : List ℕ) → StoreSays text (Err error) → RefusesBy (StoreVerdict name text) result }
 {
@@ -27,7 +27,8 @@ fn store_cause(name: Text, error: StoreError) -> Cause
     }
 }
 
-/// The store of the file of this name.
+/// Returns the store in the file `name`. The cause of what can't be read is its refusal, a fault of the disk, or out of
+/// memory.
 pub fn load_store<D: Disk>(alloc: Global, disk: &mut D, name: &str) -> Result<Store, Cause>
     ensures found { IfOk result (λ store. ((text : List ℕ) × IsInput (D.view disk.old).files name.now text
         × StoreSays text (Ok store))) }

@@ -1,4 +1,4 @@
--- What reading the inputs of a merge leaves, for the bodies that read them.
+-- What reading the inputs of a merge tells about them.
 use Rattle.std.specs.Prelude.{◌≡◌, ◌≤◌, ℕ, ◌+◌, List, [], ◌∷◌, ◌++◌, Option, None, length}
 use Rattle.mm_base.specs.Files.{Files}
 use Rattle.text_base.specs.Lines.{lines_of}
@@ -13,18 +13,19 @@ use Rattle.command_merge.specs.List.{list_refusal}
 use Rattle.command_merge.specs.Merge.{MergeJob}
 use Rattle.command_merge.specs.MergeReading.{refused_listed, refused_total}
 
--- the traces of a merge are read, and few enough opportunities are theirs
+-- The traces of a merge were read, and have few enough opportunities.
 pub record HasTraces (told : Option Files) (job : MergeJob) (plan : NestPlan) (traces : List TraceView) : Type 0 where
   pub texts : List (List ℕ)
   pub have : HaveTraces told plan.traces texts traces
   pub few : opportunities_of job.until plan.shells traces ≤ 16000000
 
--- after so many lines, the file of this name has this text, which is that of these rows
+-- After schedules with `before` lines in all, the file `name` has `text`, which is that of `rows`.
 pub record HasNext (told : Option Files) (before : ℕ) (name : Text) (text : List ℕ) (rows : List Row) : Type 0 where
   pub has : HasSchedule told name text rows
   pub accepted : refused_total name (before + length (lines_of text)) ≡ None
 
--- the files of these names have these texts, which are those of these schedules
+-- The files have the texts, which are those of the schedules. The number is how many lines the schedules before them
+-- have in all.
 pub data HaveSchedules (told : Option Files) : ℕ → List Text → List (List ℕ) → List (List Row) → Type 0 where
   NoSchedules : (before : ℕ) → HaveSchedules told before [] [] []
   MoreSchedules : (before : ℕ) (name : Text) (names : List Text) (text : List ℕ) (texts : List (List ℕ))
@@ -33,7 +34,7 @@ pub data HaveSchedules (told : Option Files) : ℕ → List Text → List (List 
       → HaveSchedules told (before + length (lines_of text)) names texts more
       → HaveSchedules told before (name ∷ names) (text ∷ texts) (rows ∷ more)
 
--- the schedules of these names were added, after so many lines
+-- After schedules with `before` lines in all, the schedules in the files `names` were added.
 pub record AddsSchedules (told : Option Files) (before : ℕ) (names : List Text) (old new : List (List Row)) : Type 0
   where
     pub texts : List (List ℕ)
@@ -41,7 +42,7 @@ pub record AddsSchedules (told : Option Files) (before : ℕ) (names : List Text
     pub have : HaveSchedules told before names texts more
     pub added : new ≡ old ++ more
 
--- the list is read, no output has a name that it has, and the schedules are those that it names
+-- The list was read, no output has a name that it has, and the schedules are those that it names.
 pub record HasSenders (told : Option Files) (job : MergeJob) (plan : NestPlan) (schedules : List (List Row)) : Type 0
   where
     pub list : List ℕ

@@ -1,8 +1,9 @@
--- What the values of the code stand for.
+-- What the values of the code mean.
 use Rattle.std.specs.Prelude.{map, string_bytes}
 use Rattle.command_merge.specs.Merge as merge
 use Rattle.command_merge.specs.declared.job.MergeJob.{MergeJob}
 
+-- the job as contracts see it
 abbrev pub merge_values : MergeJob → merge.MergeJob
 merge_values job = record {
   until = job.until;

@@ -1,6 +1,7 @@
--- What the values of the code stand for.
+-- What the values of the code mean.
 use Rattle.command_report.specs.Report as report
 use Rattle.command_report.specs.declared.report.ReportJob.{ReportJob}
 
+-- the job as contracts see it
 abbrev pub report_values : ReportJob → report.ReportJob
 report_values job = record { log = job.log.now }

@@ -1,4 +1,4 @@
--- What reading the inputs of a run leaves, for the bodies that read them.
+-- What reading the inputs of a run tells about them.
 use Rattle.std.specs.Prelude.{◌≡◌, ◌≤◌, ℕ, List, Option, Some, None}
 use Rattle.mm_base.specs.Disk.{DiskView}
 use Rattle.mm_base.specs.Files.{Files}
@@ -14,17 +14,17 @@ use Rattle.command_ends.specs.declared.cause.Cause.TheVariants.{OutOfMemory}
 use Rattle.nest_command.specs.Loaded.{HasSchedule, HaveTraces}
 use Rattle.command_run.specs.Run.{RunJob, nest_with}
 
--- the file of the order is an input, where there is one
+-- the file of the order may be read, if there is one
 abbrev pub HasOrder : Option Files → Option Text → Type 0
 HasOrder told None = Unit {0}
 HasOrder told (Some name) = (bytes : List ℕ) × IsInput told name bytes
 
--- why it isn't read
+-- why the order isn't read
 abbrev pub StopsAtOrder : Option Text → DiskView → DiskView → Cause → Type 0
 StopsAtOrder None old new cause = cause ≡ OutOfMemory
 StopsAtOrder (Some name) old new cause = StopsAtFile name old new cause
 
--- the schedule in a file is read, and this is the run of its rows through a nest, each of which has one fate
+-- The file `name` has a schedule, and `run` is the run of its rows through the nest. Each row has one fate.
 pub record HasRun (told : Option Files) (name : Text) (nest : NestParts) (run : RunLists) : Type 0 where
   pub text : List ℕ
   pub rows : List Row
@@ -32,7 +32,7 @@ pub record HasRun (told : Option Files) (name : Text) (nest : NestParts) (run : 
   pub result_is : run ≡ result_of nest rows
   pub once : HaveOneFate nest rows
 
--- the traces of a run are read, and few enough opportunities are theirs
+-- The traces of a run were read, and have few enough opportunities; `nest` is the nest with them.
 pub record HasNest (told : Option Files) (job : RunJob) (plan : NestPlan) (nest : NestParts) : Type 0 where
   pub texts : List (List ℕ)
   pub traces : List TraceView

@@ -1,8 +1,9 @@
--- What the values of the code stand for.
+-- What the values of the code mean.
 use Rattle.std.specs.Prelude.{map, option_map, string_bytes}
 use Rattle.command_run.specs.Run as run
 use Rattle.command_run.specs.declared.run_job.RunJob.{RunJob}
 
+-- the job as contracts see it
 abbrev pub run_values : RunJob → run.RunJob
 run_values job = record {
   until = job.until;

@@ -1,4 +1,4 @@
--- What the threads of a feeding leave.
+-- What the threads of a feeding leave behind.
 use Rattle.std.specs.Prelude.{◌≡◌, ◌⊎◌, ℕ, List, [], map}
 use Rattle.packet_record.specs.declared.item.FlowEnd.TheVariants.{Broken as IsCut}
 use Rattle.packet_record.specs.declared.item.Stream.{Stream}
@@ -10,21 +10,21 @@ use Rattle.mark_channel.specs.Feedings.{HasSentRows}
 use Rattle.sender_merge.specs.declared.outlet.Outlet.{Outlet}
 use Rattle.sender_merge.specs.Merges.{merged_row}
 
--- Ended where both are
+-- how two threads ended together: `Ended` where both did
 abbrev pub both : FeedEnd → FeedEnd → FeedEnd
 both Ended b = b
 both OutOfMemory b = OutOfMemory
 
--- a sender has sent its rows in both directions under their numbers in the merge
+-- the sender has sent `rows` in both directions, with their numbers in the merge
 abbrev pub SentOne : ℕ → ℕ → List Row → Outlet → Type 0
 SentOne horizon sender rows o = HasSentRows Up horizon (map (merged_row sender) rows) o.up.to.flow
     × HasSentRows Down horizon (map (merged_row sender) rows) o.down.to.flow
 
--- the flow was broken off with nothing in it
+-- the flow was broken off with no packet in it
 abbrev pub IsBrokenOff : Stream → Type 0
 IsBrokenOff sent = (sent.packets ≡ []) × (sent.end ≡ IsCut)
 
--- a sender has sent its rows, or both its flows were broken off with nothing in them
+-- the sender has sent `rows`, or both its flows were broken off with no packet in them
 abbrev pub SentOrBroken : ℕ → ℕ → List Row → Outlet → Type 0
 SentOrBroken horizon sender rows o =
     SentOne horizon sender rows o ⊎ (IsBrokenOff o.up.to.flow × IsBrokenOff o.down.to.flow)

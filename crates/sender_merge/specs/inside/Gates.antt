@@ -1,16 +1,16 @@
--- The channels of all senders: for each its sending ends, and its receiving ends in both directions.
+-- The channels of all senders: of each sender its sending ends, and its receiving ends in both directions.
 use Rattle.std.specs.Prelude.{◌≡◌, ℕ, List, [], ◌∷◌}
 use Rattle.packet_record.specs.Streams.{no_items}
 use Rattle.sender_merge.specs.declared.inlet.Inlet.{Inlet}
 use Rattle.sender_merge.specs.declared.outlet.Outlet.{Outlet}
 use Rattle.sender_merge.specs.inside.Outlets.{IsEmpty}
 
--- The ends of one sender are those of two channels.
+-- The ends of a sender are those of two channels, one in each direction.
 pub record AreEnds (o : Outlet) (up down : Inlet) : Type 0 where
   pub up_channel : o.up.to.channel ≡ up.from.channel
   pub down_channel : o.down.to.channel ≡ down.from.channel
 
--- Nothing went through them, and all have this horizon.
+-- Nothing has gone through a sender's channels, and both have `horizon`.
 pub record IsFresh (horizon : ℕ) (o : Outlet) (up down : Inlet) : Type 0 where
   pub ends : AreEnds o up down
   pub sent : IsEmpty horizon o

@@ -1,4 +1,4 @@
--- For proofs alone: a merge as its callers see it, and what its fields keep.
+-- For proofs alone: what the fields of a merge keep.
 use Rattle.std.specs.Prelude.{◌≡◌, ◌≤◌, length}
 use Rattle.sender_merge.specs.Inflows.{merging}
 use Rattle.sender_merge.specs.inside.Lefts.{left_of}

@@ -1,5 +1,4 @@
--- Beside Laws, for proofs alone: what holds of every merge: what was given is a front of the merge of whatever the
--- senders may still send.
+-- Beside Laws, for proofs alone: whether a sender may still send.
 use Rattle.std.specs.Prelude.{◌≡◌, ◌⊎◌, List, [], ◌∷◌}
 use Rattle.packet_record.specs.declared.item.FlowEnd.TheVariants.{Open}
 use Rattle.sender_merge.specs.Inflows.{Inflow}

@@ -1,4 +1,4 @@
--- The sending ends of senders.
+-- The sending ends of all senders.
 use Rattle.std.specs.Prelude.{◌≡◌, ◌+◌, ℕ, List, [], ◌∷◌}
 use Rattle.packet_record.specs.declared.packet.Row.{Row}
 use Rattle.packet_record.specs.Streams.{no_items}
@@ -6,7 +6,7 @@ use Rattle.mark_channel.specs.Ends.{IsSameEnd}
 use Rattle.sender_merge.specs.declared.outlet.Outlet.{Outlet}
 use Rattle.sender_merge.specs.inside.Feeding.{SentOrBroken}
 
--- nothing was sent, and both have this horizon
+-- Nothing was sent in either direction, and both ends have `horizon`.
 pub record IsEmpty (horizon : ℕ) (o : Outlet) : Type 0 where
   pub up : o.up.to.flow ≡ no_items
   pub down : o.down.to.flow ≡ no_items
@@ -19,7 +19,7 @@ abbrev pub AllEmpty : ℕ → List Outlet → Type 0
 AllEmpty horizon [] = Unit {0}
 AllEmpty horizon (o ∷ outlets) = IsEmpty horizon o × AllEmpty horizon outlets
 
--- both keep their horizons and channels
+-- both ends keep their horizons and channels
 abbrev pub IsSameOutlet : Outlet → Outlet → Type 0
 IsSameOutlet old new = IsSameEnd old.up.to new.up.to × IsSameEnd old.down.to new.down.to
 
@@ -29,8 +29,8 @@ AllSameOutlets [] (p ∷ new) = ⊥
 AllSameOutlets (o ∷ old) [] = ⊥
 AllSameOutlets (o ∷ old) (p ∷ new) = IsSameOutlet o p × AllSameOutlets old new
 
--- each sender, the first with this number, has sent its rows under their numbers in the merge, or was broken off with
--- nothing sent
+-- each sender has sent its rows with their numbers in the merge, or was broken off with no packet sent; `sender` is the
+-- number of the first one
 abbrev pub AllSentOrBroken : ℕ → ℕ → List (List Row) → List Outlet → Type 0
 AllSentOrBroken horizon sender [] [] = Unit {0}
 AllSentOrBroken horizon sender [] (o ∷ outlets) = ⊥

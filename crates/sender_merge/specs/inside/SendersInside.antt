@@ -1,4 +1,4 @@
--- For proofs alone: senders as their callers see them.
+-- For proofs alone: what the fields of `Senders` keep.
 use Rattle.std.specs.Prelude.{◌≡◌, ◌≤◌, length}
 use Rattle.sender_merge.specs.Merges.{merge_rows}
 use Rattle.sender_merge.specs.inside.RowLists.{AllSchedules}

@@ -8,33 +8,37 @@ use Rattle.sender_merge.specs.Inflows.{Inflow, Merging, has_ended}
 use Rattle.sender_merge.specs.Merges.{by_moment, packet_moment, merge}
 use Rattle.sender_merge.specs.Laws.{packets_of}
 
--- these packets may come after what was added of a sender: they rise, none is before the bound, none follows the end
+-- `packets` may come after what was added of the sender: they rise, none is before its bound, and there is none after
+-- its end
 pub record MayCome (s : Inflow) (packets : List Timed) : Type 0 where
   pub rises : Rise packets
   pub later : AreFrom s.flow.bound packets
   pub open' : s.flow.end ≢ Open → packets ≡ []
 
+-- each list of packets may come after what was added of its sender
 abbrev pub AllMayCome : List Inflow → List (List Timed) → Type 0
 AllMayCome [] [] = Unit {0}
 AllMayCome [] (c ∷ cs) = ⊥
 AllMayCome (s ∷ senders) [] = ⊥
 AllMayCome (s ∷ senders) (c ∷ cs) = MayCome s c × AllMayCome senders cs
 
--- a sender's packets that weren't given
+-- the sender's packets that were added and not given
 abbrev pub waits : Inflow → List Timed
 waits s = drop s.passed s.flow.packets
 
--- what waits of each sender with what comes, one after the other; and all that was added, with what comes
+-- what waits of each sender and then what comes of it, one sender after the other
 abbrev pub all_left : List Inflow → List (List Timed) → List Timed
 all_left [] cs = []
 all_left (s ∷ senders) [] = []
 all_left (s ∷ senders) (c ∷ cs) = (waits s ++ c) ++ all_left senders cs
 
+-- all that was added of each sender and then what comes of it, one sender after the other
 abbrev pub all_sent : List Inflow → List (List Timed) → List Timed
 all_sent [] cs = []
 all_sent (s ∷ senders) [] = []
 all_sent (s ∷ senders) (c ∷ cs) = (s.flow.packets ++ c) ++ all_sent senders cs
 
+-- The packets of the sender's flow rise and are up to its bound, and no more were given than there are.
 pub record IsSound (s : Inflow) : Type 0 where
   pub rises : Rise s.flow.packets
   pub bounded : AreUpTo s.flow.bound s.flow.packets
@@ -44,7 +48,7 @@ abbrev pub AllSound : List Inflow → Type 0
 AllSound [] = Unit {0}
 AllSound (s ∷ senders) = IsSound s × AllSound senders
 
--- nothing that waits or comes is before this moment
+-- No packet of the sender that waits or comes is before moment `m`.
 pub record IsFrom (m : ℕ) (s : Inflow) : Type 0 where
   pub waits : AreFrom m (waits s)
   pub bound : has_ended s ≢ true → m ≤ s.flow.bound
@@ -53,6 +57,9 @@ abbrev pub AllFrom : ℕ → List Inflow → Type 0
 AllFrom m [] = Unit {0}
 AllFrom m (s ∷ senders) = IsFrom m s × AllFrom m senders
 
+-- The flow of each sender is sound, and nothing that waits or comes is before the bound of the flow given. The packets
+-- given, and then in order what waits and comes, are the merge of all. Where the end was given, all senders have ended,
+-- and the packets given are the merge.
 pub record Stands (m : Merging) : Type 0 where
   pub sound : AllSound m.senders
   pub low : AllFrom m.given.bound m.senders

@@ -1,10 +1,10 @@
--- Beside Steps, for proofs alone: what a merge does next, by five cases of which the first that holds is taken.
+-- Beside Steps, for proofs alone: the item of a step as a list.
 use Rattle.std.specs.Prelude.{List, [], ◌∷◌}
 use Rattle.packet_record.specs.declared.item.Item.{Item}
 use Rattle.sender_merge.specs.declared.step.MergeStep.{MergeStep}
 use Rattle.sender_merge.specs.declared.step.MergeStep.TheVariants.{Item as Gives, Need}
 
--- the item that a step gives, if it gives one
+-- the item that the step gives, if it gives one
 abbrev pub given_in : MergeStep → List Item
 given_in (Gives x) = x ∷ []
 given_in (Need sender) = []

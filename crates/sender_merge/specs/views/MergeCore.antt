@@ -1,4 +1,4 @@
--- A merge as its callers see it, and what its fields keep.
+-- A merge as its callers see it.
 use Rattle.sender_merge.specs.Inflows.{Merging, merging}
 use Rattle.sender_merge.specs.declared.merge_core.MergeCore.TheInside.{Inside}
 

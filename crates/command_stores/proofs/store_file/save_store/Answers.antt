@@ -17,7 +17,7 @@ pieces-init g c = record {
   only_writes = c.create.ensures.only_writes;
 }
 
--- no memory for the next piece
+-- out of memory for the next piece
 pub returns-in_err-next-clause-err : goal.returns-in_err-next-clause-err
 returns-in_err-next-clause-err g c =
     let so_far = c.pieces.invariant.so_far in
@@ -35,7 +35,7 @@ pieces-preserved g c =
       only_writes = OnlyWrites-then c.pieces.invariant.only_writes c.append_all.ensures.only_writes;
     }
 
--- a piece that the disk refuses
+-- the disk fails at a piece
 pub returns-in_err-append_all-clause-err : goal.returns-in_err-append_all-clause-err
 returns-in_err-append_all-clause-err g c =
     let so_far = c.pieces.invariant.so_far in

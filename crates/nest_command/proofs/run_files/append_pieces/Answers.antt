@@ -8,7 +8,7 @@ use Rattle.shell_log.specs.LogText.{lines_text}
 use Rattle.nest_command.proofs.LogFileLemmas.{all_split, at_false, lines_some}
 use Rattle.nest_command.proofs.run_files.append_pieces.Goals as goal
 
--- no memory for the next piece
+-- out of memory for the next piece
 pub returns-in_err-next-clause-err : goal.returns-in_err-next-clause-err
 returns-in_err-next-clause-err g c =
     let so_far = c.pieces.invariant.so_far in
@@ -30,7 +30,7 @@ pieces-preserved g c =
       only_writes = OnlyWrites-then c.pieces.invariant.only_writes c.append_lines.ensures.only_writes;
     }
 
--- a piece that the disk refuses
+-- the disk fails at a piece
 pub returns-in_err-append_lines-clause-err : goal.returns-in_err-append_lines-clause-err
 returns-in_err-append_lines-clause-err g c =
     let so_far = c.pieces.invariant.so_far in

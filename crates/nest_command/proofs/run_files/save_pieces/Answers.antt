@@ -7,7 +7,7 @@ use Rattle.shell_log.specs.LogText.{header, lines_text, log_text}
 use Rattle.nest_command.proofs.LogFileLemmas.{text_cut}
 use Rattle.nest_command.proofs.run_files.save_pieces.Goals as goal
 
--- the file isn't made, or its first line isn't written whole
+-- the file isn't made, or its header isn't written whole
 pub returns-in_err-save-clause-err : goal.returns-in_err-save-clause-err
 returns-in_err-save-clause-err g c =
     on_err _ (first_held (g.D.Disk.view c.args.disk.now).files (g.D.Disk.view c.save.new.disk).files c.args.name.now
