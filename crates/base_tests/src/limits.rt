@@ -60,6 +60,17 @@ fn give_on<L: Link>(link: &mut L) -> Option<EndError> {
     None
 }
 
+// A read hands on all that came, as far as there is room for it.
+#[test]
+fn a_read_hands_on_what_came(rt: HostRuntime) {
+    let mut both = connect(&rt).expect(&rt, "a link");
+    both.client.write_all(b"come").expect(&rt, "a client");
+    let mut buf = [0u8; 8];
+    assert!(rt; both.link.read(&mut buf) == Ok(4) && buf.starts_with(b"come"));
+    both.client.write_all(b"more").expect(&rt, "a client");
+    assert!(rt; both.link.read(&mut buf[..3]) == Ok(3) && buf.starts_with(b"mor"));
+}
+
 // A client that takes nothing is cut at the limit, whatever the system's buffers take.
 #[test]
 fn a_client_that_takes_nothing_is_cut(rt: HostRuntime) {
