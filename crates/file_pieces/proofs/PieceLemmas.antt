@@ -1,4 +1,4 @@
--- Pieces of a file that are read one after another.
+-- Pieces of a file that are read one after another make its front, and then all of it.
 use Rattle.std.proofs.Common.{ℕ, ◌+◌, ◌≤◌, List, [], ◌++◌, Option, length, take, refl, ap, sym, subst, ◌∙◌}
 use Rattle.std.proofs.Common.{append_assoc, arith, length-append}
 use Rattle.std.proofs.lemmas.List.{append-nil, take_all}
@@ -8,6 +8,7 @@ use Rattle.file_pieces.specs.Pieces.{FrontIsRead, HasSize}
 use Rattle.file_pieces.specs.inside.Pieces.{PieceIsRead, WholeIsRead}
 
 module _ {R : Type 0} (has_read : List ℕ → R → Type 0) (told : Option Files) (name : List ℕ) where
+  -- no byte was read yet
   pub none_read : (read : R) → FrontIsRead has_read told name 0 read read
   none_read read = record {
     bytes = [];
@@ -16,6 +17,7 @@ module _ {R : Type 0} (has_read : List ℕ → R → Type 0) (told : Option File
     goes_on = λ text has. subst (λ (t : List ℕ). has_read t read) (sym (append-nil text)) has;
   }
 
+  -- a front of `at` bytes and a piece of `n` bytes behind it make a front of `at + n` bytes
   pub more_read : (at n : ℕ) (old mid new : R) → FrontIsRead has_read told name at old mid
       → PieceIsRead has_read told name at n mid new
       → FrontIsRead has_read told name (at + n) old new
@@ -29,7 +31,7 @@ module _ {R : Type 0} (has_read : List ℕ → R → Type 0) (told : Option File
         (piece.goes_on (text ++ front.bytes) (front.goes_on text has));
   }
 
-  -- the file ended before the size
+  -- where the file ends before `size`, what was read is its front of `size` bytes
   pub all_read : (at size : ℕ) (old new : R) → FrontIsRead has_read told name at old new → at ≤ size
       → IfHeld told name (λ whole. length whole ≤ at)
       → FrontIsRead has_read told name size old new
@@ -42,7 +44,7 @@ module _ {R : Type 0} (has_read : List ℕ → R → Type 0) (told : Option File
     goes_on = front.goes_on;
   }
 
-  -- all of a file was read
+  -- a front as long as the file is the whole file
   pub whole_read : (size : ℕ) (old new : R) → HasSize told name size → FrontIsRead has_read told name size old new
       → WholeIsRead has_read told name old new
   whole_read size old new has front = record {

@@ -2,23 +2,23 @@
 use Rattle.std.specs.Prelude.{◌≡◌, ◌≤◌, ◌++◌, ℕ, take, drop, List, Option, length}
 use Rattle.mm_base.specs.Files.{Files, IfHeld, IsThere}
 
--- the size of a file that may be read
+-- The file `name` is there and has `size` bytes, at most 67,108,864.
 pub record HasSize (told : Option Files) (name : List ℕ) (size : ℕ) : Type 0 where
   pub there : IsThere told name
   pub held : IfHeld told name (λ bytes. size ≡ length bytes)
   pub few : size ≤ 67108864
 
--- these bytes were read after those before
+-- A reader that had read `text` at `old` has read `text` and then `bytes` at `new`.
 abbrev pub GoesOnBy : {R : Type 0} → (List ℕ → R → Type 0) → List ℕ → R → R → Type 0
 GoesOnBy has_read bytes old new = (text : List ℕ) → has_read text old → has_read (text ++ bytes) new
 
--- These are so many bytes of a file, from this place on, none only at its end.
+-- `bytes` are `read` bytes of the file from byte `at` on. They are empty only where the file ends at `at` or before.
 pub record IsPiece (told : Option Files) (name : List ℕ) (at read : ℕ) (bytes : List ℕ) : Type 0 where
   pub long : length bytes ≡ read
   pub held : IfHeld told name (λ whole. bytes ≡ take read (drop at whole))
   pub end : read ≡ 0 → IfHeld told name (λ whole. length whole ≤ at)
 
--- The first bytes of a file were read, up to this size.
+-- The reader went from `old` to `new` by the file's first `size` bytes, or by all of them where it has fewer.
 pub record FrontIsRead {R : Type 0} (has_read : List ℕ → R → Type 0) (told : Option Files) (name : List ℕ) (size : ℕ)
     (old new : R) : Type 0 where
   pub bytes : List ℕ

@@ -1,5 +1,4 @@
-//! Files that are read in pieces: how many bytes one has, and then its bytes, in order, as a reader of a text takes
-//! them.
+//! Reading a file in pieces: first its size, then its bytes in order, pushed to the reader of a text.
 #![tactic(auto)]
 
 mod pieces;

@@ -1,4 +1,4 @@
-// A file read piece by piece.
+// Reads a file piece by piece.
 ghost use Rattle.std.specs.Prelude.{◌≡◌, ◌+◌, ◌≤◌, ◌<◌, length, take, IfOk, OnOk, IsErrOf};
 ghost use Rattle.mm_base.specs.Files.{IfThere, IsAbsent};
 ghost use Rattle.mm_base.specs.Disk.{HasReadCause, OnlyReads};
@@ -10,7 +10,7 @@ use std::alloc::Global;
 use text_base::limits::PIECE_BYTES;
 use text_base::{OutOfMemory, PieceReader};
 
-// How many bytes one read of a file of this size asks for.
+// Returns how many bytes one read asks for in a file of `size` bytes: 1 to 65,536.
 fn piece_length(size: u64) -> usize
     ensures some { 0 < result }
     ensures few { result ≤ 65536 }
@@ -18,7 +18,8 @@ fn piece_length(size: u64) -> usize
     size.clamp(1, PIECE_BYTES) as usize
 }
 
-/// Room for one piece of a file of this size: at least one byte, and at most 65,536. `OutOfMemory` is want of memory.
+/// Returns a buffer for one piece of a file of `size` bytes: 1 to 65,536 bytes. Returns `OutOfMemory` where the
+/// allocation fails.
 pub fn piece_buffer(alloc: Global, size: u64) -> Result<Vec<u8>, OutOfMemory>
     ensures some { IfOk result (λ buffer. 0 < length buffer.items) }
     ensures few { IfOk result (λ buffer. length buffer.items ≤ 65536) }
@@ -27,8 +28,9 @@ pub fn piece_buffer(alloc: Global, size: u64) -> Result<Vec<u8>, OutOfMemory>
     Ok(vec![in alloc; 0u8; length]?)
 }
 
-/// Reads the next piece of a file from the place `at` on into the front of `piece`, and answers how many bytes it has.
-/// Below the size there are some but at the file's end. A refusal is the disk's.
+/// Reads the next piece of a file, from byte `at` on, into the front of `piece`, and returns how many bytes it has.
+/// Bytes of the file from `size` on don't count. Returns 0 only where the file ends at `at` or before. Each error is
+/// that of `Disk::read_at`.
 pub fn read_piece<D: Disk>(
     disk: &mut D,
     name: &str,
@@ -52,7 +54,7 @@ pub fn read_piece<D: Disk>(
     Ok(wanted as usize)
 }
 
-// Reads the next piece of a file, and answers how many bytes it has.
+// Reads the next piece of a file, pushes it to `reader`, and returns how many bytes it has.
 fn push_piece<D: Disk, P: PieceReader>(
     disk: &mut D,
     name: &str,
@@ -77,7 +79,8 @@ fn push_piece<D: Disk, P: PieceReader>(
     Ok(read as u64)
 }
 
-/// Reads a file from the place `at` on, up to a size, or to its end where it ends before. A refusal is the disk's.
+/// Pushes the bytes of a file to `reader`, from byte `at` on: up to its first `size` bytes, or to its end where that
+/// comes before. Each error is that of `Disk::read_at`.
 pub fn push_pieces<D: Disk, P: PieceReader>(
     disk: &mut D,
     name: &str,

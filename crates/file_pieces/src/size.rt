@@ -1,4 +1,4 @@
-// How many bytes a file has, before it is read.
+// The size of a file, asked before the file is read.
 ghost use Rattle.std.specs.Prelude.{◌≡◌, ◌<◌, ℕ, length, IfOk, IsErrOf};
 ghost use Rattle.mm_base.specs.Counts.{Rose};
 ghost use Rattle.mm_base.specs.Files.{IfHeld, IfThere, IsAbsent, IsThere};
@@ -8,10 +8,11 @@ ghost use Rattle.file_pieces.specs.Pieces.{HasSize};
 use mm_base::{Disk, LoadError};
 use text_base::limits::MOST_FILE_BYTES;
 
-/// How many bytes a file has, at most 67,108,864. None of them is read.
+/// Returns the size of a file in bytes, at most 67,108,864. No byte of it is read.
 ///
-/// `TooLong` comes where the disk says that it has more, and has its size. `Absent` comes where the disk has no such
-/// file, and `Failed` where it failed, each counted by the disk.
+/// Returns `TooLong` with the size where the disk says that the file is larger. Returns `Absent` where the disk has no
+/// such file, and `Failed` where the disk failed; the disk counts each. Returns `OutOfMemory` where the disk runs out
+/// of memory.
 pub fn size_within<D: Disk>(disk: &mut D, name: &str) -> Result<u64, LoadError>
     ensures size { IfOk result (λ size. HasSize (D.view disk.old).files name.now size) }
     ensures too_long { (size : ℕ) → IsErrOf result (LoadError.TooLong size)

@@ -36,7 +36,8 @@ impl EndBells {
     }
 }
 
-// The bells of both ends of a channel of this capacity. An end rings once half of the places were filled, or freed.
+// The bells of both ends of a channel of this capacity. An end rings once it has filled, or freed, three quarters of the
+// places.
 pub(crate) fn open_bells(
     alloc: Global,
     capacity: u32,
@@ -51,14 +52,14 @@ pub(crate) fn open_bells(
     let Ok(other) = Arc::try_clone(&shared) else {
         return Err(OutOfMemory);
     };
-    let half = (capacity / 2).max(1);
+    let batch = (capacity / 4 * 3).max(1);
     let sending = EndBells {
         shared,
-        ringer: Ringer::new(half),
+        ringer: Ringer::new(batch),
     };
     let receiving = EndBells {
         shared: other,
-        ringer: Ringer::new(half),
+        ringer: Ringer::new(batch),
     };
     Ok((sending, receiving))
 }

@@ -1,4 +1,4 @@
--- The states of stages that were closed one after another.
+-- The states of stages that are closed one after another.
 use Rattle.std.proofs.Common.{◌≡◌, ap, ℕ, List, [], ◌∷◌, ◌++◌, map, refl}
 use Rattle.packet_record.specs.declared.packet.Timed.{Timed}
 use Rattle.packet_record.specs.declared.item.FlowEnd.TheVariants.{Ended}
@@ -9,7 +9,7 @@ use Rattle.nest_spec.specs.Passed.{HavePassed}
 abbrev pub does : List State → List DirSpec
 does states = map (λ (s : State). s.spec) states
 
--- what was taken from the last of these states, or what came to the first
+-- what was taken from the last state, or what arrived where there is none
 abbrev pub passed_on : List Timed → List State → List Timed
 passed_on arrived [] = arrived
 passed_on arrived (s ∷ states) = passed_on s.taken.packets states

@@ -1,4 +1,4 @@
--- A chain of stages that is one longer, and one whose workers ran.
+-- A chain of stages with one stage more, and one whose workers ran.
 use Rattle.std.proofs.Common.{◌≡◌, ◌∙◌, ap, sym, subst, ℕ, List, [], ◌∷◌, ◌++◌, refl}
 use Rattle.packet_record.specs.declared.packet.Direction.{Direction}
 use Rattle.packet_record.specs.declared.packet.Row.{Row}
@@ -62,7 +62,7 @@ specs-same (s ∷ ss) (t ∷ ts) same =
     ap (λ (c : DirSpec). c ∷ specs_of ts) (ap (λ c. c.opening.spec) same.0.cell)
     ∙ ap (λ (l : List DirSpec). s.cell.opening.spec ∷ l) (specs-same ss ts same.1)
 
--- what ran stays wired
+-- a lane whose workers ran is wired as before
 pub still_wired : (h : ℕ) (specs : List DirSpec) (old new : Lane) → IsWired h specs old → IsSameLane old new
     → IsWired h specs new
 still_wired h specs old new wired same = record {
@@ -77,7 +77,7 @@ pub specs-snoc : (stages : List Stage) (s : Stage) (rest : List DirSpec)
 specs-snoc [] s rest = refl
 specs-snoc (x ∷ xs) s rest = ap (λ (l : List DirSpec). x.cell.opening.spec ∷ l) (specs-snoc xs s rest)
 
--- what was carried came to its end everywhere
+-- what was carried came to its end at each stage
 all_ended : (stages : List Stage) → AllDone stages → AllEnded stages
 all_ended [] all = tt
 all_ended (s ∷ ss) all = (all.0.received, all.0.sent.0, ap (λ f. f.end) all.0.sent.1 ∙ all.0.sent.0, all_ended ss all.1)

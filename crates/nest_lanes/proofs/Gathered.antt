@@ -11,7 +11,7 @@ use Rattle.nest_spec.specs.inside.Marks.{ids_of, marked_through}
 use Rattle.nest_spec.specs.Walk.{step, walk}
 use Rattle.nest_spec.proofs.Natural.{one_step}
 
--- the shells after the first have this horizon, and what arrives there has departed from the first
+-- marking goes on with the shells behind the first one, where what departed from that one arrives
 pub marked_on : (h next : ℕ) (s : ShellDirection) (shells rest : List ShellDirection) (c : DirSpec)
     (fed departed : List Timed) (f : Row → Fate) → next ≡ h → shells ≡ rest → c ≡ s.spec → departed ≡ whole_out c h fed
     → marked_through next rest departed (passed s.number (whole_lost c h fed) (ids_of (whole_inside c h fed)) f)

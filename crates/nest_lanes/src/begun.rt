@@ -1,8 +1,8 @@
-// The workers of a run, for all of which its source waits.
+// The workers of a run that its source waits for.
 use mark_channel::Begun;
 
-/// A run through so many shells, none of whose workers has begun: in each direction a feeder and a drain for each
-/// shell, and a collector. The source isn't among them.
+/// Returns the count of the workers of a run through `shells` shells, none of which has begun. In each direction they
+/// are a feeder and a drain for each shell, and a collector. The source isn't one of them.
 pub fn none_begun(shells: u32) -> Begun {
     Begun::new(4 * u64::from(shells) + 2)
 }

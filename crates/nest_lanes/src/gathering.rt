@@ -1,5 +1,5 @@
-// The result of a run over threads, from the states of its shells. Each state is given up for its lists, none of which
-// is copied.
+// The result of a run over threads, from the states of its shells. Each state is given up for its lists, so none of
+// them is copied.
 ghost use Rattle.std.specs.Prelude.{◌≡◌, ◌≤◌, ◌++◌, ◌∷◌, List, IsSome, map, option_map, IfOk, OnOk};
 ghost use Rattle.std.specs.Vec.Iter.{into_iter_items};
 ghost use Rattle.packet_record.specs.declared.item.FlowEnd.TheVariants.{Ended};
@@ -34,7 +34,8 @@ use std::alloc::Global;
 use std::vec::IntoIter;
 use text_base::OutOfMemory;
 
-// Gives up the state of one shell, and marks the fates in it: what departed, and the log, where it has a name.
+// Gives up the state of one shell, and marks the packets that are lost or inside there. Returns what departed, and the
+// shell's log where it has a name.
 fn gather_shell(
     marking: &mut Marking<'_>,
     shell: ShellDirection,
@@ -55,8 +56,7 @@ fn gather_shell(
         ≡ named_log (step state.horizon shell state.fed.packets)) }
     ensures built { IsBuilt shell.spec }
 {
-    // What holds of every state that stands: what was taken are all departures of the shell.
-    state.stands();
+    state.stands(); // fact: what was taken to its end is all that departs from the shell
     let ShellDirection {
         number,
         spec: _,
@@ -73,8 +73,8 @@ fn gather_shell(
     Ok((departed, named))
 }
 
-// Gives up the states of a shell and of those after it, and marks the fates in them and of what passed them all. Adds
-// the log of each, where it has a name.
+// Gives up the states of a shell and of those behind it. Marks the packets that are lost or inside there, and those
+// that departed from the last shell. Adds the log of each shell to `logs`, or `None` where it has no name.
 fn gather_shells(
     marking: &mut Marking<'_>,
     logs: &mut Vec<Option<UnwrittenLog>>,
@@ -102,14 +102,14 @@ fn gather_shells(
         marking.depart(departed.as_slice());
         return Ok(());
     };
-    // Only what left the last shell is looked at.
+    // Only what departed from the last shell is marked.
     drop(departed);
     let state = states.next().unwrap();
     gather_shells(marking, logs, shell, state, shells, states)
 }
 
-// Gives up the states of a direction, and marks the fates of its packets: the logs of its shells in passing order,
-// where they have names.
+// Gives up the states of a direction, and marks the fates of its packets. Returns the logs of its shells in passing
+// order, with `None` for a log without a name.
 fn gather_direction(
     alloc: Global,
     marking: &mut Marking<'_>,
@@ -140,9 +140,9 @@ fn gather_direction(
     Ok(logs)
 }
 
-// The result of a run: the fate of each row of a marking, and the logs of the nest that have a name. The states are
-// those of the nest's shells in passing order, each of which was fed what the one before it passed on, the first the
-// direction's rows up to the horizon, and was taken to its end.
+// Returns the result of a run: the fate of each row of `marking`, and the logs of the nest that have a name. `up` and
+// `down` have the states of the nest's shells in passing order. Each was fed what departed from the one before it, the
+// first one the direction's rows up to the horizon, and was taken from to its end.
 fn gather(
     alloc: Global,
     nest: &Nest,
@@ -166,8 +166,8 @@ fn gather(
     Ok(NestRun::new(marking.into_fates(), logs))
 }
 
-/// The result of a run whose lanes the rows of a marking have gone through: the fate of each row, and the logs of the
-/// nest that have a name. `OutOfMemory` is want of memory.
+/// Returns the result of a run whose lanes have carried the rows of `marking`: the fate of each row, and the logs of
+/// the nest that have a name. Returns `OutOfMemory` where an allocation fails.
 pub fn gather_marked(
     alloc: Global,
     nest: &Nest,
@@ -187,7 +187,7 @@ pub fn gather_marked(
     gather(alloc, nest, marking, up, down)
 }
 
-/// The result of a run whose lanes the rows of a schedule have gone through, as `gather_marked` gives it.
+/// Returns the result of a run whose lanes have carried the rows of `schedule`, as `gather_marked` does.
 pub fn gather_lanes(
     alloc: Global,
     nest: &Nest,
@@ -200,8 +200,7 @@ pub fn gather_lanes(
     ensures value { IfOk result (λ r. r ≡ result_of nest.now schedule.now) }
     ensures once { OnOk result (HaveOneFate nest.now schedule.now) }
 {
-    // What holds of every schedule: no two of its rows have one number.
-    schedule.rows();
+    schedule.rows(); // fact: no two rows of a schedule have one number
     let marking = Marking::of_schedule(alloc, schedule)?;
     gather_marked(alloc, nest, marking, up, down)
 }

@@ -18,7 +18,7 @@ use shell_workers::Stage;
 use std::alloc::Global;
 use text_base::OutOfMemory;
 
-// How many items a channel of a run holds.
+// How many items a channel of a run holds at most.
 const CAPACITY: u32 = 64;
 
 /// The stages of a direction's shells in passing order, and the receiver of the channel behind the last of them.
@@ -36,22 +36,22 @@ pub struct Lane {
 }
 
 impl Lane {
-    /// Opens all cells and channels of a direction of a nest.
+    /// Opens all cells and channels of a direction of `nest`. Returns `OutOfMemory` where an allocation fails.
     pub fn open(alloc: Global, nest: &Nest, direction: Direction) -> Result<Lane, OutOfMemory>
         ensures wired { IfOk result (λ lane. IsWired nest.now.horizon (directions_of direction nest.now) lane) }
         ensures fresh { IfOk result (λ lane. IsFreshLane nest.now.horizon lane) }
         ensures few { IfOk result (λ lane. length lane.path.stages.items ≤ 8) }
     {
         let horizon = nest.horizon();
-        // What holds of every nest: it has at most 8 shells.
-        nest.shells();
+        nest.shells(); // fact: a nest has at most 8 shells
         let specs = nest.directions(direction)?;
         let (head, first) = mark_channel::open(alloc, CAPACITY, horizon)?;
         let path = open_path(alloc, horizon, specs, first)?;
         Ok(Lane { head, path })
     }
 
-    /// Settles the channels and closes the cells of a direction whose workers have ended: the states of its shells.
+    /// Settles the channels and closes the cells of a direction whose workers have ended. Returns the states of its
+    /// shells in passing order, or `OutOfMemory` where the allocation for them fails.
     pub(crate) fn close(self, alloc: Global) -> Result<Vec<ShellState>, OutOfMemory>
         requires linked { Linked self.head.channel self.path.stages.items self.path.last.channel }
         requires own { AllOwn self.head.horizon self.path.stages.items }
@@ -65,7 +65,7 @@ impl Lane {
     }
 }
 
-// Opens the stages of shells that do this, the first of which receives here.
+// Opens the stages of shells that do what `specs` say, in passing order. The first stage receives from `first`.
 fn open_path(
     alloc: Global,
     horizon: u64,
@@ -90,7 +90,8 @@ fn open_path(
     Ok(Path { stages, last })
 }
 
-// Opens the cell of a shell, and the channel behind it.
+// Opens the cell of a shell and the channel behind it. Returns the stage, which receives from `from`, and the receiver
+// of that channel.
 fn open_stage(
     alloc: Global,
     horizon: u64,
@@ -118,7 +119,7 @@ fn open_stage(
     Ok((stage, next))
 }
 
-// Settles each channel and closes each cell: the states.
+// Settles each channel and closes each cell. Returns the states in passing order.
 fn close_stages(
     alloc: Global,
     head: Sender,
@@ -141,7 +142,8 @@ fn close_stages(
     Ok(states)
 }
 
-// Settles the channel before a stage and closes its cell: its state, and the sender behind it.
+// Settles the channel from `before` to the stage, and closes the stage's cell. Returns the state, and the sender of the
+// channel behind the stage.
 fn close_stage(before: Sender, stage: Stage) -> (ShellState, Sender)
     requires linked { before.channel ≡ stage.from.channel }
     requires own { (stage.feed.cell ≡ stage.cell) × (stage.drain.cell ≡ stage.cell) }

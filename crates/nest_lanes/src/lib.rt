@@ -1,5 +1,6 @@
-//! The lanes of a run over threads: one for each direction of a nest, with a channel before each shell and one behind the
-//! last, how they are opened, how their workers run beside each other, and what a run whose lanes have ended gives.
+//! The lanes of a run over threads: one for each direction of a nest, with a channel before each shell and one behind
+//! the last. They are opened before any thread starts, their workers run beside each other, and then the result of the
+//! run is gathered from the states of the shells.
 #![tactic(auto)]
 
 mod begun;

@@ -16,11 +16,12 @@ use std::marker::Sync;
 use std::sync::Wait;
 use std::thread::{Threads, join_mut};
 
-// How many opportunities are burnt at a time.
+// How many opportunities a take burns at most.
 const MOST: u32 = 256;
 
-/// Runs the workers of the paths of both directions beside each other: each shell's feeder and drain, and a collector
-/// behind the last shell. So many shells stand in the nest. It answers the worse of the two ends.
+/// Runs the workers of the paths of both directions beside each other: a feeder and a drain for each shell, and a
+/// collector behind the last. `shells` is how many shells the nest has. Each worker counts itself in `begun` as it
+/// begins. Returns the worse of the ends of the two paths, as `WorkEnd::worse` does.
 pub fn run_paths<Q: Pace + Sync, R: Threads + Wait + Sync>(
     rt: &R,
     up: &mut Path,
@@ -50,7 +51,8 @@ pub fn run_paths<Q: Pace + Sync, R: Threads + Wait + Sync>(
     up_end.worse(down_end)
 }
 
-// Runs the stages of a direction beside its collector. Each worker is counted as it begins.
+// Runs the stages of a direction beside its collector. `first` is the number of the first shell in passing order. Each
+// worker counts itself in `begun` as it begins.
 fn run_path<Q: Pace + Sync, R: Threads + Wait + Sync>(
     rt: &R,
     path: &mut Path,

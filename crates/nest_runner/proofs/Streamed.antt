@@ -20,7 +20,7 @@ use Rattle.nest_runner.specs.Streaming.{HasStreamCause, of_disk, of_schedule}
 pub ok_has : {T E : Type 0} (result : Result T E) (value : T) (P : Type 0) → result ≡ Ok value → OnOk result P → P
 ok_has {T} {E} result value P is has = subst (λ (r : Result T E). OnOk r P) is has
 
--- why a file isn't read
+-- the cause of an error of the disk
 pub disk_cause : {T : Type 0} (old new : DiskView) (name : List ℕ) (result : Result T DiskError) (error : DiskError)
     → result ≡ Err error → (IsErrOf result disk_errors.Absent → IsAbsent old.files name) → HasReadCause name old new result
     → HasStreamCause old new name (of_disk error)
@@ -28,7 +28,7 @@ disk_cause old new name result disk_errors.Absent is absent cause = (absent is, 
 disk_cause old new name result disk_errors.Failed is absent cause = cause.failed is
 disk_cause old new name result disk_errors.OutOfMemory is absent cause = tt
 
--- why a text is no schedule
+-- the cause of a refusal of the text
 pub text_cause : (old new : DiskView) (name : List ℕ) (read : PartRead) (error : ScheduleError)
     (streamed : IsStreamed old.files name read)
     → (error ≢ schedule_errors.OutOfMemory → first_fault 1 0 (lines_of streamed.bytes) ≡ Some error)
@@ -59,7 +59,7 @@ text_cause old new name read schedule_errors.TooMany streamed fault = record {
   cause = λ e. cc e;
 }
 
--- The rows that a source sent into a lane were carried through it.
+-- the rows that a source sent into a lane were carried through it
 pub streamed_lane : (d : Direction) (h : ℕ) (sent rows : List Row) (lane : Lane) → rows ≡ sent
     → AllSent d h sent lane.head → IsDonePath lane.path → HasCarried (entering d h rows) lane
 streamed_lane d h sent rows lane is all done = record {

@@ -18,21 +18,21 @@ use Rattle.row_source.specs.StreamParts.{IsText}
 use Rattle.nest_runner.specs.declared.stream_error.StreamError.{StreamError}
 use Rattle.nest_runner.specs.declared.stream_error.StreamError.TheVariants as stream_errors
 
--- The bytes of the file are the text of these rows.
+-- The bytes of the file are the text of a schedule with the rows `rows`.
 pub record IsScheduleOf (told : Option Files) (name : List ℕ) (rows : List Row) : Type 0 where
   pub bytes : List ℕ
   pub text : IsText told name bytes
   pub accepted : first_fault 1 0 (lines_of bytes) ≡ None
   pub rows_are : IsScheduleText bytes rows
 
--- The bytes of the file are the text of a schedule, and the run is that of its rows.
+-- The bytes of the file are the text of a schedule, and `run` is the result of its rows.
 pub record StreamsTo (told : Option Files) (name : List ℕ) (nest : NestParts) (run : RunLists) : Type 0 where
   pub rows : List Row
   pub schedule : IsScheduleOf told name rows
   pub result_is : run ≡ result_of nest rows
   pub once : HaveOneFate nest rows
 
--- The bytes of the file are no such text, and this is their first refusal.
+-- The bytes of the file aren't the text of a schedule, and `error` is their first refusal.
 pub record IsRefusedFor (told : Option Files) (name : List ℕ) (error : ScheduleError) : Type 0 where
   pub bytes : List ℕ
   pub text : IsText told name bytes
@@ -48,18 +48,20 @@ HasStreamCause old new name (stream_errors.TooLong size) = (67108864 < size) × 
     × IfHeld old.files name (λ bytes. size ≡ length bytes)
 HasStreamCause old new name (stream_errors.Schedule error) = IsRefusedFor old.files name error
 
--- the error of a streamed run by that of the disk, of the size, or of the text
+-- an error of the disk as one of a streamed run
 abbrev pub of_disk : DiskError → StreamError
 of_disk disk_errors.Absent = stream_errors.Absent
 of_disk disk_errors.Failed = stream_errors.Failed
 of_disk disk_errors.OutOfMemory = stream_errors.OutOfMemory
 
+-- an error of asking for the size as one of a streamed run
 abbrev pub of_load : LoadError → StreamError
 of_load load_errors.Absent = stream_errors.Absent
 of_load load_errors.Failed = stream_errors.Failed
 of_load load_errors.OutOfMemory = stream_errors.OutOfMemory
 of_load (load_errors.TooLong size) = stream_errors.TooLong size
 
+-- a refusal of the text as an error of a streamed run
 abbrev pub of_schedule : ScheduleError → StreamError
 of_schedule schedule_errors.OutOfMemory = stream_errors.OutOfMemory
 of_schedule (schedule_errors.BadLine line) = stream_errors.Schedule (schedule_errors.BadLine line)

@@ -1,4 +1,4 @@
-// A run of a nest over threads, whose rows come from one who feeds both directions.
+// Runs of a nest over threads, whose rows come from a `Feeds`.
 ghost use Rattle.std.specs.Prelude.{◌≡◌, ◌≢◌, ◌≤◌, length, IfOk, OnOk};
 ghost use Rattle.std.specs.Thread.{IsSync};
 ghost use Rattle.packet_record.specs.declared.item.FlowEnd.TheVariants.{Open};
@@ -27,12 +27,13 @@ use std::sync::Wait;
 use std::thread::{Threads, join_mut};
 use text_base::OutOfMemory;
 
-/// Runs what is fed through the nest over threads, as `run_nest_threads` runs a schedule: the feeding stands in the
-/// place of its source, beside the threads of the shells. The result, if it returns, is that of the composition of the
-/// shells over the rows that are fed, for every order in which the threads get their turns. The logs aren't written
-/// out. The pace is asked before the turns of the shells' threads. `OutOfMemory` is want of memory, in any thread or
-/// for a thread: the feeding begins after all other threads have, and where one can't begin beside the others the run
-/// is broken off.
+/// Runs the rows that `feeds` sends through `nest` over threads, as `run_nest_threads` runs those of a schedule. The
+/// feeding takes the place of the source. The result is that of the composition of the shells over these rows, for
+/// every order in which the threads get their turns. The logs aren't written out. The pace is asked before the turns of
+/// the shells' threads.
+///
+/// Returns `OutOfMemory` where memory runs out in any thread, or for a thread. The feeding begins once all other
+/// threads have, and where one can't begin beside the others the run is broken off.
 pub fn run_nest_feeds<F: Feeds + Send, Q: Pace + Sync, R: Threads + Wait + Sync>(
     rt: &R,
     alloc: Global,
@@ -49,7 +50,7 @@ pub fn run_nest_feeds<F: Feeds + Send, Q: Pace + Sync, R: Threads + Wait + Sync>
     gather_marked(alloc, nest, marking, up, down)
 }
 
-/// Runs what is fed through the nest as `run_nest_feeds` does, and writes the logs out.
+/// Runs the rows that `feeds` sends as `run_nest_feeds` does, and writes the logs out.
 pub fn run_feeds<F: Feeds + Send, Q: Pace + Sync, R: Threads + Wait + Sync>(
     rt: &R,
     alloc: Global,
@@ -64,8 +65,8 @@ pub fn run_feeds<F: Feeds + Send, Q: Pace + Sync, R: Threads + Wait + Sync>(
     run_nest_feeds(rt, alloc, nest, feeds, pace)?.into_result()
 }
 
-// Runs what is fed through both directions of a nest: their lanes, where every stream in them came to its end. After an
-// item `Broken` in any of them there are none.
+// Runs the rows that `feeds` sends through both directions of a nest. Returns the lanes up and down where every stream
+// in them came to its end, else `OutOfMemory`: an item `Broken` was sent.
 fn run_fed<F: Feeds + Send, Q: Pace + Sync, R: Threads + Wait + Sync>(
     rt: &R,
     alloc: Global,
@@ -88,7 +89,7 @@ fn run_fed<F: Feeds + Send, Q: Pace + Sync, R: Threads + Wait + Sync>(
     Ok((up, down))
 }
 
-// How a feeding ended, as a worker.
+// Returns how a feeding ended, as the end of a worker.
 fn end_of_feed(end: FeedEnd) -> WorkEnd
     ensures { result ≡ end_of_feed end }
 {
@@ -98,7 +99,7 @@ fn end_of_feed(end: FeedEnd) -> WorkEnd
     }
 }
 
-// Runs the feeding once the workers of all shells have begun. Where they can't it breaks both directions off.
+// Runs the feeding once all other workers have begun. Breaks both directions off where they can't.
 fn feed_begun<F: Feeds, R: Threads + Wait + Sync>(
     rt: &R,
     feeds: &mut F,
@@ -122,7 +123,8 @@ fn feed_begun<F: Feeds, R: Threads + Wait + Sync>(
     end_of_feed(feeds.feed(rt, horizon, up, down))
 }
 
-// Runs the feeding beside the paths of both directions.
+// Runs the feeding beside the paths of both directions. `shells` is how many shells the nest has. Returns the worse of
+// their ends.
 fn feed_lanes<F: Feeds + Send, Q: Pace + Sync, R: Threads + Wait + Sync>(
     rt: &R,
     feeds: &mut F,

@@ -1,8 +1,8 @@
-//! A run of a nest over threads: each direction of each shell is a state that a feeder thread and a drain thread share,
-//! and bounded channels between shells carry packets and marks.
+//! Runs of a nest over threads. Each direction of each shell is a state that a feeder thread and a drain thread share,
+//! and bounded channels between the shells carry packets and marks.
 //!
-//! Whatever the order in which the threads get their turns, a run that returns answers the result of the composition of
-//! the shells. Nothing is promised of when a run returns, of fairness, or that two threads ran at once.
+//! A result is that of the composition of the shells, whatever the order in which the threads get their turns. Nothing
+//! is promised of when a run returns, of fairness, or that two threads ran at once.
 #![tactic(auto)]
 
 mod feeds;

@@ -1,4 +1,4 @@
-// A run of a nest over threads.
+// Runs of a nest over threads, whose schedule is in memory.
 ghost use Rattle.std.specs.Prelude.{◌≡◌, ◌≢◌, ◌≤◌, length, OnOk, IfOk};
 ghost use Rattle.std.specs.Thread.{IsSync};
 ghost use Rattle.packet_record.specs.declared.item.FlowEnd.TheVariants.{Open, Ended as IsOver};
@@ -26,11 +26,13 @@ use std::sync::Wait;
 use std::thread::{Threads, join_mut};
 use text_base::OutOfMemory;
 
-/// Runs the schedule through the nest over threads: a source, a feeder and a drain for each direction of each shell,
-/// and a collector for each direction, beside each other. The result, if it returns, is that of the composition of the
-/// shells, for every order in which the threads get their turns. The logs aren't written out. The pace is asked before
-/// the turns of the threads. `OutOfMemory` is want of memory, in any thread or for a thread: the source sends nothing
-/// before all others have begun, and where one can't begin beside the others it breaks the run off.
+/// Runs `schedule` through `nest` over threads: a source, a feeder and a drain for each direction of each shell, and a
+/// collector for each direction, beside each other. The result is that of the composition of the shells, for every
+/// order in which the threads get their turns. The logs aren't written out. The pace is asked before the turns of the
+/// threads.
+///
+/// Returns `OutOfMemory` where memory runs out in any thread, or for a thread. The source sends nothing before all
+/// other threads have begun, and where one can't begin beside the others the source breaks the run off.
 pub fn run_nest_threads<Q: Pace + Sync, R: Threads + Wait + Sync>(
     rt: &R,
     alloc: Global,
@@ -46,7 +48,7 @@ pub fn run_nest_threads<Q: Pace + Sync, R: Threads + Wait + Sync>(
     gather_lanes(alloc, nest, schedule, up, down)
 }
 
-/// Runs the schedule through the nest as `run_nest_threads` does, and writes the logs out.
+/// Runs `schedule` through `nest` as `run_nest_threads` does, and writes the logs out.
 pub fn run_threads<Q: Pace + Sync, R: Threads + Wait + Sync>(
     rt: &R,
     alloc: Global,
@@ -60,8 +62,8 @@ pub fn run_threads<Q: Pace + Sync, R: Threads + Wait + Sync>(
     run_nest_threads(rt, alloc, nest, schedule, pace)?.into_result()
 }
 
-// Runs rows through both directions of a nest: their lanes, where every stream in them came to its end. After an item
-// `Broken` in any of them there are none.
+// Runs rows through both directions of a nest. Returns the lanes up and down where every stream in them came to its
+// end, else `OutOfMemory`: an item `Broken` was sent.
 fn run_rows<Q: Pace + Sync, R: Threads + Wait + Sync>(
     rt: &R,
     alloc: Global,
@@ -84,7 +86,8 @@ fn run_rows<Q: Pace + Sync, R: Threads + Wait + Sync>(
     Ok((up, down))
 }
 
-// Runs the source beside the paths of both directions.
+// Runs the source beside the paths of both directions. `shells` is how many shells the nest has. Returns the worse of
+// their ends.
 fn run_lanes<Q: Pace + Sync, R: Threads + Wait + Sync>(
     rt: &R,
     rows: &[Row],
@@ -136,7 +139,7 @@ fn run_lanes<Q: Pace + Sync, R: Threads + Wait + Sync>(
     sent.worse(passed)
 }
 
-// Runs the source once all other workers have begun. Where they can't it breaks both directions off.
+// Runs the source once all other workers have begun. Breaks both directions off where they can't.
 fn run_source<Q: Pace, R: Wait>(
     rt: &R,
     rows: &[Row],

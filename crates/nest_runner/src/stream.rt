@@ -1,4 +1,4 @@
-// A run of a nest over threads, whose schedule is read while the packets pass.
+// Runs of a nest over threads, whose schedule is read while its packets pass.
 ghost use Rattle.std.specs.Prelude.{◌≡◌, ◌≤◌, ◌<◌, [], None, length, IfErr, IfOk, OnOk, IsErrOf};
 ghost use Rattle.std.specs.Thread.{IsSync};
 ghost use Rattle.mm_base.specs.Disk.{HasReadCause, OnlyReads};
@@ -29,15 +29,15 @@ use std::marker::Sync;
 use std::sync::Wait;
 use std::thread::{Threads, join_mut};
 
-/// Runs the schedule in a file through the nest over threads, as `run_nest_threads` does, and reads it while its
-/// packets pass: its size once, and then pieces of at most 65,536 bytes from the first byte on, until so many bytes
-/// were read or a read has none. The items of a row are sent as its line is read. The logs aren't written out. No
-/// file is changed.
+/// Runs the schedule in the file `name` through `nest` over threads, as `run_nest_threads` does, and reads it
+/// meanwhile. Asks for the size once, and then reads pieces of at most 65,536 bytes from the first byte on, until that
+/// many bytes were read or a read has none. What a row gives is sent as soon as its line is read. The logs aren't
+/// written out. No file is changed.
 ///
-/// `TooLong` comes exactly where the disk says that the file has more than 67,108,864 bytes. `Absent` comes where the
-/// disk has no such file, and `Failed` where it failed, each counted by the disk. `Schedule` is the first refusal of
-/// the bytes; they are read to their end before, and a fault that is met there is answered instead. `OutOfMemory` is
-/// want of memory, in any thread; the refusals of the schedule come before that of another thread.
+/// Returns `TooLong` exactly where the disk says that the file has more than 67,108,864 bytes. Returns `Absent` where
+/// the disk has no such file, and `Failed` where the disk failed; the disk counts each. Returns `Schedule` with the
+/// first refusal of the bytes. They are read to their end before, and a fault met there is returned instead. Returns
+/// `OutOfMemory` where memory runs out in any thread, but not where the schedule is refused.
 pub fn run_nest_stream<D: Disk, Q: Pace + Sync, R: Threads + Wait + Sync>(
     rt: &R,
     alloc: Global,
@@ -55,7 +55,7 @@ pub fn run_nest_stream<D: Disk, Q: Pace + Sync, R: Threads + Wait + Sync>(
     Ok(gather_lanes(alloc, nest, &schedule, up, down)?)
 }
 
-/// Runs the schedule in a file as `run_nest_stream` does, and writes the logs out.
+/// Runs the schedule in the file `name` as `run_nest_stream` does, and writes the logs out.
 pub fn run_stream<D: Disk, Q: Pace + Sync, R: Threads + Wait + Sync>(
     rt: &R,
     alloc: Global,
@@ -72,8 +72,8 @@ pub fn run_stream<D: Disk, Q: Pace + Sync, R: Threads + Wait + Sync>(
     Ok(run.into_result()?)
 }
 
-// Runs the schedule in a file of so many bytes through both directions of a nest: its rows and the lanes, where every
-// stream in them came to its end. After an item `Broken` in any of them there are none.
+// Runs the schedule in a file of `size` bytes through both directions of a nest. Returns the schedule, and the lanes up
+// and down, in which every stream came to its end.
 fn run_file<D: Disk, Q: Pace + Sync, R: Threads + Wait + Sync>(
     rt: &R,
     alloc: Global,
@@ -101,8 +101,9 @@ fn run_file<D: Disk, Q: Pace + Sync, R: Threads + Wait + Sync>(
     Ok((schedule, up, down))
 }
 
-// Reads the schedule in a file of so many bytes, and carries its rows through both lanes meanwhile: these rows, where
-// every stream in the lanes came to its end.
+// Reads the schedule in a file of `size` bytes, and carries its rows through both lanes meanwhile. Returns the schedule
+// where every stream in the lanes came to its end. An error of reading comes first, then a refusal of the text, then
+// out of memory in another worker.
 fn carry_file<D: Disk, Q: Pace + Sync, R: Threads + Wait + Sync>(
     rt: &R,
     alloc: Global,
@@ -139,7 +140,8 @@ fn carry_file<D: Disk, Q: Pace + Sync, R: Threads + Wait + Sync>(
     Ok(schedule)
 }
 
-// Runs the source of the schedule in a file beside the paths of both directions.
+// Runs the source of the schedule in a file beside the paths of both directions. `shells` is how many shells the nest
+// has. Returns how the paths ended, and what the source returned.
 fn stream_lanes<D: Disk, Q: Pace + Sync, R: Threads + Wait + Sync>(
     rt: &R,
     disk: &mut D,

@@ -6,18 +6,18 @@ use mm_base::{DiskError, LoadError};
 use packet_record::ScheduleError;
 use text_base::OutOfMemory;
 
-/// Why a run of a schedule that is read while the nest runs gives no result.
+/// Why a run whose schedule is read meanwhile gives no result.
 #[derive(Clone, Copy, Debug, PartialEq, Eq)]
 pub enum StreamError {
-    /// The file of the schedule isn't there.
+    /// The disk has no file of the schedule's name.
     Absent,
     /// A call of the disk failed, and was counted as a fault of reading.
     Failed,
-    /// Memory was wanting.
+    /// Out of memory, in any thread.
     OutOfMemory,
-    /// The file has this many bytes, which are more than are read.
+    /// The file has `size` bytes, more than are read.
     TooLong { size: u64 },
-    /// The first refusal of the schedule's text. It is never want of memory.
+    /// The first refusal of the schedule's text. It is never `ScheduleError::OutOfMemory`.
     Schedule(ScheduleError),
 }
 

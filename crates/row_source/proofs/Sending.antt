@@ -14,12 +14,12 @@ use Rattle.packet_record.proofs.RowsLemmas.{entering-append}
 use Rattle.mark_channel.specs.Ends.{End}
 use Rattle.row_source.specs.inside.Sent.{HasSent}
 
--- rows that rise from a moment rise from an earlier one
+-- rows that rise from `b` rise from an earlier `a`
 pub Rises-from : (a b : ℕ) (rows : List Row) → a ≤ b → Rises b rows → Rises a rows
 Rises-from a b [] le rises = tt
 Rises-from a b (r ∷ rs) le rises = ((let first = rises.0 in omega arith), rises.1)
 
--- before the first row
+-- what is sent before the first row
 pub none_sent : (d : Direction) (h : ℕ) (to : End) → to.flow ≡ no_items → HasSent d h to.items [] 0 to
 none_sent d h to empty = record {
   packets = ap (λ f. f.packets) empty;
@@ -27,13 +27,14 @@ none_sent d h to empty = record {
   rises = λ more rises. rises;
 }
 
--- what is sent of a row goes on from what was sent before
+-- from `old` to `new` what `row` gives was sent; `sent` and `next` are the greatest moments before and after
 pub record SendsOn (d : Direction) (h sent next : ℕ) (row : Row) (old new : End) : Type 0 where
   pub after : next ≡ sent_after sent row (source_item d h sent row)
   pub rises : next ≤ row.timed.moment
   pub items : new.items ≡ old.items ++ option_to_list (source_item d h sent row)
   pub packets : new.flow.packets ≡ old.flow.packets ++ entering d h (row ∷ [])
 
+-- what is sent with one row more
 pub one_sent : (d : Direction) (h sent next : ℕ) (first : List Item) (rows : List Row) (row : Row) (old new : End)
     → SendsOn d h sent next row old new → HasSent d h first rows sent old
     → HasSent d h first (rows ++ row ∷ []) next new
@@ -51,18 +52,18 @@ one_sent d h sent next first rows row old new on has = record {
       (has.rises (row ∷ more) (subst (Rises 0) (append_assoc rows (row ∷ []) more) rises)).1;
 }
 
--- no row more
+-- what is sent with no row more
 pub same_sent : (d : Direction) (h sent : ℕ) (first : List Item) (rows : List Row) (to : End)
     → HasSent d h first rows sent to → HasSent d h first (rows ++ []) sent to
 same_sent d h sent first rows to has = subst (λ l. HasSent d h first l sent to) (sym (append-nil rows)) has
 
--- and the end
+-- what is sent with the end
 pub all_sent : (d : Direction) (h sent : ℕ) (first : List Item) (rows : List Row) (old : End) (new : List Item)
     → HasSent d h first rows sent old → new ≡ old.items ++ Over ∷ [] → new ≡ first ++ source_items d h rows
 all_sent d h sent first rows old new has is =
     is ∙ has.items [] ∙ ap (λ (l : List Row). first ++ source_items d h l) (append-nil rows)
 
--- what is behind a front of a list
+-- a front of a list and what is behind it make the list
 pub rest_of : (old new : List Row) → IsPrefix old new → old ++ drop (length old) new ≡ new
 rest_of [] new prefix = refl
 rest_of (x ∷ xs) [] prefix = absurd (cc (prefix.1))

@@ -1,4 +1,4 @@
--- A schedule whose rows are sent as its text is read.
+-- A schedule whose rows are sent while its text is read.
 use Rattle.std.proofs.Common.{◌≡◌, ◌≤◌, ◌∙◌, ap, sym, subst, refl, ℕ, List, [], ◌∷◌, ◌++◌, arith}
 use Rattle.std.proofs.Common.{Bool, true, false, Option, Some, None, IsSome, is_some, Result, Ok, Err, OnOk, ◌-◌}
 use Rattle.std.proofs.Common.{drop, take, length, length-drop, rules}
@@ -24,7 +24,7 @@ use Rattle.row_source.specs.inside.Sent.{HasSent}
 use Rattle.row_source.specs.StreamParts.{AllSent, IsStreamed}
 use Rattle.row_source.proofs.Sending.{all_sent, rest_of}
 
--- the rows behind the first ones
+-- the rows of `rows` behind those of `done`
 abbrev pub rows_after : List Row → List Row → List Row
 rows_after done rows = take (length rows - length done) (drop (length done) rows)
 
@@ -33,7 +33,7 @@ after_is old new done rows d r =
     take_all (length rows - length done) (drop (length done) rows) (omega (arith, length-drop (length done) rows))
     ∙ ap (λ (l : List Row). drop (length l) rows) d ∙ ap (λ (l : List Row). drop (length old) l) r
 
--- the rows that a piece gave rise from what was sent before
+-- the rows of a piece rise from the moment `sent` before it
 pub piece_rises : (d : Direction) (h sent : ℕ) (old new done rows : List Row) (to : End) → done ≡ old → rows ≡ new
     → HasSent d h [] old sent to → IsPrefix old new → IsSchedule new → Rises sent (rows_after done rows)
 piece_rises d h sent old new done rows to is_done is_new has prefix schedule =
@@ -41,14 +41,14 @@ piece_rises d h sent old new done rows to is_done is_new has prefix schedule =
     (has.rises (drop (length old) new)
     (subst (Rises 0) (sym (rest_of old new prefix)) (rises-in_order 1 0 new schedule.order)))
 
--- and where what they give was sent, what all rows give was
+-- where the rows before a piece and those of the piece were sent, all rows were
 pub piece_sent : (d : Direction) (h sent : ℕ) (old new done rows : List Row) (to : End) → done ≡ old → rows ≡ new
     → IsPrefix old new → HasSent d h [] (old ++ rows_after done rows) sent to → HasSent d h [] new sent to
 piece_sent d h sent old new done rows to is_done is_new prefix has =
     subst (λ l. HasSent d h [] l sent to)
     (ap (λ (l : List Row). old ++ l) (after_is old new done rows is_done is_new) ∙ rest_of old new prefix) has
 
--- and then the end
+-- where all rows were sent and then the end, all was
 pub end_sent : (d : Direction) (h sent : ℕ) (rows : List Row) (old new : End) → HasSent d h [] rows sent old
     → new.items ≡ old.items ++ Over ∷ [] → new.flow.packets ≡ old.flow.packets → new.flow.end ≡ IsOver
     → AllSent d h rows new
@@ -58,7 +58,7 @@ end_sent d h sent rows old new has items packets over = record {
   over = over;
 }
 
--- all of the file was read
+-- a file that was read to its end
 pub whole_streamed : (told : Option Files) (name : List ℕ) (size : ℕ) (old mid new : PartRead)
     → HasSize told name size → HasRead [] old → FrontIsRead HasRead told name size old mid
     → ((text : List ℕ) → HasRead text mid → HasReadAll text new) → IsStreamed told name new
@@ -70,14 +70,14 @@ whole_streamed told name size old mid new has unread front all =
       all = all whole.bytes (whole.goes_on [] unread);
     }
 
--- After a refusal the rest of a text doesn't matter.
+-- after a refusal the rest of a text doesn't matter
 refused_text : (front rest text : List ℕ) (read : PartRead) → HasRead front read → IsRefused read
     → front ++ rest ≡ text → HasReadAll text read
 refused_text front rest text read has refused is =
     subst (λ t. HasReadAll t read) is
     (awaits_any (lines_of (front ++ rest)) (lines_of (read.kept ++ rest)) [] read.gathered refused (has rest))
 
--- whether a line was refused, by a test
+-- whether a line was refused, by the test of it
 pub some_refused : (refused : Option ScheduleError) (b : Bool) → b ≡ true → b ≡ is_some refused → IsSome refused
 some_refused None b test is = absurd (cc (test, is))
 some_refused (Some error) b test is = search rules
@@ -90,7 +90,7 @@ pub on_ok : {T E : Type 0} (result : Result T E) (P : Type 0) → P → OnOk res
 on_ok (Ok value) P p = p
 on_ok (Err error) P p = tt
 
--- a front of the file was read, in which a line was refused
+-- a file of which a front was read, in which a line was refused
 pub refused_streamed : (told : Option Files) (name : List ℕ) (size at : ℕ) (old new : PartRead)
     → HasSize told name size → at ≤ size → HasRead [] old → FrontIsRead HasRead told name at old new → IsRefused new
     → IsStreamed told name new

@@ -9,7 +9,7 @@ use Rattle.packet_record.specs.Rows.{entering}
 use Rattle.packet_record.specs.Sources.{source_items}
 use Rattle.mark_channel.specs.Ends.{End}
 
--- the file of this name may be read, and has these bytes
+-- the file `name` may be read and has `bytes`
 pub record IsText (told : Option Files) (name : List ℕ) (bytes : List ℕ) : Type 0 where
   pub few : length bytes ≤ 67108864
   pub there : IsThere told name
@@ -21,7 +21,7 @@ pub record IsStreamed (told : Option Files) (name : List ℕ) (read : PartRead) 
   pub text : IsText told name bytes
   pub all : HasReadAll bytes read
 
--- all that these rows give was sent in a direction, and the end
+-- all that `rows` give in direction `d` was sent, and then the end
 pub record AllSent (d : Direction) (horizon : ℕ) (rows : List Row) (to : End) : Type 0 where
   pub items : to.items ≡ source_items d horizon rows
   pub packets : to.flow.packets ≡ entering d horizon rows

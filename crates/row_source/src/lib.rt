@@ -1,5 +1,5 @@
-//! The source of a run: what the rows of a schedule send in both directions, of rows that stand or of a file that is read
-//! meanwhile.
+//! The source of a run: it sends the rows of a schedule in both directions. The rows are in memory, or in a file that
+//! is read meanwhile.
 #![tactic(auto)]
 
 mod sourcing;

@@ -1,4 +1,4 @@
-// The source: what the lines of a schedule send in both directions.
+// The source whose rows are in memory, and what every source sends row by row.
 ghost use Rattle.std.specs.Prelude.{◌≡◌, ◌≤◌, ◌++◌, ◌∷◌, List, [], option_to_list};
 ghost use Rattle.packet_record.specs.declared.item.FlowEnd.TheVariants.{Open, Ended as IsOver};
 ghost use Rattle.packet_record.specs.declared.item.Item.{Item as ItemValue};
@@ -15,7 +15,8 @@ use mm_base::{Pace, Role};
 use packet_record::{Direction, Item, Row, source_item};
 use std::sync::Wait;
 
-// What a source has sent: the items of so many rows, and the greatest moment in each direction.
+// What a source has sent: how many rows, and the greatest moment in each direction, in milliseconds (0 before the
+// first).
 #[derive(Clone, Copy)]
 pub(crate) struct Sent {
     pub rows: u64,
@@ -24,6 +25,7 @@ pub(crate) struct Sent {
 }
 
 impl Sent {
+    // Returns what a source has sent before its first row.
     pub(crate) fn new() -> Self
         ensures { (result.up ≡ 0) × (result.down ≡ 0) }
     {
@@ -35,9 +37,11 @@ impl Sent {
     }
 }
 
-/// Sends what each row gives in both directions up to the horizon in milliseconds, row by row, and first the packet
-/// where a row gives a packet and a mark; then the end. The pace is asked before the items of each row, with the row's
-/// place counted from 1. Moments never fall. It takes no memory.
+/// Sends what each row up to `horizon` (in milliseconds) gives, in both directions, and then the end. A row gives its
+/// packet in its own direction first. Then it gives a mark in the other one, where nothing sent there has so late a
+/// moment. So moments never fall.
+///
+/// The pace is asked before the items of each row, with the row's place counted from 1. It takes no memory.
 pub fn source<Q: Pace, R: Wait>(
     rt: &R,
     rows: &[Row],
@@ -72,7 +76,7 @@ pub(crate) fn end_both<R: Wait>(rt: &R, up: &mut Sender, down: &mut Sender)
     down.send(rt, Item::End);
 }
 
-// Sends what these rows give in both directions, after the rows before them, and answers what was sent then.
+// Sends what `rows` give in both directions, behind the rows of `sent`, and returns what was sent then.
 pub(crate) fn send_rows<Q: Pace, R: Wait>(
     rt: &R,
     rows: &[Row],
@@ -105,7 +109,7 @@ pub(crate) fn send_rows<Q: Pace, R: Wait>(
     sent
 }
 
-// Sends what a row gives in both directions, first in its own, and answers the greatest moments that were sent then.
+// Sends what a row gives in both directions, first in its own, and returns the greatest moments sent then.
 pub(crate) fn send_both<R: Wait>(
     rt: &R,
     horizon: u64,
@@ -144,8 +148,8 @@ pub(crate) fn send_both<R: Wait>(
     }
 }
 
-// Sends what a row gives in a direction, where the greatest moment that was sent in it is `sent`, and answers the
-// greatest moment that is then.
+// Sends what a row gives in `direction`, where `sent` is the greatest moment sent in it before. Returns the greatest
+// moment sent in it then.
 fn send_row<R: Wait>(
     rt: &R,
     direction: Direction,

@@ -1,4 +1,4 @@
-// The source of a schedule that is read while its packets pass the nest.
+// The source whose schedule is read from a file while its packets pass the nest.
 ghost use Rattle.std.specs.Prelude.{◌≡◌, ◌≢◌, ◌≤◌, ◌<◌, ◌+◌, ◌++◌, ◌∷◌, ℕ, List, [], None, length, IfOk, OnErr, OnOk};
 ghost use Rattle.std.specs.Prelude.{IsErrOf};
 ghost use Rattle.mm_base.specs.Disk.{HasReadCause, OnlyReads};
@@ -21,7 +21,7 @@ use packet_record::{Item, ScheduleText};
 use std::sync::Wait;
 use text_base::PieceReader;
 
-// Sends that the stream is broken off in both directions.
+// Breaks the stream off in both directions.
 pub(crate) fn cut_both<R: Wait>(rt: &R, up: &mut Sender, down: &mut Sender)
     requires open { (up.old.flow.end ≡ Open) × (down.old.flow.end ≡ Open) }
     ensures broken { (up.new.flow.end ≡ IsCut) × (down.new.flow.end ≡ IsCut) }
@@ -31,8 +31,8 @@ pub(crate) fn cut_both<R: Wait>(rt: &R, up: &mut Sender, down: &mut Sender)
     down.send(rt, Item::Broken);
 }
 
-// Reads the next piece of the file, and sends what the rows of the lines that end in it give. It answers how many bytes
-// the piece has, and what was sent.
+// Reads the next piece of the file, and sends the rows of the lines that end in it. Returns how many bytes the piece
+// has, and what was sent then.
 fn stream_piece<D: Disk, Q: Pace, R: Wait>(
     rt: &R,
     disk: &mut D,
@@ -73,8 +73,8 @@ fn stream_piece<D: Disk, Q: Pace, R: Wait>(
     Ok((read as u64, sent))
 }
 
-// Reads a file and sends what its rows give, until a line is refused or the file is at its end. It answers how many
-// bytes were read, and what was sent.
+// Reads the file and sends its rows, until a line is refused or the file ends. Returns how many bytes were read, and
+// what was sent.
 fn stream_pieces<D: Disk, Q: Pace, R: Wait>(
     rt: &R,
     disk: &mut D,
@@ -120,7 +120,7 @@ fn stream_pieces<D: Disk, Q: Pace, R: Wait>(
     Ok((at, sent))
 }
 
-// Reads a file from the place `at` on to its end, without a look at its bytes.
+// Reads the file from byte `at` to its end, and looks at no byte.
 fn skip_pieces<D: Disk>(
     disk: &mut D,
     name: &str,
@@ -145,8 +145,8 @@ fn skip_pieces<D: Disk>(
     Ok(())
 }
 
-// Sends what the last line gives, which may have no line feed, and then the end, or that the stream is broken off where
-// it is refused.
+// Sends the row of a last line without a line feed, and then the end. Breaks the stream off instead where a line is
+// refused.
 fn end_stream<Q: Pace, R: Wait>(
     rt: &R,
     text: &mut ScheduleText,
@@ -179,10 +179,13 @@ fn end_stream<Q: Pace, R: Wait>(
     }
 }
 
-/// Reads a schedule of so many bytes in pieces once all other workers have begun, and sends what each row gives in both
-/// directions as it is read, and then the end. After a refused line, want of memory for the rows, or a fault the stream
-/// is broken off in both directions; the rest of a refused file is read without a look, and a fault that is met there is
-/// answered. Where the other workers can't begin it reads nothing, breaks both directions off and answers `OutOfMemory`.
+/// Reads a schedule of `size` bytes in pieces, once all other workers have begun. Sends what each row gives in both
+/// directions as soon as its line is read, and then the end.
+///
+/// Breaks the stream off in both directions where a line is refused, memory for the rows runs out, or the disk fails. A
+/// refused file is read to its end all the same, and a fault met there is returned. Returns the errors of
+/// `Disk::read_at`; and `OutOfMemory` where the other workers can't begin: it then breaks both directions off and reads
+/// nothing.
 pub fn stream_source<D: Disk, Q: Pace, R: Wait>(
     rt: &R,
     disk: &mut D,

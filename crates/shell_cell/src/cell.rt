@@ -18,7 +18,7 @@ use text_base::OutOfMemory;
 use wake_bell::{Bell, Ringer};
 
 // After how many feeds a drain is woken that waits for some.
-const BATCH: u32 = 32;
+const BATCH: u32 = 128;
 
 /// A shell's state under a lock. Contracts see which cell it is, and the state that it was opened with.
 #[derive(Drop)]

@@ -5,7 +5,7 @@ use Rattle.packet_record.specs.declared.item.Stream.{Stream}
 use Rattle.shell_workers.specs.declared.ends.WorkEnd.{WorkEnd}
 use Rattle.shell_workers.specs.declared.ends.WorkEnd.TheVariants.{Ended, Broken, OutOfMemory}
 
--- where a worker ended so, this holds
+-- the claim, where a worker ended as the name says
 abbrev pub IfEnded : WorkEnd → Type 0 → Type 0
 IfEnded Ended p = p
 IfEnded Broken p = Unit {0}
@@ -21,7 +21,7 @@ IfWants Ended p = Unit {0}
 IfWants Broken p = Unit {0}
 IfWants OutOfMemory p = p
 
--- Ended where both are, else OutOfMemory where one is, else Broken
+-- `Ended` where both are, else `OutOfMemory` where one is, else `Broken`
 abbrev pub worse : WorkEnd → WorkEnd → WorkEnd
 worse Ended b = b
 worse OutOfMemory b = OutOfMemory
@@ -29,6 +29,6 @@ worse Broken Ended = Broken
 worse Broken Broken = Broken
 worse Broken OutOfMemory = OutOfMemory
 
--- what was taken is at its end, and all of it was sent
+-- what was taken came to its end, and all of it was sent
 abbrev pub IsPassedOn : Stream → Stream → Type 0
 IsPassedOn taken sent = (taken.end ≡ IsOver) × (sent ≡ taken)

@@ -1,5 +1,5 @@
--- A stage before and after its workers ran. Each is said of a stage by itself: what ties it to the next one is learnt
--- where their channel is settled.
+-- A stage before and after its workers ran. Each is said of one stage by itself: that a stage got what the one before
+-- it sent is learnt when their channel is settled.
 use Rattle.std.specs.Prelude.{◌≡◌, ◌≢◌, ◌⊎◌, List, [], ◌∷◌, true}
 use Rattle.packet_record.specs.Streams.{no_items}
 use Rattle.packet_record.specs.declared.item.FlowEnd.TheVariants.{Open, Ended as IsOver, Broken as IsCut}
@@ -8,7 +8,7 @@ use Rattle.shell_cell.specs.Seats.{IsSameSeat}
 use Rattle.shell_workers.specs.declared.stage.Stage.{Stage}
 use Rattle.shell_workers.specs.Ends.{IsPassedOn}
 
--- Nothing went through it, its seats are its cell's, and all have one horizon.
+-- Nothing has gone through the stage. Its seats are those of its cell, and each channel has the horizon of its seat.
 pub record IsFresh (s : Stage) : Type 0 where
   pub from_empty : s.from.flow ≡ no_items
   pub feed_empty : s.feed.flow ≡ no_items
@@ -19,27 +19,27 @@ pub record IsFresh (s : Stage) : Type 0 where
   pub from_horizon : s.from.horizon ≡ s.feed.horizon
   pub to_horizon : s.to.horizon ≡ s.drain.horizon
 
--- What it received is at its end, and was fed where the feeder came to the end too. What it took is at its end, and
--- was sent.
+-- What the stage received came to its end, and was fed where the feeder came to its end too. What it took came to its
+-- end and was sent.
 pub record IsDone (s : Stage) : Type 0 where
   pub received : s.from.flow.end ≡ IsOver
   pub fed : s.feed.flow.end ≡ IsOver → s.feed.flow ≡ s.from.flow
   pub sent : IsPassedOn s.drain.flow s.to.flow
 
--- what it received was broken off, and its state; or what it took, which was sent
+-- Either what the stage received was broken off, and then its state; or what it took was, and it was sent so.
 abbrev pub IsBroken : Stage → Type 0
 IsBroken s = ((s.from.flow.end ≡ IsCut) × (s.feed.broken ≡ true))
     ⊎ ((s.drain.flow.end ≡ IsCut) × (s.to.flow ≡ s.drain.flow))
 
--- A worker found no memory and broke its state: the feeder, or the drain, which broke what it sent too.
+-- A worker ran out of memory and broke the state off: the feeder, or the drain, which broke off what it sent too.
 abbrev pub IsGivenUp : Stage → Type 0
 IsGivenUp s = (s.feed.broken ≡ true) ⊎ ((s.drain.broken ≡ true) × (s.to.flow.end ≡ IsCut))
 
--- nothing more comes out of the channel before it, or goes into the one after it
+-- Nothing more comes out of the channel before the stage, or goes into the channel behind it.
 abbrev pub IsClosed : Stage → Type 0
 IsClosed s = (s.from.flow.end ≢ Open) × (s.to.flow.end ≢ Open)
 
--- it keeps its cell, its seats and its ends
+-- The stage keeps its cell, its seats and its ends.
 pub record IsSame (old new : Stage) : Type 0 where
   pub cell : new.cell ≡ old.cell
   pub feed : IsSameSeat old.feed new.feed

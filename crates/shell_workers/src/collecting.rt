@@ -1,4 +1,4 @@
-// The collector of a direction: it receives what passed all its shells.
+// The collector of a direction: it receives what has passed all shells.
 ghost use Rattle.std.specs.Prelude.{◌≡◌, ◌≢◌};
 ghost use Rattle.packet_record.specs.declared.item.FlowEnd.TheVariants.{Open, Ended as IsOver, Broken as IsCut};
 ghost use Rattle.packet_record.specs.Streams.{no_items};
@@ -12,7 +12,8 @@ use packet_record::Item;
 use std::sync::Wait;
 
 /// Receives until the end or `Item::Broken`. The pace is asked after each packet, with the count of packets from 1. It
-/// keeps nothing and takes no memory: the states of the shells have all that passed.
+/// keeps nothing, since the states of the shells have all that departed, and takes no memory: it never returns
+/// `OutOfMemory`.
 pub fn collector<Q: Pace, R: Wait>(rt: &R, from: &mut Receiver, role: Role, pace: &Q) -> WorkEnd
     requires empty { from.old.flow ≡ no_items }
     ensures over { from.new.flow.end ≢ Open }

@@ -1,4 +1,4 @@
-// The drain of a shell's direction: from its state to the channel after it.
+// The drain of a direction of a shell: from the shell's state to the channel behind it.
 ghost use Rattle.std.specs.Prelude.{◌≡◌, ◌≢◌, ◌≤◌, true};
 ghost use Rattle.packet_record.specs.declared.item.FlowEnd.TheVariants.{Open, Ended as IsOver, Broken as IsCut};
 ghost use Rattle.packet_record.specs.Streams.{no_items};
@@ -14,9 +14,12 @@ use shell_cell::{DrainSeat, ShellCell};
 use shell_state::Taken;
 use std::sync::Wait;
 
-/// Sends what it takes until the end, `Item::Broken` or want of memory, burning at most `most` opportunities at a time,
-/// at least 1. Where there is nothing yet it waits for a feed. The pace is asked before each take, with the count of
-/// takes from 1. After want of memory it breaks the state and sends `Item::Broken`.
+/// Takes from the state and sends what it takes, until the end, `Item::Broken` or out of memory. Each take burns at
+/// most `most` opportunities; `most` is at least 1. Where there is nothing to take yet it waits for a feed. The pace is
+/// asked before each take, with the count of takes from 1.
+///
+/// Returns `Ended` after the end, and `Broken` after `Item::Broken`. Out of memory it breaks the state off, sends
+/// `Item::Broken` and returns `OutOfMemory`.
 pub fn drain<Q: Pace, R: Wait>(
     rt: &R,
     cell: &ShellCell,

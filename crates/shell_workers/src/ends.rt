@@ -1,4 +1,4 @@
-// How a worker ended.
+// The ends of workers.
 ghost use Rattle.std.specs.Prelude.{◌≡◌};
 ghost use Rattle.shell_workers.specs.Ends.{worse as worse_of};
 
@@ -9,12 +9,12 @@ pub enum WorkEnd {
     Ended,
     /// Its stream was broken off.
     Broken,
-    /// A call of its own found no memory.
+    /// It ran out of memory itself.
     OutOfMemory,
 }
 
 impl WorkEnd {
-    /// How two workers ended: `Ended` where both did, else `OutOfMemory` where one found no memory, else `Broken`.
+    /// Returns how two workers ended together: `Ended` where both did, else `OutOfMemory` where one did, else `Broken`.
     pub fn worse(self, other: WorkEnd) -> WorkEnd
         ensures { result ≡ worse_of self other }
     {

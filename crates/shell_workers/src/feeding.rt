@@ -1,4 +1,4 @@
-// The feeder of a shell's direction: from the channel before it to its state.
+// The feeder of a direction of a shell: from the channel before it to the shell's state.
 ghost use Rattle.std.specs.Prelude.{◌≡◌, ◌≢◌, true};
 ghost use Rattle.packet_record.specs.declared.item.FlowEnd.TheVariants.{Open, Ended as IsOver, Broken as IsCut};
 ghost use Rattle.packet_record.specs.Streams.{no_items};
@@ -13,9 +13,12 @@ use packet_record::Item;
 use shell_cell::{FeedSeat, ShellCell};
 use std::sync::Wait;
 
-/// Feeds what it receives until the end, `Item::Broken` or want of memory. The pace is asked before each feed, with the
-/// count of feeds from 1. After want of memory it breaks the state and goes on receiving to the end, so that no sender
-/// is left by a receiver that went. A state that the drain broke is fed no further, and the rest is received.
+/// Receives and feeds what it receives to the state, until the end, `Item::Broken` or out of memory. The pace is asked
+/// before each feed, with the count of feeds from 1. A state that the drain broke off takes nothing more, but the rest
+/// is received.
+///
+/// Returns `Ended` after the end, and `Broken` after `Item::Broken`. Out of memory it breaks the state off and returns
+/// `OutOfMemory`, once it has received the rest: a sender whose receiver is gone would wait for ever.
 pub fn feeder<Q: Pace, R: Wait>(
     rt: &R,
     cell: &ShellCell,
@@ -55,7 +58,7 @@ pub fn feeder<Q: Pace, R: Wait>(
     unreachable!()
 }
 
-// Breaks the state from the feeder's side, which can't be refused.
+// Breaks the state off from the feeder's side. Such a feed is never refused.
 fn break_fed<R: Wait>(rt: &R, cell: &ShellCell, seat: &mut FeedSeat)
     requires own { seat.old.cell ≡ cell.now }
     requires open { seat.old.flow.end ≡ Open }
@@ -66,7 +69,7 @@ fn break_fed<R: Wait>(rt: &R, cell: &ShellCell, seat: &mut FeedSeat)
     let _ = cell.feed(rt, seat, Item::Broken);
 }
 
-// Receives until the end or `Item::Broken`.
+// Receives until the end or `Item::Broken`, and drops what it receives.
 fn receive_rest<R: Wait>(rt: &R, from: &mut Receiver)
     requires { from.old.flow.end ≡ Open }
     ensures over { from.new.flow.end ≢ Open }

@@ -1,5 +1,5 @@
-//! The workers of a shell's direction, each of which has a thread: a feeder and a drain, and a collector behind the last
-//! shell; and the recursion that runs those of all shells of a direction beside each other.
+//! The workers of a direction of a shell, each with a thread: a feeder and a drain, and a collector behind the last
+//! shell. `stages` runs those of all shells of a direction beside each other.
 //!
 //! Nothing is promised of when a worker returns, of fairness, or that two threads ran at once.
 #![tactic(auto)]

@@ -13,7 +13,7 @@ use std::marker::Sync;
 use std::sync::Wait;
 use std::thread::{Threads, join_mut};
 
-// The number of the next shell in passing order.
+// Returns the number of the next shell in passing order.
 fn next_shell(up: bool, shell: u32) -> u32
     ensures up { IsTrue up → result ≡ shell - 1 }
     ensures down { IsFalse up → shell + 1 < 2 ^ 32 → result ≡ shell + 1 }
@@ -25,11 +25,12 @@ fn next_shell(up: bool, shell: u32) -> u32
     }
 }
 
-/// Runs the workers of at most 8 stages beside each other, the stages in passing order. `shell` is the number of the
-/// first one's shell; the next has one less on the way up and one more on the way down. At most `most` opportunities,
-/// at least 1, are burnt at a time. It answers `Ended` where every worker did, else `OutOfMemory` where one found no
-/// memory, and else `Broken`. Each stage keeps its cell, seats and ends. At every return each of its streams is at an
-/// end.
+/// Runs the workers of the stages in `list`, at most 8 in passing order, beside each other. `shell` is the number of
+/// the first one's shell; the next has one less on the way up and one more on the way down. Each take burns at most
+/// `most` opportunities; `most` is at least 1.
+///
+/// Returns `Ended` where every worker did, else `OutOfMemory` where one ran out of memory, else `Broken`. Each stage
+/// keeps its cell, seats and ends, and nothing more comes in or goes out of it.
 pub fn stages<Q: Pace + Sync, R: Threads + Wait + Sync>(
     rt: &R,
     list: &mut [Stage],
@@ -50,7 +51,7 @@ pub fn stages<Q: Pace + Sync, R: Threads + Wait + Sync>(
     run_stages(rt, list, up, shell, most, pace, &Begun::new(0))
 }
 
-/// Runs the workers of these stages as `stages` does, each of which is counted as it begins.
+/// Runs the workers of the stages as `stages` does. Each counts itself in `begun` as it begins.
 pub fn run_stages<Q: Pace + Sync, R: Threads + Wait + Sync>(
     rt: &R,
     list: &mut [Stage],

@@ -1,4 +1,4 @@
-// One shell's direction between two channels, and its two workers.
+// A stage: a direction of one shell between two channels, with its two workers.
 ghost use Rattle.std.specs.Prelude.{◌≡◌, ◌≢◌, ◌≤◌, true};
 ghost use Rattle.std.specs.Thread.{IsSync};
 ghost use Rattle.packet_record.specs.declared.item.FlowEnd.TheVariants.{Open, Ended as IsOver, Broken as IsCut};
@@ -18,8 +18,8 @@ use std::marker::Sync;
 use std::sync::Wait;
 use std::thread::{Threads, join_mut};
 
-/// One shell's direction: its cell with the two seats, the receiver of the channel before it and the sender of the
-/// channel after it.
+/// A direction of one shell: its cell with the two seats, the receiver of the channel before it and the sender of the
+/// channel behind it.
 #[derive(Drop)]
 pub struct Stage {
     pub cell: ShellCell,
@@ -29,7 +29,7 @@ pub struct Stage {
     pub to: Sender,
 }
 
-/// Runs the two workers of a stage beside each other, each of which is counted as it begins.
+/// Runs the two workers of a stage beside each other. Each counts itself in `begun` as it begins.
 pub(crate) fn run_stage<Q: Pace + Sync, R: Threads + Wait + Sync>(
     rt: &R,
     stage: &mut Stage,

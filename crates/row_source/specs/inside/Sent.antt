@@ -7,9 +7,8 @@ use Rattle.packet_record.specs.Rows.{Rises, entering}
 use Rattle.packet_record.specs.Sources.{items_from, source_items}
 use Rattle.mark_channel.specs.Ends.{End}
 
--- What these rows give was sent up to the horizon, of which this is the greatest moment, behind these first items.
--- Whatever rows follow, what is to be sent of all is what was sent and what they give, and none of them is below that
--- moment.
+-- Behind the items `first`, `to` has sent what `rows` give up to the horizon; `sent` is the greatest moment of it.
+-- Whatever rows follow, they give what is still to be sent, and no moment of theirs is below `sent`.
 pub record HasSent (d : Direction) (horizon : ℕ) (first : List Item) (rows : List Row) (sent : ℕ) (to : End)
     : Type 0 where
   pub packets : to.flow.packets ≡ entering d horizon rows
