@@ -28,6 +28,8 @@ mod packets;
 #[cfg(test)]
 mod pipes;
 #[cfg(test)]
+mod refusals;
+#[cfg(test)]
 mod report;
 #[cfg(test)]
 mod schedule;

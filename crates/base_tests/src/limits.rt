@@ -1,8 +1,9 @@
 // How long a connection over TCP waits, and where a port listens.
 use mm_base::{EndError, Link, Port, TcpLimits, TcpLink, TcpPort};
+use std::cell::Cell;
 use std::io::{self, Write};
-use std::net::{Ipv4Addr, SocketAddr, TcpStream};
-use std::time::{Duration, Instant};
+use std::net::{Ipv4Addr, Net, SocketAddr, TcpStream};
+use std::time::{Clock, Duration, Instant};
 
 const SHORT: u64 = 300;
 
@@ -60,6 +61,17 @@ fn give_on<L: Link>(link: &mut L) -> Option<EndError> {
     None
 }
 
+// A read hands on all that came, as far as there is room for it.
+#[test]
+fn a_read_hands_on_what_came(rt: HostRuntime) {
+    let mut both = connect(&rt).expect(&rt, "a link");
+    both.client.write_all(b"come").expect(&rt, "a client");
+    let mut buf = [0u8; 8];
+    assert!(rt; both.link.read(&mut buf) == Ok(4) && buf.starts_with(b"come"));
+    both.client.write_all(b"more").expect(&rt, "a client");
+    assert!(rt; both.link.read(&mut buf[..3]) == Ok(3) && buf.starts_with(b"mor"));
+}
+
 // A client that takes nothing is cut at the limit, whatever the system's buffers take.
 #[test]
 fn a_client_that_takes_nothing_is_cut(rt: HostRuntime) {
@@ -87,6 +99,45 @@ fn a_client_that_stays_is_left_at_the_limit(rt: HostRuntime) {
     both.link.close_output();
     assert!(rt; is_a_limit_ago(&rt, &begun).expect(&rt, "a clock"));
     assert!(rt; both.link.read(&mut [0u8; 1]) == Err(EndError::Failed));
+}
+
+// A clock that is 120 ms on at each look.
+#[derive(Drop)]
+struct Hasty {
+    looks: Cell<u32>,
+}
+
+impl Clock for Hasty {
+    fn monotonic(&self) -> io::Result<Duration> {
+        self.looks.set(self.looks.get().saturating_add(1));
+        Ok(Duration::from_millis(120).saturating_mul(self.looks.get()))
+    }
+
+    fn since_1970(&self) -> io::Result<Duration> {
+        self.monotonic()
+    }
+}
+
+// A client, and the link on which it comes in, whose clock is hasty.
+fn hasty_link(rt: &HostRuntime) -> io::Result<(TcpStream, TcpLink<Hasty>)> {
+    let listener = rt.bind(SocketAddr::from((Ipv4Addr::LOCALHOST, 0)))?;
+    let number = listener.local_addr()?.port();
+    let client = client_at(rt, Ipv4Addr::LOCALHOST, number)?;
+    let (stream, _) = listener.accept()?;
+    let clock = Hasty {
+        looks: Cell::new(0),
+    };
+    Ok((client, TcpLink::new(clock, stream, short_limits())?))
+}
+
+// A client that goes on saying more is left at the limit too, which no byte begins anew.
+#[test]
+fn a_client_that_goes_on_is_left_at_the_limit(rt: HostRuntime) {
+    let (client, link) = hasty_link(&rt).expect(&rt, "a link");
+    let (mut client, mut link) = (client, link);
+    client.write_all(&[b'm'; 65_536]).expect(&rt, "a client");
+    link.close_output();
+    assert!(rt; link.read(&mut [0u8; 1]) == Ok(1));
 }
 
 // Whether finishing a connection whose output wasn't closed hears the client out.

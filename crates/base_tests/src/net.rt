@@ -92,7 +92,11 @@ fn finishes<P: Port>(port: &mut P, link: P::Conn, said: Result<(), EndError>) ->
 
 // Whether the first listening and the first accepting fail.
 fn begins(port: &mut MemPort) -> bool {
-    listens(port, 80, Err(EndError::Failed)) && listens(port, 80, Ok(())) && port.accept().is_err()
+    listens(port, 80, Err(EndError::Failed))
+        && port.listened().is_none()
+        && listens(port, 80, Ok(()))
+        && port.listened() == Some(80)
+        && port.accept().is_err()
 }
 
 // Whether two links are accepted and finished, the second of them with a fault.

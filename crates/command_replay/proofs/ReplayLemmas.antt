@@ -9,7 +9,7 @@ use Rattle.mm_base.specs.Port.{PortView}
 use Rattle.mm_base.specs.Sink.{SinkView, sending}
 use Rattle.record_store.specs.StoreText.{StoreSays}
 use Rattle.record_store.specs.declared.record.Record.{Record}
-use Rattle.replay_server.specs.Servings.{IsServing}
+use Rattle.replay_server.specs.Servings.{IsServing, ListensAt}
 use Rattle.replay_server.specs.declared.ends.Served.{Served}
 use Rattle.replay_server.specs.declared.ends.ServeError.{ServeError}
 use Rattle.replay_server.specs.declared.ends.ServeError.TheVariants as errors
@@ -55,14 +55,22 @@ module _ {C : Type 0} (view : C → LinkView) (job : ReplayJob) (old new : DiskV
   led = leads_store old.files job.store (λ store. Done (record { job = job; store = store })) text records input says
 
   pub finishes : (n : Served) → IsServing records (Some job.site) view job.connections p q (Ok n)
+      → q.listened ≡ Some job.port
       → Finishes (serve_work view) (replay_reading job) old.files p q (prints (served_line n))
-  finishes n serving = record {
+  finishes n serving listens = record {
     task = task;
     read = led.on (AtTask task) refl;
-    gives = record { records = records; says = says; served = n; serving = serving; output_is = refl };
+    gives = record {
+      records = records;
+      says = says;
+      served = n;
+      serving = serving;
+      listens = listens;
+      output_is = refl;
+    };
   }
 
-  stops_for : (cause : Cause) → StopsAsServing records (Some job.site) view job.connections p q cause
+  stops_for : (cause : Cause) → StopsAsServing records view job p q cause
       → IsStopped (serve_work view) (replay_reading job) (outside old out p) (outside new out q) cause
   stops_for cause stopped = record {
     task = task;
@@ -73,21 +81,22 @@ module _ {C : Type 0} (view : C → LinkView) (job : ReplayJob) (old new : DiskV
   }
 
   ends_for : (e : ServeError) → IsServing records (Some job.site) view job.connections p q (Err e)
+      → ListensAt job.port p q (Err e)
       → Ends (serve_work view) (replay_reading job) (outside old out p) (outside new out q) (Some (cause_of e))
-  ends_for errors.Listen s = record {
-    stopped = stops_for NetFault (record { error = errors.Listen; cause_is = refl; serving = s });
+  ends_for errors.Listen s listens = record {
+    stopped = stops_for NetFault (record { error = errors.Listen; cause_is = refl; serving = s; listens = listens });
     rose = s.says.2;
   }
-  ends_for errors.Accept s = record {
-    stopped = stops_for NetFault (record { error = errors.Accept; cause_is = refl; serving = s });
+  ends_for errors.Accept s listens = record {
+    stopped = stops_for NetFault (record { error = errors.Accept; cause_is = refl; serving = s; listens = listens });
     rose = s.says.1;
   }
-  ends_for errors.OutOfMemory s =
-      Serving (stops_for OutOfMemory (record { error = errors.OutOfMemory; cause_is = refl; serving = s }))
+  ends_for errors.OutOfMemory s listens =
+      Serving (stops_for OutOfMemory (record { error = errors.OutOfMemory; cause_is = refl; serving = s; listens = listens }))
 
-  pub ends_serving : (cause : Cause) → StopsAsServing records (Some job.site) view job.connections p q cause
+  pub ends_serving : (cause : Cause) → StopsAsServing records view job p q cause
       → Ends (serve_work view) (replay_reading job) (outside old out p) (outside new out q) (Some cause)
   ends_serving cause stopped =
       subst (λ (k : Cause). Ends (serve_work view) (replay_reading job) (outside old out p) (outside new out q)
       (Some k))
-      (sym stopped.cause_is) (ends_for stopped.error stopped.serving)
+      (sym stopped.cause_is) (ends_for stopped.error stopped.serving stopped.listens)

@@ -6,7 +6,7 @@ use Rattle.mm_base.specs.Link.{LinkView}
 use Rattle.mm_base.specs.Port.{PortView}
 use Rattle.record_store.specs.StoreText.{StoreSays}
 use Rattle.record_store.specs.declared.record.Record.{Record}
-use Rattle.replay_server.specs.Servings.{IsServing}
+use Rattle.replay_server.specs.Servings.{IsServing, ListensAt}
 use Rattle.replay_server.specs.declared.ends.Served.{Served}
 use Rattle.replay_server.specs.declared.ends.ServeError.{ServeError}
 use Rattle.replay_server.specs.declared.ends.ServeError.TheVariants as errors
@@ -77,29 +77,31 @@ cause_of errors.Accept = NetFault
 cause_of errors.OutOfMemory = OutOfMemory
 
 module _ {C : Type 0} where
-  -- A serving from these records stopped for this cause. What it did to its port is said of each connection that it
-  -- finished.
-  pub record StopsAsServing (records : List Record) (site : Option ℕ) (view : C → LinkView) (most : ℕ)
-      (old new : PortView C) (cause : Cause) : Type 0 where
+  -- The serving of a job from these records stopped for this cause. What it did to its port is said of each connection
+  -- that it finished.
+  pub record StopsAsServing (records : List Record) (view : C → LinkView) (job : ReplayJob) (old new : PortView C)
+      (cause : Cause) : Type 0 where
     pub error : ServeError
     pub cause_is : cause ≡ cause_of error
-    pub serving : IsServing records site view most old new (Err error)
+    pub serving : IsServing records (Some job.site) view job.connections old new (Err error)
+    pub listens : ListensAt job.port old new (Err error)
 
   module _ (view : C → LinkView) (task : ReplayTask) (old new : PortView C) where
-    -- The connections of the job were served from the records that the store's text states, and it is printed how they
-    -- ended.
+    -- The connections of the job were served at its port from the records that the store's text states, and it is
+    -- printed how they ended.
     pub record GivesReplay (output : Output) : Type 0 where
       pub records : List Record
       pub says : StoreSays task.store (Ok records)
       pub served : Served
       pub serving : IsServing records (Some task.job.site) view task.job.connections old new (Ok served)
+      pub listens : ListensAt task.job.port old new (Ok served)
       pub output_is : output ≡ prints (served_line served)
 
     -- The serving stopped by itself.
     pub record StopsReplay (cause : Cause) : Type 0 where
       pub records : List Record
       pub says : StoreSays task.store (Ok records)
-      pub stopped : StopsAsServing records (Some task.job.site) view task.job.connections old new cause
+      pub stopped : StopsAsServing records view task.job old new cause
 
   -- what a task does with its port, of whose connections this is seen
   abbrev pub serve_work : (C → LinkView) → ReplayTask → Work (PortView C)

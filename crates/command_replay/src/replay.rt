@@ -1,5 +1,5 @@
 // The command `replay`: its words, its store, and the connections that it serves.
-ghost use Rattle.std.specs.Prelude.{◌≡◌, ℕ, List, Some, Ok, Err, IfOk, IfErr, map, string_bytes};
+ghost use Rattle.std.specs.Prelude.{◌≡◌, ℕ, List, Some, Ok, Err, IfOk, IfErr, OnOk, map, string_bytes};
 ghost use Rattle.mm_base.specs.Port.{KeepsPort};
 ghost use Rattle.mm_base.specs.Sink.{CountsSinkFaults};
 ghost use Rattle.replay_server.specs.Servings.{IsServing};
@@ -42,8 +42,9 @@ fn serve_job<R: Threads + Wait + Sync, P: Port + Send, Q: Pace + Sync>(
 ) -> Result<Served, Cause>
     ensures served { IfOk result (λ n. IsServing store.now (Some job.now.site) P.Conn.view job.now.connections
         (P.view port.old) (P.view port.new) (Ok n)) }
-    ensures stopped { IfErr result (λ cause. StopsAsServing store.now (Some job.now.site) P.Conn.view
-        job.now.connections (P.view port.old) (P.view port.new) cause) }
+    ensures listened { OnOk result ((P.view port.new).listened ≡ Some job.now.port) }
+    ensures stopped { IfErr result (λ cause. StopsAsServing store.now P.Conn.view (replay_values job.now)
+        (P.view port.old) (P.view port.new) cause) }
     ensures port_counts { KeepsPort (P.view port.old) (P.view port.new) }
 {
     match serve(

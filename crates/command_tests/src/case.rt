@@ -1,5 +1,5 @@
 // A command line over files in memory, and what it is to leave.
-use mm_base::{MemPort, NoPace};
+use mm_base::{MemPort, NoPace, Pace};
 use mm_program::mm_main;
 use std::alloc::Global;
 use std::marker::Sync;
@@ -31,14 +31,15 @@ pub(crate) fn is_left(case: &Case<'_>, status: u8, outside: &TestOutside) -> boo
     status == case.status && outside.is_left(case.printed, case.left)
 }
 
-// The status of a command line at this port. No test needs what the contract of `mm_main` says of that, and so this
-// has none.
-pub(crate) fn status_at<R: Threads + Wait + Sync>(
+// The status of a command line at this port, by this pace. No test needs what the contract of `mm_main` says of that,
+// and so this has none.
+pub(crate) fn status_by<R: Threads + Wait + Sync, Q: Pace + Sync>(
     rt: &R,
     alloc: Global,
     words: &[String],
     outside: &mut TestOutside,
     port: &mut MemPort,
+    pace: &Q,
 ) -> u8 {
     mm_main(
         rt,
@@ -47,7 +48,7 @@ pub(crate) fn status_at<R: Threads + Wait + Sync>(
         &mut outside.disk,
         &mut outside.out,
         port,
-        &NoPace,
+        pace,
     )
 }
 
@@ -60,7 +61,7 @@ pub(crate) fn leaves_at<R: Threads + Wait + Sync>(
 ) -> Result<bool, OutOfMemory> {
     let words = words_of(alloc, case.words)?;
     let mut outside = outside_of(alloc, case)?;
-    let status = status_at(rt, alloc, &words, &mut outside, port);
+    let status = status_by(rt, alloc, &words, &mut outside, port, &NoPace);
     Ok(is_left(case, status, &outside))
 }
 

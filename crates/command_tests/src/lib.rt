@@ -1,4 +1,4 @@
-//! Tests of whole command lines over files and a port in memory, of calls that fail, of threads whose turns are held,
+//! Tests of whole command lines over files and a port in memory, of calls that fail, of threads whose turns are held or counted,
 //! and of option words, through the public calls of the crates below. They stand apart from these, so that each of
 //! these is proved once, without tests. What a command does with files alone is tried by the cases of `checks/case`.
 #![tactic(auto)]
@@ -15,5 +15,9 @@ mod program;
 mod run;
 #[cfg(test)]
 mod serving;
+#[cfg(test)]
+mod turns;
+#[cfg(test)]
+mod wanting;
 #[cfg(test)]
 mod words;

@@ -2,9 +2,9 @@
 ghost use Rattle.std.specs.Prelude.{IfOk};
 ghost use Rattle.mm_base.specs.MemLink.{IsUnused};
 
-use crate::case::{Case, leaves_at, status_at};
+use crate::case::{Case, leaves_at, status_by};
 use crate::exchange::{CLIENT, OLD, SERVER};
-use mm_base::{MemLink, MemPort};
+use mm_base::{MemLink, MemPort, NoPace};
 use std::alloc::Global;
 use std::marker::Sync;
 use std::sync::Wait;
@@ -102,7 +102,7 @@ fn a_serving_prints_how_connections_ended(rt: HostRuntime) {
 }
 
 // A port with a link that asks once.
-fn port_of_one(alloc: Global) -> Result<MemPort, OutOfMemory> {
+pub(crate) fn port_of_one(alloc: Global) -> Result<MemPort, OutOfMemory> {
     let only = link(alloc, CLIENT, &[])?;
     let links = vec![in alloc; only]?;
     Ok(MemPort::new(alloc, links, Vec::new(alloc)))
@@ -126,7 +126,7 @@ fn gives<R: Threads + Wait + Sync>(
     let words = words_of(alloc, words)?;
     let mut outside = TestOutside::new(alloc, &[("s", STORE_OF_80)], &[], &[])?;
     let mut port = port_of_one(alloc)?;
-    let status = status_at(rt, alloc, &words, &mut outside, &mut port);
+    let status = status_by(rt, alloc, &words, &mut outside, &mut port, &NoPace);
     Ok(status == 0 && was_given(&port, said.as_bytes()))
 }
 

@@ -92,6 +92,11 @@ reading_named f all first word command called some is same found named =
     let by_word : command ≡ command_of (f first) = sym found ∙ named ∙ ap command_of same in
     ap (λ c. command_reading c words) by_word ∙ ap reading_of (sym (split_words f all first some is))
 
+-- words name one command
+pub another_named : (one other : Command) {words : List Text} → named_command words ≡ Some other → one ≢ other
+    → named_command words ≡ Some one → ⊥
+another_named one other named apart is = apart (let same : Some one ≡ Some other = sym is ∙ named in cc same)
+
 -- and this is the command that they name
 pub command_named : {S : Type 0} (f : S → Text) (all : List S) (first : S) (word : Text) (command called : Command)
     → 1 ≤ length all → first ≡ get_or all 0 first → word ≡ f first → called ≡ command → called ≡ command_of word

@@ -43,6 +43,8 @@ fn answer<R: Threads + Wait + Sync, D: Disk, O: Sink, P: Port + Send, Q: Pace + 
         (outside (D.view disk.new) (O.view out.new) (P.view port.new)) (cause_in result) }
     ensures port { named_command (map string_bytes words.now) ≢ Some Command.Replay
         → P.view port.new ≡ P.view port.old }
+    ensures make { named_command (map string_bytes words.now) ≡ Some Command.Make
+        → D.view disk.new ≡ D.view disk.old }
     ensures counts { CountsDisk (D.view disk.old) (D.view disk.new) }
     ensures out_counts { CountsSinkFaults (O.view out.old) (O.view out.new) }
     ensures port_counts { KeepsPort (P.view port.old) (P.view port.new) }
@@ -112,7 +114,8 @@ pub fn mm_main<R: Threads + Wait + Sync, D: Disk + Send, O: Sink, P: Port + Send
         (outside (D.view disk.new) (O.view out.new) (P.view port.new)) }
 
     // 2 comes by the words alone, but of `merge` also by a name on its list. 3, 6, 7 and 8 only where the disk, `out`
-    // or the port counted it. At 2 to 6 and at 8 no file is changed. No other command than `replay` touches the port.
+    // or the port counted it. At 2 to 6 and at 8 no file is changed. No other command than `replay` touches the port,
+    // and `make` asks the disk for nothing.
     ensures usage { named_command (map string_bytes words.now) ≢ Some Command.Merge → result ≡ 2
         → ((w : WordsRefusal) × (refused_first (reading_of (map string_bytes words.now)) ≡ Some (Words w))) }
     ensures words { result ≡ 2 → ((w : WordsRefusal)
@@ -125,6 +128,8 @@ pub fn mm_main<R: Threads + Wait + Sync, D: Disk + Send, O: Sink, P: Port + Send
     ensures keeps { result ≢ 0 → result ≢ 7 → result ≢ 9 → KeepsFiles (D.view disk.old) (D.view disk.new) }
     ensures port { named_command (map string_bytes words.now) ≢ Some Command.Replay
         → P.view port.new ≡ P.view port.old }
+    ensures make { named_command (map string_bytes words.now) ≡ Some Command.Make
+        → D.view disk.new ≡ D.view disk.old }
 
     // Words that refuse give their status, and so do files that are told, unless reading fails. Nothing refused gives
     // 0, unless a fault is counted: of `out` where the task prints, of the port where it serves.

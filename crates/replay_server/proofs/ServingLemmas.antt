@@ -16,7 +16,8 @@ use Rattle.mm_base.proofs.Then.{CountsFaults-then, CountsFaults-none}
 use Rattle.record_store.specs.declared.record.Record.{Record}
 use Rattle.replay_server.specs.Sessions.{Session, most as most_bytes}
 use Rattle.replay_server.specs.Links.{Passed, IfBothTold, counted_from, IsAtEnd, IsPrompt, IsServed, HasFaultCause}
-use Rattle.replay_server.specs.Servings.{IsConnServed, IsServing, ServingSays, no_ends, with_end, finished_with}
+use Rattle.replay_server.specs.Servings.{IsConnServed, IsServing, ListensAt, ServingSays, no_ends, with_end}
+use Rattle.replay_server.specs.Servings.{finished_with}
 use Rattle.replay_server.specs.inside.Tallies.{IsTally, refusal_of, ended, tallied}
 use Rattle.replay_server.specs.declared.ends.ConnEnd.{ConnEnd}
 use Rattle.replay_server.specs.declared.ends.ConnEnd.TheVariants.{Closed, BadRequest, LinkFault, Full, OutOfMemory}
@@ -180,6 +181,14 @@ module _ {C : Type 0} (store : List Record) (site : Option ℕ) (view : C → Li
     keeps = keeps;
     says = tt;
   }
+
+  -- the number at which it listened stays
+  pub listens_on : (old new : PortView C) (number most : ℕ) (answer : Result Served ServeError) → IsTally most answer
+      → new.listened ≡ Some number → ListensAt number old new answer
+  listens_on old new number most (Ok n) tally is = is
+  listens_on old new number most (Err errors.Listen) tally is = absurd tally
+  listens_on old new number most (Err errors.Accept) tally is = is
+  listens_on old new number most (Err errors.OutOfMemory) tally is = inr is
 
   -- the port can't be listened at
   pub serving_unheard : (most : ℕ) (old new : PortView C) → KeepsPort old new → new.finished ≡ old.finished

@@ -1,5 +1,5 @@
 -- What a serving does to its port.
-use Rattle.std.specs.Prelude.{◌≡◌, ◌≢◌, ◌⊎◌, ◌<◌, ◌≤◌, ℕ, ◌+◌, ◌-◌, ◌^◌, ◌++◌, true, List, [], ◌∷◌, length, All, Option}
+use Rattle.std.specs.Prelude.{◌≡◌, ◌≢◌, ◌⊎◌, ◌<◌, ◌≤◌, ℕ, ◌+◌, ◌-◌, ◌^◌, ◌++◌, true, List, [], ◌∷◌, length, All, Option, Some}
 use Rattle.std.specs.Prelude.{Result, Ok, Err, IfSome}
 use Rattle.std.specs.Option.{option_map}
 use Rattle.mm_base.specs.Counts.{Rose}
@@ -37,6 +37,13 @@ with_end OutOfMemory n = n
 abbrev pub ends_of : {C : Type 0} → List (C × ConnEnd) → Served
 ends_of [] = no_ends
 ends_of (c ∷ served) = with_end c.1 (ends_of served)
+
+-- A serving listened at this number, unless that was refused, or memory was wanting before.
+abbrev pub ListensAt : {C : Type 0} → ℕ → PortView C → PortView C → Result Served ServeError → Type 0
+ListensAt number old new (Ok n) = new.listened ≡ Some number
+ListensAt number old new (Err errors.Listen) = new.listened ≡ old.listened
+ListensAt number old new (Err errors.Accept) = new.listened ≡ Some number
+ListensAt number old new (Err errors.OutOfMemory) = (new.listened ≡ old.listened) ⊎ (new.listened ≡ Some number)
 
 -- these connections are finished, the last of them first
 abbrev pub finished_with : {C : Type 0} → List (C × ConnEnd) → List C → List C

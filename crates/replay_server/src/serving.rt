@@ -4,7 +4,7 @@ ghost use Rattle.std.specs.Thread.{IsSync};
 ghost use Rattle.mm_base.specs.Counts.{Rose};
 ghost use Rattle.mm_base.specs.Link.{IsFresh};
 ghost use Rattle.mm_base.specs.Port.{KeepsPort, after_finish};
-ghost use Rattle.replay_server.specs.Servings.{IsConnServed, IsServing, no_ends, with_end};
+ghost use Rattle.replay_server.specs.Servings.{IsConnServed, IsServing, ListensAt, no_ends, with_end};
 ghost use Rattle.replay_server.specs.inside.Tallies.{IsTally, total, refusal_of, ended, tallied};
 
 use crate::ends::{ConnEnd, ServeError, Served};
@@ -92,6 +92,7 @@ fn tally(done: Result<(), EndError>, rest: Result<Served, ServeError>) -> Result
 
 /// Finishes a connection that was served.
 fn finish<P: Port>(port: &mut P, conn: P::Conn) -> Result<(), EndError>
+    ensures listened { (P.view port.new).listened ≡ (P.view port.old).listened }
     ensures finished { (P.view port.new).finished ≡ after_finish conn result (P.view port.old).finished }
     ensures accepted { (P.view port.new).accepted ≡ (P.view port.old).accepted }
     ensures keeps { KeepsPort (P.view port.old) (P.view port.new) }
@@ -129,6 +130,7 @@ fn serve_from<P: Port + Send, Q: Pace + Sync, R: Threads + Wait + Sync>(
     requires { most ≤ 64 }
     ensures serving { IsServing source.now.store.now source.now.index.port P.Conn.view most
         (P.view port.old) (P.view port.new) result }
+    ensures listened { (P.view port.new).listened ≡ (P.view port.old).listened }
     ensures within { IsTally most result }
 {
     if most == 0 {
@@ -164,6 +166,7 @@ fn serve_beside<P: Port + Send, Q: Pace + Sync, R: Threads + Wait + Sync>(
     ensures one { IsConnServed source.now.store.now source.now.index.port (P.Conn.view result.0) result.1 }
     ensures rest { IsServing source.now.store.now source.now.index.port P.Conn.view most
         (P.view port.old) (P.view port.new) result.2 }
+    ensures listened { (P.view port.new).listened ≡ (P.view port.old).listened }
     ensures within { IsTally most result.2 }
 {
     let mut conn = conn;
@@ -173,6 +176,7 @@ fn serve_beside<P: Port + Send, Q: Pace + Sync, R: Threads + Wait + Sync>(
             requires { (most < 64) × IsSync R.row × IsSync Q.row }
             ensures serving { IsServing source.entry.now.store.now source.entry.now.index.port P.Conn.view most
                 (P.view port.entry.now) (P.view port.exit.now) result }
+            ensures listened { (P.view port.exit.now).listened ≡ (P.view port.entry.now).listened }
             ensures within { IsTally most result }
         {
             serve_from(
@@ -212,7 +216,8 @@ pub fn serve<P: Port + Send, Q: Pace + Sync, R: Threads + Wait + Sync>(
 ) -> Result<Served, ServeError>
     requires some { 1 ≤ connections }
     requires few { connections ≤ 64 }
-    ensures { IsServing store.now site P.Conn.view connections (P.view port.old) (P.view port.new) result }
+    ensures serving { IsServing store.now site P.Conn.view connections (P.view port.old) (P.view port.new) result }
+    ensures listens { ListensAt number (P.view port.old) (P.view port.new) result }
 {
     let Ok(source) = Source::new(alloc, store, site) else {
         return Err(ServeError::OutOfMemory);

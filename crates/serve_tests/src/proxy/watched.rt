@@ -74,6 +74,7 @@ pub struct WatchedNet {
     left: u64,
     given: u64,
     well: u32,
+    listened: Option<u16>,
     number: u16,
 }
 
@@ -86,6 +87,7 @@ impl WatchedNet {
             left,
             given: 0,
             well: 0,
+            listened: None,
             number: 0,
         }
     }
@@ -106,6 +108,7 @@ impl WatchedNet {
     fn note_end(&mut self, conn: Watched)
         ensures left { self.new.left ≡ self.old.left }
         ensures given { self.new.given ≡ self.old.given }
+        ensures listened { self.new.listened ≡ self.old.listened }
     {
         if conn.is_well(self.hears) {
             self.well = self.well.saturating_add(1);
@@ -117,6 +120,7 @@ impl Port for WatchedNet {
     type Conn = Watched;
 
     ghost view = { λ p. record {
+      listened = p.listened;
       finished = None;
       accepted = p.given;
       drained = p.left == 0;
@@ -125,6 +129,7 @@ impl Port for WatchedNet {
     } };
 
     fn listen(&mut self, number: u16) -> Result<(), EndError> {
+        self.listened = Some(number);
         self.number = number;
         Ok(())
     }

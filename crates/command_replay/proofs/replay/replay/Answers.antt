@@ -54,5 +54,6 @@ returns-clause-ends g c =
     (outside new (g.O.Sink.view c.print_served.new.out) after) (served_line c.in_ok-served.served)
     c.print_served.result
     (finishes g.P.Conn.Link.view job old new out before after found.0 _ found.1 found.2
-    c.load_store.ensures.only_reads c.in_ok-served.served c.in_ok-served.ensures.served)
+    c.load_store.ensures.only_reads c.in_ok-served.served c.in_ok-served.ensures.served
+    c.in_ok-served.ensures.listened)
     (keeps c.load_store.ensures.only_reads) c.print_served.ensures.ok c.print_served.ensures.stopped
