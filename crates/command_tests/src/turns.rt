@@ -70,7 +70,10 @@ fn turns_of<R: Threads + Wait + Sync>(
         connections: AtomicU64::new(0),
     };
     let status = status_by(rt, alloc, &words, &mut outside, &mut port, &pace);
-    Ok((status == 0).then(|| pace.counts()))
+    if status != 0 {
+        return Ok(None);
+    }
+    Ok(Some(pace.counts()))
 }
 
 // The words, and the turns of sources, of connections, and whether workers have any. A run asks only over threads.
