@@ -2,3 +2,4 @@
 pub mod Loaded
 pub mod Passed
 pub mod Values
+pub mod Ways

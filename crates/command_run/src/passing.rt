@@ -1,6 +1,6 @@
 // How the packets of a run pass its nest: over threads while the schedule is read, or after it shell by shell, or by
 // single steps in an order.
-ghost use Rattle.std.specs.Prelude.{IfErr, IfOk};
+ghost use Rattle.std.specs.Prelude.{◌≡◌, IfErr, IfOk};
 ghost use Rattle.mm_base.specs.Disk.{DiskView, OnlyReads};
 ghost use Rattle.nest_runner.specs.Streaming.{HasStreamCause};
 ghost use Rattle.command_ends.specs.Readings.{Done};
@@ -8,6 +8,7 @@ ghost use Rattle.command_ends.specs.Stops.{StopsReading};
 ghost use Rattle.nest_command.specs.Inputs.{reading_schedule};
 ghost use Rattle.command_run.specs.inside.Loaded.{HasRun};
 ghost use Rattle.command_run.specs.inside.Passed.{passed_lists};
+ghost use Rattle.command_run.specs.inside.Ways.{way_of};
 
 use command_ends::{Cause, Limit, Refusal};
 use mm_base::{Disk, Pace};
@@ -34,7 +35,9 @@ pub(crate) enum Way {
 impl Way {
     // Returns the way of a run: the order's, if there is one; else shell by shell with `plain`, and over threads
     // without it.
-    pub fn new(plain: bool, order: Option<Bytes>) -> Self {
+    pub fn new(plain: bool, order: Option<Bytes>) -> Self
+        ensures { result ≡ way_of plain order }
+    {
         match order {
             Some(order) => Way::Steps(order),
             None if plain => Way::ShellByShell,
