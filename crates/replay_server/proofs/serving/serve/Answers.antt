@@ -45,7 +45,7 @@ returns-in-Ok-listen-clause-listens g c =
     let before = g.P.Port.view c.args.port.now in
     let asked = g.P.Port.view c.listen.new.self in
     let same = c.serve_from.ensures.listened in
-    listens_on before (g.P.Port.view c.serve_from.new.port) c.args.number c.args.connections c.serve_from.result
-    c.serve_from.ensures.within
+    listens_on c.args.store.now c.args.site g.P.Conn.Link.view before (g.P.Port.view c.serve_from.new.port)
+    c.args.number c.args.connections c.serve_from.result c.serve_from.ensures.within
     (same ∙ c.listen.ensures.listened
     ∙ ap (λ (r : Result Unit EndError). listened_after c.args.number r before.listened) c.in-Ok-listen.is)
