@@ -1,7 +1,7 @@
 -- What was asked and sent, turn by turn.
-use Rattle.std.proofs.Common.{◌≡◌, ◌⊎◌, inl, inr, ℕ, zero, suc, ◌≤◌, ◌<◌, ◌-◌, ◌+◌, Bool, true, false, List, [], ◌∷◌}
+use Rattle.std.proofs.Common.{◌≡◌, ℕ, ◌≤◌, ◌<◌, ◌-◌, Bool, true, false, List, [], ◌∷◌}
 use Rattle.std.proofs.Common.{◌++◌}
-use Rattle.std.proofs.Common.{Option, Some, None, option_map, length, map, take, get_or, nat_lt, ap, sym, subst, ◌∙◌}
+use Rattle.std.proofs.Common.{Option, length, map, take, get_or, nat_lt, ap, sym, subst, ◌∙◌}
 use Rattle.std.proofs.Common.{refl}
 use Rattle.std.proofs.Common.{append_assoc, arith, rules, tests}
 use Rattle.std.proofs.lemmas.List.{append-nil, length-append, length-map, map-append, take-append-le}
@@ -10,10 +10,9 @@ use Rattle.std.proofs.Math.Seq.{get_or-append_seam, take-append_seam}
 use Rattle.nest_spec.specs.Nests.{NestParts}
 use Rattle.nest_spec.specs.Walk.{last_of}
 use Rattle.live_relay.specs.declared.received.Received.{Received}
-use Rattle.live_relay.specs.declared.side.Side.{Side}
 use Rattle.live_relay.specs.declared.side.Side.TheVariants.{Client, Server}
 use Rattle.live_relay.specs.Due.{due, last_moment}
-use Rattle.live_relay.specs.Relays.{AreWithin, HasAsked, HasSent, HasSentSome, IsFrontOf, IsPrompt, WasSent, but_last}
+use Rattle.live_relay.specs.Relays.{AreWithin, HasAsked, HasSent, IsFrontOf, IsPrompt, WasSent, but_last}
 use Rattle.live_relay.specs.Stamped.{Turn}
 use Rattle.live_relay.specs.Wires.{Datagram, Sent, WireTold}
 

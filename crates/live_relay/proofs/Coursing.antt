@@ -1,6 +1,6 @@
 -- A relay in its course.
-use Rattle.std.proofs.Common.{◌≡◌, ◌⊎◌, inl, inr, ℕ, zero, suc, ◌≤◌, ◌<◌, ◌-◌, ◌+◌, List, [], ◌∷◌, ◌++◌, Option, Some}
-use Rattle.std.proofs.Common.{length, map, ap, sym, subst, ◌∙◌, refl, append_assoc, arith}
+use Rattle.std.proofs.Common.{◌≡◌, ◌⊎◌, inl, inr, ℕ, suc, ◌≤◌, ◌<◌, ◌+◌, List, [], ◌∷◌, ◌++◌, Option, Some}
+use Rattle.std.proofs.Common.{length, map, ap, sym, subst, ◌∙◌, refl, arith}
 use Rattle.std.proofs.lemmas.List.{append-nil, length-append, map-append}
 use Rattle.nest_spec.specs.Nests.{NestParts}
 use Rattle.nest_spec.specs.Walk.{last_of}
@@ -10,13 +10,13 @@ use Rattle.live_relay.specs.declared.relay_state.Relay.{Relay}
 use Rattle.live_relay.specs.declared.side.Side.TheVariants.{Client, Server}
 use Rattle.live_relay.specs.Clocks.{ClockView, Reads}
 use Rattle.live_relay.specs.Due.{due, last_moment}
-use Rattle.live_relay.specs.Relays.{AreWithin, HasAsked, HasSent, HasSentSome, IfTold, IsFrontOf, IsRelayed, IsStopped}
+use Rattle.live_relay.specs.Relays.{AreWithin, HasAsked, HasSent, HasSentSome, IfTold, IsRelayed, IsStopped}
 use Rattle.live_relay.specs.Relays.{but_last, EndsBy, moments_read, NeverBefore, ReadsBeyond, ReadsTurns}
 use Rattle.live_relay.specs.Stamped.{Turn}
 use Rattle.live_relay.specs.inside.Stamped.{turn}
 use Rattle.live_relay.specs.inside.Turns.{EndsAt, HasResult, IsCurrent, IsTurned, Stands, StopsAt, ToldBefore}
 use Rattle.live_relay.specs.Wires.{Datagram, WireTold, WireView}
-use Rattle.live_relay.proofs.Asking.{asked_none, front_whole, last_moment_within, last_snoc, last_turn, within-snoc}
+use Rattle.live_relay.proofs.Asking.{asked_none, front_whole, last_snoc, last_turn, within-snoc}
 use Rattle.live_relay.proofs.ClockLemmas.{reads_none, reads_on}
 
 pub record Course (nest : NestParts) (k : ℕ) (old_clock clock : ClockView) (old_wire wire : WireView) (relay : Relay)

@@ -1,7 +1,7 @@
 -- What is due to a side, by what has left a way.
-use Rattle.std.proofs.Common.{◌≡◌, ℕ, zero, suc, ◌≤◌, ◌<◌, ◌-◌, ◌+◌, Bool, true, false, cond, List, [], ◌∷◌, ◌++◌}
+use Rattle.std.proofs.Common.{◌≡◌, ℕ, ◌≤◌, ◌<◌, ◌-◌, ◌+◌, Bool, true, false, cond, List, [], ◌∷◌, ◌++◌}
 use Rattle.std.proofs.Common.{Option, Some, None}
-use Rattle.std.proofs.Common.{option_to_list, length, map, take, drop, get_or, nat_le, ap, sym, subst, ◌∙◌, refl, inl}
+use Rattle.std.proofs.Common.{length, map, drop, nat_le, ap, sym, ◌∙◌, refl, inl}
 use Rattle.std.proofs.Common.{append_assoc, arith, rules, tests}
 use Rattle.std.proofs.lemmas.List.{append-nil, length-append, map-append}
 use Rattle.std.proofs.Math.ListN.{get_or-append}
@@ -19,14 +19,14 @@ use Rattle.shell_core.specs.Shells.{whole_out}
 use Rattle.shell_state.specs.Promises.{MayCome}
 use Rattle.nest_spec.specs.declared.shell.ShellDirection.{ShellDirection}
 use Rattle.nest_spec.specs.Nests.{NestParts, directions_of, shells_in}
-use Rattle.nest_spec.specs.Walk.{Step, last_list, last_of, walk}
-use Rattle.nest_line.specs.Lines.{IsFront, IsSettled, last_out, out_of, up_to}
+use Rattle.nest_spec.specs.Walk.{last_list, walk}
+use Rattle.nest_line.specs.Lines.{IsFront, last_out, out_of, up_to}
 use Rattle.nest_line.proofs.Settling.{up_to-append}
 use Rattle.live_relay.specs.declared.side.Side.{Side}
 use Rattle.live_relay.specs.declared.way.Way.{Way}
-use Rattle.live_relay.specs.Due.{bytes_in, departures, due, last_moment, pieces_of, towards}
+use Rattle.live_relay.specs.Due.{bytes_in, departures, due, pieces_of, towards}
 use Rattle.live_relay.specs.Relays.{IsFrontOf}
-use Rattle.live_relay.specs.Stamped.{Stamp, Turn, rows_from, rows_of, stamp_within, stamped_at, stamps_of}
+use Rattle.live_relay.specs.Stamped.{Turn, rows_from, rows_of, stamp_within, stamped_at, stamps_of}
 use Rattle.live_relay.specs.inside.Ways.{IsCurrentWay, IsWay, KeepsWay, waiting}
 use Rattle.live_relay.specs.Wires.{Datagram}
 use Rattle.live_relay.proofs.Stamping.{is_beyond, none_past, pieces-snoc, rows-snoc}

@@ -1,3 +1,4 @@
+pub mod PieceLemmas
 pub mod Results
 pub mod ClockLemmas
 pub mod Stamping

@@ -1,19 +1,17 @@
 -- What is sent to a side, piece by piece.
-use Rattle.std.proofs.Common.{◌≡◌, ℕ, ◌≤◌, ◌<◌, ◌+◌, List, [], ◌∷◌, ◌++◌, Option, Some, None, option_map, length, map}
+use Rattle.std.proofs.Common.{◌≡◌, ℕ, ◌<◌, ◌+◌, List, [], ◌∷◌, ◌++◌, Option, Some, None, option_map, length, map}
 use Rattle.std.proofs.Common.{take, drop}
-use Rattle.std.proofs.Common.{get_or, ap, sym, subst, ◌∙◌, refl, append_assoc, add-one}
+use Rattle.std.proofs.Common.{get_or, ap, sym, ◌∙◌, refl, append_assoc, add-one}
 use Rattle.std.proofs.Common.{Contains, Err, rules}
 use Rattle.std.proofs.lemmas.List.{append-nil, map-append, take-append-drop}
 use Rattle.std.proofs.Math.Seq.{take-suc}
 use Rattle.mm_base.specs.Counts.{one_more}
 use Rattle.mm_base.specs.declared.errors.EndError.TheVariants.{Failed}
 use Rattle.packet_record.specs.declared.packet.Timed.{Timed}
-use Rattle.live_relay.specs.declared.received.Received.{Received}
 use Rattle.live_relay.specs.declared.side.Side.{Side}
 use Rattle.live_relay.specs.declared.side.Side.TheVariants.{Client, Server}
 use Rattle.live_relay.specs.MemWires.{IsWireCall, MemWireState}
-use Rattle.live_relay.specs.Relays.{IsFrontOf}
-use Rattle.live_relay.specs.Wires.{Sent, WireTold, sending_all, sent_all}
+use Rattle.live_relay.specs.Wires.{WireTold, sending_all}
 use Rattle.live_relay.specs.inside.Ways.{StopsSending}
 
 sending_more : (side : Side) (xs ys : List (List ℕ)) (w : WireTold)

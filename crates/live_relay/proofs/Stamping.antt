@@ -1,13 +1,11 @@
 -- The rows of a relay, turn by turn.
 use Rattle.std.proofs.Common.{◌≡◌, ℕ, zero, suc, ◌≤◌, ◌<◌, ◌-◌, ◌+◌, ◌&&◌, Bool, true, false, cond, List, [], ◌∷◌, ◌++◌}
-use Rattle.std.proofs.Common.{Option, Some, None, length, map, take, sum, get_or, nat_le, ap, sym, subst, ◌∙◌, refl}
-use Rattle.std.proofs.Common.{append_assoc, add_assoc, arith, rules, tests}
+use Rattle.std.proofs.Common.{Option, Some, None, length, map, take, get_or, nat_le, ap, sym, ◌∙◌, refl}
+use Rattle.std.proofs.Common.{append_assoc, arith, rules, tests}
 use Rattle.std.proofs.lemmas.List.{append-nil, length-append, length-map, length-take, map-append}
-use Rattle.std.specs.List.{flat_map}
 use Rattle.packet_record.specs.declared.packet.Direction.{Direction}
 use Rattle.packet_record.specs.declared.packet.Packet.{Packet}
 use Rattle.packet_record.specs.declared.packet.Row.{Row}
-use Rattle.packet_record.specs.declared.packet.Timed.{Timed}
 use Rattle.packet_record.specs.Rows.{AreApart, entering, goes}
 use Rattle.packet_record.proofs.OneList.{same_packet}
 use Rattle.packet_record.specs.Packets.{number}
@@ -38,6 +36,10 @@ rows_from-append id (s ∷ xs) ys =
 pub rows-long : (id : ℕ) (xs : List Stamp) → length (rows_from id xs) ≡ length xs
 rows-long id [] = refl
 rows-long id (s ∷ xs) = ap suc (rows-long (id + 1) xs)
+
+-- each row has its bytes
+pub pieces_long : (turns : List Turn) → length (pieces_of (stamps_of turns)) ≡ length (rows_of turns)
+pieces_long turns = length-map (stamps_of turns) (λ (s : Stamp). s.bytes) ∙ sym (rows-long 1 (stamps_of turns))
 
 pub pieces-append : (xs ys : List Stamp) → pieces_of (xs ++ ys) ≡ pieces_of xs ++ pieces_of ys
 pieces-append xs ys = map-append _ xs ys

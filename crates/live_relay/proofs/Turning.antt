@@ -1,7 +1,7 @@
 -- What a turn leaves, and where it may stop.
-use Rattle.std.proofs.Common.{◌≡◌, ◌⊎◌, inl, inr, ℕ, ◌≤◌, ◌<◌, ◌+◌, List, [], ◌∷◌, ◌++◌, Option, Some, None, option_map}
+use Rattle.std.proofs.Common.{◌≡◌, ◌⊎◌, inl, inr, ℕ, ◌≤◌, ◌+◌, List, [], ◌∷◌, ◌++◌, Option, Some, None, option_map}
 use Rattle.std.proofs.Common.{true}
-use Rattle.std.proofs.Common.{option_to_list, length, map, ap, sym, subst, ◌∙◌, refl, append_assoc, arith}
+use Rattle.std.proofs.Common.{option_to_list, length, ap, sym, subst, ◌∙◌, refl, append_assoc, arith}
 use Rattle.std.proofs.lemmas.List.{append-nil, length-append}
 use Rattle.packet_record.specs.declared.packet.Direction.{Direction}
 use Rattle.packet_record.specs.declared.packet.Direction.TheVariants.{Up, Down}
@@ -19,19 +19,20 @@ use Rattle.live_relay.specs.declared.received.Received.{Received}
 use Rattle.live_relay.specs.declared.side.Side.{Side}
 use Rattle.live_relay.specs.declared.side.Side.TheVariants.{Client, Server}
 use Rattle.live_relay.specs.declared.way.Way.{Way}
-use Rattle.live_relay.specs.Due.{due, last_moment, pieces_of, towards}
+use Rattle.live_relay.specs.Due.{due, last_moment, pieces_of}
 use Rattle.live_relay.specs.Relays.{HasAsked, HasSent, HasSentSome, IsFrontOf, but_last}
 use Rattle.live_relay.specs.Stamped.{Turn, refused_at, rows_from, rows_of, stamped_at, stamps_of}
+use Rattle.live_relay.specs.inside.Pieces.{KeepsBoth}
 use Rattle.live_relay.specs.inside.Stamped.{turn}
 use Rattle.live_relay.specs.inside.Turns.{GoesTo, HasEnded, HasFed, IsCurrent, IsSameButSent, IsStamped, IsTurned}
 use Rattle.live_relay.specs.inside.Turns.{KnowsSent, StopsAt, StopsBoth, AtServer, AtClient, ToldBefore, waits_down}
 use Rattle.live_relay.specs.inside.Turns.{waits_up, EndsAt, StopsPast, sending_both}
-use Rattle.live_relay.specs.inside.Ways.{GoesOn, EndsWay, IsCurrentWay, IsEndedWay, IsFedWay, IsWay, waiting}
+use Rattle.live_relay.specs.inside.Ways.{GoesOn, EndsWay, IsCurrentWay, IsEndedWay, IsFedWay}
 use Rattle.live_relay.specs.Wires.{Datagram, WireTold, WireView, receiving, sending_all}
-use Rattle.live_relay.proofs.Asking.{asked_more, asked_on, but_last_turn, front_behind, front_on, front_then}
+use Rattle.live_relay.proofs.Asking.{asked_more, asked_on, but_last_turn, front_behind, front_then}
 use Rattle.live_relay.proofs.Asking.{front_whole, last_turn}
 use Rattle.live_relay.proofs.Dues.{due_grows, due_later, due_next, knows, none_there}
-use Rattle.live_relay.proofs.Stamping.{pieces-snoc, refused-snoc, rows-snoc}
+use Rattle.live_relay.proofs.Stamping.{pieces-snoc, pieces_long, refused-snoc, rows-snoc}
 
 -- a way that was fed what a turn received
 fed_way : (nest : NestParts) (turns : List Turn) (m : ℕ) (answer : Option Datagram) (row : Option Row) (d : Direction)
@@ -60,20 +61,21 @@ pub has_fed : (nest : NestParts) (turns : List Turn) (m : ℕ) (answer : Option 
     (old new : Relay) → IsCurrent nest turns old
     → new.stamps.rows.items ≡ old.stamps.rows.items
     ++ rows_from (length old.stamps.rows.items + 1) (stamped_at m answer)
-    → new.stamps.pieces.items ≡ old.stamps.pieces.items ++ pieces_of (stamped_at m answer)
+    → ((all : List (List ℕ)) → length all ≡ length old.stamps.rows.items → KeepsBoth all old.stamps
+    → KeepsBoth (all ++ pieces_of (stamped_at m answer)) new.stamps)
     → new.stamps.refused ≡ old.stamps.refused + refused_at answer
     → option_to_list row ≡ rows_from (length old.stamps.rows.items + 1) (stamped_at m answer)
     → GoesOn Up m row old.up new.up → GoesOn Down m row old.down new.down
     → HasFed nest (turns ++ turn m answer ∷ []) m old new
-has_fed nest turns m answer row old new c rows pieces refused row_is up down =
+has_fed nest turns m answer row old new c rows kept refused row_is up down =
     let t = turn m answer in
     let at : (l : List Row) → List Row = λ l. rows_from (length l + 1) (stamped_at m answer) in
     let row_is' : option_to_list row ≡ at (rows_of turns) = row_is ∙ ap at c.stamps.rows in
     record {
       stamps = record {
         rows = rows ∙ ap (λ (l : List Row). l ++ at l) c.stamps.rows ∙ sym (rows-snoc turns t);
-        pieces = pieces ∙ ap (λ (l : List (List ℕ)). l ++ pieces_of (stamped_at m answer)) c.stamps.pieces
-            ∙ sym (pieces-snoc turns t);
+        kept = subst (λ (l : List (List ℕ)). KeepsBoth l new.stamps) (sym (pieces-snoc turns t))
+            (kept (pieces_of (stamps_of turns)) (pieces_long turns ∙ sym (ap length c.stamps.rows)) c.stamps.kept);
         refused = refused ∙ ap (λ n. n + refused_at answer) c.stamps.refused ∙ sym (refused-snoc turns t);
       };
       up = fed_way nest turns m answer row Up old.up new.up c.up row_is' up;
@@ -101,10 +103,14 @@ has_ended nest turns old new c same up down = record {
   down = ended_way nest turns Down old.down new.down c.down down;
 }
 
+-- the bytes of the packets of these turns
+abbrev pub all_of : List Turn → List (List ℕ)
+all_of turns = pieces_of (stamps_of turns)
+
 -- What is due later is what was due, and then what waits.
 pub record Grown (nest : NestParts) (turns turns' : List Turn) (m : ℕ) (r : Relay) : Type 0 where
-  pub client : due nest turns' Client m ≡ due nest turns Client (last_moment turns) ++ waits_down m r
-  pub server : due nest turns' Server m ≡ due nest turns Server (last_moment turns) ++ waits_up m r
+  pub client : due nest turns' Client m ≡ due nest turns Client (last_moment turns) ++ waits_down (all_of turns') m r
+  pub server : due nest turns' Server m ≡ due nest turns Server (last_moment turns) ++ waits_up (all_of turns') m r
 
 settled_fed : (nest : NestParts) (turns' : List Turn) (d : Direction) (m : ℕ) (old new : Way)
     → IsFedWay nest d (rows_of turns') m old new → m ≤ nest.horizon → IsSettled new.line
@@ -118,30 +124,27 @@ pub grown_fed : (nest : NestParts) (turns : List Turn) (m : ℕ) (answer : Optio
     → Grown nest turns (turns ++ turn m answer ∷ []) m new
 grown_fed nest turns m answer old new c f le within up down =
     let turns' = turns ++ turn m answer ∷ [] in
-    let longer = f.stamps.pieces ∙ pieces-snoc turns (turn m answer)
-    ∙ ap (λ (l : List (List ℕ)). l ++ pieces_of (stamped_at m answer)) (sym c.stamps.pieces) in
+    let longer = pieces-snoc turns (turn m answer) in
     record {
-      client = due_grows nest turns turns' Client (last_moment turns) m old.stamps.pieces.items new.stamps.pieces.items
-          (pieces_of (stamped_at m answer)) old.down new.down c.down c.stamps.pieces le f.down.way f.stamps.pieces
-          longer f.down.keeps (settled_fed nest turns' Down m old.down new.down f.down within down);
-      server = due_grows nest turns turns' Server (last_moment turns) m old.stamps.pieces.items new.stamps.pieces.items
-          (pieces_of (stamped_at m answer)) old.up new.up c.up c.stamps.pieces le f.up.way f.stamps.pieces
-          longer f.up.keeps (settled_fed nest turns' Up m old.up new.up f.up within up);
+      client = due_grows nest turns turns' Client (last_moment turns) m (all_of turns) (all_of turns')
+          (pieces_of (stamped_at m answer)) old.down new.down c.down refl le f.down.way refl longer f.down.keeps
+          (settled_fed nest turns' Down m old.down new.down f.down within down);
+      server = due_grows nest turns turns' Server (last_moment turns) m (all_of turns) (all_of turns')
+          (pieces_of (stamped_at m answer)) old.up new.up c.up refl le f.up.way refl longer f.up.keeps
+          (settled_fed nest turns' Up m old.up new.up f.up within up);
     }
 
 pub grown_ended : (nest : NestParts) (turns : List Turn) (m : ℕ) (old new : Relay) → IsCurrent nest turns old
     → HasEnded nest turns old new → last_moment turns ≤ m → IsSettled new.up.line → IsSettled new.down.line
     → Grown nest turns turns m new
 grown_ended nest turns m old new c f le up down =
-    let longer = f.stamps.pieces ∙ sym c.stamps.pieces ∙ sym (append-nil old.stamps.pieces.items) in
+    let longer = sym (append-nil (all_of turns)) in
     record {
-      client = due_grows nest turns turns Client (last_moment turns) m old.stamps.pieces.items new.stamps.pieces.items
-          []
-          old.down new.down c.down c.stamps.pieces le f.down.way f.stamps.pieces longer f.down.keeps
+      client = due_grows nest turns turns Client (last_moment turns) m (all_of turns) (all_of turns) []
+          old.down new.down c.down refl le f.down.way refl longer f.down.keeps
           (ap (up_to m) (down.ended f.down.ended));
-      server = due_grows nest turns turns Server (last_moment turns) m old.stamps.pieces.items new.stamps.pieces.items
-          []
-          old.up new.up c.up c.stamps.pieces le f.up.way f.stamps.pieces longer f.up.keeps
+      server = due_grows nest turns turns Server (last_moment turns) m (all_of turns) (all_of turns) []
+          old.up new.up c.up refl le f.up.way refl longer f.up.keeps
           (ap (up_to m) (up.ended f.up.ended));
     }
 
@@ -183,7 +186,7 @@ current_way nest turns' d m old passed after f last within settled same sent =
 
 -- ---- the wire
 
-map_twice : (f g : WireTold → WireTold) (told : Option WireTold)
+pub map_twice : (f g : WireTold → WireTold) (told : Option WireTold)
     → option_map f (option_map g told) ≡ option_map (λ w. f (g w)) told
 map_twice f g None = refl
 map_twice f g (Some w) = refl
@@ -237,11 +240,12 @@ behind old now due more e = ap (λ (l : List (List ℕ)). l ++ more) e ∙ appen
 -- all that waited was sent
 pub sent_both : (nest : NestParts) (turns turns' : List Turn) (m : ℕ) (r : Relay) (start w : WireTold)
     → Grown nest turns turns' m r → HasSent nest turns (last_moment turns) start.sent w.sent
-    → HasSent nest turns' m start.sent (sending_both (waits_up m r) (waits_down m r) w).sent
+    → HasSent nest turns' m start.sent
+    (sending_both (waits_up (all_of turns') m r) (waits_down (all_of turns') m r) w).sent
 sent_both nest turns turns' m r start w g sent = record {
-  client = behind start.sent.client w.sent.client _ (waits_down m r) sent.client
+  client = behind start.sent.client w.sent.client _ (waits_down (all_of turns') m r) sent.client
       ∙ ap (λ (l : List (List ℕ)). start.sent.client ++ l) (sym g.client);
-  server = behind start.sent.server w.sent.server _ (waits_up m r) sent.server
+  server = behind start.sent.server w.sent.server _ (waits_up (all_of turns') m r) sent.server
       ∙ ap (λ (l : List (List ℕ)). start.sent.server ++ l) (sym g.server);
 }
 
@@ -281,7 +285,7 @@ some_none nest turns turns' m start w sent client server are = record {
 
 -- a front of what waits was sent up
 some_up : (nest : NestParts) (turns turns' : List Turn) (m : ℕ) (r : Relay) (front : List (List ℕ))
-    (start w : WireTold) → Grown nest turns turns' m r → IsFrontOf front (waits_up m r)
+    (start w : WireTold) → Grown nest turns turns' m r → IsFrontOf front (waits_up (all_of turns') m r)
     → HasSent nest turns (last_moment turns) start.sent w.sent
     → (turns' ≡ turns) ⊎ (but_last turns' ≡ turns)
     → HasSentSome nest turns' m start.sent (sending_all Server front w).sent
@@ -291,19 +295,20 @@ some_up nest turns turns' m r front start w g some sent are =
     record {
       to_client = client;
       client = sent.client;
-      client_front = subst (IsFrontOf client) (sym g.client) (front_then client (waits_down m r));
+      client_front = subst (IsFrontOf client) (sym g.client) (front_then client (waits_down (all_of turns') m r));
       to_server = server ++ front;
       server = behind start.sent.server w.sent.server server front sent.server;
       server_front = subst (IsFrontOf (server ++ front)) (sym g.server)
-          (front_behind server front (waits_up m r) some);
+          (front_behind server front (waits_up (all_of turns') m r) some);
       order = order_of nest turns turns' m client (server ++ front) are (front_whole client) (front_then server front);
     }
 
 -- all that waits was sent up, and a front of what waits down
 some_down : (nest : NestParts) (turns turns' : List Turn) (m : ℕ) (r : Relay) (front : List (List ℕ))
-    (start w : WireTold) → Grown nest turns turns' m r → IsFrontOf front (waits_down m r)
+    (start w : WireTold) → Grown nest turns turns' m r → IsFrontOf front (waits_down (all_of turns') m r)
     → HasSent nest turns (last_moment turns) start.sent w.sent
-    → HasSentSome nest turns' m start.sent (sending_all Client front (sending_all Server (waits_up m r) w)).sent
+    → HasSentSome nest turns' m start.sent
+    (sending_all Client front (sending_all Server (waits_up (all_of turns') m r) w)).sent
 some_down nest turns turns' m r front start w g some sent =
     let client = due nest turns Client (last_moment turns) in
     let server = due nest turns Server (last_moment turns) in
@@ -311,9 +316,9 @@ some_down nest turns turns' m r front start w g some sent =
       to_client = client ++ front;
       client = behind start.sent.client w.sent.client client front sent.client;
       client_front = subst (IsFrontOf (client ++ front)) (sym g.client)
-          (front_behind client front (waits_down m r) some);
+          (front_behind client front (waits_down (all_of turns') m r) some);
       to_server = due nest turns' Server m;
-      server = behind start.sent.server w.sent.server server (waits_up m r) sent.server
+      server = behind start.sent.server w.sent.server server (waits_up (all_of turns') m r) sent.server
           ∙ ap (λ (l : List (List ℕ)). start.sent.server ++ l) (sym g.server);
       server_front = front_whole (due nest turns' Server m);
       order = inr (inr (front_whole (due nest turns' Server m)));
@@ -333,21 +338,26 @@ pub turned : (nest : NestParts) (turns : List Turn) (m : ℕ) (answer : Option D
     → after.up.sent ≡ length (up_to m passed.up.line.departed)
     → after.down.sent ≡ length (up_to m passed.down.line.departed)
     → mid.told ≡ option_map (receiving 1505 answer) old.told → mid.asked ≡ old.asked + 1
-    → new.told ≡ option_map (sending_both (waits_up m passed) (waits_down m passed)) mid.told → new.asked ≡ mid.asked
+    → new.told ≡ option_map (sending_both (waits_up (all_of (turns ++ turn m answer ∷ [])) m passed)
+    (waits_down (all_of (turns ++ turn m answer ∷ [])) m passed)) mid.told → new.asked ≡ mid.asked
     → IsTurned nest turns m old new after
 turned nest turns m answer old mid new before passed after c f le within up down same up_sent down_sent got asked gave
     kept =
     let turns' = turns ++ turn m answer ∷ [] in
     let last : last_moment turns' ≡ m = last_turn turns (turn m answer) in
     let g = grown_fed nest turns m answer before passed c f le within up down in
-    let ups = waits_up m passed in
-    let downs = waits_down m passed in
+    let ups = waits_up (all_of turns') m passed in
+    let downs = waits_down (all_of turns') m passed in
     let moves = gave ∙ ap (option_map (sending_both ups downs)) got
     ∙ map_twice (sending_both ups downs) (receiving 1505 answer) old.told in
     record {
       answer = answer;
       current = record {
-        stamps = subst (IsStamped turns') (sym same.stamps) f.stamps;
+        stamps = record {
+          rows = same.rows ∙ f.stamps.rows;
+          kept = same.kept (all_of turns') f.stamps.kept;
+          refused = same.refused ∙ f.stamps.refused;
+        };
         up = current_way nest turns' Up m before.up passed.up after.up f.up last within up same.up up_sent;
         down = current_way nest turns' Down m before.down passed.down after.down f.down last within down same.down
             down_sent;
@@ -408,7 +418,8 @@ pub stops_sending : (nest : NestParts) (turns : List Turn) (m : ℕ) (answer : O
     → HasFed nest (turns ++ turn m answer ∷ []) m before passed → last_moment turns ≤ m → m ≤ nest.horizon
     → IsSettled passed.up.line → IsSettled passed.down.line
     → mid.told ≡ option_map (receiving 1505 answer) old.told → mid.asked ≡ old.asked + 1
-    → StopsBoth (waits_up m passed) (waits_down m passed) mid.told new.told → new.asked ≡ mid.asked
+    → StopsBoth (waits_up (all_of (turns ++ turn m answer ∷ [])) m passed)
+    (waits_down (all_of (turns ++ turn m answer ∷ [])) m passed) mid.told new.told → new.asked ≡ mid.asked
     → StopsAt nest turns m old new
 stops_sending nest turns m answer old mid new before passed c f le within up down got asked stops kept = by stops
   where
@@ -434,7 +445,8 @@ stops_sending nest turns m answer old mid new before passed c f le within up dow
       goes = moves_to nest turns f old new _ moves then;
     }
 
-    by : StopsBoth (waits_up m passed) (waits_down m passed) mid.told new.told → StopsAt nest turns m old new
+    by : StopsBoth (waits_up (all_of turns') m passed) (waits_down (all_of turns') m passed) mid.told new.told
+        → StopsAt nest turns m old new
     by (AtServer s) = stop (λ w. sending_all Server s.front (receiving 1505 answer w))
         (s.told ∙ ap (option_map (sending_all Server s.front)) got
         ∙ map_twice (sending_all Server s.front) (receiving 1505 answer) old.told)
@@ -445,7 +457,7 @@ stops_sending nest turns m answer old mid new before passed c f le within up dow
               (inr (but_last_turn turns t)),
         ))
     by (AtClient s) =
-        let ups = waits_up m passed in
+        let ups = waits_up (all_of turns') m passed in
         stop (λ w. sending_all Client s.front (sending_all Server ups (receiving 1505 answer w)))
         (s.told ∙ ap (λ (o : Option WireTold). option_map (sending_all Client s.front)
         (option_map (sending_all Server ups) o)) got
@@ -464,12 +476,13 @@ stops_sending nest turns m answer old mid new before passed c f le within up dow
 pub ends_past : (nest : NestParts) (turns : List Turn) (m : ℕ) (old new : WireView) (before passed : Relay)
     → IsCurrent nest turns before → HasEnded nest turns before passed → last_moment turns ≤ m
     → IsSettled passed.up.line → IsSettled passed.down.line
-    → new.told ≡ option_map (sending_both (waits_up m passed) (waits_down m passed)) old.told → new.asked ≡ old.asked
+    → new.told ≡ option_map (sending_both (waits_up (all_of turns) m passed) (waits_down (all_of turns) m passed)) old.told
+    → new.asked ≡ old.asked
     → EndsAt nest turns m old new
 ends_past nest turns m old new before passed c f le up down moves kept =
     let g = grown_ended nest turns m before passed c f le up down in
-    let ups = waits_up m passed in
-    let downs = waits_down m passed in
+    let ups = waits_up (all_of turns) m passed in
+    let downs = waits_down (all_of turns) m passed in
     record {
       asked = kept;
       told = told_back (sending_both ups downs) old new moves;
@@ -495,12 +508,13 @@ some_all nest turns m start w sent = record {
 pub stops_gathering : (nest : NestParts) (turns : List Turn) (m : ℕ) (old new : WireView) (before passed : Relay)
     → IsCurrent nest turns before → HasEnded nest turns before passed → last_moment turns ≤ m
     → IsSettled passed.up.line → IsSettled passed.down.line
-    → new.told ≡ option_map (sending_both (waits_up m passed) (waits_down m passed)) old.told → new.asked ≡ old.asked
+    → new.told ≡ option_map (sending_both (waits_up (all_of turns) m passed) (waits_down (all_of turns) m passed)) old.told
+    → new.asked ≡ old.asked
     → StopsPast nest turns m old new
 stops_gathering nest turns m old new before passed c f le up down moves kept =
     let g = grown_ended nest turns m before passed c f le up down in
-    let ups = waits_up m passed in
-    let downs = waits_down m passed in
+    let ups = waits_up (all_of turns) m passed in
+    let downs = waits_down (all_of turns) m passed in
     record {
       stops = record {
         all = turns;
@@ -520,7 +534,8 @@ stops_gathering nest turns m old new before passed c f le up down moves kept =
 pub stops_past : (nest : NestParts) (turns : List Turn) (m : ℕ) (old new : WireView) (before passed : Relay)
     → IsCurrent nest turns before → HasEnded nest turns before passed → last_moment turns ≤ m
     → IsSettled passed.up.line → IsSettled passed.down.line
-    → StopsBoth (waits_up m passed) (waits_down m passed) old.told new.told → new.asked ≡ old.asked
+    → StopsBoth (waits_up (all_of turns) m passed) (waits_down (all_of turns) m passed) old.told new.told
+    → new.asked ≡ old.asked
     → StopsPast nest turns m old new
 stops_past nest turns m old new before passed c f le up down stops kept = by stops
   where
@@ -543,13 +558,14 @@ stops_past nest turns m old new before passed c f le up down stops kept = by sto
       same = refl;
     }
 
-    by : StopsBoth (waits_up m passed) (waits_down m passed) old.told new.told → StopsPast nest turns m old new
+    by : StopsBoth (waits_up (all_of turns) m passed) (waits_down (all_of turns) m passed) old.told new.told
+        → StopsPast nest turns m old new
     by (AtServer s) = stop (sending_all Server s.front) s.told (λ start w a sent. (
       asked_sent nest turns Server s.front start w a,
       some_up nest turns turns m passed s.front start w g s.some sent (inl refl),
     ))
     by (AtClient s) =
-        let ups = waits_up m passed in
+        let ups = waits_up (all_of turns) m passed in
         stop (λ w. sending_all Client s.front (sending_all Server ups w))
         (s.told ∙ map_twice (sending_all Client s.front) (sending_all Server ups) old.told)
         (λ start w a sent. (

@@ -1,14 +1,13 @@
 -- The packets of a list up to a moment.
 use Rattle.std.proofs.Common.{◌≡◌, ℕ, zero, suc, ◌≤◌, ◌<◌, ◌-◌, ◌+◌, Bool, true, false, cond, List, [], ◌∷◌, ◌++◌}
 use Rattle.std.proofs.Common.{length}
-use Rattle.std.proofs.Common.{take, drop, get_or, filter, nat_le, ap, sym, subst, ◌∙◌, refl, append_assoc, arith, rules}
+use Rattle.std.proofs.Common.{take, drop, get_or, nat_le, ap, sym, ◌∙◌, refl, arith, rules}
 use Rattle.std.proofs.Common.{tests}
 use Rattle.std.proofs.lemmas.List.{drop-take}
 use Rattle.packet_record.specs.declared.packet.Timed.{Timed}
 use Rattle.packet_record.specs.Moments.{AreFrom, Rise}
 use Rattle.packet_record.proofs.MomentsLemmas.{from_at, from_lower}
 use Rattle.nest_line.specs.Lines.{IsFront, up_to}
-use Rattle.nest_line.proofs.Settling.{up_to-append}
 
 -- none of these is up to this moment
 pub none_later : (m : ℕ) (ts : List Timed) → AreFrom (m + 1) ts → up_to m ts ≡ []

@@ -1,23 +1,22 @@
 -- What a way is fed, and what it keeps.
-use Rattle.std.proofs.Common.{◌≡◌, ℕ, ◌≤◌, ◌<◌, ◌+◌, ◌&&◌, Bool, true, false, cond, List, [], ◌∷◌, ◌++◌, Option, Some}
+use Rattle.std.proofs.Common.{◌≡◌, ℕ, ◌≤◌, ◌&&◌, Bool, true, false, cond, List, [], ◌∷◌, ◌++◌, Option, Some}
 use Rattle.std.proofs.Common.{None}
-use Rattle.std.proofs.Common.{IfSome, option_to_list, length, map, filter, nat_le, ap, sym, subst, ◌∙◌, refl}
-use Rattle.std.proofs.Common.{append_assoc}
+use Rattle.std.proofs.Common.{IfSome, option_to_list, map, nat_le, ap, sym, subst, ◌∙◌, refl}
 use Rattle.std.proofs.Common.{arith, rules, tests}
 use Rattle.std.proofs.lemmas.List.{append-nil}
 use Rattle.packet_record.specs.declared.item.Item.{Item}
 use Rattle.packet_record.specs.declared.item.Item.TheVariants.{Packet, Mark, End}
 use Rattle.packet_record.specs.declared.item.Stream.{Stream}
-use Rattle.packet_record.specs.declared.item.FlowEnd.TheVariants.{Open, Ended}
+use Rattle.packet_record.specs.declared.item.FlowEnd.TheVariants.{Open}
 use Rattle.packet_record.specs.declared.packet.Direction.{Direction}
 use Rattle.packet_record.specs.declared.packet.Row.{Row}
 use Rattle.packet_record.specs.declared.packet.Timed.{Timed}
 use Rattle.packet_record.specs.Rows.{entering, goes}
 use Rattle.packet_record.specs.Streams.{after, MayFollow, IsUpTo}
 use Rattle.shell_state.specs.Steps.{breaks}
-use Rattle.nest_line.specs.Lines.{IsFed, LineParts}
+use Rattle.nest_line.specs.Lines.{IsFed}
 use Rattle.live_relay.specs.declared.way.Way.{Way}
-use Rattle.live_relay.specs.inside.Ways.{EndsWay, GoesOn, KeepsWay, item_in}
+use Rattle.live_relay.specs.inside.Ways.{EndsWay, GoesOn, item_in}
 
 -- what is fed at a moment may be fed, and adds what enters
 pub record Feeds (d : Direction) (m h : ℕ) (row : Option Row) (f : Stream) : Type 0 where

@@ -1,5 +1,5 @@
 -- A clock as its callers see it.
-use Rattle.std.specs.Prelude.{◌≡◌, ℕ, List, [], ◌∷◌, ◌++◌, Option, Some}
+use Rattle.std.specs.Prelude.{◌≡◌, ℕ, List, ◌++◌, Option, Some}
 
 pub record ClockView : Type 0 where
   -- its answers so far, where the clock tells them

@@ -1,5 +1,5 @@
 -- What is due to each side of a relay.
-use Rattle.std.specs.Prelude.{ℕ, ◌-◌, List, [], ◌∷◌, map, get_or, length}
+use Rattle.std.specs.Prelude.{ℕ, ◌-◌, List, [], map, get_or}
 use Rattle.packet_record.specs.declared.packet.Direction.{Direction}
 use Rattle.packet_record.specs.declared.packet.Direction.TheVariants.{Up, Down}
 use Rattle.packet_record.specs.declared.packet.Timed.{Timed}

@@ -1,9 +1,7 @@
 -- What a relay leaves of its clock and its wire, and what it answers.
 use Rattle.std.specs.Prelude.{◌≡◌, ◌⊎◌, ℕ, ◌+◌, ◌-◌, ◌<◌, ◌≤◌, List, [], ◌∷◌, ◌++◌, Some, length, map, take, get_or}
-use Rattle.packet_record.specs.declared.packet.Row.{Row}
 use Rattle.nest_spec.specs.Nests.{NestParts, result_of}
 use Rattle.nest_spec.specs.Once.{HaveOneFate}
-use Rattle.live_relay.specs.declared.side.Side.{Side}
 use Rattle.live_relay.specs.declared.side.Side.TheVariants.{Client, Server}
 use Rattle.live_relay.specs.declared.outcome.RelayEnd.{RelayEnd}
 use Rattle.live_relay.specs.declared.outcome.RelayEnd.TheVariants.{Horizon, Turns}

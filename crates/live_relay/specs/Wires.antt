@@ -1,5 +1,5 @@
 -- A wire as its callers see it, and what its calls change.
-use Rattle.std.specs.Prelude.{◌≡◌, ℕ, ◌+◌, ◌++◌, Bool, List, [], ◌∷◌, length, take, Option, Some, None, Result, Ok, Err}
+use Rattle.std.specs.Prelude.{ℕ, ◌+◌, ◌++◌, Bool, List, [], ◌∷◌, length, take, Option, Some, None, Result, Ok, Err}
 use Rattle.mm_base.specs.Counts.{CountsFaults}
 use Rattle.mm_base.specs.declared.errors.EndError.{EndError}
 use Rattle.live_relay.specs.declared.received.Received.{Received}

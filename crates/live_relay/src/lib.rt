@@ -5,10 +5,14 @@
 #![tactic(auto)]
 
 mod clock;
+mod drops;
+mod end_watch;
 mod fails;
+mod kept;
 mod mem_clock;
 mod mem_wire;
 mod outcome;
+mod pulse;
 mod received;
 mod relay_state;
 mod relaying;
@@ -17,17 +21,21 @@ mod side;
 mod stamps;
 mod sys_clock;
 mod udp_wire;
+mod unsent;
 mod way;
 mod wire;
 
 pub use clock::Clock;
+pub use drops::drops_at;
 pub use mem_clock::MemClock;
 pub use mem_wire::MemWire;
 pub use outcome::{RelayEnd, RelayError, RelayResult};
+pub use pulse::Pulse;
 pub use received::Received;
 pub use relaying::relay;
 pub use rows::RelayRows;
 pub use side::Side;
 pub use sys_clock::SysClock;
 pub use udp_wire::UdpWire;
+pub use unsent::is_loss;
 pub use wire::Wire;

@@ -1,5 +1,5 @@
 // A relay between its turns.
-ghost use Rattle.std.specs.Prelude.{◌≡◌, ◌≤◌, ◌<◌, ◌++◌, ◌∷◌, [], List, IfOk, IfSome, IsErrOf, OnErr, OnOk, length};
+ghost use Rattle.std.specs.Prelude.{◌≡◌, ◌≤◌, ◌<◌, ◌++◌, ◌∷◌, [], List, ℕ, IfOk, IfSome, IsErrOf, OnErr, OnOk, length};
 ghost use Rattle.std.specs.Option.{option_map};
 ghost use Rattle.mm_base.specs.Counts.{Rose};
 ghost use Rattle.packet_record.specs.declared.item.FlowEnd.TheVariants.{Ended, Open};
@@ -10,6 +10,7 @@ ghost use Rattle.packet_record.specs.Rows.{AreApart};
 ghost use Rattle.nest_line.specs.Lines.{IsSettled, up_to};
 ghost use Rattle.live_relay.specs.Due.{last_moment};
 ghost use Rattle.live_relay.specs.Stamped.{Turn};
+ghost use Rattle.live_relay.specs.inside.Pieces.{KeepsBoth};
 ghost use Rattle.live_relay.specs.inside.Stamped.{turn};
 ghost use Rattle.live_relay.specs.Wires.{CountsWireFaults, datagram_in};
 
@@ -78,9 +79,11 @@ impl Relay {
         ensures settled { IsSettled self.old.up.line × IsSettled self.old.down.line }
         ensures sent { OnOk result ((self.new.up.sent ≡ length (up_to moment self.old.up.line.departed))
             × (self.new.down.sent ≡ length (up_to moment self.old.down.line.departed))) }
-        ensures ok { OnOk result ((W.view wire.new).told ≡ option_map (sending_both (waits_up moment self.old)
-            (waits_down moment self.old)) (W.view wire.old).told) }
-        ensures err { OnErr result (StopsBoth (waits_up moment self.old) (waits_down moment self.old)
+        ensures ok { OnOk result ((all : List (List ℕ)) → KeepsBoth all self.old.stamps → (W.view wire.new).told
+            ≡ option_map (sending_both (waits_up all moment self.old) (waits_down all moment self.old))
+            (W.view wire.old).told) }
+        ensures err { OnErr result ((all : List (List ℕ)) → KeepsBoth all self.old.stamps
+            → StopsBoth (waits_up all moment self.old) (waits_down all moment self.old)
             (W.view wire.old).told (W.view wire.new).told) }
         ensures asked { (W.view wire.new).asked ≡ (W.view wire.old).asked }
         ensures opened { (W.view wire.new).opened ≡ (W.view wire.old).opened }
@@ -91,9 +94,9 @@ impl Relay {
         // What holds of every line.
         self.up.settled();
         self.down.settled();
-        let pieces = self.stamps.pieces.as_slice();
-        self.up.send_due(wire, Side::Server, pieces, moment)?;
-        self.down.send_due(wire, Side::Client, pieces, moment)
+        let Stamps { up, down, .. } = &mut self.stamps;
+        self.up.send_due(wire, Side::Server, up, moment)?;
+        self.down.send_due(wire, Side::Client, down, moment)
     }
 
     /// Takes a turn at this moment: receives once, into room for one byte more than a packet has, lets what came pass,

@@ -1,11 +1,14 @@
 // The packets of a relay, as they are received.
-ghost use Rattle.std.specs.Prelude.{◌≡◌, ◌≤◌, ◌<◌, ◌+◌, ◌++◌, [], length, option_to_list, IfNone, IfOk, IfSome, OnOk};
+ghost use Rattle.std.specs.Prelude.{◌≡◌, ◌≤◌, ◌<◌, ◌+◌, ◌++◌, ◌∷◌, [], List, ℕ, length, option_to_list};
+ghost use Rattle.std.specs.Prelude.{IfNone, IfOk, IfSome, OnOk};
 ghost use Rattle.live_relay.specs.Due.{pieces_of};
 ghost use Rattle.live_relay.specs.Stamped.{refused_at, rows_from, stamped_at};
+ghost use Rattle.live_relay.specs.inside.Pieces.{KeepsBoth};
 ghost use Rattle.live_relay.specs.inside.Ways.{fits_not};
 ghost use Rattle.live_relay.specs.Wires.{datagram_in};
 
 use crate::Side;
+use crate::kept::Kept;
 use packet_record::{Packet, Row, Timed};
 use std::alloc::Global;
 use text_base::{Bytes, OutOfMemory};
@@ -13,11 +16,12 @@ use text_base::{Bytes, OutOfMemory};
 // The most bytes of a packet.
 pub(crate) const MOST: usize = 1_504;
 
-// The rows, the bytes of each, and how many datagrams were refused.
+// The rows, the bytes of those that haven't left yet in each direction, and how many datagrams were refused.
 #[derive(Drop)]
 pub(crate) struct Stamps {
     pub rows: Vec<Row>,
-    pub pieces: Vec<Bytes>,
+    pub up: Kept,
+    pub down: Kept,
     pub refused: u32,
 }
 
@@ -39,12 +43,26 @@ fn packet_after(before: usize, size: usize) -> Option<Packet>
 impl Stamps {
     /// No packets.
     pub fn new(alloc: Global) -> Stamps
-        ensures { (result.rows.items ≡ []) × (result.pieces.items ≡ []) × (result.refused ≡ 0) }
+        ensures empty { (result.rows.items ≡ []) × (result.refused ≡ 0) }
+        ensures kept { KeepsBoth [] result }
     {
         Stamps {
             rows: Vec::new(alloc),
-            pieces: Vec::new(alloc),
+            up: Kept::new(alloc),
+            down: Kept::new(alloc),
             refused: 0,
+        }
+    }
+
+    // Keeps the bytes of the packet of this number, which goes the way of what this side sends.
+    fn keep(&mut self, side: Side, number: u32, bytes: Bytes) -> Result<(), OutOfMemory>
+        ensures kept { OnOk result ((all : List (List ℕ)) → number ≡ length all + 1 → KeepsBoth all self.old
+            → KeepsBoth (all ++ bytes ∷ []) self.new) }
+        ensures same { (self.new.rows.items ≡ self.old.rows.items) × (self.new.refused ≡ self.old.refused) }
+    {
+        match side {
+            Side::Client => self.up.keep(number, bytes),
+            Side::Server => self.down.keep(number, bytes),
         }
     }
 
@@ -60,8 +78,9 @@ impl Stamps {
         requires few { (length self.old.rows.items < 1000000) × (self.old.refused < 1000000) }
         ensures rows { OnOk result (self.new.rows.items ≡ self.old.rows.items
             ++ rows_from (length self.old.rows.items + 1) (stamped_at moment (datagram_in buf.now got))) }
-        ensures pieces { OnOk result (self.new.pieces.items ≡ self.old.pieces.items
-            ++ pieces_of (stamped_at moment (datagram_in buf.now got))) }
+        ensures kept { OnOk result ((all : List (List ℕ)) → length all ≡ length self.old.rows.items
+            → KeepsBoth all self.old
+            → KeepsBoth (all ++ pieces_of (stamped_at moment (datagram_in buf.now got))) self.new) }
         ensures refused { OnOk result (self.new.refused ≡ self.old.refused + refused_at (datagram_in buf.now got)) }
         ensures row { IfOk result (λ row. option_to_list row
             ≡ rows_from (length self.old.rows.items + 1) (stamped_at moment (datagram_in buf.now got))) }
@@ -78,7 +97,8 @@ impl Stamps {
             timed: Timed { moment, packet },
         };
         let alloc = *self.rows.allocator();
-        self.pieces.push(Bytes::from_slice(alloc, &buf[..size])?)?;
+        let bytes = Bytes::from_slice(alloc, &buf[..size])?;
+        self.keep(side, packet.id, bytes)?;
         self.rows.push(row)?;
         Ok(Some(row))
     }

@@ -1,44 +1,158 @@
 // The machine's clock. It tells no answers.
 ghost use Rattle.std.specs.Prelude.{◌≡◌, None};
 
-use crate::Clock;
-use std::time::{Clock as Time, Instant};
+use crate::end_watch::EndWatch;
+use crate::{Clock, Pulse};
+use std::os::fd::RawFd;
+use std::thread;
+use std::time::{Clock as Time, Duration, Instant};
+
+// How long the clock rests at most before it looks whether a datagram is there, in microseconds.
+const REST: u64 = 200;
+
+// How long before the next millisecond a rest ends, in microseconds: the system wakes a thread some 60 later than it
+// was asked to.
+const EARLY: u64 = 60;
+
+// How often the clock looks whether a datagram is there before it gives up its rest. A millisecond needs fewer.
+const LOOKS: u32 = 10_000;
+
+// After so many milliseconds in which nothing came or left there is a silence.
+const SILENCE: u64 = 1_000;
+
+// How long the clock waits for a datagram in a silence, in milliseconds.
+const WAIT: i32 = 5;
+
+// What the clock answers once the user has ended: it is past every horizon.
+const PAST: u64 = u64::MAX;
 
 /// The machine's monotonic clock, in whole milliseconds since it was made. It tells no answers but the last. Where the
 /// system has no time to give, it answers the last one again.
+///
+/// It rests before it is read. Where the wire of its pulse has just received a datagram, there is no rest. Otherwise,
+/// if something came or left within the last second, it rests until a datagram is there or the next millisecond begins,
+/// and looks for datagrams every fifth of a millisecond. After a silent second it waits five milliseconds, and the next
+/// datagram ends the wait at once.
+///
+/// It may watch a descriptor, at which it looks once in a millisecond. From the end of that one on it answers a moment
+/// that is past every horizon.
 #[derive(Drop)]
-pub struct SysClock<R: Time + Drop> {
+pub struct SysClock<'a, R: Time + Drop> {
     rt: R,
+    pulse: &'a Pulse,
+    end: EndWatch,
     start: Option<Instant>,
     latest: u64,
+    moment: u64,
+    active: u64,
 }
 
-impl<R: Time + Drop> SysClock<R> {
-    /// A clock over the runtime's, at 0 now. A horizon is counted from here on.
-    pub fn new(rt: R) -> Self
+impl<'a, R: Time + Drop> SysClock<'a, R> {
+    /// A clock over the runtime's, at 0 now, beside the wire of this pulse. A horizon is counted from here on. Where a
+    /// descriptor is named, its end ends the clock.
+    pub fn new(rt: R, pulse: &'a Pulse, end: Option<RawFd>) -> Self
         ensures { result.latest ≡ 0 }
     {
         let start = Instant::now(&rt).ok();
         SysClock {
             rt,
+            pulse,
+            end: EndWatch::new(end),
             start,
             latest: 0,
+            moment: 0,
+            active: 0,
         }
     }
 
+    /// The last moment that the system's clock gave, in milliseconds; 0 at first. It is the last answer, unless the
+    /// user has ended.
+    pub fn moment(&self) -> u64 {
+        self.moment
+    }
+
+    /// Whether the user has ended: whether its descriptor was seen at its end.
+    pub fn is_ended(&self) -> bool {
+        self.latest == PAST
+    }
+
+    // The time since it was made, where the system tells it.
+    fn elapsed(&self) -> Option<Duration> {
+        self.start.as_ref()?.elapsed(&self.rt).ok()
+    }
+
     // The whole milliseconds since it was made, where the system tells them.
-    fn elapsed(&self) -> Option<u64> {
-        let elapsed = self.start.as_ref()?.elapsed(&self.rt).ok()?;
-        u64::try_from(elapsed.as_millis()).ok()
+    fn elapsed_millis(&self) -> Option<u64> {
+        u64::try_from(self.elapsed()?.as_millis()).ok()
+    }
+
+    // How many microseconds are left until the millisecond after the last moment. None where it has begun, or where the
+    // system doesn't tell the time.
+    fn micros_left(&self) -> Option<u64> {
+        let elapsed = u64::try_from(self.elapsed()?.as_micros()).ok()?;
+        let next = self.moment.saturating_add(1).saturating_mul(1_000);
+        match next.saturating_sub(elapsed) {
+            0 => None,
+            left => Some(left),
+        }
+    }
+
+    // Rests until a datagram is at the socket or the next millisecond begins.
+    fn rest_briefly(&self, socket: RawFd) {
+        for _ in 0..LOOKS {
+            let Some(left) = self.micros_left() else {
+                return;
+            };
+            if self.end.wait_at(socket, 0) {
+                return;
+            }
+            let rest = left.saturating_sub(EARLY).min(REST);
+            if rest > 0 {
+                thread::sleep(&self.rt, Duration::from_micros(rest));
+            }
+        }
+    }
+
+    // Rests, before the clock is read.
+    fn rest(&self) {
+        if self.pulse.take_received() {
+            return;
+        }
+        let Some(socket) = self.pulse.socket() else {
+            return;
+        };
+        if self.moment.saturating_sub(self.active) < SILENCE {
+            self.rest_briefly(socket);
+        } else {
+            self.end.wait_at(socket, WAIT);
+        }
+    }
+
+    // The moment that the system gives. Where it is a new one, the descriptor is looked at.
+    fn read(&mut self) -> u64
+        ensures latest { self.new.latest ≡ self.old.latest }
+    {
+        let elapsed = self.elapsed_millis().unwrap_or(self.moment);
+        if elapsed > self.moment {
+            self.moment = elapsed;
+            if self.end.is_at_end() {
+                return PAST;
+            }
+        }
+        self.moment
     }
 }
 
-impl<R: Time + Drop> Clock for SysClock<R> {
+impl<'a, R: Time + Drop> Clock for SysClock<'a, R> {
     ghost view = { λ c. record { moments = None; latest = c.latest } };
 
     fn now(&mut self) -> u64 {
-        let elapsed = self.elapsed().unwrap_or(self.latest);
-        self.latest = self.latest.max(elapsed);
+        if self.pulse.take_moved() {
+            self.active = self.moment;
+        }
+        self.rest();
+        let moment = self.read();
+        self.latest = self.latest.max(moment);
         self.latest
     }
 }

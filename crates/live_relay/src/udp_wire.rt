@@ -2,23 +2,28 @@
 ghost use Rattle.std.specs.Prelude.{◌≡◌, ◌≤◌, ◌<◌, ◌-◌, ◌^◌, None, false, length, IfOk, IfSome};
 ghost use Rattle.mm_base.specs.Counts.{Rose};
 
-use crate::{Side, Wire};
+use crate::unsent::{Given, Unsent, give};
+use crate::{Pulse, Side, Wire};
+use libc::net::{POLLOUT, SO_RCVBUF, SOL_SOCKET, poll, setsockopt};
+use libc::types::pollfd;
 use mm_base::EndError;
-use std::io::{self, ErrorKind};
+use std::alloc::Global;
+use std::io::{self, Eprint, ErrorKind};
 use std::net::{Ipv4Addr, Net, SocketAddr, UdpSocket};
-use std::thread;
-use std::time::{Clock as Time, Duration};
+use std::os::fd::{AsRawFd, RawFd};
 
-// How long a receive rests where no datagram is there, in microseconds.
-const REST: u64 = 200;
+// How many bytes of datagrams the system is asked to keep until they are received. It may grant less.
+const ROOM: u32 = 4 * 1024 * 1024;
 
 // How often a receive passes over an interruption. No run meets it.
 const TRIES: u64 = u64::MAX;
 
-// How often a send is tried, with a rest where there is no room: a second or two in all.
-const WAITS: u32 = 5_000;
+// How often what is kept is tried again at the end, and how many milliseconds are waited before each but the first.
+const WAITS: u32 = 100;
 
-// A socket, and where the sides are. The client is known by its first datagram.
+const WAIT: i32 = 10;
+
+// A socket, and where the sides are. The client is known by its latest datagram.
 #[derive(Drop)]
 struct Ends {
     socket: UdpSocket,
@@ -27,43 +32,57 @@ struct Ends {
 }
 
 /// A wire over UDP at the address 127.0.0.1, which tells no content. What comes from the server's port is the server's,
-/// and anything else the client's. What is sent to the client goes to the address from which its first datagram came;
-/// before that one, what the server sends is passed over, and the receive answers `None`. What another client sends is
-/// the client's too, and nothing is sent to it.
+/// and anything else the client's. What is sent to the client goes to the address from which its latest datagram came,
+/// so a client may come again from another port. Two clients at once are as one: a datagram doesn't say to which of
+/// them its answer belongs, and each answer goes to the one that was heard last.
 ///
-/// A receive doesn't wait: where no datagram is there it rests for a fifth of a millisecond and answers `None`. A send
-/// that finds no room rests as long and tries again, 5,000 times in all, and stands still meanwhile. An interruption,
-/// and word that nobody listens where something was sent, are passed over.
+/// A receive doesn't wait: where no datagram is there it returns `None`. The clock of the same pulse rests in its
+/// place. A send that finds no room doesn't wait either: the datagram is kept, with those after it, and each receive
+/// tries again to send what is kept.
+///
+/// A datagram is lost, and counted, where the system says that nobody listens where it was sent, that it isn't
+/// permitted, or that it has no buffer for it; where no client is known to which it could go; and where too many are
+/// kept already. An interruption is passed over.
+///
+/// Where it was opened it says so on the standard error.
 ///
 /// Want of memory is no fault. Every other error is counted as one: a port that can't be had; a receive or a send
-/// before `open`; a send to a client that isn't known; a send that was tried so often, or that sent a part; one more
-/// receive than a `u64` counts; and any other error of the system's calls.
+/// before `open`; a send that took a part; one more receive than a `u64` counts; and any other error of the system's
+/// calls.
 #[derive(Drop)]
-pub struct UdpWire<R: Net + Time + Drop> {
+pub struct UdpWire<'a, R: Net + Eprint + Drop> {
     rt: R,
+    pulse: &'a Pulse,
     opened: Option<(u16, u16)>,
     ends: Option<Ends>,
+    unsent: Unsent,
     asked: u64,
     faults: u64,
+    lost: u64,
 }
 
 fn local(port: u16) -> SocketAddr {
     SocketAddr::from((Ipv4Addr::LOCALHOST, port))
 }
 
+// Asks the system for room for the datagrams that come to a socket. One that it refuses is as before.
+fn ask_for_room(socket: RawFd) {
+    let mut value = [0u8; 16];
+    value[..4].copy_from_slice(&ROOM.to_ne_bytes());
+    // The option's value is its first four bytes, an `int` of C.
+    unsafe {
+        setsockopt(socket, SOL_SOCKET, SO_RCVBUF, &value, 4);
+    }
+}
+
 impl Ends {
-    // The side at this address, where it is known.
-    fn side_at(&mut self, from: SocketAddr) -> Option<Side> {
-        if from != self.server {
-            if self.client.is_none() {
-                self.client = Some(from);
-            }
-            return Some(Side::Client);
+    // The side at this address. A client's is kept.
+    fn side_at(&mut self, from: SocketAddr) -> Side {
+        if from == self.server {
+            return Side::Server;
         }
-        if self.client.is_some() {
-            return Some(Side::Server);
-        }
-        None
+        self.client = Some(from);
+        Side::Client
     }
 
     // The next datagram, where one is there.
@@ -72,10 +91,7 @@ impl Ends {
     {
         for _ in 0..TRIES {
             match self.socket.recv_from(buf) {
-                Ok((count, from)) => {
-                    let side = self.side_at(from);
-                    return Ok(side.map(|side| (side, count)));
-                }
+                Ok((count, from)) => return Ok(Some((self.side_at(from), count))),
                 Err(error) if error.kind() == ErrorKind::WouldBlock => return Ok(None),
                 Err(error) if error.kind() == ErrorKind::Interrupted => {}
                 Err(error) if error.kind() == ErrorKind::ConnectionRefused => {}
@@ -85,40 +101,31 @@ impl Ends {
         Ok(None)
     }
 
-    // Sends a datagram.
-    fn give<T: Time>(&self, time: &T, side: Side, piece: &[u8]) -> io::Result<()> {
-        let to = match side {
-            Side::Client => self.client.ok_or(ErrorKind::NotConnected)?,
-            Side::Server => self.server,
-        };
-        for _ in 0..WAITS {
-            match self.socket.send_to(piece, to) {
-                Ok(count) if count == piece.len() => return Ok(()),
-                Ok(_) => return Err(io::Error::from(ErrorKind::WriteZero)),
-                Err(error) if error.kind() == ErrorKind::WouldBlock => {
-                    thread::sleep(time, Duration::from_micros(REST));
-                }
-                Err(error) if error.kind() == ErrorKind::Interrupted => {}
-                Err(error) if error.kind() == ErrorKind::ConnectionRefused => {}
-                Err(error) => return Err(error),
-            }
+    // Where a side is, if it is known.
+    fn address_of(&self, side: Side) -> Option<SocketAddr> {
+        match side {
+            Side::Client => self.client,
+            Side::Server => Some(self.server),
         }
-        Err(io::Error::from(ErrorKind::TimedOut))
     }
 }
 
-impl<R: Net + Time + Drop> UdpWire<R> {
-    /// A wire over the runtime's network, which isn't open yet.
-    pub fn new(rt: R) -> Self
+impl<'a, R: Net + Eprint + Drop> UdpWire<'a, R> {
+    /// A wire over the runtime's network, which isn't open yet, and tells this pulse what comes and leaves.
+    pub fn new(alloc: Global, rt: R, pulse: &'a Pulse) -> Self
         ensures counts { (result.asked ≡ 0) × (result.faults ≡ 0) }
+        ensures lost { result.lost ≡ 0 }
         ensures opened { result.opened ≡ None }
     {
         UdpWire {
             rt,
+            pulse,
             opened: None,
             ends: None,
+            unsent: Unsent::new(alloc),
             asked: 0,
             faults: 0,
+            lost: 0,
         }
     }
 
@@ -127,6 +134,13 @@ impl<R: Net + Time + Drop> UdpWire<R> {
     pub fn number(&self) -> Option<u16> {
         let address = self.ends.as_ref()?.socket.local_addr().ok()?;
         Some(address.port())
+    }
+
+    /// How many datagrams were lost as they were sent.
+    pub fn lost(&self) -> u64
+        ensures { result ≡ self.now.lost }
+    {
+        self.lost
     }
 
     // Counts a fault, unless memory was wanting.
@@ -146,7 +160,51 @@ impl<R: Net + Time + Drop> UdpWire<R> {
     fn bind(&self, listen: u16) -> io::Result<UdpSocket> {
         let socket = UdpSocket::bind(&self.rt, local(listen))?;
         socket.set_nonblocking(true)?;
+        ask_for_room(socket.as_raw_fd());
         Ok(socket)
+    }
+
+    // Says on the standard error that it is open. Where nobody can be told, nobody is.
+    fn say_opened(&self, to: u16) {
+        let listen = self.number().unwrap_or(0);
+        let _ = self.rt.eprintln(format_args!(
+            "mm-relay: listening at 127.0.0.1:{listen}, for the server at 127.0.0.1:{to}"
+        ));
+    }
+
+    /// Sends what is kept, and waits for room at most a second. What still finds none is lost.
+    pub fn finish(&mut self) {
+        for _ in 0..WAITS {
+            if self.send_kept().is_err() || self.unsent.is_empty() {
+                break;
+            }
+            self.wait_for_room();
+        }
+        self.lost = self.lost.saturating_add(self.unsent.len() as u64);
+    }
+
+    // Waits until there is room for a datagram, for ten milliseconds at most.
+    fn wait_for_room(&self) {
+        if let Some(ends) = &self.ends {
+            let mut asked = [pollfd {
+                fd: ends.socket.as_raw_fd(),
+                events: POLLOUT,
+                revents: 0,
+            }];
+            poll(&mut asked, WAIT);
+        }
+    }
+
+    // Sends what is kept, as far as there is room.
+    fn send_kept(&mut self) -> io::Result<()>
+        ensures same { (self.new.asked ≡ self.old.asked) × (self.new.faults ≡ self.old.faults) }
+        ensures opened { self.new.opened ≡ self.old.opened }
+    {
+        if let Some(ends) = &self.ends {
+            let lost = self.unsent.send_all(&ends.socket)?;
+            self.lost = self.lost.saturating_add(lost);
+        }
+        Ok(())
     }
 
     // The next datagram, where the receive can still be counted.
@@ -156,21 +214,47 @@ impl<R: Net + Time + Drop> UdpWire<R> {
         ensures same { (self.new.asked ≡ self.old.asked) × (self.new.faults ≡ self.old.faults) }
         ensures opened { self.new.opened ≡ self.old.opened }
     {
-        let Some(ends) = &mut self.ends else {
-            return Err(io::Error::from(ErrorKind::NotConnected));
-        };
         if self.asked == u64::MAX {
             return Err(io::Error::from(ErrorKind::Unsupported));
         }
+        self.send_kept()?;
+        let Some(ends) = &mut self.ends else {
+            return Err(io::Error::from(ErrorKind::NotConnected));
+        };
         let got = ends.take(buf)?;
-        if got.is_none() {
-            thread::sleep(&self.rt, Duration::from_micros(REST));
+        if got.is_some() {
+            self.pulse.came();
         }
         Ok(got)
     }
+
+    // Sends a datagram, or keeps it where there is no room, or counts it as lost.
+    fn send_or_keep(&mut self, side: Side, piece: &[u8]) -> io::Result<()>
+        ensures same { (self.new.asked ≡ self.old.asked) × (self.new.faults ≡ self.old.faults) }
+        ensures opened { self.new.opened ≡ self.old.opened }
+    {
+        let Some(ends) = &self.ends else {
+            return Err(io::Error::from(ErrorKind::NotConnected));
+        };
+        let given = match ends.address_of(side) {
+            Some(to) if self.unsent.is_empty() => give(&ends.socket, to, piece)?,
+            Some(_) => Given::Full,
+            None => Given::Lost,
+        };
+        let is_kept = match (given, ends.address_of(side)) {
+            (Given::Full, Some(to)) => self.unsent.keep(to, piece)?,
+            (given, _) => given == Given::Sent,
+        };
+        if is_kept {
+            self.pulse.left();
+        } else {
+            self.lost = self.lost.saturating_add(1);
+        }
+        Ok(())
+    }
 }
 
-impl<R: Net + Time + Drop> Wire for UdpWire<R> {
+impl<'a, R: Net + Eprint + Drop> Wire for UdpWire<'a, R> {
     ghost view = { λ w. record {
       opened = w.opened;
       told = None;
@@ -182,12 +266,14 @@ impl<R: Net + Time + Drop> Wire for UdpWire<R> {
     fn open(&mut self, listen: u16, to: u16) -> Result<(), EndError> {
         match self.bind(listen) {
             Ok(socket) => {
+                self.pulse.opened(socket.as_raw_fd());
                 self.ends = Some(Ends {
                     socket,
                     server: local(to),
                     client: None,
                 });
                 self.opened = Some((listen, to));
+                self.say_opened(to);
                 Ok(())
             }
             Err(error) => Err(self.refuse(error)),
@@ -205,10 +291,7 @@ impl<R: Net + Time + Drop> Wire for UdpWire<R> {
     }
 
     fn send(&mut self, side: Side, piece: &[u8]) -> Result<(), EndError> {
-        let Some(ends) = &self.ends else {
-            return Err(self.refuse(io::Error::from(ErrorKind::NotConnected)));
-        };
-        match ends.give(&self.rt, side, piece) {
+        match self.send_or_keep(side, piece) {
             Ok(()) => Ok(()),
             Err(error) => Err(self.refuse(error)),
         }

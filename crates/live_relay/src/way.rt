@@ -1,5 +1,5 @@
 // One direction of a relay: what passes it, and what of it was sent.
-ghost use Rattle.std.specs.Prelude.{◌≡◌, ◌≤◌, ◌++◌, length, drop, map, IfOk, IfSome, IsErrOf, OnErr};
+ghost use Rattle.std.specs.Prelude.{◌≡◌, ◌≤◌, ◌++◌, List, ℕ, length, map, IfOk, IfSome, IsErrOf, OnErr};
 ghost use Rattle.std.specs.Prelude.{OnOk};
 ghost use Rattle.std.specs.Option.{option_map};
 ghost use Rattle.mm_base.specs.Counts.{Rose};
@@ -9,16 +9,18 @@ ghost use Rattle.packet_record.specs.Streams.{no_items};
 ghost use Rattle.nest_spec.specs.Nests.{directions_of};
 ghost use Rattle.nest_line.specs.Lines.{IsSettled, up_to};
 ghost use Rattle.live_relay.specs.Due.{bytes_in};
-ghost use Rattle.live_relay.specs.inside.Ways.{EndsWay, GoesOn, item_in, StopsSending};
+ghost use Rattle.live_relay.specs.inside.Pieces.{Keeps};
+ghost use Rattle.live_relay.specs.inside.Ways.{EndsWay, GoesOn, item_in, StopsSending, waiting};
 ghost use Rattle.live_relay.specs.Wires.{CountsWireFaults, sending_all};
 
+use crate::kept::Kept;
 use crate::{Side, Wire};
 use mm_base::EndError;
 use nest_line::Line;
 use nest_spec::Nest;
 use packet_record::{Direction, Item, Row, Timed};
 use std::alloc::Global;
-use text_base::{Bytes, OutOfMemory};
+use text_base::OutOfMemory;
 
 // One direction of a nest, and how many of the packets that have left it were sent.
 #[derive(Drop)]
@@ -37,34 +39,29 @@ fn item_at(direction: Direction, moment: u64, row: Option<Row>) -> Item
     }
 }
 
-// The received bytes of a packet.
-fn piece_of<'a>(pieces: &'a [Bytes], packet: &Timed) -> &'a [u8]
-    ensures { result.now ≡ bytes_in pieces.now packet.now }
-{
-    match pieces.get((packet.packet.id as usize).saturating_sub(1)) {
-        Some(piece) => piece.as_slice(),
-        None => &[],
-    }
-}
-
-// Sends these packets to a side, in order.
+// Sends these packets to a side, in order. Their bytes go. It answers `OutOfMemory` also where the bytes of one aren't
+// kept, which no nest leads to: packets leave a direction in the order in which they entered it, each once.
 fn send_packets<W: Wire>(
     wire: &mut W,
     side: Side,
-    pieces: &[Bytes],
+    kept: &mut Kept,
     packets: &[Timed],
 ) -> Result<(), EndError>
-    ensures ok { OnOk result ((W.view wire.new).told
-        ≡ option_map (sending_all side (map (bytes_in pieces.now) packets.now)) (W.view wire.old).told) }
-    ensures err { OnErr result (StopsSending side (map (bytes_in pieces.now) packets.now) (W.view wire.old).told
-        (W.view wire.new).told) }
+    ensures ok { OnOk result ((all : List (List ℕ)) → Keeps all kept.old.pieces.items → (W.view wire.new).told
+        ≡ option_map (sending_all side (map (bytes_in all) packets.now)) (W.view wire.old).told) }
+    ensures err { OnErr result ((all : List (List ℕ)) → Keeps all kept.old.pieces.items → StopsSending side
+        (map (bytes_in all) packets.now) (W.view wire.old).told (W.view wire.new).told) }
+    ensures kept { (all : List (List ℕ)) → Keeps all kept.old.pieces.items → Keeps all kept.new.pieces.items }
     ensures asked { (W.view wire.new).asked ≡ (W.view wire.old).asked }
     ensures opened { (W.view wire.new).opened ≡ (W.view wire.old).opened }
     ensures counts { CountsWireFaults (W.view wire.old) (W.view wire.new) }
     ensures failed_cause { IsErrOf result EndError.Failed → Rose (W.view wire.old).faults (W.view wire.new).faults }
 {
     for packet in packets {
-        wire.send(side, piece_of(pieces, packet))?;
+        let Some(bytes) = kept.take(packet.packet.id) else {
+            return Err(EndError::OutOfMemory);
+        };
+        wire.send(side, bytes.as_slice())?;
     }
     Ok(())
 }
@@ -138,17 +135,18 @@ impl Way {
         &mut self,
         wire: &mut W,
         side: Side,
-        pieces: &[Bytes],
+        kept: &mut Kept,
         moment: u64,
     ) -> Result<(), EndError>
         requires { self.old.sent ≤ length (up_to moment self.old.line.departed) }
         ensures line { self.new.line ≡ self.old.line }
         ensures settled { IsSettled self.old.line }
         ensures sent { OnOk result (self.new.sent ≡ length (up_to moment self.old.line.departed)) }
-        ensures ok { OnOk result ((W.view wire.new).told ≡ option_map (sending_all side (map (bytes_in pieces.now)
-            (drop self.old.sent (up_to moment self.old.line.departed)))) (W.view wire.old).told) }
-        ensures err { OnErr result (StopsSending side (map (bytes_in pieces.now)
-            (drop self.old.sent (up_to moment self.old.line.departed))) (W.view wire.old).told (W.view wire.new).told) }
+        ensures ok { OnOk result ((all : List (List ℕ)) → Keeps all kept.old.pieces.items → (W.view wire.new).told
+            ≡ option_map (sending_all side (waiting all moment self.old)) (W.view wire.old).told) }
+        ensures err { OnErr result ((all : List (List ℕ)) → Keeps all kept.old.pieces.items
+            → StopsSending side (waiting all moment self.old) (W.view wire.old).told (W.view wire.new).told) }
+        ensures kept { (all : List (List ℕ)) → Keeps all kept.old.pieces.items → Keeps all kept.new.pieces.items }
         ensures asked { (W.view wire.new).asked ≡ (W.view wire.old).asked }
         ensures opened { (W.view wire.new).opened ≡ (W.view wire.old).opened }
         ensures counts { CountsWireFaults (W.view wire.old) (W.view wire.new) }
@@ -157,7 +155,7 @@ impl Way {
     {
         let departed = self.line.departed();
         let end = due_count(departed, self.sent, moment);
-        send_packets(wire, side, pieces, &departed[self.sent..end])?;
+        send_packets(wire, side, kept, &departed[self.sent..end])?;
         self.sent = end;
         Ok(())
     }

@@ -6,13 +6,19 @@ ghost use Rattle.std.specs.Prelude.{◌≡◌, IfOk, OnErr};
 ghost use Rattle.std.specs.Process.{exit_status};
 
 use command_relay::relay_main;
-use live_relay::{SysClock, UdpWire};
+use live_relay::{Pulse, SysClock, UdpWire, drops_at};
 use mm_base::{FileDisk, StdSink};
 use std::process::ExitCode;
-use std::{env, io};
+use std::{env, fs, io};
 
 // The exit status of want of memory.
 const OUT_OF_MEMORY: u8 = 9;
+
+// The variable of the environment that names a descriptor, whose end is the user's word to end.
+const END: &str = "MM_END_FD";
+
+// Where the system tells what it dropped at each UDP socket.
+const SOCKETS: &str = "/proc/net/udp";
 
 // The words after the program's name. Words of which one isn't UTF-8 have no job, as no words have none.
 fn read_words(rt: &HostRuntime) -> io::Result<Vec<String>> {
@@ -23,21 +29,82 @@ fn read_words(rt: &HostRuntime) -> io::Result<Vec<String>> {
     }
 }
 
+// The descriptor whose end is the user's word to end, where the environment names one.
+fn read_end(rt: &HostRuntime) -> Option<i32> {
+    let text = env::var(rt, END).ok()?;
+    let descriptor = text.parse::<i32>().ok()?;
+    if descriptor < 0 {
+        return None;
+    }
+    Some(descriptor)
+}
+
+// How many datagrams the system dropped at a port; 0 where it doesn't tell.
+fn drops_of(rt: &HostRuntime, port: Option<u16>) -> u64 {
+    let Some(port) = port else {
+        return 0;
+    };
+    match fs::read_to_string(rt, SOCKETS) {
+        Ok(text) => drops_at(&text, port).unwrap_or(0),
+        Err(_) => 0,
+    }
+}
+
+// Says on the standard error up to which moment datagrams have left.
+fn say_how_far(rt: &HostRuntime, clock: &SysClock<'_, HostRuntime>) -> io::Result<()> {
+    let moment = clock.moment();
+    if clock.is_ended() {
+        return eprintln!(rt;
+            "mm-relay: ended at {moment} ms; what was due later, up to the horizon, has left at once"
+        );
+    }
+    eprintln!(rt;
+        "mm-relay: what was due up to {moment} ms has left; later fates and lines of logs are computed"
+    )
+}
+
+// Says on the standard error how far the relay came, and how many datagrams were lost outside the nest.
+fn report(
+    rt: &HostRuntime,
+    clock: &SysClock<'_, HostRuntime>,
+    wire: &UdpWire<'_, HostRuntime>,
+) -> io::Result<()> {
+    say_how_far(rt, clock)?;
+    let dropped = drops_of(rt, wire.number());
+    if dropped > 0 {
+        eprintln!(rt;
+            "mm-relay: the system dropped {dropped} datagrams before the relay saw them"
+        )?;
+    }
+    let lost = wire.lost();
+    if lost > 0 {
+        eprintln!(rt; "mm-relay: {lost} datagrams were lost as they were sent")?;
+    }
+    Ok(())
+}
+
 // What the words make of the machine's files, its clock and its ports. An error is want of memory before the top call.
 fn run(rt: &HostRuntime) -> io::Result<u8> {
     let words = read_words(rt)?;
+    let pulse = Pulse::new();
     let mut out = StdSink::new(rt.stdout());
     let mut disk = FileDisk::new(rt.clone()?);
-    let mut wire = UdpWire::new(rt.clone()?);
-    let mut clock = SysClock::new(rt.clone()?);
-    Ok(relay_main(
+    let mut wire = UdpWire::new(rt.alloc(), rt.clone()?, &pulse);
+    let mut clock = SysClock::new(rt.clone()?, &pulse, read_end(rt));
+    let status = relay_main(
         rt.alloc(),
         &words,
         &mut disk,
         &mut out,
         &mut clock,
         &mut wire,
-    ))
+    );
+    wire.finish();
+    if status == 0 {
+        // Where nobody can be told, nobody is.
+        let _ = report(rt, &clock, &wire);
+    }
+    Ok(status)
 }
 
 // Ends the program with the status of the top call, or with that of want of memory before it.

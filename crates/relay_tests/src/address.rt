@@ -1,5 +1,5 @@
 // At which address of this machine a wire over UDP is open.
-use live_relay::{UdpWire, Wire};
+use live_relay::{Pulse, UdpWire, Wire};
 use std::io;
 use std::net::{Ipv4Addr, SocketAddr, UdpSocket};
 
@@ -13,7 +13,8 @@ fn is_refused(rt: &HostRuntime, address: Ipv4Addr, number: u16) -> io::Result<bo
 
 // Whether an open wire is at 127.0.0.1, and not at another address of this machine. `None`: it couldn't be opened.
 fn is_alone(rt: &HostRuntime) -> Option<bool> {
-    let mut wire = UdpWire::new(*rt);
+    let pulse = Pulse::new();
+    let mut wire = UdpWire::new(rt.alloc(), *rt, &pulse);
     wire.open(0, 9).ok()?;
     let number = wire.number()?;
     let here = is_refused(rt, Ipv4Addr::LOCALHOST, number).ok()?;

@@ -40,10 +40,10 @@ fn status_of(
     )
 }
 
-// How a wire was used: the ports that it opened, and how many datagrams were received, and sent to the server.
+// How a wire was used: the ports that it opened last, and how many datagrams were received, and sent to the server.
 #[derive(Clone, Copy)]
 struct Used {
-    opened: (u16, u16),
+    opened: Option<(u16, u16)>,
     received: usize,
     sent: usize,
 }
@@ -67,7 +67,7 @@ struct Case {
 fn is_used(wire: &MemWire, used: Option<Used>) -> bool {
     match used {
         Some(used) => {
-            wire.opened() == Some(used.opened)
+            wire.opened() == used.opened
                 && wire.received().len() == used.received
                 && wire.sent(Side::Server).len() == used.sent
         }
@@ -106,7 +106,7 @@ const DELAYED: Case = Case {
     printed: "packets 1 refused 0 end horizon\n",
     files: &[("f", "1 up departed 6\n")],
     used: Some(Used {
-        opened: (7, 9),
+        opened: Some((7, 9)),
         received: 3,
         sent: 1,
     }),
@@ -120,7 +120,7 @@ const LINKED: Case = Case {
     times: &Times::OneTurn,
     files: &[("f", "1 up departed 8\n"), ("u", BUSY)],
     used: Some(Used {
-        opened: (65_535, 1),
+        opened: Some((65_535, 1)),
         received: 1,
         sent: 1,
     }),
@@ -139,7 +139,7 @@ static DONE: [Case; 4] = [
             ("u", "# base timestamp: 0\n4 # 1504\n8 # 1504\n"),
         ],
         used: Some(Used {
-            opened: (65_535, 1),
+            opened: Some((65_535, 1)),
             received: 1,
             sent: 0,
         }),
@@ -152,7 +152,7 @@ static DONE: [Case; 4] = [
         printed: "packets 2 refused 1 end turns\n",
         files: &[("f", "1 up departed 5\n2 up departed 5\n")],
         used: Some(Used {
-            opened: (7, 9),
+            opened: Some((7, 9)),
             received: 4,
             sent: 2,
         }),
@@ -173,7 +173,7 @@ static THOUSANDS: Case = Case {
     printed: "packets 4000 refused 0 end turns\n",
     files: &[],
     used: Some(Used {
-        opened: (7, 9),
+        opened: Some((7, 9)),
         received: 4_000,
         sent: 0,
     }),
@@ -193,13 +193,19 @@ const FAILING: Case = Case {
     ..LINKED
 };
 
-// A delay whose wire fails as it opens, receives, or sends.
+// A delay whose wire fails as it opens, receives, or sends. It isn't opened again.
 const NET_FAULT: Case = Case {
     status: 8,
     printed: "mm: net fault\n",
     files: &[("f", ABSENT)],
-    used: None,
     ..DELAYED
+};
+
+// How a wire was used that was opened, and failed at its first receive.
+const FAILED: Used = Used {
+    opened: Some((7, 9)),
+    received: 0,
+    sent: 0,
 };
 
 static FAULTS: [Case; 8] = [
@@ -224,22 +230,39 @@ static FAULTS: [Case; 8] = [
     },
     Case {
         fails: (0, 0, 1),
+        used: Some(Used {
+            opened: None,
+            ..FAILED
+        }),
         ..NET_FAULT
     },
     Case {
         fails: (0, 0, 2),
+        used: Some(FAILED),
         ..NET_FAULT
     },
     Case {
         fails: (0, 0, 3),
+        used: Some(Used {
+            received: 1,
+            ..FAILED
+        }),
         ..NET_FAULT
     },
     Case {
         fails: (0, 0, 4),
+        used: Some(Used {
+            received: 2,
+            ..FAILED
+        }),
         ..NET_FAULT
     },
     Case {
         fails: (0, 0, 5),
+        used: Some(Used {
+            received: 3,
+            ..FAILED
+        }),
         ..NET_FAULT
     },
 ];

@@ -14,6 +14,7 @@ mod edges;
 mod ends;
 mod many;
 mod passed;
+mod rests;
 mod stops;
 
 // What a receive answers: the side and how many bytes.

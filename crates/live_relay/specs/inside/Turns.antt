@@ -1,7 +1,7 @@
 -- A relay between its turns, and what a turn leaves.
 use Rattle.std.specs.Prelude.{◌≡◌, ◌≤◌, ◌⊎◌, ℕ, ◌+◌, ◌++◌, List, [], ◌∷◌, Option, Some, length}
 use Rattle.std.specs.Option.{option_map}
-use Rattle.packet_record.specs.declared.item.FlowEnd.TheVariants.{Open, Ended}
+use Rattle.packet_record.specs.declared.item.FlowEnd.TheVariants.{Open}
 use Rattle.packet_record.specs.declared.packet.Direction.TheVariants.{Up, Down}
 use Rattle.nest_spec.specs.Nests.{NestParts, result_of}
 use Rattle.nest_spec.specs.Once.{HaveOneFate}
@@ -11,17 +11,17 @@ use Rattle.live_relay.specs.declared.outcome.RelayResult.{RelayResult}
 use Rattle.live_relay.specs.declared.relay_state.Relay.{Relay}
 use Rattle.live_relay.specs.declared.side.Side.TheVariants.{Client, Server}
 use Rattle.live_relay.specs.declared.stamps.Stamps.{Stamps}
-use Rattle.live_relay.specs.declared.way.Way.{Way}
 use Rattle.live_relay.specs.Due.{last_moment, pieces_of}
 use Rattle.live_relay.specs.Relays.{HasAsked, HasSent, HasSentSome}
 use Rattle.live_relay.specs.Stamped.{Turn, refused_of, rows_of, stamps_of}
+use Rattle.live_relay.specs.inside.Pieces.{KeepsBoth}
 use Rattle.live_relay.specs.inside.Stamped.{turn}
 use Rattle.live_relay.specs.inside.Ways.{IsCurrentWay, IsEndedWay, IsFedWay, StopsSending, waiting}
 use Rattle.live_relay.specs.Wires.{Datagram, WireTold, WireView, sending_all}
 
 pub record IsStamped (turns : List Turn) (s : Stamps) : Type 0 where
   pub rows : s.rows.items ≡ rows_of turns
-  pub pieces : s.pieces.items ≡ pieces_of (stamps_of turns)
+  pub kept : KeepsBoth (pieces_of (stamps_of turns)) s
   pub refused : s.refused ≡ refused_of turns
 
 -- These turns were taken, and all that was due in them was sent.
@@ -50,12 +50,12 @@ pub record HasEnded (nest : NestParts) (turns : List Turn) (old new : Relay) : T
   pub up : IsEndedWay nest Up (rows_of turns) old.up new.up
   pub down : IsEndedWay nest Down (rows_of turns) old.down new.down
 
--- what is still to be sent at this moment, to the server and to the client
-abbrev pub waits_up : ℕ → Relay → List (List ℕ)
-waits_up m r = waiting r.stamps.pieces.items m r.up
+-- what is still to be sent at this moment, to the server and to the client, where these were received
+abbrev pub waits_up : List (List ℕ) → ℕ → Relay → List (List ℕ)
+waits_up all m r = waiting all m r.up
 
-abbrev pub waits_down : ℕ → Relay → List (List ℕ)
-waits_down m r = waiting r.stamps.pieces.items m r.down
+abbrev pub waits_down : List (List ℕ) → ℕ → Relay → List (List ℕ)
+waits_down all m r = waiting all m r.down
 
 -- as many as were sent had left
 pub record KnowsSent (m : ℕ) (r : Relay) : Type 0 where
@@ -71,8 +71,11 @@ pub data StopsBoth (ups downs : List (List ℕ)) (old new : Option WireTold) : T
   AtServer : StopsSending Server ups old new → StopsBoth ups downs old new
   AtClient : StopsSending Client downs (option_map (sending_all Server ups) old) new → StopsBoth ups downs old new
 
+-- nothing is changed but what was sent, and what is kept of what was received
 pub record IsSameButSent (old new : Relay) : Type 0 where
-  pub stamps : new.stamps ≡ old.stamps
+  pub rows : new.stamps.rows.items ≡ old.stamps.rows.items
+  pub refused : new.stamps.refused ≡ old.stamps.refused
+  pub kept : (all : List (List ℕ)) → KeepsBoth all old.stamps → KeepsBoth all new.stamps
   pub up : new.up.line ≡ old.up.line
   pub down : new.down.line ≡ old.down.line
 

@@ -1,9 +1,9 @@
 -- One direction of a relay between its turns.
-use Rattle.std.specs.Prelude.{◌≡◌, ◌≤◌, ℕ, ◌++◌, List, [], Option, Some, None, length, drop, map}
+use Rattle.std.specs.Prelude.{◌≡◌, ◌≤◌, ℕ, ◌++◌, List, Option, Some, None, length, drop, map}
 use Rattle.std.specs.Prelude.{option_to_list, if◌then◌else◌}
 use Rattle.std.specs.Option.{option_map}
 use Rattle.packet_record.specs.declared.item.Item.{Item}
-use Rattle.packet_record.specs.declared.item.Item.TheVariants.{Packet, Mark, End}
+use Rattle.packet_record.specs.declared.item.Item.TheVariants.{Packet, Mark}
 use Rattle.packet_record.specs.declared.packet.Row.{Row}
 use Rattle.packet_record.specs.declared.packet.Direction.{Direction}
 use Rattle.packet_record.specs.declared.item.FlowEnd.TheVariants.{Open, Ended}

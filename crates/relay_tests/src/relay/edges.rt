@@ -1,34 +1,26 @@
-// The machine's clock and its network, of which no clause tells what they give.
+// The machine's network, of which no clause tells what it gives.
 ghost use Rattle.std.specs.Prelude.{◌≤◌, length};
 
-use live_relay::{Clock, Side, SysClock, UdpWire, Wire};
+use live_relay::{Pulse, Side, UdpWire, Wire, drops_at, is_loss};
 use mm_base::EndError;
 use std::io::{self, ErrorKind};
-use std::net::{Ipv4Addr, Net, SocketAddr, UdpSocket};
-use std::process::Abort;
+use std::net::{Ipv4Addr, SocketAddr, UdpSocket};
 use std::thread;
-use std::time::{Clock as Time, Duration};
+use std::time::Duration;
+
+// A wire of the machine.
+type RealWire<'a> = UdpWire<'a, HostRuntime>;
 
 // How often a test asks a real wire before it gives up.
 const ASKS: u32 = 20_000;
 
-// Whether a clock in milliseconds goes on while its thread sleeps.
-fn goes_on<A: Time, R: Time + Drop>(time: &A, clock: &mut SysClock<R>) -> bool {
-    let first = clock.now();
-    thread::sleep(time, Duration::from_millis(30));
-    let second = clock.now();
-    first < 2_000 && second < 5_000 && (29..=2_000).contains(&(second.saturating_sub(first)))
-}
-
-#[test]
-fn the_machine_has_a_clock_in_milliseconds(rt: HostRuntime) {
-    let mut clock = SysClock::new(rt.clone().expect(&rt, "a handle"));
-    assert!(rt; goes_on(&rt, &mut clock));
-}
+// How long it rests before it asks again, in microseconds.
+const REST: u64 = 200;
 
 // Asks until a datagram comes: whether it comes from this side, and has these bytes.
-fn receives<R: Net + Time + Drop>(
-    wire: &mut UdpWire<R>,
+pub(super) fn receives(
+    rt: &HostRuntime,
+    wire: &mut RealWire<'_>,
     side: Side,
     bytes: &[u8],
 ) -> Result<bool, EndError> {
@@ -37,12 +29,13 @@ fn receives<R: Net + Time + Drop>(
         if let Some((from, count)) = wire.receive(&mut buf)? {
             return Ok(from == side && buf.get(..count) == Some(bytes));
         }
+        thread::sleep(rt, Duration::from_micros(REST));
     }
     Ok(false)
 }
 
 // Whether no datagram comes, as often as it asks.
-fn is_silent<R: Net + Time + Drop>(wire: &mut UdpWire<R>, asks: u32) -> bool {
+pub(super) fn is_silent(wire: &mut RealWire<'_>, asks: u32) -> bool {
     let mut buf = [0u8; 8];
     for _ in 0..asks {
         if !matches!(wire.receive(&mut buf), Ok(None)) {
@@ -53,40 +46,36 @@ fn is_silent<R: Net + Time + Drop>(wire: &mut UdpWire<R>, asks: u32) -> bool {
 }
 
 // Sends to a side, without what the contract says of it.
-fn send<R: Net + Time + Drop>(
-    wire: &mut UdpWire<R>,
-    side: Side,
-    bytes: &[u8],
-) -> Result<(), EndError> {
+fn send(wire: &mut RealWire<'_>, side: Side, bytes: &[u8]) -> Result<(), EndError> {
     wire.send(side, bytes)
 }
 
 // The address of a wire that is open.
-fn address_of<R: Net + Time + Drop>(rt: &impl Abort, wire: &UdpWire<R>) -> SocketAddr {
-    let port = wire.number().expect(rt, "a port");
-    SocketAddr::from((Ipv4Addr::LOCALHOST, port))
+fn address_of(wire: &RealWire<'_>) -> Option<SocketAddr> {
+    Some(SocketAddr::from((Ipv4Addr::LOCALHOST, wire.number()?)))
 }
 
 // A socket of this machine, at a port that is free.
-fn socket_of<R: Net>(rt: &R) -> io::Result<UdpSocket> {
+fn socket_of(rt: &HostRuntime) -> io::Result<UdpSocket> {
     let socket = UdpSocket::bind(rt, SocketAddr::from((Ipv4Addr::LOCALHOST, 0)))?;
     socket.set_nonblocking(true)?;
     Ok(socket)
 }
 
-// Sends from a socket.
-fn send_from(rt: &impl Abort, socket: &UdpSocket, bytes: &[u8], to: SocketAddr) {
-    socket.send_to(bytes, to).expect(rt, "a datagram");
+// Sends from a socket to a wire.
+pub(super) fn send_from(socket: &UdpSocket, bytes: &[u8], wire: &RealWire<'_>) -> Option<()> {
+    socket.send_to(bytes, address_of(wire)?).ok()?;
+    Some(())
 }
 
 // Asks until a datagram comes: whether it has these bytes.
-fn hears<T: Time>(time: &T, socket: &UdpSocket, bytes: &[u8]) -> io::Result<bool> {
+fn hears(rt: &HostRuntime, socket: &UdpSocket, bytes: &[u8]) -> io::Result<bool> {
     let mut buf = [0u8; 8];
     for _ in 0..ASKS {
         match socket.recv_from(&mut buf) {
             Ok((count, _)) => return Ok(buf.get(..count) == Some(bytes)),
             Err(error) if error.kind() == ErrorKind::WouldBlock => {
-                thread::sleep(time, Duration::from_micros(200));
+                thread::sleep(rt, Duration::from_micros(REST));
             }
             Err(error) => return Err(error),
         }
@@ -95,74 +84,77 @@ fn hears<T: Time>(time: &T, socket: &UdpSocket, bytes: &[u8]) -> io::Result<bool
 }
 
 // The port of a socket.
-fn port_of(rt: &impl Abort, socket: &UdpSocket) -> u16 {
-    socket.local_addr().expect(rt, "an address").port()
+fn port_of(socket: &UdpSocket) -> Option<u16> {
+    Some(socket.local_addr().ok()?.port())
 }
 
 // A wire to a server at this port, itself at a port that is free.
-fn wire_to<A: Abort, R: Net + Time + Drop>(abort: &A, rt: R, port: u16) -> UdpWire<R> {
-    let mut wire = UdpWire::new(rt);
-    wire.open(0, port).expect(abort, "an open wire");
-    wire
+pub(super) fn wire_to<'a>(rt: &HostRuntime, pulse: &'a Pulse, port: u16) -> Option<RealWire<'a>> {
+    let mut wire = UdpWire::new(rt.alloc(), *rt, pulse);
+    wire.open(0, port).ok()?;
+    Some(wire)
 }
 
 // A server's socket, a wire to it, and two clients' sockets.
 #[derive(Drop)]
-struct Ends<R: Net + Time + Drop> {
-    server: UdpSocket,
-    first: UdpSocket,
-    second: UdpSocket,
-    wire: UdpWire<R>,
+pub(super) struct Ends<'a> {
+    pub server: UdpSocket,
+    pub first: UdpSocket,
+    pub second: UdpSocket,
+    pub wire: RealWire<'a>,
 }
 
-fn ends_by<A: Abort + Net, R: Net + Time + Drop>(abort: &A, rt: R) -> Ends<R> {
-    let server = socket_of(abort).expect(abort, "a socket");
-    let wire = wire_to(abort, rt, port_of(abort, &server));
-    Ends {
+pub(super) fn ends_by<'a>(rt: &HostRuntime, pulse: &'a Pulse) -> Option<Ends<'a>> {
+    let server = socket_of(rt).ok()?;
+    let wire = wire_to(rt, pulse, port_of(&server)?)?;
+    Some(Ends {
         server,
-        first: socket_of(abort).expect(abort, "a socket"),
-        second: socket_of(abort).expect(abort, "a socket"),
+        first: socket_of(rt).ok()?,
+        second: socket_of(rt).ok()?,
         wire,
-    }
+    })
 }
 
 // Sends from a socket to a wire: whether it comes from this side.
-fn comes_from<A: Abort, R: Net + Time + Drop>(
-    abort: &A,
-    wire: &mut UdpWire<R>,
+fn comes_from(
+    rt: &HostRuntime,
+    wire: &mut RealWire<'_>,
     side: Side,
     socket: &UdpSocket,
     bytes: &[u8],
-) -> bool {
-    send_from(abort, socket, bytes, address_of(abort, wire));
-    receives(wire, side, bytes).expect(abort, "a receive")
+) -> Option<bool> {
+    send_from(socket, bytes, wire)?;
+    receives(rt, wire, side, bytes).ok()
 }
 
 // Sends to a side of a wire: whether it comes to this socket.
-fn comes_to<A: Abort + Time, R: Net + Time + Drop>(
-    abort: &A,
-    wire: &mut UdpWire<R>,
+fn comes_to(
+    rt: &HostRuntime,
+    wire: &mut RealWire<'_>,
     side: Side,
     socket: &UdpSocket,
     bytes: &[u8],
-) -> bool {
-    send(wire, side, bytes).expect(abort, "a send");
-    hears(abort, socket, bytes).expect(abort, "a datagram")
+) -> Option<bool> {
+    send(wire, side, bytes).ok()?;
+    hears(rt, socket, bytes).ok()
 }
 
 // Whether datagrams pass both ways.
-fn gives_and_takes<A: Abort + Time, R: Net + Time + Drop>(abort: &A, ends: &mut Ends<R>) -> bool {
+fn gives_and_takes(rt: &HostRuntime) -> Option<bool> {
+    let pulse = Pulse::new();
+    let mut ends = ends_by(rt, &pulse)?;
     let wire = &mut ends.wire;
-    comes_from(abort, wire, Side::Client, &ends.first, b"abc")
-        && comes_to(abort, wire, Side::Server, &ends.server, b"de")
-        && comes_from(abort, wire, Side::Server, &ends.server, b"fghi")
-        && comes_to(abort, wire, Side::Client, &ends.first, b"j")
+    Some(
+        comes_from(rt, wire, Side::Client, &ends.first, b"abc")?
+            && comes_to(rt, wire, Side::Server, &ends.server, b"de")?
+            && comes_from(rt, wire, Side::Server, &ends.server, b"fghi")?
+            && comes_to(rt, wire, Side::Client, &ends.first, b"j")?,
+    )
 }
 
 #[test]
 fn a_wire_over_udp_gives_and_takes(rt: HostRuntime) {
-    let mut ends = ends_by(&rt, rt.clone().expect(&rt, "a handle"));
-    assert!(rt; gives_and_takes(&rt, &mut ends));
+    assert!(rt; gives_and_takes(&rt) == Some(true));
 }
 
 // Whether nothing has come to a socket.
@@ -171,39 +163,48 @@ fn is_unused(socket: &UdpSocket) -> bool {
     socket.recv_from(&mut buf).is_err()
 }
 
-// Whether what both clients send comes up, and what is sent to the client comes to the first one alone.
-fn knows_first<A: Abort + Time, R: Net + Time + Drop>(abort: &A, ends: &mut Ends<R>) -> bool {
+// Whether what both clients send comes up, and what is sent to the client comes to the one that was heard last.
+fn knows_latest(rt: &HostRuntime) -> Option<bool> {
+    let pulse = Pulse::new();
+    let mut ends = ends_by(rt, &pulse)?;
     let wire = &mut ends.wire;
-    comes_from(abort, wire, Side::Client, &ends.first, b"one")
-        && comes_from(abort, wire, Side::Client, &ends.second, b"two")
-        && comes_to(abort, wire, Side::Client, &ends.first, b"back")
-        && is_unused(&ends.second)
+    Some(
+        comes_from(rt, wire, Side::Client, &ends.first, b"one")?
+            && comes_from(rt, wire, Side::Client, &ends.second, b"two")?
+            && comes_from(rt, wire, Side::Server, &ends.server, b"three")?
+            && comes_to(rt, wire, Side::Client, &ends.second, b"back")?
+            && is_unused(&ends.first),
+    )
 }
 
 #[test]
-fn what_a_second_client_sends_comes_up_and_nothing_is_sent_to_it(rt: HostRuntime) {
-    let mut ends = ends_by(&rt, rt.clone().expect(&rt, "a handle"));
-    assert!(rt; knows_first(&rt, &mut ends));
+fn what_is_sent_to_the_client_comes_to_the_one_that_was_heard_last(rt: HostRuntime) {
+    assert!(rt; knows_latest(&rt) == Some(true));
 }
 
-// Whether what the server sends before any client isn't received, nothing can be sent to a client then, and what a
-// client sends later is received.
-fn passes_over<A: Abort, R: Net + Time + Drop>(abort: &A, ends: &mut Ends<R>) -> bool {
+// Whether what the server sends before any client is received, what is sent to a client then is lost, and what a client
+// sends later is received.
+fn loses_early(rt: &HostRuntime) -> Option<bool> {
+    let pulse = Pulse::new();
+    let mut ends = ends_by(rt, &pulse)?;
     let wire = &mut ends.wire;
-    send_from(abort, &ends.server, b"early", address_of(abort, wire));
-    is_silent(wire, 20)
-        && send(wire, Side::Client, b"c") == Err(EndError::Failed)
-        && comes_from(abort, wire, Side::Client, &ends.first, b"hello")
+    Some(
+        comes_from(rt, wire, Side::Server, &ends.server, b"early")?
+            && send(wire, Side::Client, b"c") == Ok(())
+            && wire.lost() == 1
+            && comes_from(rt, wire, Side::Client, &ends.first, b"hello")?
+            && comes_to(rt, wire, Side::Client, &ends.first, b"now")?
+            && wire.lost() == 1,
+    )
 }
 
 #[test]
-fn what_a_server_sends_before_any_client_is_passed_over(rt: HostRuntime) {
-    let mut ends = ends_by(&rt, rt.clone().expect(&rt, "a handle"));
-    assert!(rt; passes_over(&rt, &mut ends));
+fn what_is_sent_before_any_client_is_lost(rt: HostRuntime) {
+    assert!(rt; loses_early(&rt) == Some(true));
 }
 
 // Whether every call of a wire fails that isn't open.
-fn is_closed<R: Net + Time + Drop>(wire: &mut UdpWire<R>) -> bool {
+fn is_closed(wire: &mut RealWire<'_>) -> bool {
     let mut buf = [0u8; 8];
     wire.number().is_none()
         && wire.receive(&mut buf) == Err(EndError::Failed)
@@ -211,56 +212,83 @@ fn is_closed<R: Net + Time + Drop>(wire: &mut UdpWire<R>) -> bool {
 }
 
 // Whether a wire can't have the port of a socket.
-fn is_refused<A: Abort + Net, R: Net + Time + Drop>(abort: &A, wire: &mut UdpWire<R>) -> bool {
-    let taken = socket_of(abort).expect(abort, "a socket");
-    wire.open(port_of(abort, &taken), 9) == Err(EndError::Failed)
+fn is_refused(rt: &HostRuntime, wire: &mut RealWire<'_>) -> Option<bool> {
+    let taken = socket_of(rt).ok()?;
+    Some(wire.open(port_of(&taken)?, 9) == Err(EndError::Failed))
 }
 
 #[test]
 fn a_wire_that_is_not_open_fails(rt: HostRuntime) {
-    let mut wire = UdpWire::new(rt.clone().expect(&rt, "a handle"));
+    let pulse = Pulse::new();
+    let mut wire = UdpWire::new(rt.alloc(), rt, &pulse);
     assert!(rt; is_closed(&mut wire));
-    assert!(rt; is_refused(&rt, &mut wire));
+    assert!(rt; is_refused(&rt, &mut wire) == Some(true));
 }
 
-// How many milliseconds a hundred receives last to which nothing comes.
-fn silence_of<R: Net + Time + Drop>(
-    rt: &impl Abort,
-    wire: &mut UdpWire<R>,
-    clock: &mut SysClock<R>,
-) -> u64 {
-    let begun = clock.now();
-    assert!(rt; is_silent(wire, 100));
-    clock.now().saturating_sub(begun)
-}
+// What the system prints of its UDP sockets, without some columns in the middle: the one at port 40,001 has dropped
+// 2,226 datagrams.
+const SOCKETS: &str =
+    " sl local_address drops\n 119: 0100007F:9C42 00000000:0000 07 7\n 118: 0100007F:9C41 00000000:0000 07 2226\n";
 
 #[test]
-fn an_idle_receive_rests(rt: HostRuntime) {
-    let mut wire = wire_to(&rt, rt.clone().expect(&rt, "a handle"), 9);
-    let mut clock = SysClock::new(rt.clone().expect(&rt, "a handle"));
-    let lasted = silence_of(&rt, &mut wire, &mut clock);
-    assert!(rt; (20..=2_000).contains(&lasted), "it lasted {lasted} ms");
+fn the_drops_are_those_of_the_port(rt: HostRuntime) {
+    assert!(rt; drops_at(SOCKETS, 40_001) == Some(2_226));
+    assert!(rt; drops_at(SOCKETS, 40_002) == Some(7));
+    assert!(rt; drops_at(SOCKETS, 0).is_none());
+    assert!(rt; drops_at("", 40_001).is_none());
 }
 
-// Whether so many sends are taken, each before a receive to which nothing comes.
-fn is_lost<R: Net + Time + Drop>(wire: &mut UdpWire<R>, times: u32) -> bool {
+// A port at which nobody listens.
+fn free_port(rt: &HostRuntime) -> Option<u16> {
+    port_of(&socket_of(rt).ok()?)
+}
+
+// Whether so many sends to nobody are taken, each before a receive to which nothing comes.
+fn is_lost(rt: &HostRuntime, times: u32) -> Option<bool> {
+    let pulse = Pulse::new();
+    let mut wire = wire_to(rt, &pulse, free_port(rt)?)?;
     for _ in 0..times {
-        if send(wire, Side::Server, b"x").is_err() || !is_silent(wire, 1) {
-            return false;
+        if send(&mut wire, Side::Server, b"x").is_err() || !is_silent(&mut wire, 1) {
+            return Some(false);
         }
     }
-    true
-}
-
-// A port that is free: its socket is let go.
-fn free_port<A: Abort + Net>(rt: &A) -> u16 {
-    let socket = socket_of(rt).expect(rt, "a socket");
-    port_of(rt, &socket)
+    Some(true)
 }
 
 #[test]
 fn a_datagram_to_nobody_is_lost(rt: HostRuntime) {
-    let port = free_port(&rt);
-    let mut wire = wire_to(&rt, rt.clone().expect(&rt, "a handle"), port);
-    assert!(rt; is_lost(&mut wire, 3));
+    assert!(rt; is_lost(&rt, 3) == Some(true));
+}
+
+// The numbers of Linux's errors by which the network loses a datagram: not permitted, no way, no buffer, nobody there.
+const LOSSES: [i32; 5] = [1, 101, 105, 111, 113];
+
+// Those of others: interrupted, a bad descriptor, try again, no memory, a bad argument, too long a message.
+const FAULTS: [i32; 6] = [4, 9, 11, 12, 22, 90];
+
+#[test]
+fn what_the_network_loses_is_no_fault(rt: HostRuntime) {
+    assert!(rt;
+        LOSSES
+            .iter()
+            .all(|code| is_loss(&io::Error::from_raw_os_error(*code)))
+    );
+    assert!(rt;
+        !FAULTS
+            .iter()
+            .any(|code| is_loss(&io::Error::from_raw_os_error(*code)))
+    );
+}
+
+// Whether a wire that is opened at a port has that port.
+fn has_port(rt: &HostRuntime) -> Option<bool> {
+    let port = free_port(rt)?;
+    let pulse = Pulse::new();
+    let mut wire = UdpWire::new(rt.alloc(), *rt, &pulse);
+    Some(wire.open(port, 9).is_ok() && wire.number() == Some(port))
+}
+
+#[test]
+fn a_wire_has_the_port_that_it_was_opened_at(rt: HostRuntime) {
+    assert!(rt; has_port(&rt) == Some(true));
 }

@@ -1,10 +1,9 @@
-use Rattle.std.proofs.Common.{◌≡◌, ◌≤◌, ◌<◌, ◌+◌, ◌∙◌, inl, inr, ap, arith, length, sym, subst, refl}
+use Rattle.std.proofs.Common.{◌≡◌, ◌≤◌, ◌∙◌, inl, inr, ap, arith, length, subst, refl}
 use Rattle.std.proofs.Common.{List, rules}
 use Rattle.std.proofs.lemmas.Result.{on_err_weaker}
 use Rattle.mm_base.proofs.Then.{CountsFaults-none, CountsFaults-then}
 use Rattle.live_relay.specs.declared.outcome.RelayResult.{RelayResult}
 use Rattle.live_relay.specs.declared.side.Side.TheVariants.{Client, Server}
-use Rattle.live_relay.specs.Relays.{IsRelayed, IsStopped}
 use Rattle.packet_record.specs.declared.packet.Row.{Row}
 use Rattle.live_relay.specs.Stamped.{stamps_of}
 use Rattle.live_relay.proofs.Coursing.{course_begins, course_ends, course_passes, course_stops, course_turned}

@@ -1,4 +1,4 @@
-use Rattle.std.proofs.Common.{◌≡◌, ◌≤◌, ◌<◌, ◌+◌, length, arith, ap, get_or}
+use Rattle.std.proofs.Common.{◌≡◌, ◌≤◌, ◌<◌, arith, ap, get_or}
 use Rattle.packet_record.specs.declared.packet.Timed.{Timed}
 use Rattle.live_relay.proofs.UpTo.{counts_in, counts_out, up_to_short}
 use Rattle.live_relay.proofs.way.due_count.Goals as goal

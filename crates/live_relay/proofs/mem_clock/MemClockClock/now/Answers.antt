@@ -1,4 +1,4 @@
-use Rattle.std.proofs.Common.{◌≡◌, ◌≤◌, ◌∙◌, ◌∷◌, [], ap, sym, subst, ℕ, length, List}
+use Rattle.std.proofs.Common.{◌≡◌, ◌≤◌, ◌∙◌, ◌∷◌, [], ap, subst, ℕ, List}
 use Rattle.mm_base.specs.Counts.{one_more}
 use Rattle.live_relay.specs.Clocks.{Reads}
 use Rattle.live_relay.specs.MemClocks.{MemClockState, answer_at, latest_of, mem_clock_view}

@@ -1,4 +1,3 @@
-use Rattle.std.proofs.Common.{refl}
 use Rattle.packet_record.specs.declared.packet.Direction.TheVariants.{Up, Down}
 use Rattle.live_relay.proofs.Turning.{first_way}
 use Rattle.live_relay.proofs.relay_state.Relay.new.Goals as goal
@@ -9,7 +8,7 @@ returns c =
     let up = c.in_ok-up.ensures in
     let down = c.in_ok-down.ensures in
     record {
-      stamps = record { rows = stamps.0; pieces = stamps.1; refused = stamps.2 };
+      stamps = record { rows = stamps.empty.0; kept = stamps.kept; refused = stamps.empty.1 };
       up = first_way c.args.nest.now Up c.in_ok-up.up up.specs up.horizon up.fed up.sent up.settled;
       down = first_way c.args.nest.now Down c.in_ok-down.down down.specs down.horizon down.fed down.sent down.settled;
     }

@@ -1,8 +1,6 @@
 use Rattle.std.proofs.Common.{◌≡◌, ◌∙◌, ℕ, List, Option, length, option_map, subst}
-use Rattle.live_relay.specs.inside.Stamped.{turn}
 use Rattle.live_relay.specs.Wires.{Datagram, WireTold, datagram_in, receiving}
 use Rattle.live_relay.proofs.Results.{on_err_any}
-use Rattle.live_relay.proofs.SendLemmas.{same_map}
 use Rattle.live_relay.proofs.Turning.{knows_fed, stops_passing, stops_receiving, stops_sending, turned}
 use Rattle.live_relay.proofs.relay_state.Relay.turn.Goals as goal
 
@@ -41,7 +39,7 @@ returns-in_err-send_due-clause-err g c = on_err_any _ c.from_residual-in_err-sen
     (got_told (g.W.Wire.view c.args.wire.now).told (g.W.Wire.view c.receive.new.self).told
     (datagram_in c.receive.new.buf c.in_ok-got.got) c.args.buf.now c.receive.new.buf c.requires.room
     c.receive.auto.buf c.in_ok-got.ensures.told)
-    c.in_ok-got.ensures.asked e.err e.asked)
+    c.in_ok-got.ensures.asked (e.err _ (c.in_ok-relay.ensures turns current).stamps.kept) e.asked)
 
 pub returns-clause-ok : goal.returns-clause-ok
 returns-clause-ok g c = λ turns current le.
@@ -53,4 +51,4 @@ returns-clause-ok g c = λ turns current le.
     (got_told (g.W.Wire.view c.args.wire.now).told (g.W.Wire.view c.receive.new.self).told
     (datagram_in c.receive.new.buf c.in_ok-got.got) c.args.buf.now c.receive.new.buf c.requires.room
     c.receive.auto.buf c.in_ok-got.ensures.told)
-    c.in_ok-got.ensures.asked e.ok e.asked
+    c.in_ok-got.ensures.asked (e.ok _ (c.in_ok-relay.ensures turns current).stamps.kept) e.asked

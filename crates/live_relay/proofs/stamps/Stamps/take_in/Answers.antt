@@ -1,4 +1,4 @@
-use Rattle.std.proofs.Common.{◌≡◌, ◌≤◌, ◌+◌, ◌∙◌, ◌++◌, List, ℕ, Option, Some, ap, sym, length, arith, rules}
+use Rattle.std.proofs.Common.{◌≡◌, ◌≤◌, ◌+◌, ◌∙◌, ◌++◌, ◌∷◌, [], List, ℕ, Option, Some, ap, sym, length, arith, rules}
 use Rattle.packet_record.specs.declared.packet.Row.{Row}
 use Rattle.live_relay.specs.declared.side.Side.{Side}
 use Rattle.live_relay.specs.Stamped.{rows_from, stamped_at}
@@ -19,7 +19,11 @@ returns-clause-row c =
     (stamped_at c.args.moment (datagram_in c.args.buf.now o))) (sym is)
 
 pub returns-clause-rows : goal.returns-clause-rows
-returns-clause-rows c = c.in_ok-push-2.ensures.items
+returns-clause-rows c = c.in_ok-push.ensures.items
+    ∙ ap (λ (l : List Row). l ++ record {
+      direction = c.direction.result;
+      timed = record { moment = c.args.moment; packet = c.in-Some-packet_after.packet };
+    } ∷ []) c.in_ok-keep.ensures.same.0
     ∙ ap (λ (l : List Row). c.args.self.now.rows.items ++ l) (returns-clause-row c)
 
 pub returns-in_default-packet_after-clause-refused : goal.returns-in_default-packet_after-clause-refused

@@ -1,4 +1,4 @@
-use Rattle.std.proofs.Common.{◌≡◌, ◌∙◌, ◌-◌, List, Option, ap, sym, subst, map, take, drop, length, rules}
+use Rattle.std.proofs.Common.{◌∙◌, List, ap, sym, subst, map, drop, rules}
 use Rattle.std.specs.Option.{option_map}
 use Rattle.packet_record.specs.declared.packet.Timed.{Timed}
 use Rattle.packet_record.specs.Moments.{Rise}
@@ -18,10 +18,10 @@ returns-in_err-send_packets-clause-err g c =
     (subst (λ (l : List Timed). Rise l) (sym c.departed-departed.ensures.departed)
     c.departed-departed.ensures.settled.rises) c.due_count-end.ensures.known c.due_count-end.ensures.count in
     on_err_any _ c.from_residual.result
-    (subst (λ (l : List Timed). StopsSending c.args.side (map (bytes_in c.args.pieces.now) l)
+    (λ all keeps. subst (λ (l : List Timed). StopsSending c.args.side (map (bytes_in all) l)
     (g.W.Wire.view c.args.wire.now).told (g.W.Wire.view c.send_packets.new.wire).told)
     (rest ∙ ap (λ (l : List Timed). drop w.sent (up_to c.args.moment l)) c.departed-departed.ensures.departed)
-    c.in_err-send_packets.ensures.err)
+    (c.in_err-send_packets.ensures.err all keeps))
 
 pub returns-clause-ok : goal.returns-clause-ok
 returns-clause-ok g c =
@@ -30,8 +30,8 @@ returns-clause-ok g c =
     let rest = up_to_rest c.args.moment w.sent c.due_count-end.result d
     (subst (λ (l : List Timed). Rise l) (sym c.departed-departed.ensures.departed)
     c.departed-departed.ensures.settled.rises) c.due_count-end.ensures.known c.due_count-end.ensures.count in
-    c.in_ok-send_packets.ensures.ok
-    ∙ ap (λ (l : List Timed). option_map (sending_all c.args.side (map (bytes_in c.args.pieces.now) l))
+    λ all keeps. c.in_ok-send_packets.ensures.ok all keeps
+    ∙ ap (λ (l : List Timed). option_map (sending_all c.args.side (map (bytes_in all) l))
     (g.W.Wire.view c.args.wire.now).told)
     (rest ∙ ap (λ (l : List Timed). drop w.sent (up_to c.args.moment l)) c.departed-departed.ensures.departed)
 
