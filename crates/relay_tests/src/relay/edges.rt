@@ -142,13 +142,17 @@ fn comes_to(
 // Whether datagrams pass both ways.
 fn gives_and_takes(rt: &HostRuntime) -> Option<bool> {
     let pulse = Pulse::new();
-    let mut ends = ends_by(rt, &pulse)?;
-    let wire = &mut ends.wire;
+    let Ends {
+        server,
+        first,
+        mut wire,
+        ..
+    } = ends_by(rt, &pulse)?;
     Some(
-        comes_from(rt, wire, Side::Client, &ends.first, b"abc")?
-            && comes_to(rt, wire, Side::Server, &ends.server, b"de")?
-            && comes_from(rt, wire, Side::Server, &ends.server, b"fghi")?
-            && comes_to(rt, wire, Side::Client, &ends.first, b"j")?,
+        comes_from(rt, &mut wire, Side::Client, &first, b"abc")?
+            && comes_to(rt, &mut wire, Side::Server, &server, b"de")?
+            && comes_from(rt, &mut wire, Side::Server, &server, b"fghi")?
+            && comes_to(rt, &mut wire, Side::Client, &first, b"j")?,
     )
 }
 
@@ -166,14 +170,18 @@ fn is_unused(socket: &UdpSocket) -> bool {
 // Whether what both clients send comes up, and what is sent to the client comes to the one that was heard last.
 fn knows_latest(rt: &HostRuntime) -> Option<bool> {
     let pulse = Pulse::new();
-    let mut ends = ends_by(rt, &pulse)?;
-    let wire = &mut ends.wire;
+    let Ends {
+        server,
+        first,
+        second,
+        mut wire,
+    } = ends_by(rt, &pulse)?;
     Some(
-        comes_from(rt, wire, Side::Client, &ends.first, b"one")?
-            && comes_from(rt, wire, Side::Client, &ends.second, b"two")?
-            && comes_from(rt, wire, Side::Server, &ends.server, b"three")?
-            && comes_to(rt, wire, Side::Client, &ends.second, b"back")?
-            && is_unused(&ends.first),
+        comes_from(rt, &mut wire, Side::Client, &first, b"one")?
+            && comes_from(rt, &mut wire, Side::Client, &second, b"two")?
+            && comes_from(rt, &mut wire, Side::Server, &server, b"three")?
+            && comes_to(rt, &mut wire, Side::Client, &second, b"back")?
+            && is_unused(&first),
     )
 }
 
@@ -186,14 +194,18 @@ fn what_is_sent_to_the_client_comes_to_the_one_that_was_heard_last(rt: HostRunti
 // sends later is received.
 fn loses_early(rt: &HostRuntime) -> Option<bool> {
     let pulse = Pulse::new();
-    let mut ends = ends_by(rt, &pulse)?;
-    let wire = &mut ends.wire;
+    let Ends {
+        server,
+        first,
+        mut wire,
+        ..
+    } = ends_by(rt, &pulse)?;
     Some(
-        comes_from(rt, wire, Side::Server, &ends.server, b"early")?
-            && send(wire, Side::Client, b"c") == Ok(())
+        comes_from(rt, &mut wire, Side::Server, &server, b"early")?
+            && send(&mut wire, Side::Client, b"c") == Ok(())
             && wire.lost() == 1
-            && comes_from(rt, wire, Side::Client, &ends.first, b"hello")?
-            && comes_to(rt, wire, Side::Client, &ends.first, b"now")?
+            && comes_from(rt, &mut wire, Side::Client, &first, b"hello")?
+            && comes_to(rt, &mut wire, Side::Client, &first, b"now")?
             && wire.lost() == 1,
     )
 }

@@ -1,5 +1,5 @@
 // The machine's clock: how long it rests beside a wire, what it counts, and what ends it.
-use super::edges::{ends_by, is_silent, receives, send_from, wire_to};
+use super::edges::{Ends, ends_by, is_silent, receives, send_from, wire_to};
 use live_relay::{Clock, Pulse, Side, SysClock};
 use std::io::{Write, pipe};
 use std::os::fd::AsRawFd;
@@ -112,20 +112,23 @@ fn a_clock_rests_longer_after_a_silent_second(rt: HostRuntime) {
 // or else a datagram waits. Each comes soon after a millisecond has begun.
 fn quick_readings(rt: &HostRuntime, received: bool) -> Option<u32> {
     let pulse = Pulse::new();
-    let mut ends = ends_by(rt, &pulse)?;
+    let Ends {
+        first,
+        mut wire,
+        ..
+    } = ends_by(rt, &pulse)?;
     let mut clock = SysClock::new(*rt, &pulse, None);
     let mut quick = 0u32;
     for _ in 0..100 {
         clock.now();
-        let wire = &mut ends.wire;
-        send_from(&ends.first, b"x", wire)?;
-        if received && !receives(rt, wire, Side::Client, b"x").ok()? {
+        send_from(&first, b"x", &wire)?;
+        if received && !receives(rt, &mut wire, Side::Client, b"x").ok()? {
             return None;
         }
         if reading_of(rt, &mut clock)? < 300 {
             quick = quick.saturating_add(1);
         }
-        if !received && !receives(rt, wire, Side::Client, b"x").ok()? {
+        if !received && !receives(rt, &mut wire, Side::Client, b"x").ok()? {
             return None;
         }
         clock.now();
