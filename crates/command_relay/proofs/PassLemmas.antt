@@ -1,12 +1,11 @@
 -- What opening the wire leaves for the relay.
-use Rattle.std.proofs.Common.{◌≡◌, ◌⊎◌, ◌↔◌, inl, inr, ℕ, ◌+◌, ◌<◌, ◌≤◌, List, [], ◌∷◌, Option, Some, Result, Ok}
-use Rattle.std.proofs.Common.{Err, IfOk, length, map, ap, refl, subst, sym, ◌∙◌, arith}
+use Rattle.std.proofs.Common.{◌≡◌, ◌⊎◌, ◌↔◌, inl, inr, ℕ, ◌+◌, ◌<◌, ◌≤◌, List, Some}
+use Rattle.std.proofs.Common.{length, refl, subst, ◌∙◌, arith}
 use Rattle.mm_base.specs.Counts.{Rose}
 use Rattle.mm_base.specs.declared.errors.EndError.{EndError}
 use Rattle.mm_base.specs.declared.errors.EndError.TheVariants as wires
 use Rattle.nest_spec.specs.Nests.{NestParts}
 use Rattle.live_relay.specs.Clocks.{ClockView}
-use Rattle.live_relay.specs.Due.{last_moment}
 use Rattle.live_relay.specs.Relays.{AreWithin, EndsBy, IfTold, IsRelayed, IsStopped}
 use Rattle.live_relay.specs.Stamped.{Turn}
 use Rattle.live_relay.specs.Wires.{WireTold, WireView}
@@ -20,7 +19,7 @@ use Rattle.live_relay.proofs.Coursing.{stops_first}
 use Rattle.command_ends.specs.declared.cause.Cause.{Cause}
 use Rattle.command_ends.specs.declared.cause.Cause.TheVariants.{NetFault, OutOfMemory}
 use Rattle.command_relay.specs.Jobs.{RelayJob}
-use Rattle.command_relay.specs.Relaying.{HasRelayed, HasStopped, RelayNet, net}
+use Rattle.command_relay.specs.Relaying.{HasRelayed, HasStopped, net}
 use Rattle.command_relay.specs.inside.Relaying.{cause_of_relay, cause_of_wire}
 
 -- what is told from an opened wire on is told from the wire before

@@ -15,12 +15,11 @@ use Rattle.nest_spec.specs.declared.error.NestError.TheVariants as nest_errors
 use Rattle.live_relay.specs.declared.outcome.RelayResult.{RelayResult}
 use Rattle.command_ends.specs.Causes.{Text, status_of_refusal}
 use Rattle.command_ends.specs.Ends.{Ends, Finishes, IsStopped, Serving, outside}
-use Rattle.command_ends.specs.Readings.{Reading, Done, Refuses, Reaches, AtTask, asked, unless}
+use Rattle.command_ends.specs.Readings.{Reading, Done, Refuses, Reaches, AtTask, unless}
 use Rattle.command_ends.specs.inside.Readings.{Leads}
 use Rattle.command_ends.specs.Stops.{RefusesText, StopsReading, ReadingWants}
 use Rattle.command_ends.specs.declared.cause.Cause.{Cause}
 use Rattle.command_ends.specs.declared.cause.Cause.TheVariants.{Refused, NetFault, OutOfMemory}
-use Rattle.command_ends.specs.declared.cause.Refusal.{Refusal}
 use Rattle.command_ends.proofs.CountLemmas.{reads_none}
 use Rattle.command_ends.proofs.EndLemmas.{keeps}
 use Rattle.command_ends.proofs.ReadingLemmas.{HasOneEnd, RefusesNoWords, RefusesWordsFirst, asked_first, first_one}
@@ -36,7 +35,7 @@ use Rattle.nest_command.proofs.NestLemmas.{count_text, count_within, horizon_tex
 use Rattle.command_relay.specs.Jobs.{RelayJob, relay_of}
 use Rattle.command_relay.specs.Lines.{relay_line}
 use Rattle.command_relay.specs.inside.Loaded.{HasNest}
-use Rattle.command_relay.specs.Relaying.{GivesRelay, HasRelayed, HasStopped, RelayNet, RelayTask, nest_for}
+use Rattle.command_relay.specs.Relaying.{HasRelayed, HasStopped, RelayNet, RelayTask}
 use Rattle.command_relay.specs.Relaying.{refused_outputs, relay_inputs, relay_reading, relay_words, relay_work}
 
 -- a relay's reading after its nest is known

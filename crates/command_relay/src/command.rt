@@ -50,7 +50,7 @@ fn run<D: Disk, O: Sink, C: Clock, W: Wire>(
 }
 
 // Does what the words say.
-fn answer<D: Disk, O: Sink, C: Clock, W: Wire>(
+pub(crate) fn answer<D: Disk, O: Sink, C: Clock, W: Wire>(
     alloc: Global,
     words: &[String],
     disk: &mut D,

@@ -1,12 +1,14 @@
-//! The program `mm`: its words, the files of the machine, the standard output and a port of this machine, given to the
-//! top call.
+//! The program `mm`: its words, the files of the machine, the standard output, the standard error and a port of this
+//! machine, given to the top call.
 #![tactic(auto)]
 
 ghost use Rattle.std.specs.Prelude.{◌≡◌, IfOk, OnErr};
 ghost use Rattle.std.specs.Process.{exit_status};
 
 use mm_base::{FileDisk, NoPace, StdSink, TcpPort};
-use mm_program::mm_main;
+use mm_program::mm_main_told;
+use refusal_lines::{reason_of, system_reason, tell_reason};
+use refusal_words::Program;
 use std::marker::Sync;
 use std::process::ExitCode;
 use std::sync::Wait;
@@ -32,7 +34,8 @@ fn run<T: Threads + Wait + Sync>(threads: &T, rt: &HostRuntime) -> io::Result<u8
     let mut out = StdSink::new(rt.stdout());
     let mut disk = FileDisk::new(rt.clone()?);
     let mut port = TcpPort::new(rt.clone()?);
-    Ok(mm_main(
+    let mut told = StdSink::new(rt.stderr());
+    let ending = mm_main_told(
         threads,
         rt.alloc(),
         &words,
@@ -40,7 +43,17 @@ fn run<T: Threads + Wait + Sync>(threads: &T, rt: &HostRuntime) -> io::Result<u8
         &mut out,
         &mut port,
         &NoPace,
-    ))
+        &mut told,
+    );
+    let reason = match ending.status {
+        6 | 7 => disk.last_error().and_then(reason_of),
+        8 => port.last_error().and_then(system_reason),
+        _ => None,
+    };
+    if let Some(reason) = reason {
+        let _ = tell_reason(Program::Mm, reason, &mut told);
+    }
+    Ok(ending.status)
 }
 
 // Ends the program with the status of the top call, or with that of want of memory before it.

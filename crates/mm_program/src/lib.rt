@@ -2,6 +2,8 @@
 #![tactic(auto)]
 
 mod command;
+mod telling;
 mod top;
 
+pub use telling::mm_main_told;
 pub use top::mm_main;

@@ -29,7 +29,7 @@ use std::sync::Wait;
 use std::thread::Threads;
 
 // Does what the words say.
-fn answer<R: Threads + Wait + Sync, D: Disk, O: Sink, P: Port + Send, Q: Pace + Sync>(
+pub(crate) fn answer<R: Threads + Wait + Sync, D: Disk, O: Sink, P: Port + Send, Q: Pace + Sync>(
     rt: &R,
     alloc: Global,
     words: &[String],

@@ -1,12 +1,14 @@
-//! The program `mm-record`: its words, the files of the machine, the standard output, a port of this machine and the
-//! ports that it dials, given to the top call.
+//! The program `mm-record`: its words, the files of the machine, the standard output and error, a port of this machine
+//! and the ports that it dials, given to the top call.
 #![tactic(auto)]
 
 ghost use Rattle.std.specs.Prelude.{◌≡◌, IfOk, OnErr};
 ghost use Rattle.std.specs.Process.{exit_status};
 
 use mm_base::{FileDisk, StdSink, TcpPort};
-use record_proxy::{TcpDialer, proxy_main};
+use record_proxy::{TcpDialer, proxy_main_told};
+use refusal_lines::{reason_of, system_reason, tell_reason};
+use refusal_words::Program;
 use std::process::ExitCode;
 use std::{env, io};
 
@@ -29,14 +31,25 @@ fn run(rt: &HostRuntime) -> io::Result<u8> {
     let mut disk = FileDisk::new(rt.clone()?);
     let mut port = TcpPort::new(rt.clone()?);
     let mut dialer = TcpDialer::new(rt.clone()?);
-    Ok(proxy_main(
+    let mut told = StdSink::new(rt.stderr());
+    let ending = proxy_main_told(
         rt.alloc(),
         &words,
         &mut disk,
         &mut out,
         &mut port,
         &mut dialer,
-    ))
+        &mut told,
+    );
+    let reason = match ending.status {
+        6 | 7 => disk.last_error().and_then(reason_of),
+        8 => port.last_error().and_then(system_reason),
+        _ => None,
+    };
+    if let Some(reason) = reason {
+        let _ = tell_reason(Program::Record, reason, &mut told);
+    }
+    Ok(ending.status)
 }
 
 // Ends the program with the status of the top call, or with that of want of memory before it.

@@ -1,13 +1,15 @@
-//! The program `mm-relay`: its words, the files of the machine, the standard output, the machine's clock and its UDP
-//! ports, given to the top call.
+//! The program `mm-relay`: its words, the files of the machine, the standard output and error, the machine's clock
+//! and its UDP ports, given to the top call.
 #![tactic(auto)]
 
 ghost use Rattle.std.specs.Prelude.{◌≡◌, IfOk, OnErr};
 ghost use Rattle.std.specs.Process.{exit_status};
 
-use command_relay::relay_main;
+use command_relay::relay_main_told;
 use live_relay::{Pulse, SysClock, UdpWire, drops_at};
 use mm_base::{FileDisk, StdSink};
+use refusal_lines::{reason_of, tell_reason};
+use refusal_words::Program;
 use std::process::ExitCode;
 use std::{env, fs, io};
 
@@ -91,20 +93,29 @@ fn run(rt: &HostRuntime) -> io::Result<u8> {
     let mut disk = FileDisk::new(rt.clone()?);
     let mut wire = UdpWire::new(rt.alloc(), rt.clone()?, &pulse);
     let mut clock = SysClock::new(rt.clone()?, &pulse, read_end(rt));
-    let status = relay_main(
+    let mut told = StdSink::new(rt.stderr());
+    let ending = relay_main_told(
         rt.alloc(),
         &words,
         &mut disk,
         &mut out,
         &mut clock,
         &mut wire,
+        &mut told,
     );
     wire.finish();
-    if status == 0 {
+    if ending.status == 0 {
         // Where nobody can be told, nobody is.
         let _ = report(rt, &clock, &wire);
     }
-    Ok(status)
+    let reason = match ending.status {
+        6 | 7 => disk.last_error().and_then(reason_of),
+        _ => None,
+    };
+    if let Some(reason) = reason {
+        let _ = tell_reason(Program::Relay, reason, &mut told);
+    }
+    Ok(ending.status)
 }
 
 // Ends the program with the status of the top call, or with that of want of memory before it.

@@ -18,8 +18,8 @@ use Rattle.record_proxy.specs.inside.Progress.{History, Taken, Stands, IsEndAt}
 use Rattle.record_proxy.specs.declared.ends.ProxyEnd.{ProxyEnd}
 use Rattle.record_proxy.specs.declared.ends.ProxyEnd.TheVariants.{Closed, BadRequest, ClientFault, Full}
 use Rattle.record_proxy.proofs.HistoryLemmas.{side, history_read, history_ended, history_refused, at_end}
-use Rattle.record_proxy.proofs.TextLemmas.{begun, sent_whole, got_whole}
-use Rattle.record_proxy.proofs.StandLemmas.{sides, ends_cut, cut_now, stored_here, brought}
+use Rattle.record_proxy.proofs.TextLemmas.{sent_whole, got_whole}
+use Rattle.record_proxy.proofs.StandLemmas.{sides, ends_cut, cut_now, stored_here}
 
 -- the input ended between requests, or within one
 left_so : (A B : Type 0) (s : Sides) (es : List Exchange) (rest : List ℕ) → IsIdle s es rest → A

@@ -10,7 +10,6 @@ use Rattle.record_proxy.specs.Links.{Links, IsStored}
 use Rattle.record_proxy.specs.inside.Progress.{Stands, Progress, taken_of}
 use Rattle.record_proxy.specs.declared.talk.Talk.{Talk}
 use Rattle.record_proxy.proofs.HistoryLemmas.{side, history_start}
-use Rattle.record_proxy.proofs.TextLemmas.{begun}
 use Rattle.record_proxy.proofs.StandLemmas.{stored_cut, progress_idle}
 
 abbrev pub first_talk : Talk

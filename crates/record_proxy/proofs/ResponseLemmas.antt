@@ -1,5 +1,5 @@
 -- A response of the server is passed on, or refused.
-use Rattle.std.proofs.Common.{◌≡◌, ◌∙◌, ◌<◌, ◌≤◌, inl, inr, ℕ, ◌+◌, true, false, List, [], ◌∷◌, ◌++◌, map, Option, Some}
+use Rattle.std.proofs.Common.{◌≡◌, ◌∙◌, ◌<◌, ◌≤◌, inl, inr, ℕ, true, false, List, [], ◌∷◌, ◌++◌, map, Option, Some}
 use Rattle.std.proofs.Common.{None, Ok, Err, refl, sym, ap, append_assoc, append-nil}
 use Rattle.std.specs.Prelude.{All, Result}
 use Rattle.std.specs.Option.{option_map}

@@ -18,8 +18,7 @@ use Rattle.record_proxy.specs.inside.Progress.{Taken, Stands, IsEndAt}
 use Rattle.record_proxy.specs.declared.ends.ProxyEnd.{ProxyEnd}
 use Rattle.record_proxy.specs.declared.ends.ProxyEnd.TheVariants.{BadResponse, ServerFault, Full}
 use Rattle.record_proxy.proofs.HistoryLemmas.{side, history_read, history_ended, history_refused, at_end}
-use Rattle.record_proxy.proofs.TextLemmas.{begun}
-use Rattle.record_proxy.proofs.StandLemmas.{sides, ends_cut, ends_short, cut_now, stored_here, brought}
+use Rattle.record_proxy.proofs.StandLemmas.{sides, ends_cut, ends_short, cut_now, stored_here}
 
 module _ (start : Links) (client server : Option LinkBytes) (es : List Exchange) (b : Begun) (t : Taken)
     (s : Stands start (links client server) (course es (Some b)) t) where

@@ -1,5 +1,5 @@
 -- How a proxied connection stands, and its ends.
-use Rattle.std.proofs.Common.{◌≡◌, ◌∙◌, ◌<◌, ◌≤◌, inl, inr, ℕ, ◌+◌, Bool, true, false, List, [], ◌∷◌, ◌++◌, length}
+use Rattle.std.proofs.Common.{◌≡◌, ◌∙◌, ◌<◌, ◌≤◌, inl, inr, ℕ, Bool, true, false, List, [], ◌∷◌, ◌++◌, length}
 use Rattle.std.proofs.Common.{take, map, Option, Some, None, Ok, Err, refl, sym, subst, append-nil, arith}
 use Rattle.std.specs.Prelude.{◌⊎◌, All, IfSome, Result}
 use Rattle.std.proofs.lemmas.List.Elements.{All-push}
@@ -24,7 +24,7 @@ use Rattle.record_proxy.specs.Links.{Links, Adds, IsStored}
 use Rattle.record_proxy.specs.inside.Progress.{History, Taken, Stands, Progress, IsEndAt, begun_with, taken_of}
 use Rattle.record_proxy.specs.declared.ends.ProxyEnd.{ProxyEnd}
 use Rattle.record_proxy.specs.declared.talk.Talk.{Talk}
-use Rattle.record_proxy.proofs.HistoryLemmas.{side, history_used}
+use Rattle.record_proxy.proofs.HistoryLemmas.{history_used}
 use Rattle.record_proxy.proofs.TextLemmas.{begun}
 use Rattle.record_proxy.proofs.PairLemmas.{are_pairs}
 

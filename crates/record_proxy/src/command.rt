@@ -83,7 +83,7 @@ fn record<D: Disk, O: Sink, P: Port, X: Dialer>(
 }
 
 // Does what the words say.
-fn answer<D: Disk, O: Sink, P: Port, X: Dialer>(
+pub(crate) fn answer<D: Disk, O: Sink, P: Port, X: Dialer>(
     alloc: Global,
     words: &[String],
     disk: &mut D,

@@ -13,6 +13,7 @@ mod serving;
 mod taking;
 mod talk;
 mod tcp_dialer;
+mod telling;
 mod words;
 
 pub use command::proxy_main;
@@ -21,3 +22,4 @@ pub use ends::ProxyEnd;
 pub use mem_dialer::MemDialer;
 pub use proxy::proxy_conn;
 pub use tcp_dialer::TcpDialer;
+pub use telling::proxy_main_told;

@@ -1,5 +1,4 @@
 use Rattle.std.proofs.Common.{◌≡◌, ◌++◌, ◌∷◌, [], map, ap, ◌∙◌}
-use Rattle.command_relay.specs.inside.Values.{relay_values}
 use Rattle.nest_command.proofs.NestLemmas.{names_checked}
 use Rattle.command_relay.proofs.inputs.check_names.Goals as goal
 

@@ -1,0 +1,56 @@
+-- The texts of causes that name a file, a limit or a port.
+use Rattle.std.specs.Prelude.{ℕ, ◌==◌, not, ◌&&◌, List, [], codes, if◌then◌else◌}
+use Rattle.command_ends.specs.declared.cause.Limit.{Limit}
+use Rattle.command_ends.specs.declared.cause.Limit.TheVariants as limits
+use Rattle.refusal_words.specs.Commands.{Text}
+use Rattle.refusal_words.specs.Parts.{five, three}
+use Rattle.refusal_words.specs.Shells.{link_value}
+use Rattle.refusal_lines.specs.InputTexts.{place_text, rule_of}
+use Rattle.refusal_lines.specs.Roles.{role_of, role_text}
+use Rattle.refusal_lines.specs.declared.roles.Role.{Role}
+use Rattle.refusal_lines.specs.declared.roles.Role.TheVariants.{Trace, Schedule, Other}
+
+abbrev pub taken_by : Text → Role → List Text
+taken_by name Trace = three (codes "'") name (codes "' is to be written, and it is a trace or another log too")
+taken_by name Other = three (codes "'") name (codes "' is to be written twice")
+taken_by name role = five (codes "'") name (codes "' is to be written, and it is ") (role_text role) (codes " too")
+
+-- an output has the name of an input or of another output
+abbrev pub taken_parts : Text → List Text → List Text
+taken_parts name words = taken_by name (role_of name words)
+
+-- an input isn't there
+abbrev pub absent_parts : Text → List Text → List Text
+absent_parts name words = five name (codes ": no such file (") (role_text (role_of name words)) (codes ")") []
+
+-- a file that is a trace and the schedule too isn't refused as a trace with the number 1 and a line
+abbrev pub real_role : Role → ℕ → ℕ → Role
+real_role Trace number place = if (number == 1) && not (place == 0) then Schedule else Trace
+real_role role number place = role
+
+abbrev pub input_by : Role → Text → ℕ → ℕ → Text → List Text
+input_by role name number place digits = if place == 0 then three name (codes ": ") (rule_of role number)
+    else five name (place_text role number) digits (codes ": ") (rule_of role number)
+
+-- an input doesn't meet its grammar
+abbrev pub input_parts : Text → ℕ → ℕ → Text → List Text → List Text
+input_parts name number place digits words = input_by (real_role (role_of name words) number place) name number place
+    digits
+
+-- a limit is passed
+abbrev pub limit_parts : Limit → List Text
+limit_parts limits.Horizon = three (codes "--until is at most 3600000 ms (one hour)") [] []
+limit_parts limits.Opportunities = three
+    (codes "the links have more than 16000000 opportunities up to --until: end earlier, or take slower traces") [] []
+limit_parts (limits.File name) = three name (codes ": the file has more than 67108864 bytes") []
+limit_parts (limits.Lines name) = three name (codes ": the trace has more than 1000000 opportunities") []
+limit_parts (limits.Packets name) = three name (codes ": with it there are more than 1000000 packets") []
+
+-- the port at which the words let a program listen
+abbrev pub listen_port : List Text → Text
+listen_port words = link_value (codes "--port") (link_value (codes "--listen") [] words) words
+
+-- listening, or a connection, failed
+abbrev pub net_parts : List Text → List Text
+net_parts words = three (codes "port ") (listen_port words)
+    (codes ": listening there, or a connection, failed (has another program the port?)")

@@ -1,0 +1,6 @@
+pub mod Roles
+pub mod InputTexts
+pub mod FileTexts
+pub mod Explanations
+pub mod Telling
+pub mod Reasons

@@ -1,0 +1,15 @@
+//! What a program says on the standard error where a command line isn't done: the cause in words, with what was typed
+//! and where. The line on the standard output stays as it is; this one is for a person.
+#![tactic(auto)]
+
+mod ending;
+mod files;
+mod input_texts;
+mod lines;
+mod reasons;
+mod roles;
+mod telling;
+
+pub use ending::Ending;
+pub use reasons::{Reason, reason_of, system_reason, tell_reason};
+pub use telling::tell;

@@ -1,0 +1,12 @@
+pub mod Commands
+pub mod Options
+pub mod Slips
+pub mod Parts
+pub mod Faults
+pub mod View
+pub mod FaultTexts
+pub mod Shells
+pub mod ShellViews
+pub mod NestTexts
+pub mod Help
+pub mod Usage

@@ -1,0 +1,132 @@
+-- The texts of the refusals of a nest's words.
+use Rattle.std.specs.Prelude.{ℕ, zero, suc, ◌-◌, Bool, true, false, ◌==◌, List, [], ◌∷◌, Option, Some, None, codes}
+use Rattle.std.specs.Prelude.{Result, Ok, Err, if◌then◌else◌}
+use Rattle.std.specs.Str.{bytes_eq}
+use Rattle.packet_queue.specs.Arguments.{queue_of}
+use Rattle.refusal_words.specs.Commands.{Text}
+use Rattle.refusal_words.specs.Faults.{name_in}
+use Rattle.refusal_words.specs.Parts.{five, three}
+use Rattle.refusal_words.specs.Shells.{Lack, Value, Traces, Nothing, link_lack, link_value, shell_words}
+use Rattle.refusal_words.specs.Slips.{known_text, nearest}
+use Rattle.refusal_words.specs.declared.slips.KnownWord.{KnownWord}
+use Rattle.refusal_words.specs.declared.slips.KnownWord.TheVariants.{Delay, Loss, Link, UplinkLog, DownlinkLog}
+use Rattle.refusal_words.specs.declared.slips.KnownWord.TheVariants.{UplinkQueue, DownlinkQueue, UplinkQueueArgs}
+use Rattle.refusal_words.specs.declared.slips.KnownWord.TheVariants.{DownlinkQueueArgs, Once}
+
+-- the word before which so many stand, or no text
+abbrev pub word_at : ℕ → List Text → Text
+word_at before [] = []
+word_at zero (word ∷ words) = word
+word_at (suc before) (word ∷ words) = word_at before words
+
+-- where a shell must begin stands another word
+abbrev pub no_shell_by : Text → Text → Option KnownWord → List Text
+no_shell_by digits word (Some shell) = five (codes "'") word (codes "' is no shell; did you mean ")
+    (known_text shell) (codes "?")
+no_shell_by digits word None = five (codes "word ") digits (codes ", '") word
+    (codes "', is no shell (mm-delay, mm-loss, mm-link); no command runs inside a nest")
+
+abbrev pub no_shell_parts : Text → Text → List Text
+no_shell_parts digits word = no_shell_by digits word
+    (nearest (Delay ∷ Loss ∷ Link ∷ []) word)
+
+abbrev pub no_further_shell : List Text
+no_further_shell = three (codes "a shell must follow '--'") [] []
+
+-- what the words of a loss lack, after its first
+abbrev pub missing_in_loss : List Text → List Text
+missing_in_loss [] = three (codes "mm-loss needs 'uplink' or 'downlink', and a rate") [] []
+missing_in_loss (direction ∷ []) = three (codes "mm-loss ") direction (codes " needs a rate from 0 to 1, as 0.01")
+missing_in_loss (direction ∷ rate ∷ words) = no_further_shell
+
+abbrev pub lack_parts : Lack → List Text
+lack_parts (Value option) = three (codes "mm-link: ") option (codes " needs a value")
+lack_parts Traces = three (codes "mm-link needs two traces, UP and DOWN") [] []
+lack_parts Nothing = no_further_shell
+
+abbrev pub missing_in_link : List Text → List Text
+missing_in_link words = lack_parts (link_lack None 0 words)
+
+abbrev pub missing_in_delay : List Text → List Text
+missing_in_delay [] = three (codes "mm-delay needs a whole number of milliseconds, 0 to 3600000") [] []
+missing_in_delay (word ∷ words) = no_further_shell
+
+-- what the words of a shell lack
+abbrev pub missing_parts : List Text → List Text
+missing_parts [] = no_further_shell
+missing_parts (word ∷ words) =
+    if bytes_eq word (codes "mm-link") then missing_in_link words
+    else if bytes_eq word (codes "mm-loss") then missing_in_loss words
+    else missing_in_delay words
+
+abbrev pub link_options : List KnownWord
+link_options = UplinkLog ∷ DownlinkLog ∷ UplinkQueue ∷ DownlinkQueue ∷ UplinkQueueArgs ∷ DownlinkQueueArgs ∷ Once ∷ []
+
+abbrev pub bad_option_by : Text → Option KnownWord → List Text
+bad_option_by word (Some option) = if bytes_eq (known_text option) (name_in word)
+    then three (codes "mm-link: '") word (codes "': a log's name doesn't begin with '-', and --once takes no value")
+    else five (codes "mm-link has no option ") (name_in word) (codes "; did you mean ") (known_text option)
+    (codes "?")
+bad_option_by word None = three (codes "mm-link has no option ") (name_in word)
+    (codes " here (it has --once, and --uplink- and --downlink- with log, queue and queue-args)")
+
+abbrev pub bad_option_parts : Text → List Text
+bad_option_parts word = bad_option_by word (nearest link_options (name_in word))
+
+abbrev pub kind_option : Bool → Text
+kind_option up = if up then codes "--uplink-queue" else codes "--downlink-queue"
+
+abbrev pub args_option : Bool → Text
+args_option up = if up then codes "--uplink-queue-args" else codes "--downlink-queue-args"
+
+abbrev pub is_refused : {A B : Type 0} → Result A B → Bool
+is_refused (Ok value) = false
+is_refused (Err error) = true
+
+-- the uplink's queue is refused; if it isn't, the downlink's is
+abbrev pub is_up_refused : List Text → Bool
+is_up_refused words = is_refused (queue_of (link_value (codes "--uplink-queue") (codes "infinite") words)
+    (link_value (codes "--uplink-queue-args") [] words))
+
+abbrev pub queue_by : ℕ → Text → Text → Text → List Text
+queue_by inner kind option args =
+    if inner == 1 then three (codes "no queue '") kind (codes "' (infinite, droptail, drophead)")
+    else if inner == 2 then five option (codes ": '") args
+    (codes "': write packets=100, bytes=150000 or both with a comma between") []
+    else if inner == 3 then five kind (codes " needs ") option
+    (codes "=packets=N, bytes=N or both with a comma between") []
+    else five (codes "the queue infinite has no limit (") option (codes " is '") args
+    (codes "'); droptail and drophead have")
+
+abbrev pub queue_of_side : ℕ → Bool → List Text → List Text
+queue_of_side inner up words = queue_by inner (link_value (kind_option up) (codes "infinite") words) (args_option up)
+    (link_value (args_option up) [] words)
+
+-- the queue of a link's words that is refused
+abbrev pub queue_parts : ℕ → List Text → List Text
+queue_parts inner words = queue_of_side inner (is_up_refused words) words
+
+abbrev pub rate_parts : ℕ → Text → List Text
+rate_parts inner rate = if inner == 2 then three (codes "loss rate ") rate (codes " is above 1")
+    else three (codes "loss rate '") rate
+    (codes "': write a number from 0 to 1, as 0.01 (up to nine digits after the point)")
+
+-- the text of a refusal by its number, the word and the shell that it names, with their digits, and the number of the
+-- refusal inside it
+abbrev pub nest_by : ℕ → ℕ → Text → Text → List Text → List Text
+nest_by number inner digits word shell =
+    if number == 1 then three (codes "no shell stands after '--', as: -- mm-delay 20") [] []
+    else if number == 2 then no_shell_parts digits word
+    else if number == 3 then missing_parts shell
+    else if number == 4 then three (codes "mm-delay: '") (word_at 1 shell)
+    (codes "' is not a whole number of milliseconds, 0 to 3600000")
+    else if number == 5 then bad_option_parts word
+    else if number == 6 then three (codes "mm-link: ") word (codes " stands twice")
+    else if number == 7 then three (codes "a nest has at most 8 shells") [] []
+    else if number == 8 then queue_parts inner shell
+    else if number == 9 then rate_parts inner (word_at 2 shell)
+    else three (codes "mm-loss needs 'uplink' or 'downlink' before the rate (found '") (word_at 1 shell) (codes "')")
+
+abbrev pub nest_parts : ℕ → ℕ → ℕ → Text → List Text → List Text
+nest_parts number place inner digits words = nest_by number inner digits (word_at (place - 1) words)
+    (shell_words (place - 1) words)

@@ -1,0 +1,176 @@
+// Where a shell stands among the words of a nest, and what its words say.
+ghost use Rattle.std.specs.Prelude.{◌≡◌, option_map, map, string_bytes};
+ghost use Rattle.refusal_words.specs.Shells.{after_link, after_shell, drop_words, is_valued, lack_from, link_lack};
+ghost use Rattle.refusal_words.specs.Shells.{link_value, past_end, shell_words, value_at};
+ghost use Rattle.refusal_words.specs.ShellViews.{lack_of};
+
+use crate::options::{begins_with_hyphen, name_and_value};
+
+// Without the first word.
+fn drop_word(words: &[String]) -> &[String]
+    ensures { map string_bytes result.now ≡ drop_words (map string_bytes words.now) }
+{
+    match words.split_first() {
+        Some((_, rest)) => rest,
+        None => words,
+    }
+}
+
+// Whether this option of a link takes the next word as its value.
+fn is_valued(word: &str) -> bool
+    ensures { result ≡ is_valued word.now }
+{
+    match word {
+        "--uplink-log" | "--downlink-log" => true,
+        "--uplink-queue" | "--downlink-queue" => true,
+        "--uplink-queue-args" | "--downlink-queue-args" => true,
+        _ => false,
+    }
+}
+
+// The words after those of a link that has so many traces, where an option may wait for its value.
+fn after_link(waits: bool, traces: u32, words: &[String]) -> &[String]
+    ensures { map string_bytes result.now ≡ after_link waits traces (map string_bytes words.now) }
+{
+    let Some((word, rest)) = words.split_first() else {
+        return words;
+    };
+    let word = word.as_str();
+    if waits {
+        return after_link(false, traces, rest);
+    }
+    if word == "--" {
+        return words;
+    }
+    if begins_with_hyphen(word) {
+        return after_link(is_valued(word), traces, rest);
+    }
+    match traces {
+        0 => after_link(false, 1, rest),
+        1 => after_link(false, 2, rest),
+        _ => words,
+    }
+}
+
+/// The words after those of the first shell.
+pub(crate) fn after_shell(words: &[String]) -> &[String]
+    ensures { map string_bytes result.now ≡ after_shell (map string_bytes words.now) }
+{
+    let Some((word, rest)) = words.split_first() else {
+        return words;
+    };
+    match word.as_str() {
+        "mm-delay" => drop_word(rest),
+        "mm-loss" => drop_word(drop_word(rest)),
+        _ => after_link(false, 0, rest),
+    }
+}
+
+// Past one word `--`.
+fn past_end(words: &[String]) -> &[String]
+    ensures { map string_bytes result.now ≡ past_end (map string_bytes words.now) }
+{
+    match words.split_first() {
+        Some((word, rest)) if word.as_str() == "--" => rest,
+        _ => words,
+    }
+}
+
+/// The words from the shell on before which so many shells stand.
+pub fn shell_words(before: u64, words: &[String]) -> &[String]
+    ensures { map string_bytes result.now ≡ shell_words before (map string_bytes words.now) }
+{
+    if before == 0 {
+        return words;
+    }
+    shell_words(before - 1, past_end(after_shell(words)))
+}
+
+/// What a link's words lack.
+#[derive(Clone, Copy)]
+pub(crate) enum LinkLack<'a> {
+    /// The value of this option.
+    Value(&'a str),
+    Traces,
+    Nothing,
+}
+
+fn lack_at_end<'a>(traces: u32) -> LinkLack<'a>
+    ensures { lack_of result ≡ lack_from traces }
+{
+    if traces < 2 {
+        return LinkLack::Traces;
+    }
+    LinkLack::Nothing
+}
+
+/// What the words of a link that has so many traces lack, where an option may wait for its value.
+pub(crate) fn link_lack<'a>(
+    waiting: Option<&'a str>,
+    traces: u32,
+    words: &'a [String],
+) -> LinkLack<'a>
+    ensures { lack_of result ≡ link_lack (option_map (λ s. s.now) waiting.entry) traces (map string_bytes words.now) }
+{
+    let Some((word, rest)) = words.split_first() else {
+        return match waiting {
+            Some(option) => LinkLack::Value(option),
+            None => lack_at_end(traces),
+        };
+    };
+    let word = word.as_str();
+    if let Some(option) = waiting {
+        if begins_with_hyphen(word) || word.is_empty() {
+            return LinkLack::Value(option);
+        }
+        return link_lack(None, traces, rest);
+    }
+    if is_valued(word) {
+        return link_lack(Some(word), traces, rest);
+    }
+    if word == "--uplink-log=" || word == "--downlink-log=" {
+        return LinkLack::Value(word);
+    }
+    if word == "--" || word.is_empty() {
+        return lack_at_end(traces);
+    }
+    if begins_with_hyphen(word) {
+        return link_lack(None, traces, rest);
+    }
+    match traces {
+        0 => link_lack(None, 1, rest),
+        1 => link_lack(None, 2, rest),
+        _ => LinkLack::Nothing,
+    }
+}
+
+/// The value that these words give an option, up to a word `--`, or else this one.
+pub fn option_value<'a>(option: &str, otherwise: &'a str, words: &'a [String]) -> &'a str
+    ensures { result.now ≡ link_value option.now otherwise.now (map string_bytes words.now) }
+{
+    let Some((word, rest)) = words.split_first() else {
+        return otherwise;
+    };
+    let word = word.as_str();
+    if word == "--" {
+        return otherwise;
+    }
+    let (name, value) = name_and_value(word);
+    if name != option {
+        return option_value(option, otherwise, rest);
+    }
+    match value {
+        Some(value) => value,
+        None => value_at(otherwise, rest),
+    }
+}
+
+// The first word, or else this one.
+fn value_at<'a>(otherwise: &'a str, words: &'a [String]) -> &'a str
+    ensures { result.now ≡ value_at otherwise.now (map string_bytes words.now) }
+{
+    match words.split_first() {
+        Some((word, _)) => word.as_str(),
+        None => otherwise,
+    }
+}
