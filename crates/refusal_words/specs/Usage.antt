@@ -1,6 +1,7 @@
 -- What a command line without a job gets: the usage where it asks for it, the version, or its first fault.
 use Rattle.std.specs.Prelude.{ℕ, ◌+◌, Bool, true, false, ◌&&◌, ◌||◌, List, [], ◌∷◌, ◌++◌, Option, Some, None, codes, take}
 use Rattle.std.specs.Prelude.{if◌then◌else◌}
+use Rattle.std.specs.List.{list_any}
 use Rattle.std.specs.Str.{bytes_eq}
 use Rattle.refusal_words.specs.Commands.{Text, command_of, has_shells, program_text}
 use Rattle.refusal_words.specs.FaultTexts.{fault_parts, is_shell}
@@ -26,8 +27,7 @@ abbrev pub is_help : Text → Bool
 is_help word = bytes_eq word (codes "--help") || bytes_eq word (codes "-h")
 
 abbrev pub asks_help : List Text → Bool
-asks_help [] = false
-asks_help (word ∷ words) = is_help word || asks_help words
+asks_help words = list_any is_help words
 
 abbrev pub is_last : List Text → Bool
 is_last [] = true

@@ -46,10 +46,12 @@ fn is_help(word: &str) -> bool
 fn asks_help(words: &[String]) -> bool
     ensures { result ≡ asks_help (map string_bytes words.now) }
 {
-    match words.split_first() {
-        Some((word, rest)) => is_help(word.as_str()) || asks_help(rest),
-        None => false,
+    for word in words {
+        if is_help(word.as_str()) {
+            return true;
+        }
     }
+    false
 }
 
 // Whether no word follows.
@@ -115,13 +117,14 @@ fn end_of(words: &[String]) -> usize
     ensures end { result ≡ end_of (map string_bytes words.now) }
     ensures within { result ≤ length words.now }
 {
-    let Some((word, rest)) = words.split_first() else {
-        return 0;
-    };
-    if word.as_str() == "--" {
-        return 0;
+    let mut end = 0;
+    for word in words {
+        if word.as_str() == "--" {
+            return end;
+        }
+        end += 1;
     }
-    1 + end_of(rest)
+    end
 }
 
 // The words before the first `--`.
