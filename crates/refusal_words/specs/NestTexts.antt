@@ -6,7 +6,7 @@ use Rattle.packet_queue.specs.Arguments.{queue_of}
 use Rattle.refusal_words.specs.Commands.{Text}
 use Rattle.refusal_words.specs.Faults.{name_in}
 use Rattle.refusal_words.specs.Parts.{five, three}
-use Rattle.refusal_words.specs.Shells.{Lack, Value, Traces, Nothing, link_lack, link_value, shell_words}
+use Rattle.refusal_words.specs.Shells.{Lack, Value, Traces, Nothing, link_lack, link_value, own_words, shell_words}
 use Rattle.refusal_words.specs.Slips.{known_text, nearest}
 use Rattle.refusal_words.specs.declared.slips.KnownWord.{KnownWord}
 use Rattle.refusal_words.specs.declared.slips.KnownWord.TheVariants.{Delay, Loss, Link, UplinkLog, DownlinkLog}
@@ -123,7 +123,7 @@ nest_by number inner digits word shell =
     else if number == 5 then bad_option_parts word
     else if number == 6 then three (codes "mm-link: ") word (codes " stands twice")
     else if number == 7 then three (codes "a nest has at most 8 shells") [] []
-    else if number == 8 then queue_parts inner shell
+    else if number == 8 then queue_parts inner (own_words shell)
     else if number == 9 then rate_parts inner (word_at 2 shell)
     else three (codes "mm-loss needs 'uplink' or 'downlink' before the rate (found '") (word_at 1 shell) (codes "')")
 

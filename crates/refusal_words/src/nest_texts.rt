@@ -6,7 +6,7 @@ ghost use Rattle.refusal_words.specs.NestTexts.{queue_parts, rate_parts, word_at
 
 use crate::options::name_and_value;
 use crate::parts::{five, three};
-use crate::shells::{LinkLack, link_lack, option_value, shell_words};
+use crate::shells::{LinkLack, link_lack, option_value, own_words, shell_words};
 use crate::slips::{KnownWord, nearest};
 use packet_queue::read_queue;
 
@@ -243,7 +243,7 @@ pub fn nest_parts<'a>(fault: NestFault, digits: &'a str, words: &'a [String]) ->
         5 => bad_option_parts(word),
         6 => three("mm-link: ", word, " stands twice"),
         7 => three("a nest has at most 8 shells", "", ""),
-        8 => queue_parts(fault.inner, shell),
+        8 => queue_parts(fault.inner, own_words(shell)),
         9 => rate_parts(fault.inner, word_at(2, shell)),
         _ => three(
             "mm-loss needs 'uplink' or 'downlink' before the rate (found '",
