@@ -114,7 +114,7 @@ want_in (ranges.Number least most) = codes "a port, 1 to 65535"
 want_in _ = codes "a file's name (a value isn't empty and doesn't begin with '-')"
 
 abbrev pub want : KnownOption → Text
-want Until = codes "a whole number of milliseconds"
+want Until = codes "a whole number of milliseconds, 0 to 3600000"
 want Seed = codes "a whole number of at most ten digits"
 want Number = codes "a whole number of at most ten digits"
 want Packets = codes "a number of packets, 1 to 1000000"

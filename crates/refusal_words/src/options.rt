@@ -48,8 +48,8 @@ fn is_text(option: KnownOption, name: &str) -> bool
     option.text() == name
 }
 
-// The option of this name.
-fn known(options: &[KnownOption], name: &str) -> Option<KnownOption>
+/// The option of this name.
+pub(crate) fn known(options: &[KnownOption], name: &str) -> Option<KnownOption>
     ensures { result ≡ known options.now name.now }
 {
     let (option, rest) = options.split_first()?;
