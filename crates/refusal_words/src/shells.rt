@@ -17,8 +17,8 @@ fn drop_word(words: &[String]) -> &[String]
     }
 }
 
-// Whether this option of a link takes the next word as its value.
-fn is_valued(word: &str) -> bool
+/// Whether this option of a link takes the next word as its value.
+pub(crate) fn is_valued(word: &str) -> bool
     ensures { result ≡ is_valued word.now }
 {
     match word {
@@ -78,8 +78,8 @@ pub(crate) fn own_words(words: &[String]) -> &[String]
     &words[..words.len() - rest.len()]
 }
 
-// Past one word `--`.
-fn past_end(words: &[String]) -> &[String]
+/// Past one word `--`.
+pub(crate) fn past_end(words: &[String]) -> &[String]
     ensures { map string_bytes result.now ≡ past_end (map string_bytes words.now) }
 {
     match words.split_first() {
