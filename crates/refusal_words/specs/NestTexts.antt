@@ -1,5 +1,6 @@
 -- The texts of the refusals of a nest's words.
-use Rattle.std.specs.Prelude.{ℕ, zero, suc, ◌-◌, Bool, true, false, ◌==◌, ◌||◌, List, [], ◌∷◌, Option, Some, None, codes}
+use Rattle.std.specs.Prelude.{ℕ, zero, suc, ◌-◌, Bool, true, false, ◌==◌, ◌||◌, List, [], ◌∷◌, Option, Some, None}
+use Rattle.std.specs.Prelude.{codes}
 use Rattle.std.specs.Prelude.{Result, Ok, Err, if◌then◌else◌}
 use Rattle.std.specs.Option.{is_some}
 use Rattle.std.specs.Str.{bytes_eq}
@@ -35,7 +36,8 @@ late_option_parts word = three (codes "'") (name_in word) (codes "' stands among
 
 abbrev pub no_shell_parts : Text → Text → List Text
 no_shell_parts digits word =
-    if is_end word then three (codes "a shell must follow '--' (mm-delay, mm-loss, mm-link), and not another '--'") [] []
+    if is_end word
+    then three (codes "a shell must follow '--' (mm-delay, mm-loss, mm-link), and not another '--'") [] []
     else if begins_with_hyphen word then late_option_parts word
     else no_shell_by digits word (nearest (Delay ∷ Loss ∷ Link ∷ []) word)
 

@@ -5,7 +5,8 @@ use Rattle.refusal_words.specs.Commands.{Text}
 use Rattle.refusal_words.specs.declared.command.Command.{Command}
 use Rattle.refusal_words.specs.declared.command.Command.TheVariants as commands
 use Rattle.refusal_words.specs.declared.known.KnownOption.{KnownOption}
-use Rattle.refusal_words.specs.declared.known.KnownOption.TheVariants.{Until, Schedule, Senders, Out, Seed, Plain, Order}
+use Rattle.refusal_words.specs.declared.known.KnownOption.TheVariants.{Until, Schedule, Senders, Out, Seed, Plain}
+use Rattle.refusal_words.specs.declared.known.KnownOption.TheVariants.{Order}
 use Rattle.refusal_words.specs.declared.known.KnownOption.TheVariants.{Log, Number, Packets, Client, Server, Store}
 use Rattle.refusal_words.specs.declared.known.KnownOption.TheVariants.{Request, Port, AtPort, SitePort, To, Listen}
 use Rattle.refusal_words.specs.declared.known.KnownOption.TheVariants.{Connections, Clients, Turns}

@@ -1,7 +1,10 @@
 // The texts of the refusals of a nest's words.
 ghost use Rattle.std.specs.Prelude.{◌≡◌, map, string_bytes};
-ghost use Rattle.refusal_words.specs.NestTexts.{args_option, bad_option_parts, is_command_option, is_up_refused, kind_option, missing_parts};
-ghost use Rattle.refusal_words.specs.NestTexts.{late_option_parts, link_option_parts, own_option_parts, twice_parts, missing_in_delay, missing_in_link, missing_in_loss, nest_parts, no_shell_parts, queue_by};
+ghost use Rattle.refusal_words.specs.NestTexts.{args_option, bad_option_parts, is_command_option, is_up_refused};
+ghost use Rattle.refusal_words.specs.NestTexts.{kind_option, missing_parts};
+ghost use Rattle.refusal_words.specs.NestTexts.{late_option_parts, link_option_parts, own_option_parts, twice_parts};
+ghost use Rattle.refusal_words.specs.NestTexts.{missing_in_delay, missing_in_link, missing_in_loss, nest_parts};
+ghost use Rattle.refusal_words.specs.NestTexts.{no_shell_parts, queue_by};
 ghost use Rattle.refusal_words.specs.NestTexts.{queue_parts, rate_parts, word_at};
 
 use crate::Command;

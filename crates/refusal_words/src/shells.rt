@@ -1,6 +1,7 @@
 // Where a shell stands among the words of a nest, and what its words say.
 ghost use Rattle.std.specs.Prelude.{◌≡◌, ◌≤◌, length, option_map, map, string_bytes};
-ghost use Rattle.refusal_words.specs.Shells.{after_link, after_shell, drop_words, is_log, is_valued, lack_from, link_lack};
+ghost use Rattle.refusal_words.specs.Shells.{after_link, after_shell, drop_words, is_log, is_valued, lack_from};
+ghost use Rattle.refusal_words.specs.Shells.{link_lack};
 ghost use Rattle.refusal_words.specs.Shells.{link_value, own_words, past_end, shell_words, value_at};
 ghost use Rattle.refusal_words.specs.ShellViews.{lack_of};
 

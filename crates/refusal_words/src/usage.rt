@@ -1,6 +1,7 @@
 // What a command line without a job gets: the usage where it asks for it, the version, or its first fault.
 ghost use Rattle.std.specs.Prelude.{◌≡◌, ◌≤◌, length, map, string_bytes};
-ghost use Rattle.refusal_words.specs.Usage.{asks_help, asks_page, before_end, command_pieces, end_of, is_help, is_last, is_version, line, mm_pieces};
+ghost use Rattle.refusal_words.specs.Usage.{asks_help, asks_page, before_end, command_pieces, end_of, is_help};
+ghost use Rattle.refusal_words.specs.Usage.{is_last, is_version, line, mm_pieces};
 ghost use Rattle.refusal_words.specs.Usage.{no_command_parts, own_pieces, page, usage_pieces, version, version_pieces};
 ghost use Rattle.refusal_words.specs.Usage.{command_help, named_help, program_pieces};
 
