@@ -1,32 +1,43 @@
 -- The texts of causes that name a file, a limit or a port.
-use Rattle.std.specs.Prelude.{ℕ, ◌==◌, not, ◌&&◌, List, [], codes, if◌then◌else◌}
+use Rattle.std.specs.Prelude.{ℕ, Bool, ◌==◌, not, ◌&&◌, List, [], ◌∷◌, codes, if◌then◌else◌}
 use Rattle.command_ends.specs.declared.cause.Limit.{Limit}
 use Rattle.command_ends.specs.declared.cause.Limit.TheVariants as limits
 use Rattle.refusal_words.specs.Commands.{Text}
-use Rattle.refusal_words.specs.Parts.{five, three}
+use Rattle.refusal_words.specs.Parts.{five, seven, three}
 use Rattle.refusal_words.specs.Shells.{link_value}
 use Rattle.refusal_lines.specs.InputTexts.{place_text, rule_of}
-use Rattle.refusal_lines.specs.Roles.{role_of, role_text}
+use Rattle.refusal_lines.specs.Roles.{gives, role_digit, role_of, role_text}
 use Rattle.refusal_lines.specs.declared.roles.Role.{Role}
-use Rattle.refusal_lines.specs.declared.roles.Role.TheVariants.{Trace, Schedule, Other}
+use Rattle.refusal_lines.specs.declared.roles.Role.TheVariants.{Trace, Schedule, Senders, Store}
+use Rattle.refusal_lines.specs.declared.roles.Role.TheVariants.{Request, StoreOrRequest, Output, Other}
 
 abbrev pub taken_by : Text → Role → List Text
-taken_by name Trace = three (codes "'") name (codes "' is to be written, and it is a trace or another log too")
-taken_by name Other = three (codes "'") name (codes "' is to be written twice")
-taken_by name role = five (codes "'") name (codes "' is to be written, and it is ") (role_text role) (codes " too")
+taken_by name Output = three (codes "'") name (codes "' is to be written twice")
+taken_by name Other = three (codes "'") name
+    (codes "' is to be written, and it is the schedule of a sender, or another output, too")
+taken_by name role = seven
+    (codes "'" ∷ name ∷ codes "' is to be written, and it is " ∷ role_text role ∷ role_digit role ∷ [])
+    (codes " too" ∷ [] ∷ [])
 
 -- an output has the name of an input or of another output
 abbrev pub taken_parts : Text → List Text → List Text
 taken_parts name words = taken_by name (role_of name words)
 
+abbrev pub absent_by : Text → Role → List Text
+absent_by name role = five name (codes ": no such file (") (role_text role) (role_digit role) (codes ")")
+
 -- an input isn't there
 abbrev pub absent_parts : Text → List Text → List Text
-absent_parts name words = five name (codes ": no such file (") (role_text (role_of name words)) (codes ")") []
+absent_parts name words = absent_by name (role_of name words)
 
--- a file that is a trace and the schedule too isn't refused as a trace with the number 1 and a line
-abbrev pub real_role : Role → ℕ → ℕ → Role
-real_role Trace number place = if (number == 1) && not (place == 0) then Schedule else Trace
-real_role role number place = role
+-- A file may be two inputs. A trace, or a list of senders, with the number 1 and a line is refused as a schedule. A
+-- store that is the request too (`asked`) and has no place is refused as a request, or with the number 1 as either.
+abbrev pub real_role : Role → Bool → ℕ → ℕ → Role
+real_role (Trace trace) asked number place = if (number == 1) && not (place == 0) then Schedule else Trace trace
+real_role Senders asked number place = if (number == 1) && not (place == 0) then Other else Senders
+real_role Store asked number place = if asked && (place == 0)
+    then (if number == 1 then StoreOrRequest else Request) else Store
+real_role role asked number place = role
 
 abbrev pub input_by : Role → Text → ℕ → ℕ → Text → List Text
 input_by role name number place digits = if place == 0 then three name (codes ": ") (rule_of role number)
@@ -34,8 +45,8 @@ input_by role name number place digits = if place == 0 then three name (codes ":
 
 -- an input doesn't meet its grammar
 abbrev pub input_parts : Text → ℕ → ℕ → Text → List Text → List Text
-input_parts name number place digits words = input_by (real_role (role_of name words) number place) name number place
-    digits
+input_parts name number place digits words = input_by
+    (real_role (role_of name words) (gives (codes "--request") name words) number place) name number place digits
 
 -- a limit is passed
 abbrev pub limit_parts : Limit → List Text

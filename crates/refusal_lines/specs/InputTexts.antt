@@ -3,13 +3,14 @@ use Rattle.std.specs.Prelude.{ℕ, ◌==◌, codes, if◌then◌else◌}
 use Rattle.refusal_words.specs.Commands.{Text}
 use Rattle.refusal_lines.specs.declared.roles.Role.{Role}
 use Rattle.refusal_lines.specs.declared.roles.Role.TheVariants.{Trace, Schedule, Senders, Order, Log, Store, Client}
-use Rattle.refusal_lines.specs.declared.roles.Role.TheVariants.{Server, Request, Other}
+use Rattle.refusal_lines.specs.declared.roles.Role.TheVariants.{Server, Request, StoreOrRequest, Output, Other}
 
 -- the rule that a trace doesn't meet
 abbrev pub trace_rule : ℕ → Text
 trace_rule number =
     if number == 1 then codes "a trace has at least one line"
-    else if number == 2 then codes "a line of a trace is one whole number of milliseconds, and nothing else ('# mm-trace 2' first: MS BYTES); a carriage return counts (tr -d '\\r' takes it out)"
+    else if number == 2 then
+    codes "want a whole number of milliseconds alone ('# mm-trace 2': MS BYTES), no carriage return (tr -d '\\r')"
     else if number == 3 then codes "this moment is before that of the line above"
     else if number == 4 then codes "the last moment is 0, so the trace has no length"
     else codes "the bytes of an opportunity are 1 to 1000000"
@@ -17,8 +18,8 @@ trace_rule number =
 -- the rule that a schedule doesn't meet
 abbrev pub schedule_rule : ℕ → Text
 schedule_rule number =
-    if number == 1 then codes "want MS up SIZE or MS down SIZE, with single spaces and nothing else"
-    else if number == 2 then codes "SIZE is 1 to 1504 (an IP packet of 1500 bytes, and 4)"
+    if number == 1 then codes "want MS up SIZE or MS down SIZE, with single spaces"
+    else if number == 2 then codes "SIZE is 1 to 1504 (an IP packet and 4)"
     else codes "this moment is before that of the line above"
 
 -- the rule that a list of senders doesn't meet
@@ -44,7 +45,7 @@ store_rule number =
     else if number == 4 then codes "this is no request with one response to it"
     else codes "the record is of another scheme than http"
 
--- the rule that the two byte streams of a connection doesn't meet
+-- the rule that the two byte streams of a connection don't meet
 abbrev pub stream_rule : ℕ → Text
 stream_rule number =
     if number == 1 then codes "this request is cut off, or it is none"
@@ -67,7 +68,7 @@ request_rule number =
 
 -- the rule that an input doesn't meet
 abbrev pub rule_of : Role → ℕ → Text
-rule_of Trace number = trace_rule number
+rule_of (Trace trace) number = trace_rule number
 rule_of Schedule number = schedule_rule number
 rule_of Senders number = senders_rule number
 rule_of Order number = schedule_rule number
@@ -76,6 +77,8 @@ rule_of Store number = store_rule number
 rule_of Client number = stream_rule number
 rule_of Server number = stream_rule number
 rule_of Request number = request_rule number
+rule_of StoreOrRequest number = codes "this is no store, or no request"
+rule_of Output number = schedule_rule number
 rule_of Other number = schedule_rule number
 
 -- what stands between a file's name and the place in it: its line, or what else the place counts

@@ -1,30 +1,34 @@
 // The texts of causes that name a file, a limit or a port.
 ghost use Rattle.std.specs.Prelude.{◌≡◌, map, string_bytes};
-ghost use Rattle.refusal_lines.specs.FileTexts.{absent_parts, input_by, input_parts, limit_parts, listen_port, net_parts};
+ghost use Rattle.refusal_lines.specs.FileTexts.{absent_parts, input_by, input_parts, limit_parts, listen_port};
+ghost use Rattle.refusal_lines.specs.FileTexts.{net_parts};
 ghost use Rattle.refusal_lines.specs.FileTexts.{real_role, taken_parts};
 
 use crate::input_texts::{place_text, rule_of};
-use crate::roles::{Role, role_of};
+use crate::roles::{Role, gives, role_of};
 use command_ends::Limit;
-use refusal_words::{five, option_value, three};
+use refusal_words::{five, option_value, seven, three};
 
 /// An output has the name of an input or of another output.
 pub(crate) fn taken_parts<'a>(name: &'a str, words: &[String]) -> [&'a str; 7]
     ensures { map (λ s. s.now) result ≡ taken_parts name.now (map string_bytes words.now) }
 {
     match role_of(name, words) {
-        Role::Trace => three(
+        Role::Output => three("'", name, "' is to be written twice"),
+        Role::Other => three(
             "'",
             name,
-            "' is to be written, and it is a trace or another log too",
+            "' is to be written, and it is the schedule of a sender, or another output, too",
         ),
-        Role::Other => three("'", name, "' is to be written twice"),
-        role => five(
-            "'",
-            name,
-            "' is to be written, and it is ",
-            role.text(),
-            " too",
+        role => seven(
+            [
+                "'",
+                name,
+                "' is to be written, and it is ",
+                role.text(),
+                role.digit(),
+            ],
+            [" too", ""],
         ),
     }
 }
@@ -33,21 +37,25 @@ pub(crate) fn taken_parts<'a>(name: &'a str, words: &[String]) -> [&'a str; 7]
 pub(crate) fn absent_parts<'a>(name: &'a str, words: &[String]) -> [&'a str; 7]
     ensures { map (λ s. s.now) result ≡ absent_parts name.now (map string_bytes words.now) }
 {
-    five(
-        name,
-        ": no such file (",
-        role_of(name, words).text(),
-        ")",
-        "",
-    )
+    let role = role_of(name, words);
+    five(name, ": no such file (", role.text(), role.digit(), ")")
 }
 
-// A file that is a trace and the schedule too isn't refused as a trace with the number 1 and a line.
-fn real_role(role: Role, number: u32, place: u64) -> Role
-    ensures { result ≡ real_role role number place }
+// A file may be two inputs. A trace, or a list of senders, with the number 1 and a line is refused as a schedule. A
+// store that is the request too (`asked`) and has no place is refused as a request, or with the number 1 as either.
+fn real_role(role: Role, asked: bool, number: u32, place: u64) -> Role
+    ensures { result ≡ real_role role asked number place }
 {
     match role {
-        Role::Trace if number == 1 && place != 0 => Role::Schedule,
+        Role::Trace(_) if number == 1 && place != 0 => Role::Schedule,
+        Role::Senders if number == 1 && place != 0 => Role::Other,
+        Role::Store if asked && place == 0 => {
+            if number == 1 {
+                Role::StoreOrRequest
+            } else {
+                Role::Request
+            }
+        }
         _ => role,
     }
 }
@@ -72,7 +80,8 @@ pub(crate) fn input_parts<'a>(
 ) -> [&'a str; 7]
     ensures { map (λ s. s.now) result ≡ input_parts name.now number place digits.now (map string_bytes words.now) }
 {
-    let role = real_role(role_of(name, words), number, place);
+    let asked = gives("--request", name, words);
+    let role = real_role(role_of(name, words), asked, number, place);
     input_by(role, name, number, place, digits)
 }
 

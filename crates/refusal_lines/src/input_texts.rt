@@ -1,6 +1,7 @@
 // What is wrong with an input, by what it is and the number of its refusal.
 ghost use Rattle.std.specs.Prelude.{◌≡◌};
-ghost use Rattle.refusal_lines.specs.InputTexts.{log_rule, place_text, request_rule, rule_of, schedule_rule, senders_rule};
+ghost use Rattle.refusal_lines.specs.InputTexts.{log_rule, place_text, request_rule, rule_of, schedule_rule};
+ghost use Rattle.refusal_lines.specs.InputTexts.{senders_rule};
 ghost use Rattle.refusal_lines.specs.InputTexts.{store_rule, stream_rule, trace_rule};
 
 use crate::roles::Role;
@@ -12,7 +13,7 @@ fn trace_rule<'a>(number: u32) -> &'a str
     match number {
         1 => "a trace has at least one line",
         2 =>
-            "a line of a trace is one whole number of milliseconds, and nothing else ('# mm-trace 2' first: MS BYTES); a carriage return counts (tr -d '\\r' takes it out)",
+            "want a whole number of milliseconds alone ('# mm-trace 2': MS BYTES), no carriage return (tr -d '\\r')",
         3 => "this moment is before that of the line above",
         4 => "the last moment is 0, so the trace has no length",
         _ => "the bytes of an opportunity are 1 to 1000000",
@@ -24,8 +25,8 @@ fn schedule_rule<'a>(number: u32) -> &'a str
     ensures { result.now ≡ schedule_rule number }
 {
     match number {
-        1 => "want MS up SIZE or MS down SIZE, with single spaces and nothing else",
-        2 => "SIZE is 1 to 1504 (an IP packet of 1500 bytes, and 4)",
+        1 => "want MS up SIZE or MS down SIZE, with single spaces",
+        2 => "SIZE is 1 to 1504 (an IP packet and 4)",
         _ => "this moment is before that of the line above",
     }
 }
@@ -65,7 +66,7 @@ fn store_rule<'a>(number: u32) -> &'a str
     }
 }
 
-// The rule that the two byte streams of a connection doesn't meet.
+// The rule that the two byte streams of a connection don't meet.
 fn stream_rule<'a>(number: u32) -> &'a str
     ensures { result.now ≡ stream_rule number }
 {
@@ -100,13 +101,14 @@ pub(crate) fn rule_of<'a>(role: Role, number: u32) -> &'a str
     ensures { result.now ≡ rule_of role number }
 {
     match role {
-        Role::Trace => trace_rule(number),
+        Role::Trace(_) => trace_rule(number),
         Role::Senders => senders_rule(number),
         Role::Log => log_rule(number),
         Role::Store => store_rule(number),
         Role::Client | Role::Server => stream_rule(number),
         Role::Request => request_rule(number),
-        Role::Schedule | Role::Order | Role::Other => schedule_rule(number),
+        Role::StoreOrRequest => "this is no store, or no request",
+        Role::Schedule | Role::Order | Role::Output | Role::Other => schedule_rule(number),
     }
 }
 

@@ -1,13 +1,14 @@
 // What a file is to a command line, by its words.
 ghost use Rattle.std.specs.Prelude.{◌≡◌, map, string_bytes};
-ghost use Rattle.refusal_lines.specs.Roles.{gives, role_of, role_text, shells_of, stands_among};
+ghost use Rattle.refusal_lines.specs.Roles.{digit, gives, nest_role, other_role, role_digit, role_of, role_text};
+ghost use Rattle.refusal_lines.specs.Roles.{shells_of};
 
-use refusal_words::option_value;
+use refusal_words::{TraceAt, option_value, trace_named};
 
-// What a file is to a command line.
+/// What a file is to a command line.
 #[derive(Clone, Copy, PartialEq, Eq)]
 pub(crate) enum Role {
-    Trace,
+    Trace(TraceAt),
     Schedule,
     Senders,
     Order,
@@ -16,6 +17,11 @@ pub(crate) enum Role {
     Client,
     Server,
     Request,
+    /// The same file is both, and which of them is refused can't be told.
+    StoreOrRequest,
+    /// An output.
+    Output,
+    /// The schedule of a sender, or an output.
     Other,
 }
 
@@ -35,19 +41,33 @@ pub(crate) fn shells_of(words: &[String]) -> &[String]
     }
 }
 
-// Whether the words give an option this value.
-fn gives(option: &str, name: &str, words: &[String]) -> bool
+/// Whether the words give an option this value.
+pub(crate) fn gives(option: &str, name: &str, words: &[String]) -> bool
     ensures { result ≡ gives option.now name.now (map string_bytes words.now) }
 {
     option_value(option, "", words) == name
 }
 
-fn stands_among(name: &str, words: &[String]) -> bool
-    ensures { result ≡ stands_among name.now (map string_bytes words.now) }
+// What a file is that stands in no option but `--schedule`, and is no trace.
+fn other_role(name: &str, words: &[String]) -> Role
+    ensures { result ≡ other_role name.now (map string_bytes words.now) }
 {
-    match words.split_first() {
-        Some((word, rest)) => word.as_str() == name || stands_among(name, rest),
-        None => false,
+    if gives("--schedule", name, words) {
+        Role::Schedule
+    } else if gives("--senders", "", words) {
+        Role::Output
+    } else {
+        Role::Other
+    }
+}
+
+// The trace of this name in a nest, or else what other file it is.
+fn nest_role(name: &str, words: &[String]) -> Role
+    ensures { result ≡ nest_role name.now (map string_bytes words.now) }
+{
+    match trace_named(name, shells_of(words)) {
+        Some(trace) => Role::Trace(trace),
+        None => other_role(name, words),
     }
 }
 
@@ -69,12 +89,24 @@ pub(crate) fn role_of(name: &str, words: &[String]) -> Role
         Role::Request
     } else if gives("--order", name, words) {
         Role::Order
-    } else if stands_among(name, shells_of(words)) {
-        Role::Trace
-    } else if gives("--schedule", name, words) {
-        Role::Schedule
     } else {
-        Role::Other
+        nest_role(name, words)
+    }
+}
+
+// The number of a shell, of which a nest has at most eight.
+fn digit<'a>(number: u32) -> &'a str
+    ensures { result.now ≡ digit number }
+{
+    match number {
+        1 => "1",
+        2 => "2",
+        3 => "3",
+        4 => "4",
+        5 => "5",
+        6 => "6",
+        7 => "7",
+        _ => "8",
     }
 }
 
@@ -84,7 +116,8 @@ impl Role {
         ensures { result.now ≡ role_text self }
     {
         match self {
-            Role::Trace => "a trace of mm-link",
+            Role::Trace(TraceAt { up: true, .. }) => "the uplink trace of shell ",
+            Role::Trace(TraceAt { up: false, .. }) => "the downlink trace of shell ",
             Role::Schedule => "the schedule",
             Role::Senders => "the list of senders",
             Role::Order => "the order",
@@ -93,7 +126,19 @@ impl Role {
             Role::Client => "the client's bytes",
             Role::Server => "the server's bytes",
             Role::Request => "the request",
+            Role::StoreOrRequest => "the store and the request",
+            Role::Output => "another output",
             Role::Other => "the schedule of a sender",
+        }
+    }
+
+    /// The number of the shell, after the text of a trace.
+    pub(crate) fn digit<'a>(self) -> &'a str
+        ensures { result.now ≡ role_digit self }
+    {
+        match self {
+            Role::Trace(trace) => digit(trace.shell),
+            _ => "",
         }
     }
 }

@@ -52,7 +52,7 @@ stray_by command word _ = three (codes "'") word (codes "' is neither an option 
 abbrev pub stray_parts : Command → List Text → Text → List Text
 stray_parts command options word =
     if has_shells command && is_shell word
-    then three (codes "shells must follow '--' (found '") word (codes "' before it)")
+    then three (codes "shells must follow '--' (found '") word (codes "')")
     else stray_by command word (lacking (options_of command) options)
 
 -- the text of a fault of a command's option words

@@ -1,7 +1,7 @@
 -- The first fault of a command's words.
-use Rattle.std.specs.Prelude.{Bool, false, not, ◌==◌, ◌&&◌, ◌||◌, List, [], ◌∷◌, Option, Some, None, codes}
+use Rattle.std.specs.Prelude.{Bool, false, not, ◌==◌, ◌&&◌, List, [], ◌∷◌, Option, Some, None, codes}
 use Rattle.std.specs.Prelude.{length, nat_lt, if◌then◌else◌}
-use Rattle.std.specs.List.{position_or_len, before_first, after_first}
+use Rattle.std.specs.List.{list_any, position_or_len, before_first, after_first}
 use Rattle.std.specs.Str.{bytes_eq}
 use Rattle.refusal_words.specs.Commands.{Text, has_shells}
 use Rattle.refusal_words.specs.Options.{fits, is_needed, option_text, options_of, takes_value}
@@ -80,21 +80,32 @@ if_valued (Some option) = if takes_value option then Some option else None
 abbrev pub waits : List KnownOption → Text → Option KnownOption
 waits options word = if_valued (known options word)
 
--- the fault of the first word that has one, where an option may wait for its value
+-- what is wrong with a word, where an option may wait for its value
+abbrev pub next_fault : List KnownOption → Option KnownOption → Text → Fault
+next_fault options (Some option) word = bad_value option word
+next_fault options None word = bad_word options word
+
+-- the option that waits for its value after a word, where one may have waited before it
+abbrev pub next_waiting : List KnownOption → Option KnownOption → Text → Option KnownOption
+next_waiting options (Some option) word = None
+next_waiting options None word = waits options word
+
+abbrev pub end_fault : Option KnownOption → Fault
+end_fault (Some option) = NoValue option
+end_fault None = Nothing
+
+-- the fault of the first word that has one, or of the end of the words, where an option may wait for its value
 abbrev pub faulty_word : List KnownOption → Option KnownOption → List Text → Fault
-faulty_word options (Some option) [] = NoValue option
-faulty_word options None [] = Nothing
-faulty_word options (Some option) (word ∷ words) = first_of (bad_value option word) (faulty_word options None words)
-faulty_word options None (word ∷ words) = first_of (bad_word options word)
-    (faulty_word options (waits options word) words)
+faulty_word options waiting [] = end_fault waiting
+faulty_word options waiting (word ∷ words) = first_of (next_fault options waiting word)
+    (faulty_word options (next_waiting options waiting word) words)
 
 -- a word gives this option
 abbrev pub names : KnownOption → Text → Bool
 names option word = bytes_eq (name_in word) (option_text option)
 
 abbrev pub stands_in : KnownOption → List Text → Bool
-stands_in option [] = false
-stands_in option (word ∷ words) = names option word || stands_in option words
+stands_in option words = list_any (λ word. names option word) words
 
 abbrev pub stands_twice : KnownOption → List Text → Bool
 stands_twice option [] = false
@@ -124,8 +135,7 @@ is_end word = bytes_eq word (codes "--")
 
 -- a word `--` stands among these
 abbrev pub has_end : List Text → Bool
-has_end [] = false
-has_end (word ∷ words) = is_end word || has_end words
+has_end words = list_any is_end words
 
 -- The first fault of a command's words. Where shells follow, the options end at the first `--`, which must be there.
 abbrev pub word_fault : Command → List Text → List Text → Fault

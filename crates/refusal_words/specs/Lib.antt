@@ -6,6 +6,7 @@ pub mod Faults
 pub mod View
 pub mod FaultTexts
 pub mod Shells
+pub mod Traces
 pub mod ShellViews
 pub mod NestTexts
 pub mod Help

@@ -1,13 +1,17 @@
 -- The texts of the refusals of a nest's words.
-use Rattle.std.specs.Prelude.{ℕ, zero, suc, ◌-◌, Bool, true, false, ◌==◌, List, [], ◌∷◌, Option, Some, None, codes}
+use Rattle.std.specs.Prelude.{ℕ, zero, suc, ◌-◌, Bool, true, false, ◌==◌, ◌||◌, List, [], ◌∷◌, Option, Some, None}
+use Rattle.std.specs.Prelude.{codes}
 use Rattle.std.specs.Prelude.{Result, Ok, Err, if◌then◌else◌}
+use Rattle.std.specs.Option.{is_some}
 use Rattle.std.specs.Str.{bytes_eq}
 use Rattle.packet_queue.specs.Arguments.{queue_of}
 use Rattle.refusal_words.specs.Commands.{Text}
-use Rattle.refusal_words.specs.Faults.{name_in}
+use Rattle.refusal_words.specs.Faults.{begins_with_hyphen, is_end, known, name_in}
+use Rattle.refusal_words.specs.Options.{options_of}
 use Rattle.refusal_words.specs.Parts.{five, three}
-use Rattle.refusal_words.specs.Shells.{Lack, Value, Traces, Nothing, link_lack, link_value, shell_words}
+use Rattle.refusal_words.specs.Shells.{Lack, Value, Traces, Nothing, link_lack, link_value, own_words, shell_words}
 use Rattle.refusal_words.specs.Slips.{known_text, nearest}
+use Rattle.refusal_words.specs.declared.command.Command.TheVariants as commands
 use Rattle.refusal_words.specs.declared.slips.KnownWord.{KnownWord}
 use Rattle.refusal_words.specs.declared.slips.KnownWord.TheVariants.{Delay, Loss, Link, UplinkLog, DownlinkLog}
 use Rattle.refusal_words.specs.declared.slips.KnownWord.TheVariants.{UplinkQueue, DownlinkQueue, UplinkQueueArgs}
@@ -26,9 +30,16 @@ no_shell_by digits word (Some shell) = five (codes "'") word (codes "' is no she
 no_shell_by digits word None = five (codes "word ") digits (codes ", '") word
     (codes "', is no shell (mm-delay, mm-loss, mm-link); no command runs inside a nest")
 
+-- an option of a command stands among the shells
+abbrev pub late_option_parts : Text → List Text
+late_option_parts word = three (codes "'") (name_in word) (codes "' stands among the shells; options stand before '--'")
+
 abbrev pub no_shell_parts : Text → Text → List Text
-no_shell_parts digits word = no_shell_by digits word
-    (nearest (Delay ∷ Loss ∷ Link ∷ []) word)
+no_shell_parts digits word =
+    if is_end word
+    then three (codes "a shell must follow '--' (mm-delay, mm-loss, mm-link), and not another '--'") [] []
+    else if begins_with_hyphen word then late_option_parts word
+    else no_shell_by digits word (nearest (Delay ∷ Loss ∷ Link ∷ []) word)
 
 abbrev pub no_further_shell : List Text
 no_further_shell = three (codes "a shell must follow '--'") [] []
@@ -62,16 +73,31 @@ missing_parts (word ∷ words) =
 abbrev pub link_options : List KnownWord
 link_options = UplinkLog ∷ DownlinkLog ∷ UplinkQueue ∷ DownlinkQueue ∷ UplinkQueueArgs ∷ DownlinkQueueArgs ∷ Once ∷ []
 
+-- an option of a link, which has no such value
+abbrev pub own_option_parts : Text → List Text
+own_option_parts word = if bytes_eq (name_in word) (codes "--once")
+    then three (codes "mm-link: --once takes no value") [] []
+    else three (codes "mm-link: '") word (codes "': a log's name doesn't begin with '-'")
+
+-- a command with shells has an option of this name
+abbrev pub is_command_option : Text → Bool
+is_command_option name = is_some (known (options_of commands.Run) name)
+    || is_some (known (options_of commands.Merge) name) || is_some (known (options_of commands.Relay) name)
+
 abbrev pub bad_option_by : Text → Option KnownWord → List Text
 bad_option_by word (Some option) = if bytes_eq (known_text option) (name_in word)
-    then three (codes "mm-link: '") word (codes "': a log's name doesn't begin with '-', and --once takes no value")
+    then own_option_parts word
     else five (codes "mm-link has no option ") (name_in word) (codes "; did you mean ") (known_text option)
     (codes "?")
 bad_option_by word None = three (codes "mm-link has no option ") (name_in word)
     (codes " here (it has --once, and --uplink- and --downlink- with log, queue and queue-args)")
 
+abbrev pub link_option_parts : Text → List Text
+link_option_parts word = bad_option_by word (nearest link_options (name_in word))
+
 abbrev pub bad_option_parts : Text → List Text
-bad_option_parts word = bad_option_by word (nearest link_options (name_in word))
+bad_option_parts word = if is_command_option (name_in word) then late_option_parts word
+    else link_option_parts word
 
 abbrev pub kind_option : Bool → Text
 kind_option up = if up then codes "--uplink-queue" else codes "--downlink-queue"
@@ -94,7 +120,7 @@ queue_by inner kind option args =
     else if inner == 2 then five option (codes ": '") args
     (codes "': write packets=100, bytes=150000 or both with a comma between") []
     else if inner == 3 then five kind (codes " needs ") option
-    (codes "=packets=N, bytes=N or both with a comma between") []
+    (codes "=packets=N, bytes=N or both with a comma between (N above 0)") []
     else five (codes "the queue infinite has no limit (") option (codes " is '") args
     (codes "'); droptail and drophead have")
 
@@ -105,6 +131,10 @@ queue_of_side inner up words = queue_by inner (link_value (kind_option up) (code
 -- the queue of a link's words that is refused
 abbrev pub queue_parts : ℕ → List Text → List Text
 queue_parts inner words = queue_of_side inner (is_up_refused words) words
+
+-- an option of a link stands twice
+abbrev pub twice_parts : Text → List Text
+twice_parts word = three (codes "mm-link: ") (name_in word) (codes " stands twice")
 
 abbrev pub rate_parts : ℕ → Text → List Text
 rate_parts inner rate = if inner == 2 then three (codes "loss rate ") rate (codes " is above 1")
@@ -121,9 +151,9 @@ nest_by number inner digits word shell =
     else if number == 4 then three (codes "mm-delay: '") (word_at 1 shell)
     (codes "' is not a whole number of milliseconds, 0 to 3600000")
     else if number == 5 then bad_option_parts word
-    else if number == 6 then three (codes "mm-link: ") word (codes " stands twice")
+    else if number == 6 then twice_parts word
     else if number == 7 then three (codes "a nest has at most 8 shells") [] []
-    else if number == 8 then queue_parts inner shell
+    else if number == 8 then queue_parts inner (own_words shell)
     else if number == 9 then rate_parts inner (word_at 2 shell)
     else three (codes "mm-loss needs 'uplink' or 'downlink' before the rate (found '") (word_at 1 shell) (codes "')")
 

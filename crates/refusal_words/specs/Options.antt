@@ -5,7 +5,8 @@ use Rattle.refusal_words.specs.Commands.{Text}
 use Rattle.refusal_words.specs.declared.command.Command.{Command}
 use Rattle.refusal_words.specs.declared.command.Command.TheVariants as commands
 use Rattle.refusal_words.specs.declared.known.KnownOption.{KnownOption}
-use Rattle.refusal_words.specs.declared.known.KnownOption.TheVariants.{Until, Schedule, Senders, Out, Seed, Plain, Order}
+use Rattle.refusal_words.specs.declared.known.KnownOption.TheVariants.{Until, Schedule, Senders, Out, Seed, Plain}
+use Rattle.refusal_words.specs.declared.known.KnownOption.TheVariants.{Order}
 use Rattle.refusal_words.specs.declared.known.KnownOption.TheVariants.{Log, Number, Packets, Client, Server, Store}
 use Rattle.refusal_words.specs.declared.known.KnownOption.TheVariants.{Request, Port, AtPort, SitePort, To, Listen}
 use Rattle.refusal_words.specs.declared.known.KnownOption.TheVariants.{Connections, Clients, Turns}
@@ -114,7 +115,7 @@ want_in (ranges.Number least most) = codes "a port, 1 to 65535"
 want_in _ = codes "a file's name (a value isn't empty and doesn't begin with '-')"
 
 abbrev pub want : KnownOption → Text
-want Until = codes "a whole number of milliseconds"
+want Until = codes "a whole number of milliseconds, 0 to 3600000"
 want Seed = codes "a whole number of at most ten digits"
 want Number = codes "a whole number of at most ten digits"
 want Packets = codes "a number of packets, 1 to 1000000"

@@ -1,6 +1,7 @@
 -- Where a shell stands among the words of a nest, and what its words say.
-use Rattle.std.specs.Prelude.{ℕ, zero, suc, Bool, true, false, ◌||◌, List, [], ◌∷◌, Option, Some, None, codes}
-use Rattle.std.specs.Prelude.{if◌then◌else◌}
+use Rattle.std.specs.Prelude.{ℕ, zero, suc, ◌-◌, Bool, true, false, ◌&&◌, ◌||◌, List, [], ◌∷◌, Option, Some, None}
+use Rattle.std.specs.Prelude.{codes}
+use Rattle.std.specs.Prelude.{length, take, if◌then◌else◌}
 use Rattle.std.specs.Str.{bytes_eq}
 use Rattle.refusal_words.specs.Commands.{Text}
 use Rattle.refusal_words.specs.Faults.{begins_with_hyphen, is_end, name_in, value_in}
@@ -39,6 +40,10 @@ after_shell (word ∷ words) =
     else if bytes_eq word (codes "mm-loss") then drop_words (drop_words words)
     else after_link false 0 words
 
+-- the words of the first shell alone
+abbrev pub own_words : List Text → List Text
+own_words words = take (length words - length (after_shell words)) words
+
 -- past one word `--`
 abbrev pub past_end : List Text → List Text
 past_end [] = []
@@ -64,11 +69,16 @@ abbrev pub is_empty : Text → Bool
 is_empty [] = true
 is_empty (byte ∷ bytes) = false
 
+-- this option of a link takes a log's name, which isn't empty
+abbrev pub is_log : Text → Bool
+is_log option = bytes_eq option (codes "--uplink-log") || bytes_eq option (codes "--downlink-log")
+
 -- what the words of a link that has so many traces lack, where an option may wait for its value
 abbrev pub link_lack : Option Text → ℕ → List Text → Lack
 link_lack (Some option) traces [] = Value option
 link_lack None traces [] = lack_from traces
-link_lack (Some option) traces (word ∷ words) = if begins_with_hyphen word || is_empty word then Value option
+link_lack (Some option) traces (word ∷ words) = if begins_with_hyphen word || is_log option && is_empty word
+    then Value option
     else link_lack None traces words
 link_lack None traces (word ∷ words) =
     if is_valued word then link_lack (Some word) traces words

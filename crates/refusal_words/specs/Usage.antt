@@ -1,10 +1,12 @@
 -- What a command line without a job gets: the usage where it asks for it, the version, or its first fault.
-use Rattle.std.specs.Prelude.{ℕ, ◌+◌, Bool, true, false, ◌&&◌, ◌||◌, List, [], ◌∷◌, ◌++◌, Option, Some, None, codes, take}
+use Rattle.std.specs.Prelude.{ℕ, ◌+◌, Bool, true, false, ◌&&◌, ◌||◌, List, [], ◌∷◌, ◌++◌, Option, Some, None, codes}
+use Rattle.std.specs.Prelude.{take}
 use Rattle.std.specs.Prelude.{if◌then◌else◌}
+use Rattle.std.specs.List.{list_any}
 use Rattle.std.specs.Str.{bytes_eq}
 use Rattle.refusal_words.specs.Commands.{Text, command_of, has_shells, program_text}
 use Rattle.refusal_words.specs.FaultTexts.{fault_parts, is_shell}
-use Rattle.refusal_words.specs.Faults.{is_end, word_fault}
+use Rattle.refusal_words.specs.Faults.{begins_with_hyphen, is_end, word_fault}
 use Rattle.refusal_words.specs.Help as help
 use Rattle.refusal_words.specs.Parts.{five, three}
 use Rattle.refusal_words.specs.Slips.{known_text, nearest}
@@ -26,8 +28,7 @@ abbrev pub is_help : Text → Bool
 is_help word = bytes_eq word (codes "--help") || bytes_eq word (codes "-h")
 
 abbrev pub asks_help : List Text → Bool
-asks_help [] = false
-asks_help (word ∷ words) = is_help word || asks_help words
+asks_help words = list_any is_help words
 
 abbrev pub is_last : List Text → Bool
 is_last [] = true
@@ -59,6 +60,8 @@ commands_of_mm = known.Run ∷ known.Merge ∷ known.Report ∷ known.Make ∷ k
 abbrev pub no_command_parts : Text → List Text
 no_command_parts word = if is_shell word
     then five (codes "no command '") word (codes "'; try: mm run .. -- ") word (codes " ..")
+    else if begins_with_hyphen word then three (codes "a command stands first, and not '") word
+    (codes "' (run, merge, report, make, record, match, migrate, replay; mm --help says more)")
     else no_command_by word (nearest commands_of_mm word)
 
 -- the words before the first `--`
@@ -92,10 +95,15 @@ abbrev pub own_pieces : Program → Command → List Text → List Text
 own_pieces program command words = if has_shells command then command_pieces program command (before_end words) words
     else command_pieces program command words words
 
+-- no words, or `help` first
+abbrev pub asks_page : List Text → Bool
+asks_page [] = true
+asks_page (word ∷ words) = bytes_eq word (codes "help")
+
 -- what the words of a program without a command's name get
 abbrev pub program_pieces : Program → Command → List Text → List Text
 program_pieces program command words =
-    if is_last words then page (command_help command)
+    if asks_page words then page (command_help command)
     else if is_version words then version_pieces program
     else own_pieces program command words
 
@@ -103,12 +111,22 @@ abbrev pub by_command : Text → List Text → Option Command → List Text
 by_command word words None = line Mm (no_command_parts word)
 by_command word words (Some command) = own_pieces Mm command words
 
+-- the usage of a command, or else of all
+abbrev pub help_by : Option Command → Text
+help_by None = help.all
+help_by (Some command) = command_help command
+
+-- the usage of the command that these words name, or else of all
+abbrev pub named_help : List Text → Text
+named_help [] = help.all
+named_help (word ∷ words) = help_by (command_of word)
+
 -- what the words of `mm` get
 abbrev pub mm_pieces : List Text → List Text
 mm_pieces [] = page help.all
 mm_pieces (word ∷ words) =
     if is_version (word ∷ words) then version_pieces Mm
-    else if is_help word || bytes_eq word (codes "help") then page help.all
+    else if is_help word || bytes_eq word (codes "help") then page (named_help words)
     else by_command word words (command_of word)
 
 -- what a program says of words that ask for nothing

@@ -66,7 +66,7 @@ fn stray_parts<'a>(command: Command, options: &[String], word: &'a str) -> [&'a 
     ensures { map (λ s. s.now) result ≡ stray_parts command (map string_bytes options.now) word.now }
 {
     if command.has_shells() && is_shell(word) {
-        return three("shells must follow '--' (found '", word, "' before it)");
+        return three("shells must follow '--' (found '", word, "')");
     }
     match lacking(options_of(command), options) {
         WordFault::Missing { option } => seven(

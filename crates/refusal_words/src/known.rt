@@ -230,7 +230,7 @@ impl KnownOption {
         ensures { result.now ≡ want self }
     {
         match self {
-            KnownOption::Until => "a whole number of milliseconds",
+            KnownOption::Until => "a whole number of milliseconds, 0 to 3600000",
             KnownOption::Seed | KnownOption::Number => "a whole number of at most ten digits",
             KnownOption::Packets => "a number of packets, 1 to 1000000",
             KnownOption::Turns => "a number of turns, 1 to 1000000",

@@ -14,10 +14,12 @@ mod options;
 mod parts;
 mod shells;
 mod slips;
+mod traces;
 mod usage;
 
 pub use command::{Command, Program};
 pub use nest_texts::{NestFault, nest_parts};
 pub use parts::{five, seven, three};
 pub use shells::option_value;
+pub use traces::{TraceAt, trace_named};
 pub use usage::{line, usage_pieces};

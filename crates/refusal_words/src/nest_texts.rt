@@ -1,12 +1,17 @@
 // The texts of the refusals of a nest's words.
 ghost use Rattle.std.specs.Prelude.{◌≡◌, map, string_bytes};
-ghost use Rattle.refusal_words.specs.NestTexts.{args_option, bad_option_parts, is_up_refused, kind_option, missing_parts};
-ghost use Rattle.refusal_words.specs.NestTexts.{missing_in_delay, missing_in_link, missing_in_loss, nest_parts, no_shell_parts, queue_by};
+ghost use Rattle.refusal_words.specs.NestTexts.{args_option, bad_option_parts, is_command_option, is_up_refused};
+ghost use Rattle.refusal_words.specs.NestTexts.{kind_option, missing_parts};
+ghost use Rattle.refusal_words.specs.NestTexts.{late_option_parts, link_option_parts, own_option_parts, twice_parts};
+ghost use Rattle.refusal_words.specs.NestTexts.{missing_in_delay, missing_in_link, missing_in_loss, nest_parts};
+ghost use Rattle.refusal_words.specs.NestTexts.{no_shell_parts, queue_by};
 ghost use Rattle.refusal_words.specs.NestTexts.{queue_parts, rate_parts, word_at};
 
-use crate::options::name_and_value;
+use crate::Command;
+use crate::known::options_of;
+use crate::options::{begins_with_hyphen, known, name_and_value};
 use crate::parts::{five, three};
-use crate::shells::{LinkLack, link_lack, option_value, shell_words};
+use crate::shells::{LinkLack, link_lack, option_value, own_words, shell_words};
 use crate::slips::{KnownWord, nearest};
 use packet_queue::read_queue;
 
@@ -44,10 +49,32 @@ fn word_at(before: u64, words: &[String]) -> &str
     word_at(before - 1, rest)
 }
 
+// An option of a command stands among the shells.
+fn late_option_parts(word: &str) -> [&str; 7]
+    ensures { map (λ s. s.now) result ≡ late_option_parts word.now }
+{
+    let (name, _) = name_and_value(word);
+    three(
+        "'",
+        name,
+        "' stands among the shells; options stand before '--'",
+    )
+}
+
 // A shell must begin at this word, of which these are the digits.
 fn no_shell_parts<'a>(digits: &'a str, word: &'a str) -> [&'a str; 7]
     ensures { map (λ s. s.now) result ≡ no_shell_parts digits.now word.now }
 {
+    if word == "--" {
+        return three(
+            "a shell must follow '--' (mm-delay, mm-loss, mm-link), and not another '--'",
+            "",
+            "",
+        );
+    }
+    if begins_with_hyphen(word) {
+        return late_option_parts(word);
+    }
     match nearest(SHELLS, word) {
         Some(shell) => five("'", word, "' is no shell; did you mean ", shell.text(), "?"),
         None => five(
@@ -116,17 +143,44 @@ fn missing_parts(words: &[String]) -> [&str; 7]
     }
 }
 
-// A word that is no option of a link.
+// An option of a link, which has no such value.
+fn own_option_parts(word: &str) -> [&str; 7]
+    ensures { map (λ s. s.now) result ≡ own_option_parts word.now }
+{
+    let (name, _) = name_and_value(word);
+    if name == "--once" {
+        return three("mm-link: --once takes no value", "", "");
+    }
+    three("mm-link: '", word, "': a log's name doesn't begin with '-'")
+}
+
+// Whether a command with shells has an option of this name.
+fn is_command_option(name: &str) -> bool
+    ensures { result ≡ is_command_option name.now }
+{
+    known(options_of(Command::Run), name).is_some()
+        || known(options_of(Command::Merge), name).is_some()
+        || known(options_of(Command::Relay), name).is_some()
+}
+
+// A word among those of a link that is no option of it.
 fn bad_option_parts(word: &str) -> [&str; 7]
     ensures { map (λ s. s.now) result ≡ bad_option_parts word.now }
 {
     let (name, _) = name_and_value(word);
+    if is_command_option(name) {
+        return late_option_parts(word);
+    }
+    link_option_parts(word)
+}
+
+// A word that is no option of a link, or one without such a value.
+fn link_option_parts(word: &str) -> [&str; 7]
+    ensures { map (λ s. s.now) result ≡ link_option_parts word.now }
+{
+    let (name, _) = name_and_value(word);
     match nearest(LINK_OPTIONS, name) {
-        Some(option) if option.text() == name => three(
-            "mm-link: '",
-            word,
-            "': a log's name doesn't begin with '-', and --once takes no value",
-        ),
+        Some(option) if option.text() == name => own_option_parts(word),
         Some(option) => five(
             "mm-link has no option ",
             name,
@@ -187,7 +241,7 @@ fn queue_by<'a>(inner: u32, kind: &'a str, option: &'a str, args: &'a str) -> [&
             kind,
             " needs ",
             option,
-            "=packets=N, bytes=N or both with a comma between",
+            "=packets=N, bytes=N or both with a comma between (N above 0)",
             "",
         ),
         _ => five(
@@ -208,6 +262,14 @@ fn queue_parts(inner: u32, words: &[String]) -> [&str; 7]
     let kind = option_value(kind_option(up), "infinite", words);
     let option = args_option(up);
     queue_by(inner, kind, option, option_value(option, "", words))
+}
+
+// An option of a link stands twice.
+fn twice_parts(word: &str) -> [&str; 7]
+    ensures { map (λ s. s.now) result ≡ twice_parts word.now }
+{
+    let (name, _) = name_and_value(word);
+    three("mm-link: ", name, " stands twice")
 }
 
 fn rate_parts(inner: u32, rate: &str) -> [&str; 7]
@@ -241,9 +303,9 @@ pub fn nest_parts<'a>(fault: NestFault, digits: &'a str, words: &'a [String]) ->
             "' is not a whole number of milliseconds, 0 to 3600000",
         ),
         5 => bad_option_parts(word),
-        6 => three("mm-link: ", word, " stands twice"),
+        6 => twice_parts(word),
         7 => three("a nest has at most 8 shells", "", ""),
-        8 => queue_parts(fault.inner, shell),
+        8 => queue_parts(fault.inner, own_words(shell)),
         9 => rate_parts(fault.inner, word_at(2, shell)),
         _ => three(
             "mm-loss needs 'uplink' or 'downlink' before the rate (found '",

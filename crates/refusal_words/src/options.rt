@@ -1,7 +1,8 @@
 // The first fault of a command's words.
-ghost use Rattle.std.specs.Prelude.{◌≡◌, option_map, map, string_bytes, length};
+ghost use Rattle.std.specs.Prelude.{◌≡◌, None, option_map, map, string_bytes, length};
 ghost use Rattle.refusal_words.specs.Faults.{bad_option, bad_use, bad_value, bad_word, begins_with_hyphen, faulty_word};
-ghost use Rattle.refusal_words.specs.Faults.{has_end, known, lacking, name_in, names, options_fault, repeated, stands_in};
+ghost use Rattle.refusal_words.specs.Faults.{has_end, known, lacking, name_in, names, next_fault, next_waiting};
+ghost use Rattle.refusal_words.specs.Faults.{options_fault, repeated, stands_in};
 ghost use Rattle.refusal_words.specs.Faults.{stands_twice, value_in, waits, word_fault, excluded, first_of};
 ghost use Rattle.refusal_words.specs.Options.{option_text};
 ghost use Rattle.refusal_words.specs.View.{fault_of};
@@ -48,8 +49,8 @@ fn is_text(option: KnownOption, name: &str) -> bool
     option.text() == name
 }
 
-// The option of this name.
-fn known(options: &[KnownOption], name: &str) -> Option<KnownOption>
+/// The option of this name.
+pub(crate) fn known(options: &[KnownOption], name: &str) -> Option<KnownOption>
     ensures { result ≡ known options.now name.now }
 {
     let (option, rest) = options.split_first()?;
@@ -105,27 +106,50 @@ fn waits(options: &[KnownOption], word: &str) -> Option<KnownOption>
     }
 }
 
-// The fault of the first word that has one, where an option may wait for its value.
-fn faulty_word<'a>(
+// What is wrong with a word, where an option may wait for its value.
+fn next_fault<'a>(
     options: &[KnownOption],
     waiting: Option<KnownOption>,
-    words: &'a [String],
+    word: &'a str,
 ) -> WordFault<'a>
-    ensures { fault_of result ≡ faulty_word options.now waiting (map string_bytes words.now) }
+    ensures { fault_of result ≡ next_fault options.now waiting word.now }
 {
-    let Some((word, rest)) = words.split_first() else {
-        return match waiting {
-            Some(option) => WordFault::NoValue { option },
-            None => WordFault::Nothing,
-        };
-    };
-    let word = word.as_str();
     match waiting {
-        Some(option) => first_of(bad_value(option, word), faulty_word(options, None, rest)),
-        None => first_of(
-            bad_word(options, word),
-            faulty_word(options, waits(options, word), rest),
-        ),
+        Some(option) => bad_value(option, word),
+        None => bad_word(options, word),
+    }
+}
+
+// The option that waits for its value after a word, where one may have waited before it.
+fn next_waiting(
+    options: &[KnownOption],
+    waiting: Option<KnownOption>,
+    word: &str,
+) -> Option<KnownOption>
+    ensures { result ≡ next_waiting options.now waiting word.now }
+{
+    match waiting {
+        Some(_) => None,
+        None => waits(options, word),
+    }
+}
+
+// The fault of the first word that has one, or of the end of the words.
+fn faulty_word<'a>(options: &[KnownOption], words: &'a [String]) -> WordFault<'a>
+    ensures { fault_of result ≡ faulty_word options.now None (map string_bytes words.now) }
+{
+    let mut waiting = None;
+    for word in words {
+        let word = word.as_str();
+        match next_fault(options, waiting, word) {
+            WordFault::Nothing => {}
+            fault => return fault,
+        }
+        waiting = next_waiting(options, waiting, word);
+    }
+    match waiting {
+        Some(option) => WordFault::NoValue { option },
+        None => WordFault::Nothing,
     }
 }
 
@@ -140,22 +164,26 @@ fn names(option: KnownOption, word: &str) -> bool
 fn stands_in(option: KnownOption, words: &[String]) -> bool
     ensures { result ≡ stands_in option (map string_bytes words.now) }
 {
-    match words.split_first() {
-        Some((word, rest)) => names(option, word.as_str()) || stands_in(option, rest),
-        None => false,
+    for word in words {
+        if names(option, word.as_str()) {
+            return true;
+        }
     }
+    false
 }
 
 fn stands_twice(option: KnownOption, words: &[String]) -> bool
     ensures { result ≡ stands_twice option (map string_bytes words.now) }
 {
-    let Some((word, rest)) = words.split_first() else {
-        return false;
-    };
-    if names(option, word.as_str()) {
-        return stands_in(option, rest);
+    let mut stands = false;
+    for word in words {
+        let names = names(option, word.as_str());
+        if names && stands {
+            return true;
+        }
+        stands = stands || names;
     }
-    stands_twice(option, rest)
+    false
 }
 
 // The first option that stands twice.
@@ -199,7 +227,7 @@ fn options_fault<'a>(options: &[KnownOption], words: &'a [String]) -> WordFault<
     ensures { fault_of result ≡ options_fault options.now (map string_bytes words.now) }
 {
     first_of(
-        faulty_word(options, None, words),
+        faulty_word(options, words),
         first_of(
             repeated(options, words),
             first_of(lacking(options, words), excluded(words)),
@@ -211,10 +239,12 @@ fn options_fault<'a>(options: &[KnownOption], words: &'a [String]) -> WordFault<
 pub(crate) fn has_end(words: &[String]) -> bool
     ensures { result ≡ has_end (map string_bytes words.now) }
 {
-    match words.split_first() {
-        Some((word, rest)) => word.as_str() == "--" || has_end(rest),
-        None => false,
+    for word in words {
+        if word.as_str() == "--" {
+            return true;
+        }
     }
+    false
 }
 
 /// The first fault of the words of a command; `options` are those before the first `--` where shells follow it, and

@@ -1,14 +1,16 @@
 // Where a shell stands among the words of a nest, and what its words say.
-ghost use Rattle.std.specs.Prelude.{◌≡◌, option_map, map, string_bytes};
-ghost use Rattle.refusal_words.specs.Shells.{after_link, after_shell, drop_words, is_valued, lack_from, link_lack};
-ghost use Rattle.refusal_words.specs.Shells.{link_value, past_end, shell_words, value_at};
+ghost use Rattle.std.specs.Prelude.{◌≡◌, ◌≤◌, length, option_map, map, string_bytes};
+ghost use Rattle.refusal_words.specs.Shells.{after_link, after_shell, drop_words, is_log, is_valued, lack_from};
+ghost use Rattle.refusal_words.specs.Shells.{link_lack};
+ghost use Rattle.refusal_words.specs.Shells.{link_value, own_words, past_end, shell_words, value_at};
 ghost use Rattle.refusal_words.specs.ShellViews.{lack_of};
 
 use crate::options::{begins_with_hyphen, name_and_value};
 
 // Without the first word.
 fn drop_word(words: &[String]) -> &[String]
-    ensures { map string_bytes result.now ≡ drop_words (map string_bytes words.now) }
+    ensures within { length result.now ≤ length words.now }
+    ensures rest { map string_bytes result.now ≡ drop_words (map string_bytes words.now) }
 {
     match words.split_first() {
         Some((_, rest)) => rest,
@@ -16,8 +18,8 @@ fn drop_word(words: &[String]) -> &[String]
     }
 }
 
-// Whether this option of a link takes the next word as its value.
-fn is_valued(word: &str) -> bool
+/// Whether this option of a link takes the next word as its value.
+pub(crate) fn is_valued(word: &str) -> bool
     ensures { result ≡ is_valued word.now }
 {
     match word {
@@ -30,7 +32,8 @@ fn is_valued(word: &str) -> bool
 
 // The words after those of a link that has so many traces, where an option may wait for its value.
 fn after_link(waits: bool, traces: u32, words: &[String]) -> &[String]
-    ensures { map string_bytes result.now ≡ after_link waits traces (map string_bytes words.now) }
+    ensures rest { map string_bytes result.now ≡ after_link waits traces (map string_bytes words.now) }
+    ensures within { length result.now ≤ length words.now }
 {
     let Some((word, rest)) = words.split_first() else {
         return words;
@@ -54,7 +57,8 @@ fn after_link(waits: bool, traces: u32, words: &[String]) -> &[String]
 
 /// The words after those of the first shell.
 pub(crate) fn after_shell(words: &[String]) -> &[String]
-    ensures { map string_bytes result.now ≡ after_shell (map string_bytes words.now) }
+    ensures rest { map string_bytes result.now ≡ after_shell (map string_bytes words.now) }
+    ensures within { length result.now ≤ length words.now }
 {
     let Some((word, rest)) = words.split_first() else {
         return words;
@@ -66,8 +70,17 @@ pub(crate) fn after_shell(words: &[String]) -> &[String]
     }
 }
 
-// Past one word `--`.
-fn past_end(words: &[String]) -> &[String]
+/// The words of the first shell alone.
+#[tactic(auto, using(crate::proofs::ShellLemmas::own_words_map))]
+pub(crate) fn own_words(words: &[String]) -> &[String]
+    ensures { map string_bytes result.now ≡ own_words (map string_bytes words.now) }
+{
+    let rest = after_shell(words);
+    &words[..words.len() - rest.len()]
+}
+
+/// Past one word `--`.
+pub(crate) fn past_end(words: &[String]) -> &[String]
     ensures { map string_bytes result.now ≡ past_end (map string_bytes words.now) }
 {
     match words.split_first() {
@@ -104,6 +117,13 @@ fn lack_at_end<'a>(traces: u32) -> LinkLack<'a>
     LinkLack::Nothing
 }
 
+// Whether this option of a link takes a log's name, which isn't empty.
+fn is_log(option: &str) -> bool
+    ensures { result ≡ is_log option.now }
+{
+    option == "--uplink-log" || option == "--downlink-log"
+}
+
 /// What the words of a link that has so many traces lack, where an option may wait for its value.
 pub(crate) fn link_lack<'a>(
     waiting: Option<&'a str>,
@@ -120,7 +140,7 @@ pub(crate) fn link_lack<'a>(
     };
     let word = word.as_str();
     if let Some(option) = waiting {
-        if begins_with_hyphen(word) || word.is_empty() {
+        if begins_with_hyphen(word) || is_log(option) && word.is_empty() {
             return LinkLack::Value(option);
         }
         return link_lack(None, traces, rest);

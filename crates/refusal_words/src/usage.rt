@@ -1,12 +1,13 @@
 // What a command line without a job gets: the usage where it asks for it, the version, or its first fault.
 ghost use Rattle.std.specs.Prelude.{◌≡◌, ◌≤◌, length, map, string_bytes};
-ghost use Rattle.refusal_words.specs.Usage.{asks_help, before_end, command_pieces, end_of, is_help, is_last, is_version, line, mm_pieces};
+ghost use Rattle.refusal_words.specs.Usage.{asks_help, asks_page, before_end, command_pieces, end_of, is_help};
+ghost use Rattle.refusal_words.specs.Usage.{is_last, is_version, line, mm_pieces};
 ghost use Rattle.refusal_words.specs.Usage.{no_command_parts, own_pieces, page, usage_pieces, version, version_pieces};
-ghost use Rattle.refusal_words.specs.Usage.{command_help, program_pieces};
+ghost use Rattle.refusal_words.specs.Usage.{command_help, named_help, program_pieces};
 
 use crate::command::command_of;
 use crate::fault_texts::{fault_parts, is_shell};
-use crate::options::word_fault;
+use crate::options::{begins_with_hyphen, word_fault};
 use crate::parts::{five, three};
 use crate::slips::{KnownWord, nearest};
 use crate::{Command, Program, help};
@@ -46,10 +47,12 @@ fn is_help(word: &str) -> bool
 fn asks_help(words: &[String]) -> bool
     ensures { result ≡ asks_help (map string_bytes words.now) }
 {
-    match words.split_first() {
-        Some((word, rest)) => is_help(word.as_str()) || asks_help(rest),
-        None => false,
+    for word in words {
+        if is_help(word.as_str()) {
+            return true;
+        }
     }
+    false
 }
 
 // Whether no word follows.
@@ -94,6 +97,13 @@ fn no_command_parts(word: &str) -> [&str; 7]
     if is_shell(word) {
         return five("no command '", word, "'; try: mm run .. -- ", word, " ..");
     }
+    if begins_with_hyphen(word) {
+        return three(
+            "a command stands first, and not '",
+            word,
+            "' (run, merge, report, make, record, match, migrate, replay; mm --help says more)",
+        );
+    }
     match nearest(COMMANDS, word) {
         Some(command) => five(
             "no command '",
@@ -115,13 +125,14 @@ fn end_of(words: &[String]) -> usize
     ensures end { result ≡ end_of (map string_bytes words.now) }
     ensures within { result ≤ length words.now }
 {
-    let Some((word, rest)) = words.split_first() else {
-        return 0;
-    };
-    if word.as_str() == "--" {
-        return 0;
+    let mut end = 0;
+    for word in words {
+        if word.as_str() == "--" {
+            return end;
+        }
+        end += 1;
     }
-    1 + end_of(rest)
+    end
 }
 
 // The words before the first `--`.
@@ -178,17 +189,40 @@ fn own_pieces<'a>(program: Program, command: Command, words: &'a [String]) -> [&
     command_pieces(program, command, words, words)
 }
 
+// Whether there are no words, or `help` stands first.
+fn asks_page(words: &[String]) -> bool
+    ensures { result ≡ asks_page (map string_bytes words.now) }
+{
+    match words.split_first() {
+        Some((word, _)) => word.as_str() == "help",
+        None => true,
+    }
+}
+
 // What the words of a program without a command's name get.
 fn program_pieces<'a>(program: Program, command: Command, words: &'a [String]) -> [&'a str; 9]
     ensures { map (λ s. s.now) result ≡ program_pieces program command (map string_bytes words.now) }
 {
-    if is_last(words) {
+    if asks_page(words) {
         return page(command_help(command));
     }
     if is_version(words) {
         return version_pieces(program);
     }
     own_pieces(program, command, words)
+}
+
+// The usage of the command that these words name, or else of all.
+fn named_help<'a>(words: &[String]) -> &'a str
+    ensures { result.now ≡ named_help (map string_bytes words.now) }
+{
+    let Some((word, _)) = words.split_first() else {
+        return help::all();
+    };
+    match command_of(word.as_str()) {
+        Some(command) => command_help(command),
+        None => help::all(),
+    }
 }
 
 // What the words of `mm` get.
@@ -203,7 +237,7 @@ fn mm_pieces(words: &[String]) -> [&str; 9]
     };
     let word = word.as_str();
     if is_help(word) || word == "help" {
-        return page(help::all());
+        return page(named_help(rest));
     }
     match command_of(word) {
         Some(command) => own_pieces(Program::Mm, command, rest),

@@ -1,5 +1,0 @@
-use Rattle.std.proofs.Common.{length}
-use Rattle.refusal_lines.proofs.roles.+stands_among.Given as goal
-
-abbrev pub decreases-stands_among : goal.decreases-stands_among
-decreases-stands_among l = length l.words.now
