@@ -93,9 +93,9 @@ reading_named f all first word command called some is same found named =
     ap (λ c. command_reading c words) by_word ∙ ap reading_of (sym (split_words f all first some is))
 
 -- words name one command
-pub another_named : (one other : Command) {words : List Text} → named_command words ≡ Some other → one ≢ other
+pub another_named : (words : List Text) (one other : Command) → named_command words ≡ Some other → one ≢ other
     → named_command words ≡ Some one → ⊥
-another_named one other named apart is = apart (let same : Some one ≡ Some other = sym is ∙ named in cc same)
+another_named words one other named apart is = apart (let same : Some one ≡ Some other = sym is ∙ named in cc same)
 
 -- and this is the command that they name
 pub command_named : {S : Type 0} (f : S → Text) (all : List S) (first : S) (word : Text) (command called : Command)

@@ -15,6 +15,7 @@ ghost use Rattle.refusal_lines.specs.Telling.{Tells};
 ghost use Rattle.refusal_words.specs.declared.command.Program.TheVariants.{Mm};
 ghost use Rattle.mm_program.specs.Commands.{named_command, reading_of};
 ghost use Rattle.mm_program.specs.Tasks.{Task, work};
+ghost use Rattle.mm_program.specs.declared.command.Command.{Command};
 
 use crate::top::answer;
 use command_ends::conclude;

@@ -137,36 +137,43 @@ returns-in-Replay-clause-port g c = λ other. absurd (other
     c.in-len1-up.len_at_least c.word-item.is c.as_str.ensures.value c.in-Replay.is c.read_command.ensures))
 
 pub returns-in-Run-clause-make : goal.returns-in-Run-clause-make
-returns-in-Run-clause-make g c = λ make. absurd (another_named Run Make make (λ is. cc is)
+returns-in-Run-clause-make g c = λ make.
+    absurd (another_named (map string_bytes c.args.words.now) Run Make make (λ is. cc is)
     (command_named string_bytes c.args.words.now c.word-item.result c.as_str.result.now Run c.read_command.result
     c.in-len1-up.len_at_least c.word-item.is c.as_str.ensures.value c.in-Run.is c.read_command.ensures))
 
 pub returns-in-Merge-clause-make : goal.returns-in-Merge-clause-make
-returns-in-Merge-clause-make g c = λ make. absurd (another_named Merge Make make (λ is. cc is)
+returns-in-Merge-clause-make g c = λ make.
+    absurd (another_named (map string_bytes c.args.words.now) Merge Make make (λ is. cc is)
     (command_named string_bytes c.args.words.now c.word-item.result c.as_str.result.now Merge c.read_command.result
     c.in-len1-up.len_at_least c.word-item.is c.as_str.ensures.value c.in-Merge.is c.read_command.ensures))
 
 pub returns-in-Report-clause-make : goal.returns-in-Report-clause-make
-returns-in-Report-clause-make g c = λ make. absurd (another_named Report Make make (λ is. cc is)
+returns-in-Report-clause-make g c = λ make.
+    absurd (another_named (map string_bytes c.args.words.now) Report Make make (λ is. cc is)
     (command_named string_bytes c.args.words.now c.word-item.result c.as_str.result.now Report c.read_command.result
     c.in-len1-up.len_at_least c.word-item.is c.as_str.ensures.value c.in-Report.is c.read_command.ensures))
 
 pub returns-in-Record-clause-make : goal.returns-in-Record-clause-make
-returns-in-Record-clause-make g c = λ make. absurd (another_named Record Make make (λ is. cc is)
+returns-in-Record-clause-make g c = λ make.
+    absurd (another_named (map string_bytes c.args.words.now) Record Make make (λ is. cc is)
     (command_named string_bytes c.args.words.now c.word-item.result c.as_str.result.now Record c.read_command.result
     c.in-len1-up.len_at_least c.word-item.is c.as_str.ensures.value c.in-Record.is c.read_command.ensures))
 
 pub returns-in-Match-clause-make : goal.returns-in-Match-clause-make
-returns-in-Match-clause-make g c = λ make. absurd (another_named Match Make make (λ is. cc is)
+returns-in-Match-clause-make g c = λ make.
+    absurd (another_named (map string_bytes c.args.words.now) Match Make make (λ is. cc is)
     (command_named string_bytes c.args.words.now c.word-item.result c.as_str.result.now Match c.read_command.result
     c.in-len1-up.len_at_least c.word-item.is c.as_str.ensures.value c.in-Match.is c.read_command.ensures))
 
 pub returns-in-Migrate-clause-make : goal.returns-in-Migrate-clause-make
-returns-in-Migrate-clause-make g c = λ make. absurd (another_named Migrate Make make (λ is. cc is)
+returns-in-Migrate-clause-make g c = λ make.
+    absurd (another_named (map string_bytes c.args.words.now) Migrate Make make (λ is. cc is)
     (command_named string_bytes c.args.words.now c.word-item.result c.as_str.result.now Migrate c.read_command.result
     c.in-len1-up.len_at_least c.word-item.is c.as_str.ensures.value c.in-Migrate.is c.read_command.ensures))
 
 pub returns-in-Replay-clause-make : goal.returns-in-Replay-clause-make
-returns-in-Replay-clause-make g c = λ make. absurd (another_named Replay Make make (λ is. cc is)
+returns-in-Replay-clause-make g c = λ make.
+    absurd (another_named (map string_bytes c.args.words.now) Replay Make make (λ is. cc is)
     (command_named string_bytes c.args.words.now c.word-item.result c.as_str.result.now Replay c.read_command.result
     c.in-len1-up.len_at_least c.word-item.is c.as_str.ensures.value c.in-Replay.is c.read_command.ensures))
