@@ -8,7 +8,7 @@ ghost use Rattle.std.specs.Process.{exit_status};
 use command_relay::relay_main_told;
 use live_relay::{Pulse, SysClock, UdpWire, drops_at};
 use mm_base::{FileDisk, StdSink};
-use refusal_lines::{reason_of, tell_reason};
+use refusal_lines::{Reason, reason_of, tell_reason};
 use refusal_words::Program;
 use std::process::ExitCode;
 use std::{env, fs, io};
@@ -85,6 +85,14 @@ fn report(
     Ok(())
 }
 
+// Why the outside refused the call for which the program ends with this status, if that is known.
+fn reason_at(status: u8, disk: &FileDisk<HostRuntime>) -> Option<Reason> {
+    match status {
+        6 | 7 => reason_of(disk.last_error()?),
+        _ => None,
+    }
+}
+
 // What the words make of the machine's files, its clock and its ports. An error is want of memory before the top call.
 fn run(rt: &HostRuntime) -> io::Result<u8> {
     let words = read_words(rt)?;
@@ -108,11 +116,7 @@ fn run(rt: &HostRuntime) -> io::Result<u8> {
         // Where nobody can be told, nobody is.
         let _ = report(rt, &clock, &wire);
     }
-    let reason = match ending.status {
-        6 | 7 => disk.last_error().and_then(reason_of),
-        _ => None,
-    };
-    if let Some(reason) = reason {
+    if let Some(reason) = reason_at(ending.status, &disk) {
         let _ = tell_reason(Program::Relay, reason, &mut told);
     }
     Ok(ending.status)
