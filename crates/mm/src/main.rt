@@ -7,7 +7,7 @@ ghost use Rattle.std.specs.Process.{exit_status};
 
 use mm_base::{FileDisk, NoPace, StdSink, TcpPort};
 use mm_program::mm_main_told;
-use refusal_lines::{reason_of, system_reason, tell_reason};
+use refusal_lines::{Reason, reason_of, system_reason, tell_reason};
 use refusal_words::Program;
 use std::marker::Sync;
 use std::process::ExitCode;
@@ -24,6 +24,19 @@ fn read_words(rt: &HostRuntime) -> io::Result<Vec<String>> {
         Ok(words) => Ok(words.skip(1).collect(rt.alloc())?),
         Err(error) if error.kind() == io::ErrorKind::InvalidData => Ok(Vec::new(rt.alloc())),
         Err(error) => Err(error),
+    }
+}
+
+// Why the outside refused the call for which the program ends with this status, if that is known.
+fn reason_at(
+    status: u8,
+    disk: &FileDisk<HostRuntime>,
+    port: &TcpPort<HostRuntime>,
+) -> Option<Reason> {
+    match status {
+        6 | 7 => reason_of(disk.last_error()?),
+        8 => system_reason(port.last_error()?),
+        _ => None,
     }
 }
 
@@ -45,12 +58,7 @@ fn run<T: Threads + Wait + Sync>(threads: &T, rt: &HostRuntime) -> io::Result<u8
         &NoPace,
         &mut told,
     );
-    let reason = match ending.status {
-        6 | 7 => disk.last_error().and_then(reason_of),
-        8 => port.last_error().and_then(system_reason),
-        _ => None,
-    };
-    if let Some(reason) = reason {
+    if let Some(reason) = reason_at(ending.status, &disk, &port) {
         let _ = tell_reason(Program::Mm, reason, &mut told);
     }
     Ok(ending.status)
