@@ -1,5 +1,5 @@
 // Command lines over a disk without memory, which notes how often it is asked.
-ghost use Rattle.std.specs.Prelude.{◌^◌, ◌-◌, None, false};
+ghost use Rattle.std.specs.Prelude.{◌≡◌, ◌^◌, ◌-◌, None, false};
 
 use mm_base::{Disk, DiskError, MemPort, MemSink, NoPace};
 use mm_program::mm_main;
