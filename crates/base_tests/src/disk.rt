@@ -1,10 +1,10 @@
-// Files in memory: read, written, loaded and saved whole.
+// Tests of files in memory: read, written, loaded and saved whole.
 use mm_base::{Disk, DiskError, LoadError, MemDisk, load, save};
 use std::alloc::Global;
 use std::process::Abort;
 use text_base::{Bytes, OutOfMemory, Text};
 
-// A disk in memory with one file, whose calls of these numbers fail.
+// Returns a disk in memory with one file. The calls whose numbers are in `fails` fail.
 pub(crate) fn disk_with(
     alloc: Global,
     name: &str,
@@ -19,7 +19,7 @@ pub(crate) fn disk_with(
     Ok(MemDisk::new(alloc, files, fails.to_vec(alloc)?))
 }
 
-// Whether a file holds these bytes.
+// Returns whether a file holds the bytes `said`.
 pub(crate) fn holds(disk: &MemDisk, name: &str, said: &[u8]) -> bool {
     match disk.file(name) {
         Some(bytes) => bytes == said,
@@ -27,28 +27,28 @@ pub(crate) fn holds(disk: &MemDisk, name: &str, said: &[u8]) -> bool {
     }
 }
 
-// Whether a read from a place, into this buffer, brings these bytes.
+// Returns whether a read from the place `at` into `buf` brings the bytes `said`.
 fn reads<D: Disk>(disk: &mut D, name: &str, at: u64, buf: &mut [u8], said: &[u8]) -> bool {
     let read = disk.read_at(name, at, buf);
     read == Ok(said.len()) && buf.starts_with(said)
 }
 
-// Whether it is answered so where these bytes are to be added to a file.
+// Returns whether adding `bytes` to a file gives `said`.
 fn adds<D: Disk>(disk: &mut D, name: &str, bytes: &[u8], said: Result<usize, DiskError>) -> bool {
     disk.append(name, bytes) == said
 }
 
-// Whether it is answered so where a file is to be left empty.
+// Returns whether making a file empty gives `said`.
 fn creates<D: Disk>(disk: &mut D, name: &str, said: Result<(), DiskError>) -> bool {
     disk.create(name) == said
 }
 
-// Whether it is answered so where a file is to hold these bytes.
+// Returns whether saving `bytes` as a file gives `said`.
 fn saves<D: Disk>(disk: &mut D, name: &str, bytes: &[u8], said: Result<(), DiskError>) -> bool {
     save(disk, name, bytes) == said
 }
 
-// Whether a file of at most so many bytes is loaded so.
+// Returns whether loading a file of at most `most` bytes gives `said`.
 fn loads<D: Disk>(
     alloc: Global,
     disk: &mut D,
@@ -62,27 +62,30 @@ fn loads<D: Disk>(
     }
 }
 
-// A file, and how many bytes it is said to have, by calls of which the second fails.
+// Names of files, and what asking for their lengths gives. The second call fails.
 static SIZES: [(&str, Result<u64, DiskError>); 3] = [
     ("s", Ok(3)),
     ("s", Err(DiskError::Failed)),
     ("t", Err(DiskError::Absent)),
 ];
 
+// Checks the lengths of the files.
 fn has_sizes(rt: &impl Abort, disk: &mut MemDisk) {
+    assert!(rt; disk.last_fault().is_none());
     for &(name, said) in &SIZES {
         assert!(rt; disk.size(name) == said);
     }
+    assert!(rt; disk.last_fault() == Some("s"));
 }
 
-// Whether a file is read after a call that fails.
+// Returns whether a file is read after a call that fails.
 fn is_read(disk: &mut MemDisk) -> bool {
     adds(disk, "t", b"x", Err(DiskError::Failed))
         && reads(disk, "s", 1, &mut [0u8; 2], b"bc")
         && reads(disk, "s", 3, &mut [0u8; 2], b"")
 }
 
-// Whether a file is made, and another one left empty.
+// Returns whether a file is made by adding to it, and another one is made empty.
 fn changes(disk: &mut MemDisk) -> bool {
     adds(disk, "t", b"x", Ok(1))
         && holds(disk, "t", b"x")
@@ -98,7 +101,7 @@ fn a_disk_in_memory_fails_by_its_list(rt: HostRuntime) {
     assert!(rt; is_read(&mut disk) && changes(&mut disk));
 }
 
-// A name, how many bytes are loaded at most, and what comes of it.
+// Names of files, how many bytes are loaded at most, and what loading gives.
 static LOADS: [(&str, u64, Result<&[u8], LoadError>); 4] = [
     ("s", 3, Ok(b"abc")),
     ("s", 2, Err(LoadError::TooLong { size: 3 })),
@@ -106,6 +109,7 @@ static LOADS: [(&str, u64, Result<&[u8], LoadError>); 4] = [
     ("s", 3, Err(LoadError::Failed)),
 ];
 
+// Checks that each file is loaded so.
 fn are_loaded(rt: &impl Abort, alloc: Global, disk: &mut MemDisk) {
     for &(name, most, said) in &LOADS {
         assert!(rt;
@@ -115,7 +119,7 @@ fn are_loaded(rt: &impl Abort, alloc: Global, disk: &mut MemDisk) {
     }
 }
 
-// Whether a file is saved, and left empty where a call fails then.
+// Returns whether a file is saved, and then left empty where a call fails.
 fn saves_twice(disk: &mut MemDisk) -> bool {
     saves(disk, "f", b"12", Ok(()))
         && holds(disk, "f", b"12")

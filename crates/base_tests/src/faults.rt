@@ -1,17 +1,18 @@
-// Calls of the system that fail once, and would do well when made again.
+// Tests of calls of the system that fail once, and would succeed if they were made again.
 ghost use Rattle.std.specs.Prelude.{◌≡◌, IfOk};
 
 use interrupted_calls::{call_again, read_once, write_once};
 use std::cell::Cell;
 use std::io::{self, ErrorKind, Read, Write};
 
-// A reader and writer whose first call fails, and whose further calls do nothing, well.
+// A reader and writer whose first call fails. Its further calls do nothing and succeed.
 #[derive(Drop)]
 struct FailsOnce {
     has_failed: bool,
 }
 
 impl FailsOnce {
+    // Fails at the first call, and then returns `count`.
     fn call(&mut self, count: usize) -> io::Result<usize>
         ensures { IfOk result (λ n. n ≡ count) }
     {
@@ -39,7 +40,7 @@ impl Write for FailsOnce {
     }
 }
 
-// Whether a call is made again that fails once.
+// Returns whether a call that fails once is made again.
 fn is_called_again() -> bool {
     let calls = Cell::new(0u8);
     let answer = call_again(|| {
@@ -52,7 +53,7 @@ fn is_called_again() -> bool {
     answer.is_ok()
 }
 
-// A fault that is no signal's is answered, and the call isn't made again.
+// A fault that no signal caused is returned, and the call isn't made again.
 #[test]
 fn calls_that_fail_are_not_made_again(rt: HostRuntime) {
     let mut reader = FailsOnce { has_failed: false };

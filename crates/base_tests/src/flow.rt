@@ -1,4 +1,4 @@
-// Items of a stream that are recorded, and the items that a source sends.
+// Tests of streams that record items, and of the items that a source sends.
 use packet_record::{Direction, Flow, FlowEnd, Item, Packet, Row, Timed, source_item};
 use text_base::OutOfMemory;
 
@@ -13,7 +13,7 @@ fn packet_at(moment: u64) -> Timed {
     }
 }
 
-// Adds an item where it may follow. Whether it may.
+// Adds an item where it may follow. Returns whether it may.
 fn takes(flow: &mut Flow, item: Item) -> Result<bool, OutOfMemory> {
     if !flow.may_follow(&item) {
         return Ok(false);
@@ -22,7 +22,7 @@ fn takes(flow: &mut Flow, item: Item) -> Result<bool, OutOfMemory> {
     Ok(true)
 }
 
-// Whether a flow of one packet and of a mark is over.
+// Returns whether the stream has ended, with one packet and the bound 5.
 fn is_over(flow: &Flow) -> bool {
     !flow.may_follow(&Item::End)
         && flow.packets().len() == 1
@@ -30,7 +30,8 @@ fn is_over(flow: &Flow) -> bool {
         && flow.end() == FlowEnd::Ended
 }
 
-// Whether a flow takes a packet, then with room for another one a mark, not an earlier one, and then its end.
+// Returns whether a stream takes a packet, then a mark, for which there is room, but not an earlier one, and then the
+// end.
 fn takes_a_stream(flow: &mut Flow) -> Result<bool, OutOfMemory> {
     let takes_one = takes(flow, Item::Packet(packet_at(5)))?;
     flow.reserve(1)?;
@@ -48,7 +49,7 @@ fn records_a_stream(rt: HostRuntime) {
     moves(flow);
 }
 
-// What a row at 9 that goes up gives.
+// Returns what a row gives that goes up at 9 ms.
 fn given(direction: Direction, horizon: u64, sent: u64) -> Option<Item> {
     let row = Row {
         direction: Direction::Up,
@@ -57,7 +58,8 @@ fn given(direction: Direction, horizon: u64, sent: u64) -> Option<Item> {
     source_item(direction, horizon, sent, &row)
 }
 
-// Whether the row is sent up as a packet, down as a mark where none was sent, and else not.
+// Returns whether the row is sent up as a packet, and down as a mark where that moment wasn't sent yet, and gives
+// nothing else.
 fn is_sent() -> bool {
     given(Direction::Up, 9, 9) == Some(Item::Packet(packet_at(9)))
         && given(Direction::Down, 9, 8) == Some(Item::Mark(9))

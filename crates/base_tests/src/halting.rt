@@ -1,7 +1,7 @@
-// Readers and writers that a signal interrupts.
+// A reader and writer that signals interrupt.
 use std::io::{self, ErrorKind, Read, Write};
 
-// A reader that gives the same bytes at each call, and a writer that adds to them, two at most at each call. A signal
+// A reader that gives the same bytes at each call, and a writer that adds to them at most two bytes at a call. A signal
 // interrupts every other call.
 #[derive(Drop)]
 pub(crate) struct Halting {

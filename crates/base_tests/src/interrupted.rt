@@ -1,10 +1,10 @@
-//! Calls of the system that a signal interrupts.
+//! Tests of calls of the system that a signal interrupts.
 use crate::halting::Halting;
 use interrupted_calls::{call_again, read_once, write_once};
 use std::cell::Cell;
 use std::io::{self, ErrorKind};
 
-// What is called again until its third call, which isn't interrupted.
+// Returns what a call gives that is interrupted twice.
 fn third_call() -> io::Result<&'static str> {
     let calls = Cell::new(0u8);
     call_again(|| {
@@ -16,7 +16,7 @@ fn third_call() -> io::Result<&'static str> {
     })
 }
 
-// Whether two bytes are read and two of three written, each at the first call that isn't interrupted.
+// Returns whether two bytes are read and two of three written, each at the first call that isn't interrupted.
 fn is_called_again(halting: &mut Halting) -> io::Result<bool> {
     let read = read_once(halting, &mut [0u8; 4])?;
     let written = write_once(halting, b"abc")?;

@@ -1,10 +1,12 @@
-//! Tests of the outside, of schedules, traces, logs and reports, and of losses, through the public calls of the crates
-//! below. They stand apart from these, so that each of these is proved once, without tests. Texts that a command reads
-//! are tried by the cases of `checks/case`.
+//! Tests of files, output and connections, of schedules, traces, logs and reports, and of losses, through the public
+//! calls of the crates below. They are a crate of their own, so that each crate below is proved once, without tests.
+//! Texts that a command reads are tested by the cases of `checks/case`.
 #![tactic(auto)]
 
 #[cfg(test)]
 mod disk;
+#[cfg(test)]
+mod ended;
 #[cfg(test)]
 mod faults;
 #[cfg(test)]
@@ -27,6 +29,8 @@ mod net;
 mod packets;
 #[cfg(test)]
 mod pipes;
+#[cfg(test)]
+mod ports;
 #[cfg(test)]
 mod refusals;
 #[cfg(test)]

@@ -1,15 +1,18 @@
-// How long a connection over TCP waits, and where a port listens.
+// Tests of how long a connection over TCP waits, and of where a port listens.
+use crate::ports::{Beside, Numbered};
 use mm_base::{EndError, Link, Port, TcpLimits, TcpLink, TcpPort};
 use std::cell::Cell;
 use std::io::{self, Write};
 use std::net::{Ipv4Addr, Net, SocketAddr, TcpStream};
 use std::time::{Clock, Duration, Instant};
 
+// The limits of these tests, in milliseconds.
 const SHORT: u64 = 300;
 
+// The time in seconds within which a limit must have ended a call. The limits of the programs are longer.
 const LONG: u64 = 20;
 
-// Limits of which each is 300 ms.
+// Returns limits of 300 ms each.
 fn short_limits() -> TcpLimits {
     TcpLimits {
         giving: Duration::from_millis(SHORT),
@@ -18,40 +21,32 @@ fn short_limits() -> TcpLimits {
     }
 }
 
-// Whether a moment was a limit of 300 ms ago, and no limit of the machine's programs.
+// Returns whether a limit of 300 ms has passed since `begun`, and not so much as a limit of the programs.
 fn is_a_limit_ago(rt: &HostRuntime, begun: &Instant) -> io::Result<bool> {
     let passed = begun.elapsed(rt)?;
     Ok(Duration::from_millis(SHORT) <= passed && passed < Duration::from_secs(LONG))
 }
 
-// A port that listens at a number that is free.
-fn listening(rt: &HostRuntime) -> Option<(TcpPort<HostRuntime>, u16)> {
-    let mut port = TcpPort::with_limits(*rt, short_limits());
+// Makes a port listen at a number that was free, and returns the number.
+fn listen<P: Port + Numbered>(port: &mut P) -> Option<u16> {
     port.listen(0).ok()?;
-    let number = port.number()?;
-    Some((port, number))
+    port.number_of()
 }
 
+// Returns a client that connects to an address and number.
 fn client_at(rt: &HostRuntime, address: Ipv4Addr, number: u16) -> io::Result<TcpStream> {
     TcpStream::connect(rt, SocketAddr::from((address, number)))
 }
 
-// A client, the link on which it comes in, and its port.
-#[derive(Drop)]
-struct Connected {
-    port: TcpPort<HostRuntime>,
-    client: TcpStream,
-    link: TcpLink<HostRuntime>,
-}
-
-fn connect(rt: &HostRuntime) -> Option<Connected> {
-    let (mut port, number) = listening(rt)?;
+// Returns a client that has connected, and the link by which it came in.
+fn connect<P: Port + Numbered>(rt: &HostRuntime, port: &mut P) -> Option<(TcpStream, P::Conn)> {
+    let number = listen(port)?;
     let client = client_at(rt, Ipv4Addr::LOCALHOST, number).ok()?;
     let link = port.accept().ok()??;
-    Some(Connected { port, client, link })
+    Some((client, link))
 }
 
-// How giving ends that goes on for ever.
+// Writes on and on, and returns the error that ends it.
 fn give_on<L: Link>(link: &mut L) -> Option<EndError> {
     for _ in 0..1_000_000 {
         if let Err(error) = link.write(&[0u8; 4_096]) {
@@ -61,47 +56,87 @@ fn give_on<L: Link>(link: &mut L) -> Option<EndError> {
     None
 }
 
-// A read hands on all that came, as far as there is room for it.
+// Returns whether a read brings the bytes `said` into a buffer of `room` bytes.
+fn reads<L: Link>(link: &mut L, room: usize, said: &[u8]) -> bool {
+    let mut buf = [0u8; 8];
+    let Some(front) = buf.get_mut(..room) else {
+        return false;
+    };
+    link.read(front) == Ok(said.len()) && buf.starts_with(said)
+}
+
+// A read returns all that came, as far as there is room for it.
+fn hands_on<P: Port + Numbered + Drop>(rt: &HostRuntime, port: P) -> Option<bool> {
+    let mut port = port;
+    let (mut client, mut link) = connect(rt, &mut port)?;
+    client.write_all(b"come").ok()?;
+    let is_all = reads(&mut link, 8, b"come");
+    client.write_all(b"more").ok()?;
+    Some(is_all && reads(&mut link, 3, b"mor"))
+}
+
 #[test]
 fn a_read_hands_on_what_came(rt: HostRuntime) {
-    let mut both = connect(&rt).expect(&rt, "a link");
-    both.client.write_all(b"come").expect(&rt, "a client");
-    let mut buf = [0u8; 8];
-    assert!(rt; both.link.read(&mut buf) == Ok(4) && buf.starts_with(b"come"));
-    both.client.write_all(b"more").expect(&rt, "a client");
-    assert!(rt; both.link.read(&mut buf[..3]) == Ok(3) && buf.starts_with(b"mor"));
+    let beside = Beside::new(&rt, short_limits()).expect(&rt, "a pipe");
+    assert!(rt; hands_on(&rt, TcpPort::with_limits(rt, short_limits())) == Some(true));
+    assert!(rt; hands_on(&rt, beside.nothing()) == Some(true));
+    assert!(rt; hands_on(&rt, beside.an_open_pipe()) == Some(true));
 }
 
-// A client that takes nothing is cut at the limit, whatever the system's buffers take.
+// A client that reads nothing is cut off at the limit, however much the system's buffers take.
+fn cuts_giving<P: Port + Numbered + Drop>(rt: &HostRuntime, port: P) -> Option<bool> {
+    let mut port = port;
+    let (_client, mut link) = connect(rt, &mut port)?;
+    let begun = Instant::now(rt).ok()?;
+    let is_cut = give_on(&mut link) == Some(EndError::Failed);
+    Some(is_cut && is_a_limit_ago(rt, &begun).ok()?)
+}
+
 #[test]
 fn a_client_that_takes_nothing_is_cut(rt: HostRuntime) {
-    let mut both = connect(&rt).expect(&rt, "a link");
-    let begun = Instant::now(&rt).expect(&rt, "a clock");
-    assert!(rt; give_on(&mut both.link) == Some(EndError::Failed));
-    assert!(rt; is_a_limit_ago(&rt, &begun).expect(&rt, "a clock"));
+    let beside = Beside::new(&rt, short_limits()).expect(&rt, "a pipe");
+    assert!(rt; cuts_giving(&rt, TcpPort::with_limits(rt, short_limits())) == Some(true));
+    assert!(rt; cuts_giving(&rt, beside.nothing()) == Some(true));
+    assert!(rt; cuts_giving(&rt, beside.an_open_pipe()) == Some(true));
 }
 
-// A peer that says nothing is a fault at the limit.
+// A peer that sends nothing is a fault at the limit.
+fn cuts_silence<P: Port + Numbered + Drop>(rt: &HostRuntime, port: P) -> Option<bool> {
+    let mut port = port;
+    let (_client, mut link) = connect(rt, &mut port)?;
+    let begun = Instant::now(rt).ok()?;
+    let is_cut = link.read(&mut [0u8; 1]) == Err(EndError::Failed);
+    Some(is_cut && is_a_limit_ago(rt, &begun).ok()?)
+}
+
 #[test]
 fn a_peer_that_says_nothing_is_a_fault(rt: HostRuntime) {
-    let mut both = connect(&rt).expect(&rt, "a link");
-    let begun = Instant::now(&rt).expect(&rt, "a clock");
-    assert!(rt; both.link.read(&mut [0u8; 1]) == Err(EndError::Failed));
-    assert!(rt; is_a_limit_ago(&rt, &begun).expect(&rt, "a clock"));
+    let beside = Beside::new(&rt, short_limits()).expect(&rt, "a pipe");
+    assert!(rt; cuts_silence(&rt, TcpPort::with_limits(rt, short_limits())) == Some(true));
+    assert!(rt; cuts_silence(&rt, beside.nothing()) == Some(true));
+    assert!(rt; cuts_silence(&rt, beside.an_open_pipe()) == Some(true));
 }
 
-// A client that says more and then stays is heard out for the limit, when its output is closed.
+// Where the output is closed, a client that sends more and then stays is heard for the time of the limit.
+fn leaves_at_the_limit<P: Port + Numbered + Drop>(rt: &HostRuntime, port: P) -> Option<bool> {
+    let mut port = port;
+    let (mut client, mut link) = connect(rt, &mut port)?;
+    client.write_all(b"more").ok()?;
+    let begun = Instant::now(rt).ok()?;
+    link.close_output();
+    let is_left = is_a_limit_ago(rt, &begun).ok()?;
+    Some(is_left && link.read(&mut [0u8; 1]) == Err(EndError::Failed))
+}
+
 #[test]
 fn a_client_that_stays_is_left_at_the_limit(rt: HostRuntime) {
-    let mut both = connect(&rt).expect(&rt, "a link");
-    both.client.write_all(b"more").expect(&rt, "a client");
-    let begun = Instant::now(&rt).expect(&rt, "a clock");
-    both.link.close_output();
-    assert!(rt; is_a_limit_ago(&rt, &begun).expect(&rt, "a clock"));
-    assert!(rt; both.link.read(&mut [0u8; 1]) == Err(EndError::Failed));
+    let beside = Beside::new(&rt, short_limits()).expect(&rt, "a pipe");
+    assert!(rt; leaves_at_the_limit(&rt, TcpPort::with_limits(rt, short_limits())) == Some(true));
+    assert!(rt; leaves_at_the_limit(&rt, beside.nothing()) == Some(true));
+    assert!(rt; leaves_at_the_limit(&rt, beside.an_open_pipe()) == Some(true));
 }
 
-// A clock that is 120 ms on at each look.
+// A clock that is 120 ms later at each look.
 #[derive(Drop)]
 struct Hasty {
     looks: Cell<u32>,
@@ -118,7 +153,7 @@ impl Clock for Hasty {
     }
 }
 
-// A client, and the link on which it comes in, whose clock is hasty.
+// Returns a client, and the link by which it came in, which has a hasty clock.
 fn hasty_link(rt: &HostRuntime) -> io::Result<(TcpStream, TcpLink<Hasty>)> {
     let listener = rt.bind(SocketAddr::from((Ipv4Addr::LOCALHOST, 0)))?;
     let number = listener.local_addr()?.port();
@@ -130,7 +165,7 @@ fn hasty_link(rt: &HostRuntime) -> io::Result<(TcpStream, TcpLink<Hasty>)> {
     Ok((client, TcpLink::new(clock, stream, short_limits())?))
 }
 
-// A client that goes on saying more is left at the limit too, which no byte begins anew.
+// A client that sends more and more is left at the limit too. No byte starts the limit again.
 #[test]
 fn a_client_that_goes_on_is_left_at_the_limit(rt: HostRuntime) {
     let (client, link) = hasty_link(&rt).expect(&rt, "a link");
@@ -140,26 +175,29 @@ fn a_client_that_goes_on_is_left_at_the_limit(rt: HostRuntime) {
     assert!(rt; link.read(&mut [0u8; 1]) == Ok(1));
 }
 
-// Whether finishing a connection whose output wasn't closed hears the client out.
-fn is_finished_so(rt: &HostRuntime, both: Connected) -> io::Result<bool> {
-    let Connected { port, client, link } = both;
+// Finishing a connection whose output wasn't closed hears the client out.
+fn hears_out<P: Port + Numbered + Drop>(rt: &HostRuntime, port: P) -> Option<bool> {
     let mut port = port;
-    let begun = Instant::now(rt)?;
+    let (client, link) = connect(rt, &mut port)?;
+    let begun = Instant::now(rt).ok()?;
     let is_finished = port.finish(link).is_ok();
-    let has_passed = is_a_limit_ago(rt, &begun)?;
+    let has_passed = is_a_limit_ago(rt, &begun).ok()?;
     drop(client);
-    Ok(is_finished && has_passed)
+    Some(is_finished && has_passed)
 }
 
 #[test]
 fn finishing_hears_a_client_out(rt: HostRuntime) {
-    let both = connect(&rt).expect(&rt, "a link");
-    assert!(rt; is_finished_so(&rt, both).expect(&rt, "a clock"));
+    let beside = Beside::new(&rt, short_limits()).expect(&rt, "a pipe");
+    assert!(rt; hears_out(&rt, TcpPort::with_limits(rt, short_limits())) == Some(true));
+    assert!(rt; hears_out(&rt, beside.nothing()) == Some(true));
+    assert!(rt; hears_out(&rt, beside.an_open_pipe()) == Some(true));
 }
 
-// Whether nobody listens at another address of this machine.
-fn is_alone(rt: &HostRuntime) -> Option<bool> {
-    let (_port, number) = listening(rt)?;
+// A port listens at this machine's own address, and at no other.
+fn is_alone<P: Port + Numbered + Drop>(rt: &HostRuntime, port: P) -> Option<bool> {
+    let mut port = port;
+    let number = listen(&mut port)?;
     let here = client_at(rt, Ipv4Addr::LOCALHOST, number);
     let there = client_at(rt, Ipv4Addr::new(127, 0, 0, 2), number);
     Some(here.is_ok() && there.is_err())
@@ -167,28 +205,33 @@ fn is_alone(rt: &HostRuntime) -> Option<bool> {
 
 #[test]
 fn a_port_is_open_to_this_machine_alone(rt: HostRuntime) {
-    assert!(rt; is_alone(&rt) == Some(true));
+    let beside = Beside::new(&rt, short_limits()).expect(&rt, "a pipe");
+    assert!(rt; is_alone(&rt, TcpPort::with_limits(rt, short_limits())) == Some(true));
+    assert!(rt; is_alone(&rt, beside.nothing()) == Some(true));
+    assert!(rt; is_alone(&rt, beside.an_open_pipe()) == Some(true));
 }
 
-// Limits of which one can't be set.
+// Returns limits of which one can't be set.
 fn wrong_limits() -> TcpLimits {
     let mut limits = short_limits();
     limits.giving = Duration::from_millis(0);
     limits
 }
 
-// Whether a connection whose limits can't be set is a fault, and the port then listens no more.
-fn is_closed_then(rt: &HostRuntime) -> Option<bool> {
-    let mut port = TcpPort::with_limits(*rt, wrong_limits());
-    port.listen(0).ok()?;
-    let number = port.number()?;
+// A connection whose limits can't be set is a fault, after which the port listens no more.
+fn closes_at_a_fault<P: Port + Numbered + Drop>(rt: &HostRuntime, port: P) -> Option<bool> {
+    let mut port = port;
+    let number = listen(&mut port)?;
     let _client = client_at(rt, Ipv4Addr::LOCALHOST, number).ok()?;
     let is_fault = matches!(port.accept(), Err(EndError::Failed));
     let later = client_at(rt, Ipv4Addr::LOCALHOST, number);
-    Some(is_fault && port.number().is_none() && later.is_err())
+    Some(is_fault && port.number_of().is_none() && later.is_err())
 }
 
 #[test]
 fn a_port_that_could_not_accept_listens_no_more(rt: HostRuntime) {
-    assert!(rt; is_closed_then(&rt) == Some(true));
+    let beside = Beside::new(&rt, wrong_limits()).expect(&rt, "a pipe");
+    assert!(rt; closes_at_a_fault(&rt, TcpPort::with_limits(rt, wrong_limits())) == Some(true));
+    assert!(rt; closes_at_a_fault(&rt, beside.nothing()) == Some(true));
+    assert!(rt; closes_at_a_fault(&rt, beside.an_open_pipe()) == Some(true));
 }

@@ -1,4 +1,4 @@
-// Lines that are made from their end, and items that are printed, saved and appended line by line.
+// Tests of lines that are made from their end, and of items that are printed, saved and appended line by line.
 ghost use Rattle.std.specs.Prelude.{◌++◌, ◌∷◌, [], decimal};
 
 use crate::disk::{disk_with, holds};
@@ -20,7 +20,7 @@ impl PrintLine for Number {
     }
 }
 
-// So many numbers of 20 digits, so that each line has 21 bytes.
+// Returns `count` numbers of 20 digits, so that each line has 21 bytes.
 fn numbers(alloc: Global, count: u64) -> Result<Vec<Number>, OutOfMemory> {
     let mut numbers = Vec::new(alloc);
     for less in 0..count {
@@ -29,7 +29,7 @@ fn numbers(alloc: Global, count: u64) -> Result<Vec<Number>, OutOfMemory> {
     Ok(numbers)
 }
 
-// A line that is made from its end.
+// Returns a line that was made from its end.
 fn line_from_its_end(alloc: Global) -> Result<LineBuffer, OutOfMemory> {
     let mut line = LineBuffer::new(alloc)?;
     line.put_byte(b'\n');
@@ -41,13 +41,13 @@ fn line_from_its_end(alloc: Global) -> Result<LineBuffer, OutOfMemory> {
 
 const LINE: &[u8] = b"0 to 18446744073709551615\n";
 
-// Whether a line that isn't written yet is empty.
+// Returns whether a line that isn't written yet is empty.
 fn is_empty_at_first(alloc: Global) -> Result<bool, OutOfMemory> {
     let line = LineBuffer::new(alloc)?;
     Ok(line.as_slice().is_empty())
 }
 
-// Whether a line is this, and empty once it is cleared.
+// Returns whether a line is `said`, and is empty once it is cleared.
 fn is_cleared(line: &mut LineBuffer, said: &[u8]) -> bool {
     let is_said = line.as_slice() == said;
     line.clear();
@@ -61,12 +61,12 @@ fn lines_are_written_from_their_end(rt: HostRuntime) {
     assert!(rt; is_cleared(&mut line, LINE));
 }
 
-// The text of a first line and of these numbers.
+// Returns the text of a first line and of numbers.
 fn text_of(alloc: Global, first: &[u8], items: &[Number]) -> Result<Bytes, OutOfMemory> {
     print_lines(alloc, first, items)
 }
 
-// Whether these are printed so.
+// Returns whether a first line and numbers are printed as `said`.
 fn prints(alloc: Global, first: &[u8], items: &[Number], said: &[u8]) -> Result<bool, OutOfMemory> {
     let text = text_of(alloc, first, items)?;
     Ok(text.as_slice() == said)
@@ -74,7 +74,7 @@ fn prints(alloc: Global, first: &[u8], items: &[Number], said: &[u8]) -> Result<
 
 const PRINTED: &[u8] = b"#\n18446744073709551615\n18446744073709551614\n";
 
-// Whether two numbers are printed after a first line, and none after no line.
+// Returns whether two numbers are printed after a first line, and nothing is printed of no line and no number.
 fn two_are_printed(alloc: Global) -> Result<bool, OutOfMemory> {
     let items = numbers(alloc, 2)?;
     Ok(prints(alloc, b"#\n", items.as_slice(), PRINTED)? && prints(alloc, b"", &[], b"")?)
@@ -92,14 +92,14 @@ struct Printed {
     text: Bytes,
 }
 
-// So many numbers that their text is written in pieces: 3200 lines of 21 bytes.
+// Returns 3200 numbers, whose text of lines of 21 bytes is written in pieces.
 fn print_numbers(alloc: Global) -> Result<Printed, OutOfMemory> {
     let items = numbers(alloc, 3200)?;
     let text = text_of(alloc, b"#\n", items.as_slice())?;
     Ok(Printed { items, text })
 }
 
-// Whether it is answered so where these numbers are to be saved in the file `f`, which then holds these bytes.
+// Returns whether saving the numbers in the file `f` gives `said`, and the file then holds `held`.
 fn saves(
     alloc: Global,
     disk: &mut MemDisk,
@@ -111,7 +111,7 @@ fn saves(
     saved == said && holds(disk, "f", held)
 }
 
-// Whether these numbers are saved, and then a front of their text, where a call fails.
+// Returns whether the numbers are saved, and then, where a call fails, a front of their text.
 fn are_saved(alloc: Global, items: &[Number], text: &[u8]) -> Result<bool, OutOfMemory> {
     let mut disk = disk_with(alloc, "f", b"before", &[8])?;
     let (front, _) = text.split_at(text.len().min(43010));
@@ -121,7 +121,7 @@ fn are_saved(alloc: Global, items: &[Number], text: &[u8]) -> Result<bool, OutOf
     )
 }
 
-// A text of 67,202 bytes: the first line, 2048 lines and the others are written one after another.
+// The text has 67,202 bytes. The first line, 2048 lines, and the other lines are written one after the other.
 #[test]
 fn lines_are_saved_in_pieces(rt: HostRuntime) {
     let printed = print_numbers(rt.alloc()).expect(&rt, "memory");
@@ -133,7 +133,7 @@ fn lines_are_saved_in_pieces(rt: HostRuntime) {
     assert!(rt; is_saved.expect(&rt, "memory") && printed.text.len() == 67202);
 }
 
-// Whether it is answered so where these numbers are to be added to a file.
+// Returns whether adding the numbers to a file gives `said`.
 fn adds(
     disk: &mut MemDisk,
     name: &str,
@@ -144,7 +144,7 @@ fn adds(
     append_lines(disk, name, lines, items) == said
 }
 
-// Whether a file holds so many bytes.
+// Returns whether a file holds `size` bytes.
 fn has_size(disk: &MemDisk, name: &str, size: usize) -> bool {
     match disk.file(name) {
         Some(bytes) => bytes.len() == size,
@@ -152,13 +152,13 @@ fn has_size(disk: &MemDisk, name: &str, size: usize) -> bool {
     }
 }
 
-// Whether no file is made where no numbers are to be added.
+// Returns whether no file is made where no numbers are to be added.
 fn adds_none(disk: &mut MemDisk, lines: &mut LineBuffer) -> bool {
     let is_right = adds(disk, "g", lines, &[], Ok(()));
     is_right && disk.file("g").is_none()
 }
 
-// Whether no numbers are added, then all to the file `f`, and then a front of them, where a call fails.
+// Returns whether no numbers are added, then all to the file `f`, and then, where a call fails, a front of them to `g`.
 fn are_added(disk: &mut MemDisk, lines: &mut LineBuffer, items: &[Number], text: &[u8]) -> bool {
     adds_none(disk, lines)
         && adds(disk, "f", lines, items, Ok(()))
@@ -167,7 +167,7 @@ fn are_added(disk: &mut MemDisk, lines: &mut LineBuffer, items: &[Number], text:
         && has_size(disk, "g", 43008)
 }
 
-// Whether these numbers are added to files, by one buffer.
+// Returns whether the numbers are added to files by one buffer.
 fn are_appended(alloc: Global, items: &[Number], text: &[u8]) -> Result<bool, OutOfMemory> {
     let mut disk = disk_with(alloc, "f", b"#\n", &[4])?;
     let mut lines = LineBuffer::new(alloc)?;

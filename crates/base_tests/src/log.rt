@@ -1,4 +1,4 @@
-// Logs read and printed.
+// Tests of logs that are read and printed.
 use shell_log::{Entry, Log, LogError, LogText, print_log, read_log};
 use std::alloc::Global;
 use std::process::Abort;
@@ -6,7 +6,7 @@ use text_base::OutOfMemory;
 
 fn is_shared<T: Send + Sync>(_: &T) {}
 
-// Whether a log is printed so.
+// Returns whether the text of a log is `said`.
 fn prints(alloc: Global, log: &Log, said: &[u8]) -> Result<bool, OutOfMemory> {
     let text = print_log(alloc, log)?;
     Ok(text.as_slice() == said)
@@ -14,14 +14,14 @@ fn prints(alloc: Global, log: &Log, said: &[u8]) -> Result<bool, OutOfMemory> {
 
 const FOUR_ENTRIES: &[u8] = b"# base timestamp: 0\n0 + 1504\n1 # 3000\n1 - 1504 1\n2 d 1 250\n";
 
-// Whether a text of four entries is read and printed.
+// Returns whether a text of four entries is read and printed again.
 fn is_printed_again(alloc: Global) -> Result<bool, LogError> {
     let log = read_log(alloc, FOUR_ENTRIES)?;
     is_shared(&log);
     Ok(log.entries().len() == 4 && prints(alloc, &log, FOUR_ENTRIES)?)
 }
 
-// A log of one entry.
+// Returns a log of one entry.
 fn log_of_one(alloc: Global) -> Result<Log, OutOfMemory> {
     let mut log = Log::new(alloc);
     log.reserve(1)?;
@@ -32,7 +32,7 @@ fn log_of_one(alloc: Global) -> Result<Log, OutOfMemory> {
     Ok(log)
 }
 
-// Whether a log of one entry is printed.
+// Returns whether a log of one entry is printed.
 fn one_is_printed(alloc: Global) -> Result<bool, OutOfMemory> {
     let log = log_of_one(alloc)?;
     prints(alloc, &log, b"# base timestamp: 0\n5 # 1504\n")
@@ -44,7 +44,7 @@ fn a_log_is_printed_and_read(rt: HostRuntime) {
     assert!(rt; one_is_printed(rt.alloc()).expect(&rt, "memory"));
 }
 
-// How many entries are handed on of a piece.
+// Returns how many entries the reader returns of a piece.
 fn count_entries(reader: &mut LogText, piece: &[u8]) -> u64 {
     let mut count = 0u64;
     let mut rest = piece;
@@ -55,7 +55,7 @@ fn count_entries(reader: &mut LogText, piece: &[u8]) -> u64 {
     count
 }
 
-// The refusal of a text that is read in pieces of so many bytes, and how many entries were handed on.
+// Reads a text in pieces of `size` bytes. Returns how many entries the reader returned, and its refusal.
 fn refusal_in_pieces(alloc: Global, text: &[u8], size: usize) -> (u64, Option<LogError>) {
     let mut reader = LogText::new(alloc);
     let mut count = 0u64;
@@ -65,7 +65,7 @@ fn refusal_in_pieces(alloc: Global, text: &[u8], size: usize) -> (u64, Option<Lo
     (count, reader.finish().err())
 }
 
-// A text, how many entries are handed on of it, and how it is refused.
+// Texts, how many entries the reader returns of each, and how each is refused.
 static PIECES: [(&[u8], u64, Option<LogError>); 4] = [
     (
         b"# base timestamp: 0\n0 + 1\n9999999999 d 9999999999 9999999999\n",
@@ -91,6 +91,7 @@ static PIECES: [(&[u8], u64, Option<LogError>); 4] = [
 
 static SIZES: [usize; 4] = [1, 2, 7, 64];
 
+// Checks that a text is read as `said` in pieces of all sizes.
 fn is_read_in_any_pieces(
     rt: &impl Abort,
     alloc: Global,

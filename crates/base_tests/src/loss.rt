@@ -1,15 +1,16 @@
-// Rates, the words of ChaCha20, and what is dropped by words.
+// Tests of rates, of the words of ChaCha20, and of what losses drop by words.
 use crate::packets::are_same;
 use loss_core::{ChaWords, ListWords, LossCore, Rate, RateError, Words, lose_all, read_rate};
 use packet_record::{Packet, Timed};
 use std::alloc::Global;
 use text_base::OutOfMemory;
 
+// Returns the rate that a text states, in billionths.
 fn billionths(text: &str) -> Result<u32, RateError> {
     Ok(read_rate(text)?.billionths())
 }
 
-// A text, and the rate that it is read as, in billionths.
+// Texts, and the rate in billionths that each states.
 static RATES: [(&str, Result<u32, RateError>); 14] = [
     ("0", Ok(0)),
     ("0.5", Ok(500_000_000)),
@@ -35,7 +36,7 @@ fn reads_rates(rt: HostRuntime) {
     assert!(rt; RateError::BadRate.number() == 1 && RateError::AboveOne.number() == 2);
 }
 
-// The words at places 0, 1, 15 and 16.
+// Returns the words at places 0, 1, 15 and 16 of a stream.
 fn words_of(seed: u64, stream: u64) -> [u32; 4] {
     let mut source = ChaWords::new(seed, stream);
     let first = source.next();
@@ -48,7 +49,7 @@ fn words_of(seed: u64, stream: u64) -> [u32; 4] {
     [first, second, third, fourth]
 }
 
-// Each row has a seed, a stream and the words at places 0, 1, 15 and 16, from another program.
+// Seeds, streams, and their words at places 0, 1, 15 and 16, which another program made.
 static WORDS: [(u64, u64, [u32; 4]); 4] = [
     (0, 0, [2917185654, 2419978656, 2254827186, 3202811807]),
     (0, 2, [3082405328, 1919952964, 470977951, 2139353036]),
@@ -83,12 +84,12 @@ const DEPARTED: [Timed; 1] = [packet!(5)];
 
 const LOST: [Timed; 2] = [packet!(4), packet!(6)];
 
-// A word below one half of all, one that isn't, and then 0 at every place.
+// Returns a word below one half of 2^32, one of exactly one half, and then 0 at every place.
 fn two_words(alloc: Global) -> Result<ListWords, OutOfMemory> {
     Ok(ListWords::new(vec![in alloc; 2147483647, 2147483648]?))
 }
 
-// A loss at this rate, after these packets.
+// Returns a loss at which the packets have arrived.
 fn loss_after(
     alloc: Global,
     rate: Rate,
@@ -101,7 +102,7 @@ fn loss_after(
     Ok(core)
 }
 
-// Whether the first and the last of the packets were lost.
+// Returns whether the first and the last of the packets were lost.
 fn lost_two(core: &LossCore<ListWords>) -> bool {
     are_same(core.arrivals(), &ARRIVED)
         && are_same(core.departed(), &DEPARTED)
@@ -115,7 +116,7 @@ fn drops_by_words(rt: HostRuntime) {
     assert!(rt; lost_two(&core));
 }
 
-// Whether the first and the last of the packets are lost at once, at this rate.
+// Returns whether the first and the last of the packets are lost where the loss runs over the whole list.
 fn loses_two(alloc: Global, rate: Rate) -> Result<bool, OutOfMemory> {
     let mut packets = ARRIVED.to_vec(alloc)?;
     let lost = lose_all(alloc, rate, two_words(alloc)?, &mut packets)?;

@@ -1,7 +1,7 @@
-// Lists of packets compared.
+// Compares lists of packets.
 use packet_record::Timed;
 
-// Whether two lists have the same packets, each at the same moment.
+// Returns whether two lists have the same packets, at the same moments.
 pub(crate) fn are_same(these: &[Timed], those: &[Timed]) -> bool {
     these == those
 }

@@ -1,4 +1,5 @@
-// Real files that are pipes, that are replaced while they are read, or that are to be input and output at once.
+// Tests of real files: pipes, files that are replaced while they are read, and files that are to be input and output at
+// once.
 use mm_base::{Disk, DiskError, FileDisk};
 use std::alloc::Global;
 use std::fs::{self, Files};
@@ -9,19 +10,19 @@ fn disk_of(rt: &HostRuntime) -> FileDisk<HostRuntime> {
     FileDisk::new(*rt)
 }
 
-// A path that leads to an open descriptor of this process.
+// Returns a path that leads to an open descriptor of this process.
 fn path_of(alloc: Global, descriptor: i32) -> io::Result<String> {
     Ok(format!(in alloc; "/proc/self/fd/{descriptor}")?)
 }
 
-// Whether an output is made and added to twice.
+// Returns whether an output is made and is added to twice.
 fn is_written<D: Disk>(disk: &mut D, name: &str) -> bool {
     disk.create(name) == Ok(())
         && disk.append(name, b"one") == Ok(3)
         && disk.append(name, b"two") == Ok(3)
 }
 
-// Whether a pipe that is an output has all in it, and is open until the disk is gone.
+// Returns whether a pipe that is an output gets all pieces, and stays open until the disk is dropped.
 fn is_one_stream(rt: &HostRuntime) -> io::Result<bool> {
     let (reader, writer) = io::pipe(rt)?;
     let path = path_of(rt.alloc(), writer.as_raw_fd())?;
@@ -38,7 +39,7 @@ fn a_pipe_is_one_output(rt: HostRuntime) {
     assert!(rt; is_one_stream(&rt).expect(&rt, "a pipe"));
 }
 
-// Whether adding to a pipe whose reader has gone is a fault.
+// Returns whether adding to a pipe whose reader is gone is a fault.
 fn is_broken(rt: &HostRuntime) -> io::Result<bool> {
     let (reader, writer) = io::pipe(rt)?;
     let path = path_of(rt.alloc(), writer.as_raw_fd())?;
@@ -53,7 +54,7 @@ fn a_reader_that_has_gone_is_a_fault(rt: HostRuntime) {
     assert!(rt; is_broken(&rt).expect(&rt, "a pipe"));
 }
 
-// Whether a file's length is answered, and its bytes after it was replaced.
+// Returns whether a file whose length was asked for is still read once another one has replaced it.
 fn is_read_on(rt: &HostRuntime, name: &str, other: &str) -> io::Result<bool> {
     fs::write(rt, name, "old")?;
     fs::write(rt, other, "new!")?;
@@ -72,7 +73,7 @@ fn an_input_that_is_replaced_is_read_through_one_open(rt: HostRuntime) {
     fs::remove_file(&rt, name).expect(&rt, "a file");
 }
 
-// Whether an output that is renamed gets all.
+// Returns whether an output that is renamed gets all pieces.
 fn is_written_on(rt: &HostRuntime, name: &str, other: &str) -> io::Result<bool> {
     let mut disk = disk_of(rt);
     let is_begun = disk.create(name) == Ok(()) && disk.append(name, b"one") == Ok(3);
@@ -88,7 +89,7 @@ fn an_output_that_is_renamed_gets_all(rt: HostRuntime) {
     fs::remove_file(&rt, other).expect(&rt, "a file");
 }
 
-// A file of the system that says that it is empty, and isn't, is refused; one that is empty isn't.
+// A file of the system that says that it is empty, and isn't, is refused. An empty one isn't.
 #[test]
 fn a_file_that_is_not_as_empty_as_it_says_is_refused(rt: HostRuntime) {
     let name = "base_tests_empty";
@@ -99,13 +100,13 @@ fn a_file_that_is_not_as_empty_as_it_says_is_refused(rt: HostRuntime) {
     fs::remove_file(&rt, name).expect(&rt, "a file");
 }
 
-// Whether a file that was read isn't made under another name, and is as it was.
+// Returns whether an input isn't made as an output by the name `name`, and is as it was.
 fn is_no_output(rt: &HostRuntime, disk: &mut FileDisk<HostRuntime>, name: &str) -> bool {
     disk.create(name) == Err(DiskError::Failed)
         && matches!(fs::read_to_string(rt, name), Ok(text) if text.as_str() == "held")
 }
 
-// Whether a file whose length was asked for isn't made by any path that leads to it.
+// Returns whether a file whose length was asked for isn't made by any path that leads to it.
 fn is_never_both(rt: &HostRuntime, name: &str) -> io::Result<bool> {
     fs::write(rt, name, "held")?;
     fs::hard_link(rt, name, "base_tests_hard")?;

@@ -1,4 +1,4 @@
-// What the real files and a real port say of a call that they refused.
+// Tests of what real files and a real port say of a call that they refused.
 use mm_base::{Disk, DiskError, EndError, FileDisk, FileFault, Port, TcpPort};
 use std::{fs, io};
 
@@ -10,17 +10,17 @@ const ADDRESS_IN_USE: i32 = 98;
 
 type Files = FileDisk<HostRuntime>;
 
-// Whether a length isn't told, for this.
+// Returns whether asking for a file's length gives `error`, because of `fault`.
 fn is_unread(disk: &mut Files, name: &str, error: DiskError, fault: FileFault) -> bool {
     disk.size(name) == Err(error) && disk.last_error() == Some(fault)
 }
 
-// Whether a file isn't made, for this.
+// Returns whether making a file fails because of `fault`.
 fn is_unmade(disk: &mut Files, name: &str, fault: FileFault) -> bool {
     disk.create(name) == Err(DiskError::Failed) && disk.last_error() == Some(fault)
 }
 
-// Whether files tell why each of these calls was refused.
+// Returns whether files say why each of these calls was refused.
 fn is_said(rt: &HostRuntime, name: &str) -> io::Result<bool> {
     fs::write(rt, name, "held")?;
     let mut disk = FileDisk::new(*rt);
@@ -33,8 +33,11 @@ fn is_said(rt: &HostRuntime, name: &str) -> io::Result<bool> {
                 NO_SUCH_FILE,
             )
             && is_unread(&mut disk, ".", DiskError::Failed, FileFault::NotRegular)
+            && disk.met_input().is_none()
             && disk.size(name) == Ok(4)
-            && is_unmade(&mut disk, name, FileFault::IsInput)
+            && disk.last_error().is_none()
+            && is_unmade(&mut disk, "./base_tests_said", FileFault::IsInput)
+            && disk.met_input() == Some(name)
             && is_unmade(&mut disk, ".", IS_A_FOLDER),
     )
 }
@@ -46,7 +49,7 @@ fn files_say_why_they_refuse(rt: HostRuntime) {
     fs::remove_file(&rt, name).expect(&rt, "a file");
 }
 
-// Whether a port says that its number is taken.
+// Returns whether a port says that its number is taken.
 fn is_taken(rt: &HostRuntime) -> Option<bool> {
     let mut port = TcpPort::new(*rt);
     port.listen(0).ok()?;

@@ -1,4 +1,4 @@
-// Reports of whole logs, and of their texts in pieces.
+// Tests of reports of whole logs, and of their texts in pieces.
 use log_report::{EMPTY, ReportError, ReportText, print_report, report};
 use shell_log::{Log, LogError, read_log};
 use std::alloc::Global;
@@ -15,7 +15,7 @@ const STATED: &[u8] =
 const LATE: &[u8] =
     b"# base timestamp: 0\n65535 - 10 65535\n65536 - 10 65536\n9999999999 - 10 9999999999\n";
 
-// A text, and what is printed of it.
+// The texts of logs, and what is printed of each.
 const TEXTS: [(&[u8], &[u8]); 5] = [
     (
         QUEUED,
@@ -39,7 +39,7 @@ used 0\ndelay none\n",
     (b"# base timestamp: 0\n", EMPTY),
 ];
 
-// What is printed of what was read.
+// Returns what is printed of the text that was read.
 fn finished(alloc: Global, reader: ReportText) -> Result<Bytes, LogError> {
     Ok(match reader.finish()? {
         Some(report) => print_report(alloc, &report)?,
@@ -47,7 +47,7 @@ fn finished(alloc: Global, reader: ReportText) -> Result<Bytes, LogError> {
     })
 }
 
-// What is printed of a text that is read in pieces of so many bytes.
+// Returns what is printed of a text that is read in pieces of `size` bytes.
 fn printed(alloc: Global, text: &[u8], size: usize) -> Result<Bytes, LogError> {
     let mut reader = ReportText::new(alloc)?;
     for piece in text.chunks(size.max(1)) {
@@ -56,7 +56,7 @@ fn printed(alloc: Global, text: &[u8], size: usize) -> Result<Bytes, LogError> {
     finished(alloc, reader)
 }
 
-// What is printed of a log.
+// Returns what is printed of a log.
 fn printed_whole(alloc: Global, log: &Log) -> Result<Bytes, OutOfMemory> {
     if log.entries().len() > 1000 {
         return Err(OutOfMemory);
@@ -70,13 +70,13 @@ fn printed_whole(alloc: Global, log: &Log) -> Result<Bytes, OutOfMemory> {
 
 static SIZES: [usize; 3] = [1, 7, 65536];
 
-// Whether this is printed of a text that is read in pieces of so many bytes.
+// Returns whether `said` is printed of a text that is read in pieces of `size` bytes.
 fn prints(alloc: Global, text: &[u8], size: usize, said: &[u8]) -> Result<bool, LogError> {
     let report = printed(alloc, text, size)?;
     Ok(report.as_slice() == said)
 }
 
-// Whether this is printed of a text that is read in pieces of any size.
+// Returns whether `said` is printed of a text that is read in pieces of any size.
 fn prints_in_pieces(alloc: Global, text: &[u8], said: &[u8]) -> Result<bool, LogError> {
     for &size in &SIZES {
         if !prints(alloc, text, size, said)? {
@@ -86,7 +86,7 @@ fn prints_in_pieces(alloc: Global, text: &[u8], said: &[u8]) -> Result<bool, Log
     Ok(true)
 }
 
-// Whether this is printed of the log of a text.
+// Returns whether `said` is printed of the log of a text.
 fn prints_whole(alloc: Global, text: &[u8], said: &[u8]) -> Result<bool, LogError> {
     let log = read_log(alloc, text)?;
     let report = printed_whole(alloc, &log)?;

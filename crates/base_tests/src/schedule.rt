@@ -1,4 +1,4 @@
-// Schedules that are read, printed and made: worked values, and what no clause says.
+// Tests of schedules that are read, printed and made: worked values, and what no clause says.
 ghost use Rattle.std.specs.Prelude.{◌≤◌};
 
 use packet_record::{
@@ -12,14 +12,14 @@ fn moves<T: Send + Drop>(_value: T) {}
 
 fn shares<T: Sync>(_value: &T) {}
 
-// Whether the schedule of a text is printed so.
+// Returns whether the schedule of a text is printed as `said`.
 fn is_printed(alloc: Global, text: &[u8], said: &[u8]) -> Result<bool, ScheduleError> {
     let schedule = read_schedule(alloc, text)?;
     let printed = print_schedule(alloc, &schedule)?;
     Ok(printed.as_slice() == said)
 }
 
-// How many rows an empty text has. Their schedule may be shared and sent.
+// Returns how many rows an empty text has. Its schedule may be shared and sent.
 fn rows_of_nothing(alloc: Global) -> Result<usize, ScheduleError> {
     let empty = read_schedule(alloc, b"")?;
     let count = empty.rows().len();
@@ -28,7 +28,7 @@ fn rows_of_nothing(alloc: Global) -> Result<usize, ScheduleError> {
     Ok(count)
 }
 
-// A text, and what is printed of its schedule.
+// Texts, and what is printed of the schedule of each.
 static PRINTED: [(&[u8], &[u8]); 2] = [
     (b"05 up 0100", b"5 up 100\n"),
     (
@@ -45,7 +45,8 @@ fn prints_what_it_read(rt: HostRuntime) {
     assert!(rt; rows_of_nothing(rt.alloc()).expect(&rt, "a schedule") == 0);
 }
 
-// Whether the rows of a text that was read are printed so, or its refusal has this number and names this line.
+// Returns whether the rows of a text that was read are printed as `said`, or its refusal has the number and the line of
+// `said`.
 fn ends_as(
     alloc: Global,
     reading: ScheduleText,
@@ -60,7 +61,7 @@ fn ends_as(
     }
 }
 
-// Whether a text is read so in pieces of so many bytes.
+// Returns whether a text in pieces of `size` bytes is read as `said`.
 fn is_read_in_pieces(
     alloc: Global,
     text: &[u8],
@@ -76,7 +77,7 @@ fn is_read_in_pieces(
 
 static SIZES: [usize; 5] = [1, 2, 13, 27, 65_536];
 
-// Whether a text is read so in pieces of any size.
+// Returns whether a text in pieces of any size is read as `said`.
 fn is_read(
     alloc: Global,
     text: &[u8],
@@ -90,7 +91,7 @@ fn is_read(
     Ok(true)
 }
 
-// A text, and what is printed of its rows, or the number of its refusal and the line that it names.
+// Texts, and what is printed of the rows of each, or the number of its refusal and the line that it names.
 static READ: [(&[u8], Result<&[u8], (u32, u64)>); 8] = [
     (
         b"05 up 0100\n7 down 1504\n7 up 1",
@@ -118,7 +119,7 @@ fn reads_a_text_in_pieces(rt: HostRuntime) {
     }
 }
 
-// The text of the load of so many packets that is made of a number.
+// Returns the text of the load that is made of `number`, with `packets` packets.
 fn load_text(alloc: Global, number: u64, packets: u32) -> Result<Bytes, OutOfMemory>
     requires some { 1 ≤ packets }
     requires few { packets ≤ MOST_LINES }
@@ -133,14 +134,14 @@ fn ten_thousand_rows_are_read_in_pieces(rt: HostRuntime) {
     assert!(rt; is_read(rt.alloc(), text.as_slice(), Ok(text.as_slice())).expect(&rt, "memory"));
 }
 
-// A line, and how it is refused after those before it.
+// Lines, and how each is refused after those before it.
 static LINES: [(&[u8], Option<ScheduleError>); 3] = [
     (b"7 down 40", None),
     (b"6 down 40", Some(ScheduleError::Decreasing { line: 2 })),
     (b"8 down 40", Some(ScheduleError::Decreasing { line: 2 })),
 ];
 
-// How the next line is refused.
+// Returns how the reader refuses the next line, if it does.
 fn next_refusal(reader: &mut ScheduleReader, line: &[u8]) -> Option<ScheduleError> {
     match reader.next(line) {
         Ok(_) => None,
@@ -161,7 +162,7 @@ static DRAWN: [u32; 11] = [
     149, 11249, 57305, 38044, 35283, 24819, 26463, 18689, 25472, 9901, 21742,
 ];
 
-// Whether those are drawn.
+// Returns whether the generator draws `DRAWN`.
 fn draws_as_said() -> bool {
     let mut draws = Draws::new(65537);
     for &value in &DRAWN {
@@ -172,6 +173,7 @@ fn draws_as_said() -> bool {
     true
 }
 
+// The load of number 1, with three packets.
 const LOAD: &[u8] = b"1 up 366\n1 down 1483\n4 up 675\n";
 
 #[test]

@@ -1,18 +1,18 @@
-// Bytes that are sent to a sink in memory, to the standard output, and to writers that take little.
+// Tests of bytes that are sent to a sink in memory, to the standard output, and to writers that take little.
 use crate::halting::Halting;
 use mm_base::{EndError, MemSink, Sink, StdSink, send_all};
 
-// Whether it is answered so where all of these bytes are to be sent.
+// Returns whether sending all of `bytes` gives `said`.
 fn sends<O: Sink>(out: &mut O, bytes: &[u8], said: Result<(), EndError>) -> bool {
     send_all(out, bytes) == said
 }
 
-// Whether one call takes so much of a piece.
+// Returns whether one call takes `count` bytes of a piece.
 fn takes<O: Sink>(out: &mut O, piece: &[u8], count: usize) -> bool {
     out.write(piece) == Ok(count)
 }
 
-// Whether a sink whose second call fails takes two bytes, and no more.
+// Returns whether a sink whose second call fails takes two bytes, and no more.
 fn sends_a_front(sink: &mut MemSink) -> bool {
     sends(sink, b"ab", Ok(()))
         && sends(sink, b"cd", Err(EndError::Failed))
@@ -28,13 +28,13 @@ fn all_is_sent_or_a_front(rt: HostRuntime) {
     assert!(rt; sends(&mut out, b"sent to the standard output\n", Ok(())));
 }
 
-// Whether a writer that takes two bytes at a call, and is interrupted, takes these.
+// Returns whether a writer that takes two bytes at a call, and is interrupted, takes all pieces.
 fn writes_on(writer: &mut Halting) -> bool {
     let mut sink = StdSink::new(writer);
     takes(&mut sink, b"abc", 2) && takes(&mut sink, b"cde", 2) && sends(&mut sink, b"efg", Ok(()))
 }
 
-// Whether a sink with room for two bytes fails at three.
+// Returns whether a sink with room for two bytes fails at three.
 fn fails_when_full() -> bool {
     let mut full = [0u8; 2];
     let mut sink = StdSink::new(full.as_mut_slice());

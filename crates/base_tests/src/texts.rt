@@ -1,10 +1,10 @@
-// Bytes and texts that grow, numbers in digits, and the lines of a text.
+// Tests of bytes and texts that grow, of numbers in digits, and of the lines of a text.
 use std::alloc::Global;
 use text_base::{Bytes, Lines, OutOfMemory, Text, read_canonical, read_decimal, write_decimal};
 
 fn is_shared<T: Send + Sync>(_: &T) {}
 
-// The bytes `abc`, which were added to none.
+// Returns the bytes `abc`, which were added to none.
 fn grown(alloc: Global) -> Result<Bytes, OutOfMemory> {
     let mut bytes = Bytes::with_capacity(alloc, 2)?;
     bytes.push(b'a')?;
@@ -13,26 +13,26 @@ fn grown(alloc: Global) -> Result<Bytes, OutOfMemory> {
     Ok(bytes)
 }
 
-// Whether bytes are these, as is a copy of them, and none once they are cleared.
+// Returns whether bytes and a copy of them are `said`, and the bytes are empty once they are cleared.
 fn is_cleared(bytes: &mut Bytes, said: &[u8]) -> Result<bool, OutOfMemory> {
     let is_same = bytes.as_slice() == said && bytes.clone()? == *bytes;
     bytes.clear();
     Ok(is_same && bytes.is_empty())
 }
 
-// Whether a text has so many bytes, as has a copy of it.
+// Returns whether a text and its copy are the same, of `length` bytes.
 fn is_copied(text: &Text, length: usize) -> Result<bool, OutOfMemory> {
     Ok(text.clone()? == *text && text.len() == length)
 }
 
-// Whether bytes grow.
+// Returns whether bytes grow.
 fn bytes_grow(alloc: Global) -> Result<bool, OutOfMemory> {
     let mut bytes = grown(alloc)?;
     is_shared(&bytes);
     is_cleared(&mut bytes, b"abc")
 }
 
-// Whether a text is made.
+// Returns whether a text is made.
 fn text_is_made(alloc: Global) -> Result<bool, OutOfMemory> {
     let text = Text::from_text(alloc, "name")?;
     is_shared(&text);
@@ -45,7 +45,7 @@ fn bytes_and_texts_grow_and_go_between_threads(rt: HostRuntime) {
     assert!(rt; text_is_made(rt.alloc()).expect(&rt, "memory"));
 }
 
-// A text, and the number that it is read as, canonical or not.
+// Texts, and the number that each is read as, in any form and in the canonical one.
 static READ: [(&str, Option<u64>, Option<u64>); 9] = [
     ("0", Some(0), Some(0)),
     ("00", Some(0), None),
@@ -58,12 +58,12 @@ static READ: [(&str, Option<u64>, Option<u64>); 9] = [
     ("1 ", None, None),
 ];
 
-// Whether a text is read as these numbers.
+// Returns whether a text is read as the two numbers.
 fn is_read_as(text: &[u8], decimal: Option<u64>, canonical: Option<u64>) -> bool {
     read_decimal(text) == decimal && read_canonical(text) == canonical
 }
 
-// The least number and the greatest, one after the other.
+// Returns the digits of the least and the greatest number, one after the other.
 fn written(alloc: Global) -> Result<Bytes, OutOfMemory> {
     let mut out = Bytes::new(alloc);
     write_decimal(&mut out, 0)?;
@@ -83,7 +83,7 @@ fn numbers_are_read_and_written(rt: HostRuntime) {
     assert!(rt; written.as_slice() == b"018446744073709551615".as_slice());
 }
 
-// Whether the lines of a text are these.
+// Returns whether the lines of a text are those of `said`.
 fn has_lines(text: &[u8], said: &[&[u8]]) -> bool {
     let mut lines = Lines::new(text);
     for line in said {

@@ -1,22 +1,22 @@
-// Traces printed and made.
+// Tests of traces that are read, printed and made.
 use std::alloc::Global;
 use text_base::OutOfMemory;
 use trace_reader::{Form, Trace, TraceError, make_trace, print_trace, read_trace};
 
 fn is_shared<T: Send + Sync>(_: &T) {}
 
-// The trace of a text.
+// Returns the trace of a text.
 fn trace_of(alloc: Global, text: &[u8]) -> Result<Trace, TraceError> {
     read_trace(alloc, text)
 }
 
-// Whether a trace is printed so.
+// Returns whether the text of a trace is `said`.
 fn prints(alloc: Global, trace: &Trace, said: &[u8]) -> Result<bool, OutOfMemory> {
     let text = print_trace(alloc, trace)?;
     Ok(text.as_slice() == said)
 }
 
-// Whether a copy of a text's trace is printed so.
+// Returns whether the text of a copy of a trace is `said`.
 fn is_copied(alloc: Global, text: &[u8], said: &[u8]) -> Result<bool, TraceError> {
     let trace = trace_of(alloc, text)?;
     is_shared(&trace);
@@ -24,7 +24,7 @@ fn is_copied(alloc: Global, text: &[u8], said: &[u8]) -> Result<bool, TraceError
     Ok(prints(alloc, &copy, said)?)
 }
 
-// Whether a text that states bytes is read and printed.
+// Returns whether a text that states bytes is read and printed again.
 fn is_stated(alloc: Global, text: &[u8]) -> Result<bool, TraceError> {
     let trace = trace_of(alloc, text)?;
     Ok(trace.form() == Form::MomentsAndBytes && prints(alloc, &trace, text)?)
@@ -42,13 +42,13 @@ fn traces_are_printed(rt: HostRuntime) {
 // The first lines of a made trace.
 const FIRST: &[u8] = b"3\n6\n9\n11\n12\n13\n14\n17\n20\n22\n24\n";
 
-// Whether the text of a trace begins so.
+// Returns whether the text of a trace begins with `first`.
 fn begins(alloc: Global, trace: &Trace, first: &[u8]) -> Result<bool, OutOfMemory> {
     let text = print_trace(alloc, trace)?;
     Ok(text.as_slice().starts_with(first))
 }
 
-// Whether a trace has a hundred lines, the last of which is at its last moment.
+// Returns whether a trace has a hundred opportunities, the last of them at its last moment.
 fn has_a_hundred(trace: &Trace) -> bool {
     trace.len() == 100 && trace.at(trace.len() - 1).moment == trace.last_moment()
 }

@@ -1,4 +1,5 @@
 pub mod ReadingLemmas
+pub mod AloneLemmas
 pub mod EndLemmas
 pub mod MapLemmas
 pub mod TellLemmas

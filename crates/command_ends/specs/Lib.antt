@@ -1,6 +1,7 @@
 pub mod Causes
 pub mod Names
 pub mod Readings
+pub mod Alone
 pub mod Outputs
 pub mod Works
 pub mod Ends

@@ -2,4 +2,5 @@
 pub mod Ends
 pub mod Loads
 pub mod Readings
+pub mod Accepted
 pub mod Stops

@@ -155,11 +155,11 @@ fn explain<O: Sink>(cause: &Cause, out: &mut O) -> u8
 
 /// Explains an answer on `out`, and answers the exit status: 0 where all is done, and nothing is written; else the
 /// cause's own, and its line or a front of it is written; or 9 where the sink found no memory for the line.
-pub fn conclude<O: Sink>(answer: Result<(), Cause>, out: &mut O) -> u8
-    ensures { Concludes (cause_in answer) (O.view out.old) (O.view out.new) result }
+pub fn conclude<O: Sink>(answer: &Result<(), Cause>, out: &mut O) -> u8
+    ensures { Concludes (cause_in answer.now) (O.view out.old) (O.view out.new) result }
 {
     match answer {
         Ok(()) => 0,
-        Err(cause) => explain(&cause, out),
+        Err(cause) => explain(cause, out),
     }
 }

@@ -1,4 +1,4 @@
-//! The command `make`: what its words ask for, and the summary that it prints.
+//! The command `make`: its words, and the summary that it prints.
 #![tactic(auto)]
 
 mod make;

@@ -1,4 +1,4 @@
-// The command `make`: its words, and the summary that it prints.
+// Carries out the command `make`: reads its words, and prints the summary of a run.
 ghost use Rattle.std.specs.Prelude.{◌≡◌, IfOk, map, string_bytes};
 ghost use Rattle.std.specs.Option.{option_map};
 ghost use Rattle.mm_base.specs.Disk.{DiskView};

@@ -1,4 +1,4 @@
-// What `make` is asked for by its words.
+// The job that the words after `make` ask for.
 ghost use Rattle.std.specs.Prelude.{◌≤◌};
 
 // The job of `make`: the number of the generator, and how many packets its load has, 1 to 1,000,000.

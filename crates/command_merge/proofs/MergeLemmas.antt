@@ -19,10 +19,12 @@ use Rattle.command_ends.specs.inside.Ends.{FinishesOnly}
 use Rattle.command_ends.specs.Outputs.{writes}
 use Rattle.command_ends.specs.Readings.{Reading, Done, Refuses, asked, unless}
 use Rattle.command_ends.specs.inside.Readings.{Leads}
+use Rattle.command_ends.specs.inside.Accepted.{AcceptsWords}
 use Rattle.command_ends.specs.Stops.{IsInput, RefusesText, StopsAtFile, StopsReading, ReadingWants}
 use Rattle.command_ends.specs.declared.cause.Cause.{Cause}
 use Rattle.command_ends.specs.declared.cause.Cause.TheVariants.{Refused, OutOfMemory}
 use Rattle.command_ends.specs.declared.cause.Refusal.{Refusal}
+use Rattle.command_ends.proofs.AloneLemmas.{unless_accepted, unless_words}
 use Rattle.command_ends.proofs.CountLemmas.{reads_none}
 use Rattle.command_ends.proofs.EndLemmas.{finishes_only}
 use Rattle.command_ends.proofs.ReadingLemmas.{HasOneEnd, found_stop, leads_text, leads_then, leads_unless, stays}
@@ -283,3 +285,24 @@ words_one (Some job) = nest_one job (nest_of job.shells)
 -- files that are told lead a merge to one end
 pub merge_one : (words : List Text) → HasOneEnd (merge_words words)
 merge_one words = words_one (merge_of words)
+
+-- traces that are read refuse no words
+traces_accepted : (names : List Text) (next : List (List ℕ) → Reading MergeTask) → AcceptsWords (next [])
+    → AcceptsWords (reading_traces names next)
+traces_accepted [] next accepts = accepts
+traces_accepted (name ∷ names) next accepts = λ refusal is. cc is
+
+inputs_accepted : (job : MergeJob) (plan : NestPlan) → AcceptsWords (merge_inputs job plan)
+inputs_accepted job plan =
+    traces_accepted plan.traces (after_traces job plan)
+    (unless_words (refused_count job.until plan.shells []) (sender_inputs job plan [])
+    (λ refusal e. (count_text job.until plan.shells [] refusal e).not_words) (λ refusal is. cc is))
+
+-- a nest of known words whose names are free, within the horizon, is accepted
+pub words_accepted : (job : MergeJob) (plan : NestPlan) → nest_of job.shells ≡ Ok plan
+    → refused_outputs job plan ≡ None → refused_horizon job.until ≡ None → AcceptsWords (merge_reading job)
+words_accepted job plan known free within =
+    let inputs : Reading MergeTask = merge_inputs job plan in
+    subst (λ (r : Result NestPlan NestError). AcceptsWords (with_nest r (λ p. after_nest job p))) (sym known)
+    (unless_accepted (refused_outputs job plan) (unless (refused_horizon job.until) inputs) free
+    (unless_accepted (refused_horizon job.until) inputs within (inputs_accepted job plan)))

@@ -22,6 +22,8 @@ use Rattle.command_ends.specs.declared.cause.Cause.{Cause}
 use Rattle.command_ends.specs.declared.cause.Cause.TheVariants.{Refused, NetFault, OutOfMemory}
 use Rattle.command_ends.proofs.CountLemmas.{reads_none}
 use Rattle.command_ends.proofs.EndLemmas.{keeps}
+use Rattle.command_ends.specs.inside.Accepted.{AcceptsWords}
+use Rattle.command_ends.proofs.AloneLemmas.{no_words_accepted, unless_accepted}
 use Rattle.command_ends.proofs.ReadingLemmas.{HasOneEnd, RefusesNoWords, RefusesWordsFirst, asked_first, first_one}
 use Rattle.command_ends.proofs.ReadingLemmas.{found_stop, leads_then, leads_unless, none_first, stays, stops_here}
 use Rattle.command_ends.proofs.ReadingLemmas.{stops_later}
@@ -214,3 +216,13 @@ relay_first words = asked_first (relay_of words) relay_reading (λ job. nest_fir
 -- and the files lead to one end
 pub relay_one : (words : List Text) → HasOneEnd (relay_words words)
 relay_one words = first_one (relay_words words) (relay_first words)
+
+-- a nest of known words whose names are free, within the horizon, is accepted
+pub words_accepted : (job : RelayJob) (plan : NestPlan) → nest_of job.shells ≡ Ok plan
+    → refused_outputs job plan ≡ None → refused_horizon job.until ≡ None → AcceptsWords (relay_reading job)
+words_accepted job plan known free within =
+    let inputs : Reading RelayTask = relay_inputs job plan in
+    subst (λ (r : Result NestPlan NestError). AcceptsWords (with_nest r (after_nest job))) (sym known)
+    (unless_accepted (refused_outputs job plan) (unless (refused_horizon job.until) inputs) free
+    (unless_accepted (refused_horizon job.until) inputs within
+    (no_words_accepted inputs (inputs_no_words job plan))))

@@ -4,6 +4,7 @@ ghost use Rattle.mm_base.specs.Counts.{Rose};
 ghost use Rattle.mm_base.specs.Files.{Files};
 ghost use Rattle.mm_base.specs.Sink.{CountsSinkFaults};
 ghost use Rattle.live_relay.specs.Wires.{CountsWireFaults};
+ghost use Rattle.command_ends.specs.Alone.{IsLeftAlone};
 ghost use Rattle.command_ends.specs.Answers.{Answers, CountsDisk, IsFaultless, StopsShort, cause_in};
 ghost use Rattle.command_ends.specs.Causes.{status_of_refusal};
 ghost use Rattle.command_ends.specs.Ends.{Ends, IsDone, KeepsFiles, outside};
@@ -41,6 +42,7 @@ fn run<D: Disk, O: Sink, C: Clock, W: Wire>(
     ensures wire_counts { CountsWireFaults (W.view wire.old) (W.view wire.new) }
     ensures counts { CountsDisk (D.view disk.old) (D.view disk.new) }
     ensures out_counts { CountsSinkFaults (O.view out.old) (O.view out.new) }
+    ensures alone { IsLeftAlone (relay_reading (relay_values job.now)) (D.view disk.old) (D.view disk.new) }
 {
     let words = read_words(alloc, job)?;
     let nest = load_nest(alloc, job, words, disk)?;
@@ -64,6 +66,7 @@ pub(crate) fn answer<D: Disk, O: Sink, C: Clock, W: Wire>(
     ensures wire_counts { CountsWireFaults (W.view wire.old) (W.view wire.new) }
     ensures counts { CountsDisk (D.view disk.old) (D.view disk.new) }
     ensures out_counts { CountsSinkFaults (O.view out.old) (O.view out.new) }
+    ensures alone { IsLeftAlone (relay_words (map string_bytes words.now)) (D.view disk.old) (D.view disk.new) }
 {
     match read_relay(alloc, words)? {
         Some(job) => run(alloc, &job, disk, out, clock, wire),
@@ -130,11 +133,17 @@ pub fn relay_main<D: Disk, O: Sink, C: Clock, W: Wire>(
         (outside (D.view disk.new) (O.view out.new) (net (C.view clock.new) (W.view wire.new)))
         → (result ≡ 0) ⊎ (result ≡ 9) }
 
+    // Where the words have no job, or are refused before any file is read, the disk isn't asked, and neither are the
+    // clock and the wire.
+    ensures disk_alone { IsLeftAlone (relay_words (map string_bytes words.now)) (D.view disk.old) (D.view disk.new) }
+    ensures net_alone { IsLeftAlone (relay_words (map string_bytes words.now))
+        (net (C.view clock.old) (W.view wire.old)) (net (C.view clock.new) (W.view wire.new)) }
+
     // No count falls, and those of a disk, an `out` or a wire that never fails stand still.
     ensures wire_counts { CountsWireFaults (W.view wire.old) (W.view wire.new) }
     ensures counts { CountsDisk (D.view disk.old) (D.view disk.new) }
     ensures out_counts { CountsSinkFaults (O.view out.old) (O.view out.new) }
 {
     let answer = answer(alloc, words, disk, out, clock, wire);
-    conclude(answer, out)
+    conclude(&answer, out)
 }

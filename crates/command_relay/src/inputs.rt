@@ -2,6 +2,7 @@
 ghost use Rattle.std.specs.Prelude.{◌≡◌, ◌≤◌, None, IfErr, IfOk, MatchResult, OnOk, map};
 ghost use Rattle.mm_base.specs.Disk.{DiskView, OnlyReads};
 ghost use Rattle.command_ends.specs.Stops.{RefusesText, StopsReading};
+ghost use Rattle.command_ends.specs.inside.Accepted.{AcceptsWords};
 ghost use Rattle.command_ends.specs.inside.Stops.{ReadsOn};
 ghost use Rattle.command_relay.specs.inside.Loaded.{HasNest};
 ghost use Rattle.command_relay.specs.Relaying.{refused_outputs, relay_inputs, relay_reading};
@@ -40,6 +41,7 @@ fn check_names(alloc: Global, job: &RelayJob<'_>, nest: &NestWords) -> Result<()
 pub(crate) fn read_words(alloc: Global, job: &RelayJob<'_>) -> Result<NestWords, Cause>
     ensures read { (disk : DiskView) → ReadsOn (relay_reading (relay_values job.now))
         (relay_inputs (relay_values job.now)) disk disk result }
+    ensures accepts { OnOk result (AcceptsWords (relay_reading (relay_values job.now))) }
     ensures small { OnOk result (job.now.until ≤ 3600000) }
 {
     let nest = match read_nest(alloc, job.shells) {

@@ -4,6 +4,7 @@ ghost use Rattle.mm_base.specs.Counts.{Rose};
 ghost use Rattle.mm_base.specs.Files.{Files};
 ghost use Rattle.mm_base.specs.Sink.{CountsSinkFaults};
 ghost use Rattle.live_relay.specs.Wires.{CountsWireFaults};
+ghost use Rattle.command_ends.specs.Alone.{IsLeftAlone};
 ghost use Rattle.command_ends.specs.Answers.{Answers, CountsDisk, IsFaultless, StopsShort};
 ghost use Rattle.command_ends.specs.Causes.{status_of_refusal};
 ghost use Rattle.command_ends.specs.Ends.{IsDone, KeepsFiles, outside};
@@ -26,7 +27,8 @@ use std::alloc::Global;
 /// Does what `relay_main` does, and says on `told`, which is the standard error, why the command line isn't done: the
 /// cause in words, with what was typed and where, or the usage. Where all is done it says nothing.
 ///
-/// Its status is that of `relay_main`, whatever becomes of `told`; beside it stands what `told` answered.
+/// Its status is that of `relay_main`, whatever becomes of `told`, which is told when the line on `out` is written; beside it
+/// stand the command line's answer, and what `told` answered.
 pub fn relay_main_told<D: Disk, O: Sink, C: Clock, W: Wire, T: Sink>(
     alloc: Global,
     words: &[String],
@@ -83,13 +85,23 @@ pub fn relay_main_told<D: Disk, O: Sink, C: Clock, W: Wire, T: Sink>(
         (outside (D.view disk.new) (O.view out.new) (net (C.view clock.new) (W.view wire.new)))
         → (result.status ≡ 0) ⊎ (result.status ≡ 9) }
 
+    // Where the words have no job, or are refused before any file is read, the disk isn't asked, and neither are the
+    // clock and the wire.
+    ensures disk_alone { IsLeftAlone (relay_words (map string_bytes words.now)) (D.view disk.old) (D.view disk.new) }
+    ensures net_alone { IsLeftAlone (relay_words (map string_bytes words.now))
+        (net (C.view clock.old) (W.view wire.old)) (net (C.view clock.new) (W.view wire.new)) }
+
     // No count falls, and those of a disk, an `out` or a wire that never fails stand still.
     ensures wire_counts { CountsWireFaults (W.view wire.old) (W.view wire.new) }
     ensures counts { CountsDisk (D.view disk.old) (D.view disk.new) }
     ensures out_counts { CountsSinkFaults (O.view out.old) (O.view out.new) }
 {
     let answer = answer(alloc, words, disk, out, clock, wire);
+    let status = conclude(&answer, out);
     let told = tell(Program::Relay, words, &answer, told);
-    let status = conclude(answer, out);
-    Ending { status, told }
+    Ending {
+        answer,
+        status,
+        told,
+    }
 }

@@ -5,6 +5,7 @@ use Rattle.std.proofs.Common.{sym, ap, subst, length, ◌<◌}
 use Rattle.std.proofs.lemmas.List.{append-nil}
 use Rattle.mm_base.specs.Disk.{DiskView, OnlyReads}
 use Rattle.mm_base.specs.Link.{LinkView}
+use Rattle.mm_base.specs.Listened.{listened_at}
 use Rattle.mm_base.specs.Port.{PortView}
 use Rattle.mm_base.specs.Sink.{SinkView, sending}
 use Rattle.record_store.specs.StoreText.{StoreSays}
@@ -24,7 +25,7 @@ use Rattle.command_ends.specs.declared.cause.Cause.TheVariants.{NetFault, OutOfM
 use Rattle.command_ends.proofs.EndLemmas.{keeps}
 use Rattle.command_ends.proofs.ReadingLemmas.{RefusesWordsFirst, asked_first}
 use Rattle.store_input.proofs.StoreLemmas.{leads_store, store_no_words}
-use Rattle.command_replay.specs.Replay.{ReplayJob, ReplayTask, StopsAsServing, cause_of, replay_job_of}
+use Rattle.command_replay.specs.Replay.{ReplayJob, ReplayTask, StopsAsServing, cause_of, most_of, replay_job_of}
 use Rattle.command_replay.specs.Replay.{replay_reading, replay_words, serve_work, served_line}
 
 -- words are refused before the store is read
@@ -54,8 +55,8 @@ module _ {C : Type 0} (view : C → LinkView) (job : ReplayJob) (old new : DiskV
   led : Leads old.files (replay_reading job) (Done task)
   led = leads_store old.files job.store (λ store. Done (record { job = job; store = store })) text records input says
 
-  pub finishes : (n : Served) → IsServing records (Some job.site) view job.connections p q (Ok n)
-      → q.listened ≡ Some job.port
+  pub finishes : (n : Served) → IsServing records (Some job.site) view (most_of job) p q (Ok n)
+      → q.listened ≡ listened_at job.port p.listened
       → Finishes (serve_work view) (replay_reading job) old.files p q (prints (served_line n))
   finishes n serving listens = record {
     task = task;
@@ -80,7 +81,7 @@ module _ {C : Type 0} (view : C → LinkView) (job : ReplayJob) (old new : DiskV
     silent = refl;
   }
 
-  ends_for : (e : ServeError) → IsServing records (Some job.site) view job.connections p q (Err e)
+  ends_for : (e : ServeError) → IsServing records (Some job.site) view (most_of job) p q (Err e)
       → ListensAt job.port p q (Err e)
       → Ends (serve_work view) (replay_reading job) (outside old out p) (outside new out q) (Some (cause_of e))
   ends_for errors.Listen s listens = record {
@@ -92,7 +93,8 @@ module _ {C : Type 0} (view : C → LinkView) (job : ReplayJob) (old new : DiskV
     rose = s.says.1;
   }
   ends_for errors.OutOfMemory s listens =
-      Serving (stops_for OutOfMemory (record { error = errors.OutOfMemory; cause_is = refl; serving = s; listens = listens }))
+      Serving (stops_for OutOfMemory
+      (record { error = errors.OutOfMemory; cause_is = refl; serving = s; listens = listens }))
 
   pub ends_serving : (cause : Cause) → StopsAsServing records view job p q cause
       → Ends (serve_work view) (replay_reading job) (outside old out p) (outside new out q) (Some cause)

@@ -1,12 +1,12 @@
 -- What `replay` is asked for, what it reads and refuses, and what it does with its port.
-use Rattle.std.specs.Prelude.{◌≡◌, ℕ, List, [], ◌∷◌, ◌++◌, Option, Some, None, Ok, Err, codes, decimal}
-use Rattle.std.specs.Prelude.{option_and_then}
+use Rattle.std.specs.Prelude.{◌≡◌, ℕ, Bool, List, [], ◌∷◌, ◌++◌, Option, Some, None, Ok, Err, codes, decimal}
+use Rattle.std.specs.Prelude.{option_and_then, if◌then◌else◌}
 use Rattle.mm_base.specs.Counts.{Rose}
 use Rattle.mm_base.specs.Link.{LinkView}
 use Rattle.mm_base.specs.Port.{PortView}
 use Rattle.record_store.specs.StoreText.{StoreSays}
 use Rattle.record_store.specs.declared.record.Record.{Record}
-use Rattle.replay_server.specs.Servings.{IsServing, ListensAt}
+use Rattle.replay_server.specs.Servings.{IsServing, ListensAt, most_served}
 use Rattle.replay_server.specs.declared.ends.Served.{Served}
 use Rattle.replay_server.specs.declared.ends.ServeError.{ServeError}
 use Rattle.replay_server.specs.declared.ends.ServeError.TheVariants as errors
@@ -21,13 +21,18 @@ use Rattle.command_ends.specs.declared.cause.Cause.{Cause}
 use Rattle.command_ends.specs.declared.cause.Cause.TheVariants.{NetFault, OutOfMemory}
 use Rattle.store_input.specs.Stores.{reading_store}
 
--- the name of a store's file, the port to listen at, how many connections are served, and the port that requests are
--- asked at
+-- the name of a store's file, the port to listen at, how many connections are served, the port that requests are asked
+-- at, and whether it is served until ended, that many connections at a time
 pub record ReplayJob : Type 0 where
   pub store : Text
   pub port : ℕ
   pub connections : ℕ
   pub site : ℕ
+  pub until_ended : Bool
+
+-- how many connections are served in all at most
+abbrev pub most_of : ReplayJob → ℕ
+most_of job = if job.until_ended then most_served else job.connections
 
 -- the port that requests are asked at: the given one, or else the one that is listened at
 abbrev pub site_in : ℕ → Option Text → Option ℕ
@@ -40,7 +45,13 @@ replay_with texts = do
   port ← port_of texts.port
   connections ← number_within 1 64 texts.connections
   site ← site_in port texts.site_port
-  Some (record { store = texts.store; port = port; connections = connections; site = site })
+  Some (record {
+    store = texts.store;
+    port = port;
+    connections = connections;
+    site = site;
+    until_ended = texts.until_ended;
+  })
 
 -- the job of `replay`'s words
 unfoldable pub replay_job_of : List Text → Option ReplayJob
@@ -83,7 +94,7 @@ module _ {C : Type 0} where
       (cause : Cause) : Type 0 where
     pub error : ServeError
     pub cause_is : cause ≡ cause_of error
-    pub serving : IsServing records (Some job.site) view job.connections old new (Err error)
+    pub serving : IsServing records (Some job.site) view (most_of job) old new (Err error)
     pub listens : ListensAt job.port old new (Err error)
 
   module _ (view : C → LinkView) (task : ReplayTask) (old new : PortView C) where
@@ -93,7 +104,7 @@ module _ {C : Type 0} where
       pub records : List Record
       pub says : StoreSays task.store (Ok records)
       pub served : Served
-      pub serving : IsServing records (Some task.job.site) view task.job.connections old new (Ok served)
+      pub serving : IsServing records (Some task.job.site) view (most_of task.job) old new (Ok served)
       pub listens : ListensAt task.job.port old new (Ok served)
       pub output_is : output ≡ prints (served_line served)
 

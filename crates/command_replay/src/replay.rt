@@ -1,11 +1,14 @@
 // The command `replay`: its words, its store, and the connections that it serves.
 ghost use Rattle.std.specs.Prelude.{◌≡◌, ℕ, List, Some, Ok, Err, IfOk, IfErr, OnOk, map, string_bytes};
+ghost use Rattle.mm_base.specs.Listened.{listened_at};
 ghost use Rattle.mm_base.specs.Port.{KeepsPort};
 ghost use Rattle.mm_base.specs.Sink.{CountsSinkFaults};
-ghost use Rattle.replay_server.specs.Servings.{IsServing};
+ghost use Rattle.replay_server.specs.Servings.{IsServing, ListensAt};
+ghost use Rattle.command_ends.specs.Alone.{IsLeftAlone};
 ghost use Rattle.command_ends.specs.Answers.{CountsDisk, cause_in};
 ghost use Rattle.command_ends.specs.Ends.{Ends, outside};
-ghost use Rattle.command_replay.specs.Replay.{cause_of, replay_reading, replay_words, serve_work, StopsAsServing};
+ghost use Rattle.command_replay.specs.Replay.{cause_of, most_of, replay_reading, replay_words, serve_work};
+ghost use Rattle.command_replay.specs.Replay.{StopsAsServing};
 ghost use Rattle.command_replay.specs.inside.Values.{replay_values};
 
 use crate::counts::print_served;
@@ -14,7 +17,7 @@ use crate::words::read_replay;
 use command_ends::Cause;
 use mm_base::{Disk, Pace, Port, Sink};
 use record_store::Store;
-use replay_server::{ServeError, Served, serve};
+use replay_server::{ServeError, Served, serve, serve_pool};
 use std::alloc::Global;
 use std::marker::{Send, Sync};
 use std::sync::Wait;
@@ -31,6 +34,27 @@ fn cause_of(error: ServeError) -> Cause
     }
 }
 
+// Serves so many connections as a job says, or so many at a time until it is ended.
+fn serve_some<R: Threads + Wait + Sync, P: Port + Send, Q: Pace + Sync>(
+    rt: &R,
+    alloc: Global,
+    job: &ReplayJob<'_>,
+    store: &Store,
+    port: &mut P,
+    pace: &Q,
+) -> Result<Served, ServeError>
+    ensures serving { IsServing store.now (Some job.now.site) P.Conn.view (most_of (replay_values job.now))
+        (P.view port.old) (P.view port.new) result }
+    ensures listens { ListensAt job.now.port (P.view port.old) (P.view port.new) result }
+{
+    let (number, site, most) = (job.port, Some(job.site), job.connections);
+    if job.until_ended {
+        serve_pool(rt, alloc, store, port, number, site, most, pace)
+    } else {
+        serve(rt, alloc, store, port, number, site, most, pace)
+    }
+}
+
 // Serves the connections of a job from its store.
 fn serve_job<R: Threads + Wait + Sync, P: Port + Send, Q: Pace + Sync>(
     rt: &R,
@@ -40,23 +64,14 @@ fn serve_job<R: Threads + Wait + Sync, P: Port + Send, Q: Pace + Sync>(
     port: &mut P,
     pace: &Q,
 ) -> Result<Served, Cause>
-    ensures served { IfOk result (λ n. IsServing store.now (Some job.now.site) P.Conn.view job.now.connections
-        (P.view port.old) (P.view port.new) (Ok n)) }
-    ensures listened { OnOk result ((P.view port.new).listened ≡ Some job.now.port) }
+    ensures served { IfOk result (λ n. IsServing store.now (Some job.now.site) P.Conn.view
+        (most_of (replay_values job.now)) (P.view port.old) (P.view port.new) (Ok n)) }
+    ensures listened { OnOk result ((P.view port.new).listened ≡ listened_at job.now.port (P.view port.old).listened) }
     ensures stopped { IfErr result (λ cause. StopsAsServing store.now P.Conn.view (replay_values job.now)
         (P.view port.old) (P.view port.new) cause) }
     ensures port_counts { KeepsPort (P.view port.old) (P.view port.new) }
 {
-    match serve(
-        rt,
-        alloc,
-        store,
-        port,
-        job.port,
-        Some(job.site),
-        job.connections,
-        pace,
-    ) {
+    match serve_some(rt, alloc, job, store, port, pace) {
         Ok(served) => Ok(served),
         Err(error) => Err(cause_of(error)),
     }
@@ -84,9 +99,10 @@ fn replay<R: Threads + Wait + Sync, D: Disk, O: Sink, P: Port + Send, Q: Pace + 
     print_served(alloc, served, out)
 }
 
-/// Does what the words after `replay` say: reads a store, listens at a port, serves so many connections side by side,
-/// and prints how they ended, as `closed C bad B broken K full F`. No file is written. `NetFault` comes where the port
-/// can't be listened at, or a connection can't be accepted or finished.
+/// Does what the words after `replay` say: reads a store, listens at a port, serves so many connections side by side, or
+/// with `--until-ended` so many at a time until the port has no more, and prints how they ended, as
+/// `closed C bad B broken K full F`. No file is written. `NetFault` comes where the port can't be listened at, or a
+/// connection can't be accepted or finished.
 pub fn answer_replay<R: Threads + Wait + Sync, D: Disk, O: Sink, P: Port + Send, Q: Pace + Sync>(
     rt: &R,
     alloc: Global,
@@ -99,6 +115,7 @@ pub fn answer_replay<R: Threads + Wait + Sync, D: Disk, O: Sink, P: Port + Send,
     ensures ends { Ends (serve_work P.Conn.view) (replay_words (map string_bytes words.now))
         (outside (D.view disk.old) (O.view out.old) (P.view port.old))
         (outside (D.view disk.new) (O.view out.new) (P.view port.new)) (cause_in result) }
+    ensures alone { IsLeftAlone (replay_words (map string_bytes words.now)) (D.view disk.old) (D.view disk.new) }
     ensures counts { CountsDisk (D.view disk.old) (D.view disk.new) }
     ensures out_counts { CountsSinkFaults (O.view out.old) (O.view out.new) }
     ensures port_counts { KeepsPort (P.view port.old) (P.view port.new) }

@@ -32,6 +32,7 @@ fn with_numbers<'a>(texts: ReplayWords<'a>) -> Option<ReplayJob<'a>>
         port,
         connections: connections as u32,
         site,
+        until_ended: texts.until_ended,
     })
 }
 

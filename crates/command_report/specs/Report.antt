@@ -1,4 +1,4 @@
--- What `report` is asked for, and what it gives.
+-- What the command `report` is asked for, and what it prints.
 use Rattle.std.specs.Prelude.{◌≡◌, ℕ, List, Option}
 use Rattle.std.specs.Option.{option_map}
 use Rattle.shell_log.specs.Entries.{IsLog}
@@ -11,15 +11,15 @@ use Rattle.option_words.specs.Commands.{ReportTexts, report_texts}
 use Rattle.command_ends.specs.Causes.{Text}
 use Rattle.command_ends.specs.Outputs.{Output, prints}
 
--- the name of the log's file
+-- The name of the log's file.
 pub record ReportJob : Type 0 where
   pub log : Text
 
--- the job of the options' texts
+-- The job of the options' texts.
 abbrev pub report_with : ReportTexts → ReportJob
 report_with texts = record { log = texts.log }
 
--- the job of the words after `report`
+-- The job of the words after `report`, if they have one.
 unfoldable pub report_job_of : List Text → Option ReportJob
 report_job_of words = option_map report_with (report_texts words)
 
@@ -30,7 +30,7 @@ pub record IsReport (text : List ℕ) (report : Option Report) : Type 0 where
   pub text_is : text ≡ log_text entries
   pub report_is : report ≡ report_of entries
 
--- The report of a log's text is printed.
+-- The report of the log with the text `text` is printed.
 pub record GivesReport (text : List ℕ) (output : Output) : Type 0 where
   pub report : Option Report
   pub is : IsReport text report

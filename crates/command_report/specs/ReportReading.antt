@@ -1,4 +1,4 @@
--- What `report` reads and refuses, in order.
+-- What the command `report` reads and refuses, in order.
 use Rattle.std.specs.Prelude.{ℕ, List, Option, Some, None}
 use Rattle.shell_log.specs.Reading.{line_named, log_fault, number_of}
 use Rattle.shell_log.specs.declared.reading.LogError.{LogError}
@@ -9,20 +9,20 @@ use Rattle.command_ends.specs.declared.cause.Refusal.{Refusal}
 use Rattle.command_ends.specs.declared.cause.Refusal.TheVariants.{BadInput}
 use Rattle.command_report.specs.Report.{ReportJob, report_job_of}
 
--- the refusal of a log's text for its error; out of memory is no error of a text
+-- The refusal of a log's text for its error. Out of memory is no error of a text.
 abbrev pub log_refused : Text → Option LogError → Option Refusal
 log_refused name None = None
 log_refused name (Some OutOfMemory) = None
 log_refused name (Some error) = Some (BadInput name (number_of error) (line_named error))
 
--- the refusal of a log's text, if it is refused
+-- The refusal of a log's text, if it is refused.
 unfoldable pub log_refusal : Text → List ℕ → Option Refusal
 log_refusal name text = log_refused name (log_fault text)
 
--- the log is read, and its text is the task
+-- The log is read, and its text is the task.
 abbrev pub report_reading : ReportJob → Reading (List ℕ)
 report_reading job = reading_text (log_refusal job.log) job.log (λ text. Done text)
 
--- what `report` reads and refuses by the words after it
+-- What `report` reads and refuses, by the words after it.
 abbrev pub report_words : List Text → Reading (List ℕ)
 report_words words = asked (report_job_of words) report_reading

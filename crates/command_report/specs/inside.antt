@@ -1,2 +1,2 @@
--- What proofs and the clauses of inner functions cite, and no caller needs.
+-- What only proofs and the clauses of private functions cite.
 pub mod Values

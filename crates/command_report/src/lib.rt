@@ -1,4 +1,4 @@
-//! The command `report`: what its words ask for, the log that it reads, and the report that it prints.
+//! The command `report`: its words, the log that it reads, and the report that it prints.
 #![tactic(auto)]
 
 mod report;

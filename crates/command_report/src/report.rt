@@ -1,4 +1,4 @@
-// The command `report`: its words, its log, and the report that it prints.
+// Carries out the command `report`: reads its words and its log, and prints the report.
 ghost use Rattle.std.specs.Prelude.{◌≡◌, ◌≢◌, ℕ, List, Some, None, IfOk, IfErr, MatchResult, map, string_bytes};
 ghost use Rattle.std.specs.Option.{option_map};
 ghost use Rattle.mm_base.specs.Disk.{OnlyReads};
@@ -10,6 +10,7 @@ ghost use Rattle.command_ends.specs.Answers.{CountsDisk, cause_in};
 ghost use Rattle.command_ends.specs.Ends.{Ends, offline};
 ghost use Rattle.command_ends.specs.inside.Ends.{FinishesOnly};
 ghost use Rattle.command_ends.specs.Outputs.{prints};
+ghost use Rattle.command_ends.specs.Alone.{IsLeftAlone};
 ghost use Rattle.command_ends.specs.Stops.{IsInput, RefusesText, StopsAtFile, StopsReading};
 ghost use Rattle.command_ends.specs.Works.{only};
 ghost use Rattle.command_report.specs.Report.{GivesReport, IsReport, report_job_of};
@@ -42,7 +43,7 @@ fn read_report<'a>(alloc: Global, words: &'a [String]) -> Result<Option<ReportJo
     }
 }
 
-// Returns the cause of a log's text, in the file `name`, that isn't accepted.
+// Returns the cause for which a log's text, in the file `name`, isn't accepted.
 fn log_cause(name: Text, error: LogError) -> Cause
     ensures { (text : List ℕ) → (error ≢ LogError.OutOfMemory → log_fault text ≡ Some error)
         → RefusesText (log_refusal name text) result }
@@ -139,6 +140,7 @@ pub fn answer_report<D: Disk, O: Sink>(
 ) -> Result<(), Cause>
     ensures ends { Ends (only GivesReport) (report_words (map string_bytes words.now))
         (offline (D.view disk.old) (O.view out.old)) (offline (D.view disk.new) (O.view out.new)) (cause_in result) }
+    ensures alone { IsLeftAlone (report_words (map string_bytes words.now)) (D.view disk.old) (D.view disk.new) }
     ensures counts { CountsDisk (D.view disk.old) (D.view disk.new) }
     ensures out_counts { CountsSinkFaults (O.view out.old) (O.view out.new) }
 {

@@ -1,11 +1,13 @@
 -- The words of a run are refused before any file is read.
-use Rattle.std.proofs.Common.{ℕ, List, [], ◌∷◌, Option, Some, None, Result, Ok, Err, map}
+use Rattle.std.proofs.Common.{◌≡◌, ℕ, List, [], ◌∷◌, Option, Some, None, Result, Ok, Err, map, subst, sym}
 use Rattle.nest_spec.specs.Words.{NestPlan, nest_of}
 use Rattle.nest_spec.specs.declared.error.NestError.{NestError}
 use Rattle.command_ends.specs.Causes.{Text}
 use Rattle.command_ends.specs.Readings.{Reading, Done, unless}
 use Rattle.command_ends.proofs.ReadingLemmas.{RefusesNoWords, RefusesWordsFirst, asked_first, none_first, unless_first}
 use Rattle.command_ends.proofs.ReadingLemmas.{unless_no_words}
+use Rattle.command_ends.proofs.AloneLemmas.{no_words_accepted, unless_accepted}
+use Rattle.command_ends.specs.inside.Accepted.{AcceptsWords}
 use Rattle.nest_command.specs.Inputs.{reading_schedule, reading_traces, schedule_refusal, trace_refusal}
 use Rattle.command_run.specs.RunReading.{reading_order}
 use Rattle.command_run.specs.RunReading.{refused_outputs, run_inputs, run_reading}
@@ -54,6 +56,17 @@ run_first job (Ok plan) =
     unless_first (refused_outputs job plan) (unless (refused_horizon job.until) (run_inputs job plan))
     (unless_first (refused_horizon job.until) (run_inputs job plan)
     (none_first (run_inputs job plan) (inputs_no_words job plan)))
+
+-- a nest of known words whose names are free, within the horizon, is accepted
+pub words_accepted : (job : RunJob) (plan : NestPlan) → nest_of job.shells ≡ Ok plan
+    → refused_outputs job plan ≡ None → refused_horizon job.until ≡ None → AcceptsWords (run_reading job)
+words_accepted job plan known free within =
+    let inputs : Reading RunTask = run_inputs job plan in
+    subst (λ (r : Result NestPlan NestError). AcceptsWords (with_nest r
+    (λ p. unless (refused_outputs job p) (unless (refused_horizon job.until) (run_inputs job p))))) (sym known)
+    (unless_accepted (refused_outputs job plan) (unless (refused_horizon job.until) inputs) free
+    (unless_accepted (refused_horizon job.until) inputs within
+    (no_words_accepted inputs (inputs_no_words job plan))))
 
 pub run_words_first : (words : List Text) → RefusesWordsFirst (run_words words)
 run_words_first words = asked_first (run_of words) run_reading (λ job. run_first job (nest_of job.shells))

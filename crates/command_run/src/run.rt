@@ -6,6 +6,8 @@ ghost use Rattle.command_ends.specs.Answers.{CountsDisk, cause_in};
 ghost use Rattle.command_ends.specs.Ends.{Ends, offline};
 ghost use Rattle.command_ends.specs.inside.Ends.{FinishesOnly};
 ghost use Rattle.command_ends.specs.Outputs.{writes};
+ghost use Rattle.command_ends.specs.Alone.{IsLeftAlone};
+ghost use Rattle.command_ends.specs.inside.Accepted.{AcceptsWords};
 ghost use Rattle.command_ends.specs.Stops.{RefusesText, StopsReading};
 ghost use Rattle.command_ends.specs.inside.Stops.{ReadsOn};
 ghost use Rattle.command_ends.specs.Works.{only};
@@ -60,6 +62,7 @@ fn check_names(alloc: Global, job: &RunJob<'_>, nest: &NestWords) -> Result<(), 
 fn read_words(alloc: Global, job: &RunJob<'_>) -> Result<NestWords, Cause>
     ensures read { (disk : DiskView) → ReadsOn (run_reading (run_values job.now)) (run_inputs (run_values job.now))
         disk disk result }
+    ensures accepts { OnOk result (AcceptsWords (run_reading (run_values job.now))) }
     ensures small { OnOk result (job.now.until ≤ 3600000) }
 {
     let nest = match read_nest(alloc, job.shells) {
@@ -122,6 +125,7 @@ fn run<R: Threads + Wait + Sync, D: Disk, Q: Pace + Sync>(
 ) -> Result<(), Cause>
     ensures ends { (out : SinkView) → Ends (only GivesRun) (run_reading (run_values job.now))
         (offline (D.view disk.old) out) (offline (D.view disk.new) out) (cause_in result) }
+    ensures alone { IsLeftAlone (run_reading (run_values job.now)) (D.view disk.old) (D.view disk.new) }
     ensures counts { CountsDisk (D.view disk.old) (D.view disk.new) }
 {
     let words = read_words(alloc, job)?;
@@ -144,6 +148,7 @@ pub fn answer_run<R: Threads + Wait + Sync, D: Disk, Q: Pace + Sync>(
 ) -> Result<(), Cause>
     ensures ends { (out : SinkView) → Ends (only GivesRun) (run_words (map string_bytes words.now))
         (offline (D.view disk.old) out) (offline (D.view disk.new) out) (cause_in result) }
+    ensures alone { IsLeftAlone (run_words (map string_bytes words.now)) (D.view disk.old) (D.view disk.new) }
     ensures counts { CountsDisk (D.view disk.old) (D.view disk.new) }
 {
     match read_run(alloc, words)? {

@@ -8,6 +8,7 @@ ghost use Rattle.command_ends.specs.Answers.{CountsDisk, cause_in};
 ghost use Rattle.command_ends.specs.Ends.{Ends, offline};
 ghost use Rattle.command_ends.specs.inside.Ends.{FinishesOnly};
 ghost use Rattle.command_ends.specs.Outputs.{prints};
+ghost use Rattle.command_ends.specs.Alone.{IsLeftAlone};
 ghost use Rattle.command_ends.specs.Stops.{StopsReading};
 ghost use Rattle.command_ends.specs.Works.{only};
 ghost use Rattle.command_stores.specs.Matching.{GivesMatch, HasNumber, match_job_of, match_reading, match_with};
@@ -139,6 +140,7 @@ pub fn answer_match<D: Disk, O: Sink>(
 ) -> Result<(), Cause>
     ensures ends { Ends (only GivesMatch) (match_words (map string_bytes words.now))
         (offline (D.view disk.old) (O.view out.old)) (offline (D.view disk.new) (O.view out.new)) (cause_in result) }
+    ensures alone { IsLeftAlone (match_words (map string_bytes words.now)) (D.view disk.old) (D.view disk.new) }
     ensures counts { CountsDisk (D.view disk.old) (D.view disk.new) }
     ensures out_counts { CountsSinkFaults (O.view out.old) (O.view out.new) }
 {

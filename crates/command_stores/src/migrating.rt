@@ -1,5 +1,5 @@
 // The command `migrate`: its words, and the store that it writes in form 2.
-ghost use Rattle.std.specs.Prelude.{◌≡◌, IfOk, IfErr, map, string_bytes};
+ghost use Rattle.std.specs.Prelude.{◌≡◌, IfOk, IfErr, map, string_bytes, OnOk};
 ghost use Rattle.std.specs.Option.{option_map};
 ghost use Rattle.mm_base.specs.Disk.{DiskView, OnlyReads};
 ghost use Rattle.mm_base.specs.Sink.{SinkView};
@@ -7,6 +7,8 @@ ghost use Rattle.command_ends.specs.Answers.{CountsDisk, cause_in};
 ghost use Rattle.command_ends.specs.Ends.{Ends, offline};
 ghost use Rattle.command_ends.specs.inside.Ends.{FinishesOnly};
 ghost use Rattle.command_ends.specs.Outputs.{writes};
+ghost use Rattle.command_ends.specs.Alone.{IsLeftAlone};
+ghost use Rattle.command_ends.specs.inside.Accepted.{AcceptsWords};
 ghost use Rattle.command_ends.specs.Stops.{StopsReading};
 ghost use Rattle.command_ends.specs.inside.Stops.{ReadsOn};
 ghost use Rattle.command_ends.specs.Works.{only};
@@ -52,8 +54,9 @@ fn read_migrate<'a>(
 
 // Refuses an output that has the name of the input.
 fn check_migrate(alloc: Global, job: &MigrateJob<'_>) -> Result<(), Cause>
-    ensures { (disk : DiskView) → ReadsOn (migrate_reading (migrate_values job.now))
+    ensures read { (disk : DiskView) → ReadsOn (migrate_reading (migrate_values job.now))
         (λ _. migrate_inputs (migrate_values job.now)) disk disk result }
+    ensures accepts { OnOk result (AcceptsWords (migrate_reading (migrate_values job.now))) }
 {
     check_names(alloc, &[job.store], job.out)
 }
@@ -73,6 +76,7 @@ fn load_old<D: Disk>(alloc: Global, job: &MigrateJob<'_>, disk: &mut D) -> Resul
 fn migrate<D: Disk>(alloc: Global, job: &MigrateJob<'_>, disk: &mut D) -> Result<(), Cause>
     ensures ends { (out : SinkView) → Ends (only GivesMigrate) (migrate_reading (migrate_values job.now))
         (offline (D.view disk.old) out) (offline (D.view disk.new) out) (cause_in result) }
+    ensures alone { IsLeftAlone (migrate_reading (migrate_values job.now)) (D.view disk.old) (D.view disk.new) }
     ensures counts { CountsDisk (D.view disk.old) (D.view disk.new) }
 {
     check_migrate(alloc, job)?;
@@ -87,6 +91,7 @@ fn migrate<D: Disk>(alloc: Global, job: &MigrateJob<'_>, disk: &mut D) -> Result
 pub fn answer_migrate<D: Disk>(alloc: Global, words: &[String], disk: &mut D) -> Result<(), Cause>
     ensures ends { (out : SinkView) → Ends (only GivesMigrate) (migrate_words (map string_bytes words.now))
         (offline (D.view disk.old) out) (offline (D.view disk.new) out) (cause_in result) }
+    ensures alone { IsLeftAlone (migrate_words (map string_bytes words.now)) (D.view disk.old) (D.view disk.new) }
     ensures counts { CountsDisk (D.view disk.old) (D.view disk.new) }
 {
     match read_migrate(alloc, words)? {

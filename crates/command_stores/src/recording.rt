@@ -1,5 +1,5 @@
 // The command `record`: its words, the two streams of a connection, and the store that is made of them.
-ghost use Rattle.std.specs.Prelude.{◌≡◌, ◌≢◌, ℕ, List, Err, IfOk, IfErr, map, string_bytes};
+ghost use Rattle.std.specs.Prelude.{◌≡◌, ◌≢◌, ℕ, List, Err, IfOk, IfErr, map, string_bytes, OnOk};
 ghost use Rattle.std.specs.Option.{option_map};
 ghost use Rattle.mm_base.specs.Disk.{DiskView, OnlyReads};
 ghost use Rattle.mm_base.specs.Sink.{SinkView};
@@ -9,6 +9,8 @@ ghost use Rattle.command_ends.specs.Answers.{CountsDisk, cause_in};
 ghost use Rattle.command_ends.specs.Ends.{Ends, offline};
 ghost use Rattle.command_ends.specs.inside.Ends.{FinishesOnly};
 ghost use Rattle.command_ends.specs.Outputs.{writes};
+ghost use Rattle.command_ends.specs.Alone.{IsLeftAlone};
+ghost use Rattle.command_ends.specs.inside.Accepted.{AcceptsWords};
 ghost use Rattle.command_ends.specs.Stops.{StopsReading};
 ghost use Rattle.command_ends.specs.inside.Stops.{ReadsOn, RefusesBy};
 ghost use Rattle.command_ends.specs.Works.{only};
@@ -115,8 +117,9 @@ fn load_pairs<D: Disk>(alloc: Global, job: &RecordJob<'_>, disk: &mut D) -> Resu
 
 // Refuses an output that has the name of an input.
 fn check_record(alloc: Global, job: &RecordJob<'_>) -> Result<(), Cause>
-    ensures { (disk : DiskView) → ReadsOn (record_reading (record_values job.now))
+    ensures read { (disk : DiskView) → ReadsOn (record_reading (record_values job.now))
         (λ _. record_inputs (record_values job.now)) disk disk result }
+    ensures accepts { OnOk result (AcceptsWords (record_reading (record_values job.now))) }
 {
     check_names(alloc, &[job.client, job.server], job.out)
 }
@@ -125,6 +128,7 @@ fn check_record(alloc: Global, job: &RecordJob<'_>) -> Result<(), Cause>
 fn make_store<D: Disk>(alloc: Global, job: &RecordJob<'_>, disk: &mut D) -> Result<(), Cause>
     ensures ends { (out : SinkView) → Ends (only GivesRecord) (record_reading (record_values job.now))
         (offline (D.view disk.old) out) (offline (D.view disk.new) out) (cause_in result) }
+    ensures alone { IsLeftAlone (record_reading (record_values job.now)) (D.view disk.old) (D.view disk.new) }
     ensures counts { CountsDisk (D.view disk.old) (D.view disk.new) }
 {
     check_record(alloc, job)?;
@@ -139,6 +143,7 @@ fn make_store<D: Disk>(alloc: Global, job: &RecordJob<'_>, disk: &mut D) -> Resu
 pub fn answer_record<D: Disk>(alloc: Global, words: &[String], disk: &mut D) -> Result<(), Cause>
     ensures ends { (out : SinkView) → Ends (only GivesRecord) (record_words (map string_bytes words.now))
         (offline (D.view disk.old) out) (offline (D.view disk.new) out) (cause_in result) }
+    ensures alone { IsLeftAlone (record_words (map string_bytes words.now)) (D.view disk.old) (D.view disk.new) }
     ensures counts { CountsDisk (D.view disk.old) (D.view disk.new) }
 {
     match read_record(alloc, words)? {

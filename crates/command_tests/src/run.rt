@@ -28,7 +28,7 @@ fn answered<R: Threads + Wait + Sync, D: Disk, Q: Pace + Sync>(
 // Whether an answer has this status, and this line on `out`.
 fn concludes(alloc: Global, answer: Result<(), Cause>, status: u8, line: &str) -> bool {
     let mut out = MemSink::new(alloc, Vec::new(alloc));
-    conclude(answer, &mut out) == status && out.written() == line.as_bytes()
+    conclude(&answer, &mut out) == status && out.written() == line.as_bytes()
 }
 
 // Whether a run at a pace leaves what it is to leave. The words of the case are those after `run`.
@@ -41,7 +41,7 @@ fn leaves_by<R: Threads + Wait + Sync, Q: Pace + Sync>(
     let words = words_of(alloc, case.words)?;
     let mut outside = outside_of(alloc, case)?;
     let answer = answered(rt, alloc, &words, &mut outside.disk, pace);
-    let status = conclude(answer, &mut outside.out);
+    let status = conclude(&answer, &mut outside.out);
     Ok(is_left(case, status, &outside))
 }
 

@@ -4,7 +4,7 @@ ghost use Rattle.delay_core.specs.Delays.{later};
 
 use packet_record::Timed;
 
-// A delay of so many milliseconds in a run up to a horizon.
+// A delay of `delay` milliseconds, in a run up to the horizon `until`.
 #[derive(Clone, Copy)]
 pub(crate) struct Rule {
     pub(crate) delay: u64,

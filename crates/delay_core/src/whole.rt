@@ -35,9 +35,9 @@ fn let_out(rule: Rule, packets: &mut [Timed])
     }
 }
 
-/// Delays all packets by so many milliseconds, in place: the list of arrivals becomes the list of departures up to
-/// the horizon. It answers the numbers of those that stay inside, in order. `OutOfMemory` is want of memory for these,
-/// and leaves the list as it was.
+/// Delays all packets by `ms` milliseconds, in place: the list of arrivals becomes the list of departures up to the
+/// horizon. Returns the numbers of those that stay inside, in order. Where it runs out of memory for these the list is
+/// as it was.
 pub fn delay_all(
     alloc: Global,
     ms: u64,

@@ -1,4 +1,4 @@
-// The bytes of a stream that nobody has taken.
+// Holds the bytes of a stream that no message has taken.
 ghost use Rattle.std.specs.Prelude.{◌≡◌, ◌≤◌, ◌++◌, ℕ, List, [], length, drop, OnOk, OnErr};
 ghost use Rattle.std.specs.Vec.{vec_len};
 
@@ -7,14 +7,14 @@ use std::alloc::Global;
 use std::marker::Model;
 use text_base::OutOfMemory;
 
-/// Bytes that are added at the end and taken off the front, each moved at most once in between on average.
+/// Bytes that are added at the end and removed from the front. On average each byte is moved at most once in between.
 #[derive(Drop)]
 pub struct Buffer {
     bytes: Vec<u8>,
     start: usize,
 }
 
-/// Takes bytes off the front.
+/// Removes `count` bytes from the front.
 fn drop_front(bytes: &mut Vec<u8>, count: usize)
     requires { count ≤ vec_len bytes.old }
     ensures { bytes.new.items ≡ drop count bytes.old.items }
@@ -24,7 +24,7 @@ fn drop_front(bytes: &mut Vec<u8>, count: usize)
     bytes.truncate(left);
 }
 
-/// Where the bytes begin, once the front is taken off where it is the greater part.
+/// Returns where the bytes begin, `start` or 0. Removes the front where it is at least half of the bytes.
 fn without_front(bytes: &mut Vec<u8>, start: usize) -> usize
     requires { start ≤ vec_len bytes.old }
     ensures within { result ≤ length bytes.new.items }
@@ -46,6 +46,7 @@ impl Model for Buffer {
 }
 
 impl Buffer {
+    /// Makes an empty buffer. It takes no memory.
     pub fn new(alloc: Global) -> Self
         ensures { result ≡ [] }
     {
@@ -55,13 +56,14 @@ impl Buffer {
         }
     }
 
+    /// Returns the bytes.
     pub fn as_slice(&self) -> &[u8]
         ensures { result.now ≡ self.now }
     {
         from_place(self.bytes.as_slice(), self.start)
     }
 
-    /// Adds bytes at the end.
+    /// Adds `piece` at the end. Where an allocation fails it returns `OutOfMemory`, and the buffer is as it was.
     pub fn append(&mut self, piece: &[u8]) -> Result<(), OutOfMemory>
         ensures ok { OnOk result (self.new ≡ self.old ++ piece.now) }
         ensures err { OnErr result (self.new ≡ self.old) }
@@ -71,7 +73,7 @@ impl Buffer {
         Ok(())
     }
 
-    /// Takes bytes off the front.
+    /// Removes `count` bytes from the front.
     pub fn advance(&mut self, count: usize)
         requires { count ≤ length self.old }
         ensures { self.new ≡ drop count self.old }

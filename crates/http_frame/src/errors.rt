@@ -1,23 +1,25 @@
-// What readers of messages answer.
+// What readers of messages return where there is no message.
 
-/// Why the bytes at the front are no message, and never will be. The reader then answers it again at every call.
+/// Why the bytes at the front are no message, and none can come. From then on each call of the reader returns the same
+/// error.
 #[derive(Clone, Copy, Debug, PartialEq, Eq)]
 pub enum FrameError {
-    /// 1: no continuation begins with a head of version 1.0 or 1.1.
+    /// 1: however the bytes go on, they begin with no head of version 1.0 or 1.1.
     BadHead,
-    /// 2: 65,536 bytes are there, and no head within them.
+    /// 2: there are 65,536 bytes, and no head within the first 65,536.
     HeadTooLong,
-    /// 3: 102 line feeds are there, and no head within them.
+    /// 3: there are 102 line feeds, and no head up to the 102nd.
     TooManyHeaders,
-    /// 4: a Content-Length value isn't 1 to 15 digits, or two differ.
+    /// 4: a Content-Length value isn't 1 to 15 digits, or two values differ.
     BadLength,
-    /// 5: Transfer-Encoding fields other than one `chunked`; in a request also one beside a Content-Length field.
+    /// 5: the Transfer-Encoding fields aren't one `chunked`, or a request has a Content-Length field beside them.
     BadCoding,
-    /// 6: no continuation makes a chunked body within the limits of chunk lines and trailers.
+    /// 6: however the bytes go on, they begin with no chunked body whose chunk lines and trailer fields are within
+    /// their limits.
     BadChunk,
     /// 7: the body has, or states, more than 16,777,216 bytes as it is sent.
     BodyTooLong,
-    /// 8: the method CONNECT; a response's status 101, or one below 100.
+    /// 8: a request's method is CONNECT, or a response's status is 101 or below 100.
     Refused,
 }
 
@@ -25,7 +27,7 @@ impl FrameError {
     ghost use Rattle.std.specs.Prelude.{◌≡◌};
     ghost use Rattle.http_frame.specs.Errors.{number_of};
 
-    /// The number of the error, 1 to 8.
+    /// Returns the number of the error, 1 to 8.
     pub fn number(self) -> u32
         ensures { result ≡ number_of self }
     {
@@ -42,17 +44,19 @@ impl FrameError {
     }
 }
 
-/// Why `next` gave no message.
+/// Why `next` returns no message.
 #[derive(Clone, Copy, Debug, PartialEq, Eq)]
 pub enum FrameFault {
+    /// The bytes are no message, and none can come.
     Frame(FrameError),
-    /// No memory for the message or for what its head says. The reader is as before.
+    /// Out of memory for the message or for what its head says. The reader is as it was.
     OutOfMemory,
 }
 
-/// What `next` found.
+/// What `next` returns.
 #[derive(Drop)]
 pub enum Step<M> {
+    /// The message, which is taken off the front.
     Message(M),
     /// More bytes are needed.
     More,

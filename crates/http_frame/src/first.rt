@@ -1,4 +1,4 @@
-// The message at the front of bytes that are all there.
+// Finds the first message of bytes that are all there.
 ghost use Rattle.std.specs.Prelude.{IfOk};
 ghost use Rattle.http_frame.specs.Runs.{FirstRequest, FirstResponse};
 
@@ -9,7 +9,8 @@ use crate::response_frames::advance as advance_response;
 use std::alloc::Global;
 use text_base::{Bytes, OutOfMemory};
 
-/// The request at the front; `None` exactly where no front of the bytes is one.
+/// Returns the request at the front, or `None` exactly where the bytes begin with none. Returns `OutOfMemory` where an
+/// allocation fails.
 pub fn first_request(alloc: Global, bytes: &[u8]) -> Result<Option<Request>, OutOfMemory>
     ensures { IfOk result (FirstRequest bytes.now) }
 {
@@ -28,8 +29,8 @@ pub fn first_request(alloc: Global, bytes: &[u8]) -> Result<Option<Request>, Out
     }
 }
 
-/// The response at the front, to a HEAD request or to another, where the input ends with the bytes;
-/// `None` exactly where no front of the bytes is one.
+/// Returns the response at the front, to a HEAD request (`to_head`) or to another, or `None` exactly where the bytes
+/// begin with none. The input ends with the bytes. Returns `OutOfMemory` where an allocation fails.
 pub fn first_response(
     alloc: Global,
     to_head: bool,

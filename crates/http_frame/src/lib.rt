@@ -1,4 +1,4 @@
-//! HTTP/1.1 messages, cut out of a stream that comes in pieces.
+//! HTTP/1.1 messages, read from a stream that comes in pieces.
 #![tactic(auto)]
 
 mod body;

@@ -5,13 +5,13 @@ ghost use Rattle.http_frame.specs.inside.Heads.{LimitCause};
 
 use crate::errors::FrameError;
 
-/// The most bytes of a head, and of trailers.
+/// The most bytes of a head, and of trailer fields.
 pub(crate) const MOST_BYTES: usize = 65536;
 
 /// The most line feeds of a head.
 pub(crate) const MOST_LINES: usize = 102;
 
-/// The first 65,536 bytes, or all.
+/// Returns the first 65,536 bytes, or all where there are fewer.
 pub(crate) fn front_of(bytes: &[u8]) -> &[u8]
     ensures { result.now ≡ take 65536 bytes.now }
 {
@@ -22,14 +22,14 @@ pub(crate) fn front_of(bytes: &[u8]) -> &[u8]
     }
 }
 
-/// How many line feeds the bytes have.
+/// Returns how many line feeds there are.
 pub(crate) fn line_feeds(bytes: &[u8]) -> usize
     ensures { result ≡ feeds_of bytes.now }
 {
     bytes.iter().filter(|byte| **byte == b'\n').count()
 }
 
-/// The limit that bytes without a head at their front reach.
+/// Returns the limit that the bytes reach, if they reach one.
 pub(crate) fn limit_of(bytes: &[u8]) -> Option<FrameError>
     ensures { LimitCause bytes.now result }
 {

@@ -1,4 +1,4 @@
-// One message, by what is known of it.
+// A message that is being read: its head was read, and a part of its body.
 ghost use Rattle.std.specs.Prelude.{◌≡◌, ◌≤◌, ℕ, length, drop};
 ghost use Rattle.http_frame.specs.inside.Bodies.{MayGoOn};
 ghost use Rattle.http_frame.specs.inside.Frames.{FinishSays};
@@ -9,24 +9,31 @@ use crate::errors::FrameError;
 use crate::framing::Framing;
 use crate::head::Found;
 
-/// A head that was read, and how far its body was.
+/// A head that was read, and where its body is to be read on.
 #[derive(Drop)]
 pub struct Pending<H> {
+    /// What the head says.
     pub head: H,
+    /// How many bytes the head has.
     pub len: usize,
+    /// Where the body ends.
     pub framing: Framing,
+    /// Where in the body reading goes on.
     pub place: usize,
 }
 
-/// What is there.
+/// What reading on gives.
 #[derive(Drop)]
 pub enum Outcome<H> {
+    /// The whole message is there.
     Message(Found<H>),
+    /// More bytes are needed.
     More,
+    /// There is no message, and none can come.
     Fault(FrameError),
 }
 
-/// Goes on with a body. It takes no memory.
+/// Reads on with a body. Returns what is kept for the next call. It takes no memory.
 pub fn finish<H: Drop>(
     ended: bool,
     unread: &[u8],

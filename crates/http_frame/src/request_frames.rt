@@ -1,4 +1,4 @@
-// Requests from a stream in pieces.
+// Reads requests from a stream that comes in pieces.
 ghost use Rattle.std.specs.Prelude.{◌≡◌, ◌≤◌, ◌++◌, ℕ, List, [], false, length, drop, None, Some, Err, OnOk, OnErr};
 ghost use Rattle.httparse.specs.Grammar.{RequestHead as Head, IsRequestHead, print_request};
 ghost use Rattle.http_frame.specs.Window.{NeverHas};
@@ -24,8 +24,8 @@ use std::alloc::Global;
 use std::marker::Model;
 use text_base::{Bytes, OutOfMemory};
 
-/// A reader of requests (RFC 9112). Contracts see the bytes that no message has taken, and the error,
-/// if one came; a request never ends where the input does, so `ended` says nothing here.
+/// A reader of requests (RFC 9112). Contracts see the bytes that no message has taken, and the error, if one came. No
+/// request ends where the input does, so `ended` is always false.
 #[derive(Drop)]
 pub struct RequestFrames {
     alloc: Global,
@@ -34,24 +34,24 @@ pub struct RequestFrames {
     failed: Option<FrameError>,
 }
 
-/// No request is a proper prefix of another.
+/// No request is a front of another. It does nothing; its contract is the statement.
 pub fn requests_are_prefix_free()
     ensures { (a b x y : List ℕ) (h k : Head) → IsRequest a h → IsRequest b k → a ++ x ≡ b ++ y → (a ≡ b) × (h ≡ k) }
 {}
 
-/// A stream has at most one list of whole requests, however it was cut.
+/// A stream has at most one list of whole requests, however it is cut. It does nothing; its contract is the statement.
 pub fn requests_are_found_once()
     ensures { (bytes : List ℕ) (ms ns : List RequestValue) (rest other : List ℕ) → Messages bytes ms rest
         → Messages bytes ns other → (ms ≡ ns) × (rest ≡ other) }
 {}
 
-/// A stream has a list of whole requests: that it has none is absurd. (The contracts' logic has no law of the
-/// excluded middle, so that what can't be missing is said so.)
+/// A stream has a list of whole requests: that it has none is absurd. (The logic of contracts has no law of the
+/// excluded middle, so it is said in this way.) It does nothing; its contract is the statement.
 pub fn requests_are_found()
     ensures { (bytes : List ℕ) → ((ms : List RequestValue) (rest : List ℕ) → Messages bytes ms rest → ⊥) → ⊥ }
 {}
 
-/// The first request, by what was known of it before.
+/// Reads on with the first request. `pending` is what an earlier call kept, and what is returned first is for the next.
 pub(crate) fn advance(
     alloc: Global,
     unread: &[u8],
@@ -95,7 +95,7 @@ impl Model for RequestFrames {
 }
 
 impl RequestFrames {
-    /// A reader that has read nothing.
+    /// Makes a reader that has read nothing.
     pub fn new(alloc: Global) -> Self
         ensures { result ≡ record { unread = []; ended = false; failed = None } }
     {
@@ -107,14 +107,15 @@ impl RequestFrames {
         }
     }
 
-    /// The bytes that no message has taken.
+    /// Returns the bytes that no message has taken.
     pub fn unread(&self) -> &[u8]
         ensures { result.now ≡ self.now.unread }
     {
         self.buffer.as_slice()
     }
 
-    /// Takes the next piece of the stream.
+    /// Adds the next piece of the stream. Where an allocation fails it returns `OutOfMemory`, and the reader is as it
+    /// was.
     pub fn feed(&mut self, piece: &[u8]) -> Result<(), OutOfMemory>
         ensures ok { OnOk result (self.new ≡ record self.old { unread = self.old.unread ++ piece.now }) }
         ensures err { OnErr result (self.new ≡ self.old) }
@@ -122,7 +123,10 @@ impl RequestFrames {
         self.buffer.append(piece)
     }
 
-    /// The first request, taken off the front; or why there is none.
+    /// Takes the first request off the front and returns it, or returns `Step::More` where more bytes are needed.
+    ///
+    /// Returns an error where the bytes at the front are no request and none can come; each later call returns the same
+    /// error. Returns `FrameFault::OutOfMemory` where an allocation fails, and the reader is as it was.
     pub fn next(&mut self) -> Result<Step<Request>, FrameFault>
         ensures says { NextSays request_form self.old result self.new }
         ensures first { (bytes after : List ℕ) (h : Head) → IsRequest bytes h → self.old.unread ≡ bytes ++ after
@@ -137,8 +141,8 @@ impl RequestFrames {
         self.take_next()
     }
 
-    /// The head of the first request, which is taken off the front with all of its bytes, as `next` does;
-    /// or why there is none. Its body isn't copied.
+    /// Takes the first request off the front as `next` does, and returns its head alone. The body isn't copied. It
+    /// returns `Step::More` and errors where `next` does, but needs no memory for the message.
     pub fn next_head(&mut self) -> Result<Step<RequestHead>, FrameFault>
         ensures says { NextHeadSays self.old result self.new }
         ensures first { (bytes after : List ℕ) (h : Head) → IsRequest bytes h → self.old.unread ≡ bytes ++ after
@@ -153,6 +157,7 @@ impl RequestFrames {
         self.take_head()
     }
 
+    // Finds the first request, copies it, and takes it off.
     fn take_next(&mut self) -> Result<Step<Request>, FrameFault>
         ensures { NextSays request_form self.old result self.new }
     {
@@ -175,6 +180,7 @@ impl RequestFrames {
         }
     }
 
+    // Finds the first request, and takes it off.
     fn take_head(&mut self) -> Result<Step<RequestHead>, FrameFault>
         ensures { NextHeadSays self.old result self.new }
     {
@@ -188,7 +194,7 @@ impl RequestFrames {
         }
     }
 
-    /// Takes a message off the front.
+    /// Takes a message of `len` bytes off the front.
     fn take_off(&mut self, len: usize)
         requires { len ≤ length self.old.unread }
         ensures { self.new ≡ record self.old { unread = drop len self.old.unread } }
@@ -197,7 +203,7 @@ impl RequestFrames {
         self.buffer.advance(len);
     }
 
-    /// The first request, which stays where it is.
+    /// Finds the first request, which stays at the front.
     fn find(&mut self) -> Result<Step<Found<RequestHead>>, FrameFault>
         ensures { FindSays request_form self.old result self.new }
     {

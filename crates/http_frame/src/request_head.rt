@@ -1,4 +1,4 @@
-// Heads of requests.
+// Reads the heads of requests.
 ghost use Rattle.std.specs.Prelude.{◌≡◌, ◌==◌, ◌||◌, ℕ, ◌+◌, ◌<◌, ◌≤◌, List, length, take, map, IfOk, All, IfSome};
 ghost use Rattle.std.specs.Prelude.{option_map, codes};
 ghost use Rattle.httparse.specs.Spans.{span_bytes, IsWithin as IsSpanWithin, IsRequestWithin, IsRequestAt};
@@ -19,7 +19,7 @@ use httparse::{Error, Status};
 use std::alloc::Global;
 use text_base::{Bytes, OutOfMemory};
 
-/// The request line, built anew.
+/// Returns the request line, with one space between its parts.
 fn line_of(alloc: Global, method: &[u8], target: &[u8], minor: u8) -> Result<Bytes, OutOfMemory>
     requires { minor ≤ 1 }
     ensures { IfOk result (λ line. line ≡ request_line method.now target.now minor) }
@@ -32,7 +32,7 @@ fn line_of(alloc: Global, method: &[u8], target: &[u8], minor: u8) -> Result<Byt
     Ok(Bytes::from_vec(line))
 }
 
-/// A copy of what a span covers.
+/// Returns a copy of what `span` covers, if there is a span.
 fn copy_of(alloc: Global, front: &[u8], span: Option<Span>) -> Result<Option<Bytes>, OutOfMemory>
     requires { IfSome span (IsSpanWithin (length front.now)) }
     ensures { IfOk result (λ bytes. bytes ≡ option_map (span_bytes front.now) span) }
@@ -43,14 +43,14 @@ fn copy_of(alloc: Global, front: &[u8], span: Option<Span>) -> Result<Option<Byt
     }
 }
 
-/// Whether the connection closes after this request: always at version 1.0.
+/// Returns whether the connection closes after the request, as it always does at version 1.0.
 fn closes_after(minor: u8, asks: bool) -> bool
     ensures { result ≡ (minor == 0 || asks) }
 {
     minor == 0 || asks
 }
 
-/// What the parts of a head say.
+/// Returns what a head says, by its parts.
 fn head_of(
     alloc: Global,
     front: &[u8],
@@ -78,7 +78,7 @@ fn head_of(
     })
 }
 
-/// What a whole head gives, by the spans of its parts.
+/// Returns what reading a whole head gives, by the spans of its parts.
 fn request_step(
     alloc: Global,
     front: &[u8],
@@ -112,7 +112,7 @@ fn request_step(
     }
 }
 
-/// The head at the front of the bytes.
+/// Reads the head at the front of `bytes`. Returns `OutOfMemory` where an allocation fails.
 pub fn read_request(alloc: Global, bytes: &[u8]) -> Result<HeadStep<RequestHead>, OutOfMemory>
     ensures { IfOk result (HeadCause request_form bytes.now) }
 {

@@ -1,4 +1,4 @@
-// Responses from a stream in pieces.
+// Reads responses from a stream that comes in pieces.
 ghost use Rattle.std.specs.Prelude.{◌≡◌, ◌≤◌, ◌++◌, ℕ, Bool, List, [], true, false, length, drop, None, Some, Err};
 ghost use Rattle.std.specs.Prelude.{OnOk, OnErr};
 ghost use Rattle.httparse.specs.Grammar.{ResponseHead as Answer};
@@ -19,27 +19,28 @@ use std::alloc::Global;
 use std::marker::Model;
 use text_base::{Bytes, OutOfMemory};
 
-/// A reader of responses (RFC 9112). Contracts see the bytes that no message has taken, whether the
-/// input has ended, and the error, if one came.
+/// A reader of responses (RFC 9112). Contracts see the bytes that no message has taken, whether the input has ended,
+/// and the error, if one came.
 #[derive(Drop)]
 pub struct ResponseFrames {
     alloc: Global,
     buffer: Buffer,
     ended: bool,
-    /// The pending head was read as the response to a HEAD request.
+    /// Whether the pending head was read as that of a response to a HEAD request.
     to_head: bool,
     pending: Option<Pending<ResponseHead>>,
     failed: Option<FrameError>,
 }
 
-/// What stands at the front of a stream is one response, where the kind of its request is known.
+/// A stream begins with at most one response, where it is known whether the request was HEAD. It does nothing; its
+/// contract is the statement.
 pub fn responses_are_found_once()
     ensures { (to_head ended : Bool) (a b x y : List ℕ) (h k : Answer) (p : IsResponse to_head a h)
         (q : IsResponse to_head b k)
         → MayStop p.framing ended x → MayStop q.framing ended y → a ++ x ≡ b ++ y → (a ≡ b) × (h ≡ k) }
 {}
 
-/// What is known of the head, if it was read as a response of the kind that is wanted.
+/// Returns the pending head, if it was read as that of a response of the wanted kind.
 fn of_kind(
     pending: Option<Pending<ResponseHead>>,
     read_for: bool,
@@ -51,7 +52,8 @@ fn of_kind(
     if read_for == wanted { pending } else { None }
 }
 
-/// The first response, by what was known of it before.
+/// Reads on with the first response. `pending` is what an earlier call kept, and what is returned first is for the
+/// next.
 pub(crate) fn advance(
     alloc: Global,
     to_head: bool,
@@ -97,7 +99,7 @@ impl Model for ResponseFrames {
 }
 
 impl ResponseFrames {
-    /// A reader that has read nothing.
+    /// Makes a reader that has read nothing.
     pub fn new(alloc: Global) -> Self
         ensures { result ≡ record { unread = []; ended = false; failed = None } }
     {
@@ -111,14 +113,15 @@ impl ResponseFrames {
         }
     }
 
-    /// The bytes that no message has taken.
+    /// Returns the bytes that no message has taken.
     pub fn unread(&self) -> &[u8]
         ensures { result.now ≡ self.now.unread }
     {
         self.buffer.as_slice()
     }
 
-    /// Takes the next piece of the stream.
+    /// Adds the next piece of the stream, which hasn't ended. Where an allocation fails it returns `OutOfMemory`, and
+    /// the reader is as it was.
     pub fn feed(&mut self, piece: &[u8]) -> Result<(), OutOfMemory>
         requires { self.old.ended ≡ false }
         ensures ok { OnOk result (self.new ≡ record self.old { unread = self.old.unread ++ piece.now }) }
@@ -127,15 +130,19 @@ impl ResponseFrames {
         self.buffer.append(piece)
     }
 
-    /// Says that the input has ended; no piece follows.
+    /// Says that the input has ended: no piece follows.
     pub fn end(&mut self)
         ensures { self.new ≡ record self.old { ended = true } }
     {
         self.ended = true;
     }
 
-    /// The first response, taken off the front; or why there is none. `head_request`: it answers a
-    /// HEAD request. One whose body ends by closing comes once the input has ended, and takes all.
+    /// Takes the first response off the front and returns it, or returns `Step::More` where more bytes are needed.
+    /// `head_request` says that it answers a HEAD request. A response whose body ends with the input comes once the
+    /// input has ended, and takes all bytes.
+    ///
+    /// Returns an error where the bytes at the front are no response and none can come; each later call returns the
+    /// same error. Returns `FrameFault::OutOfMemory` where an allocation fails, and the reader is as it was.
     pub fn next(&mut self, head_request: bool) -> Result<Step<Response>, FrameFault>
         ensures says { NextSays (response_form head_request) self.old result self.new }
         ensures input { self.new.ended ≡ self.old.ended }
@@ -151,6 +158,7 @@ impl ResponseFrames {
         self.take_next(head_request)
     }
 
+    // Finds the first response, copies it, and takes it off.
     fn take_next(&mut self, head_request: bool) -> Result<Step<Response>, FrameFault>
         ensures { NextSays (response_form head_request) self.old result self.new }
     {
@@ -173,7 +181,7 @@ impl ResponseFrames {
         }
     }
 
-    /// Takes a message off the front.
+    /// Takes a message of `len` bytes off the front.
     fn take_off(&mut self, len: usize)
         requires { len ≤ length self.old.unread }
         ensures { self.new ≡ record self.old { unread = drop len self.old.unread } }
@@ -182,7 +190,7 @@ impl ResponseFrames {
         self.buffer.advance(len);
     }
 
-    /// The first response, which stays where it is.
+    /// Finds the first response, which stays at the front.
     fn find(&mut self, head_request: bool) -> Result<Step<Found<ResponseHead>>, FrameFault>
         ensures { FindSays (response_form head_request) self.old result self.new }
     {

@@ -1,4 +1,4 @@
-// Heads of responses.
+// Reads the heads of responses.
 ghost use Rattle.std.specs.Prelude.{◌≡◌, ◌≤◌, ◌||◌, ℕ, List, length, map, IfOk, All, codes};
 ghost use Rattle.httparse.specs.Spans.{span_bytes, IsWithin as IsSpanWithin, IsResponseWithin, IsResponseAt};
 ghost use Rattle.httparse.specs.Grammar.{ResponseHead as Answer};
@@ -18,7 +18,7 @@ use httparse::{Error, Status};
 use std::alloc::Global;
 use text_base::OutOfMemory;
 
-/// Whether the connection closes after this response: always where its body ends by closing.
+/// Returns whether the connection closes after the response, as it always does where the body ends with the input.
 fn closes_after(framing: Framing, asks: bool) -> bool
     ensures { result ≡ (ends_late framing || asks) }
 {
@@ -29,7 +29,7 @@ fn closes_after(framing: Framing, asks: bool) -> bool
     }
 }
 
-/// What the parts of a head say.
+/// Returns what a head says, by its parts.
 fn head_of(front: &[u8], framing: Framing, status: u16, fields: &HeaderMap<Span>) -> ResponseHead
     requires { All (IsSpanWithin (length front.now)) (get_all fields.now (codes "connection")) }
     ensures { result ≡ response_said framing status
@@ -39,7 +39,7 @@ fn head_of(front: &[u8], framing: Framing, status: u16, fields: &HeaderMap<Span>
     ResponseHead { status, closes }
 }
 
-/// What a whole head gives, by the spans of its parts.
+/// Returns what reading a whole head gives, by the spans of its parts.
 fn response_step(
     alloc: Global,
     to_head: bool,
@@ -63,7 +63,8 @@ fn response_step(
     }
 }
 
-/// The head at the front of the bytes, of a response to a HEAD request or to another.
+/// Reads the head at the front of `bytes`, of a response to a HEAD request (`to_head`) or to another. Returns
+/// `OutOfMemory` where an allocation fails.
 pub fn read_response(
     alloc: Global,
     to_head: bool,

@@ -24,6 +24,7 @@ pub mod LapLemmas
 pub mod LinkLaws
 pub mod FloorLaws
 pub mod OnlyLaws
+pub mod CoverLemmas
 pub mod PlayLemmas
 pub mod LogSize
 pub mod WholeLemmas

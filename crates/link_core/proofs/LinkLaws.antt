@@ -114,7 +114,7 @@ after_all : (os : List Opportunity) (b : ℕ) (l : List Timed) → AreRising os 
 after_all os b [] r c = none_after (drop b os)
 after_all os b (t ∷ l) r c = both_after t l (drop b os) (after_one os b t.moment r c.0) (after_all os b l r c.1)
 
-turn_each : (ts : List Timed) (os : List Opportunity) → Each (λ o. Each (λ u. u.moment < o.moment) ts) os
+pub turn_each : (ts : List Timed) (os : List Opportunity) → Each (λ o. Each (λ u. u.moment < o.moment) ts) os
     → Each (λ o. Each (λ u. u.moment < o.moment) (reverse ts)) os
 turn_each ts [] a = tt
 turn_each ts (o ∷ os) a = (each_reverse (λ u. u.moment < o.moment) ts a.0, turn_each ts os a.1)

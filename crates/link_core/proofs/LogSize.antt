@@ -92,16 +92,17 @@ marks-log q os ts =
     marks-entries (merged (opportunity_lines kept os 0 os) (arrival_lines q os [] ts)) ∙ omega arith
 
 -- what follows the log of fewer is not empty
-pub more_log : (q : QueueSpec) (os : List Opportunity) (b : ℕ) (come coming : List Timed) (rest : List Entry)
-    → link_log q (take b os) come ++ rest ≡ link_log q os (come ++ coming) → b ≤ length os
-    → 0 < length coming + (length os - b) → 0 < length rest
-more_log q os b come coming [] e le more =
+pub more_log : (q : QueueSpec) (os : List Opportunity) (last b : ℕ) (come coming : List Timed) (rest : List Entry)
+    → link_log q (take b os) come ++ rest ≡ link_log q (take last os) (come ++ coming) → b ≤ last → last ≤ length os
+    → 0 < length coming + (last - b) → 0 < length rest
+more_log q os last b come coming [] e le few more =
     let past = link_log q (take b os) come in
     let some = marks-log q (take b os) come in
-    let all = marks-log q os (come ++ coming) in
+    let all = marks-log q (take last os) (come ++ coming) in
     let none = marks-append past [] in
     let same = ap marks e in
-    let size = length-take-le b os le in
+    let size = length-take-le b os (omega arith) in
+    let most = length-take-le last os few in
     let both = length-append come coming in
     absurd (omega arith)
-more_log q os b come coming (r ∷ rest) e le more = omega arith
+more_log q os last b come coming (r ∷ rest) e le few more = omega arith

@@ -46,7 +46,7 @@ rise_turned (t ∷ earlier) f =
     (up_to_each t.moment (reverse earlier) (each_reverse (λ u. u.moment ≤ t.moment) earlier f.0))
     (omega arith, tt) (tt, tt))
 
-rise_now : (l : List Timed) → Falling (reverse l) → Rise l
+pub rise_now : (l : List Timed) → Falling (reverse l) → Rise l
 rise_now l f = subst Rise (reverse-reverse l) (rise_turned (reverse l) f)
 
 prefixes : (q : QueueSpec) (s : Span) (b b' : ℕ) (l l' : List Timed) (low : ℕ)

@@ -5,8 +5,8 @@ use packet_record::Timed;
 use std::marker::Model;
 use text_base::OutOfMemory;
 
-/// Packets in order, of which the first so many were let in. Contracts see both halves, and how many more may be added
-/// without memory.
+/// Packets in order, of which the first `entered` were let in. Contracts see both halves, and how many more may be
+/// added without memory.
 #[derive(Drop)]
 pub struct Arrivals {
     list: Vec<Timed>,
@@ -29,7 +29,7 @@ impl Model for Arrivals {
 }
 
 impl Arrivals {
-    /// All of these are to come.
+    /// The arrivals of `list`, all of which are to come.
     pub fn new(list: Vec<Timed>) -> Self
         ensures come { result.come ≡ [] }
         ensures coming { result.coming ≡ list.items }
@@ -37,7 +37,7 @@ impl Arrivals {
         Arrivals { list, entered: 0 }
     }
 
-    /// The next to come; None where none is.
+    /// The next packet to come. Returns `None` where none is.
     pub fn next(&self) -> Option<Timed>
         ensures { MatchOption result (self.now.coming ≡ []) (λ t. self.now.coming ≡ t ∷ drop 1 self.now.coming) }
     {
@@ -48,7 +48,7 @@ impl Arrivals {
         }
     }
 
-    /// Lets the next in.
+    /// Lets the next packet in.
     pub fn enter(&mut self)
         requires { 0 < length self.old.coming }
         ensures come { self.new.come ≡ self.old.come ++ take 1 self.old.coming }
@@ -57,7 +57,7 @@ impl Arrivals {
         self.entered += 1;
     }
 
-    /// Makes room for so many more.
+    /// Makes room for `more` more packets, or runs out of memory.
     pub fn reserve(&mut self, more: usize) -> Result<(), OutOfMemory>
         ensures come { self.new.come ≡ self.old.come }
         ensures coming { self.new.coming ≡ self.old.coming }
@@ -67,7 +67,7 @@ impl Arrivals {
         Ok(())
     }
 
-    /// One more is to come, for which there is room.
+    /// Adds a packet to come, for which there is room.
     pub fn push(&mut self, t: Timed)
         requires { 1 ≤ self.old.room }
         ensures come { self.new.come ≡ self.old.come }
@@ -76,14 +76,14 @@ impl Arrivals {
         self.list.push_reserved(t);
     }
 
-    /// Those that were let in.
+    /// The packets that were let in.
     pub fn come(&self) -> &[Timed]
         ensures { result.now ≡ self.now.come }
     {
         &self.list[..self.entered]
     }
 
-    /// All of them.
+    /// All packets, those let in and those to come.
     pub fn into_list(self) -> Vec<Timed>
         ensures { result.items ≡ self.come ++ self.coming }
     {

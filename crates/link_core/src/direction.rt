@@ -3,12 +3,11 @@ ghost use Rattle.std.specs.Prelude.{◌≡◌, ◌+◌, ◌-◌, ◌<◌, ◌≤
 ghost use Rattle.std.specs.Prelude.{OnOk, OnErr};
 ghost use Rattle.std.specs.Option.{option_map};
 ghost use Prim.Native.Nat.{min};
-ghost use Rattle.packet_record.specs.Moments.{AreUpTo, Rise};
+ghost use Rattle.packet_record.specs.Moments.{AreUpTo};
 ghost use Rattle.trace_reader.specs.Opps.{opps};
-ghost use Rattle.link_core.specs.Links.{link_log};
 ghost use Rattle.link_core.specs.Promises.{count_to};
 ghost use Rattle.link_core.specs.inside.Sound.{IsSound};
-ghost use Rattle.link_core.specs.View.{Link, opps_of, out_of, lost_of, inside_of, OnlyGoesOn};
+ghost use Rattle.link_core.specs.View.{Link, opps_of, out_of, lost_of, log_of, inside_of, OnlyGoesOn};
 
 use crate::link_log::LinkLog;
 use crate::opportunities::Opportunities;
@@ -25,7 +24,7 @@ use trace_reader::Trace;
 /// log while it runs: its log is made of its arrivals.
 ///
 /// Contracts see its trace, whether it is played once, its queue, its horizon, how many opportunities are burnt, and
-/// the packets that arrived. Everything else that it answers is a function of these.
+/// the packets that arrived. Everything else that it returns is a function of these.
 #[derive(Drop)]
 pub struct LinkCore {
     alloc: Global,
@@ -34,6 +33,7 @@ pub struct LinkCore {
 
 impl Model for LinkCore {
     ghost use Rattle.std.specs.Prelude.{◌≡◌, []};
+    ghost use Rattle.packet_record.specs.Moments.{AreUpTo};
     ghost use Rattle.link_core.specs.inside.Sound.{IsSound};
     ghost use Rattle.link_core.specs.View.{Link};
 
@@ -48,11 +48,12 @@ impl Model for LinkCore {
       arrivals = c.parts.arrived.come;
     } };
 
-    ghost invariant = { λ c. IsSound c.parts × (c.parts.arrived.coming ≡ []) };
+    ghost invariant = { λ c. IsSound c.parts × (c.parts.arrived.coming ≡ [])
+        × AreUpTo c.parts.opportunities.horizon c.parts.arrived.come };
 }
 
 impl LinkCore {
-    /// A link before any arrival. It never answers OutOfMemory.
+    /// A link before any arrival, with horizon in milliseconds. It never runs out of memory.
     pub fn new(
         alloc: Global,
         trace: Trace,
@@ -79,7 +80,8 @@ impl LinkCore {
         })
     }
 
-    /// Burns every opportunity up to the packet's moment, and then lets the packet in. It takes all its memory first.
+    /// Burns every opportunity up to the packet's moment, and then lets the packet in. Where it runs out of memory the
+    /// link is as it was.
     pub fn arrive(&mut self, t: Timed) -> Result<(), OutOfMemory>
         requires within { t.moment ≤ self.old.horizon }
         requires order { AreUpTo t.moment self.old.arrivals }
@@ -94,8 +96,8 @@ impl LinkCore {
         self.parts.arrive(t)
     }
 
-    /// Burns the next opportunities up to a bound, at most so many, and answers how many. Where there is none it needs
-    /// no memory.
+    /// Burns the next opportunities up to the moment `bound`, at most `most` of them, and returns how many. Where there
+    /// is none it needs no memory. Where it runs out of memory the link is as it was.
     pub fn burn(&mut self, bound: u64, most: u32) -> Result<u32, OutOfMemory>
         ensures count { IfOk result (λ n. n ≡ min most (count_to (opps_of self.old) bound - self.old.burnt)) }
         ensures ok { IfOk result (λ n. self.new ≡ record self.old { burnt = self.old.burnt + n }) }
@@ -120,27 +122,25 @@ impl LinkCore {
         self.parts.line.queue.lost()
     }
 
-    /// The log of all that arrived, with every opportunity up to the horizon. It isn't written out: it keeps a copy of
-    /// the arrivals. `OutOfMemory` is want of memory for these.
+    /// The log, of all that arrived and of the opportunities that are burnt. It isn't written out: it keeps a copy of
+    /// the arrivals, for which memory may run out.
     pub fn log(&self) -> Result<LinkLog, OutOfMemory>
-        requires rises { Rise self.now.arrivals }
-        requires within { AreUpTo self.now.horizon self.now.arrivals }
-        ensures { IfOk result (λ log. log ≡ link_log self.now.queue (opps_of self.now) self.now.arrivals) }
+        ensures { IfOk result (λ log. log ≡ log_of self.now) }
     {
         let arrivals = Vec::from_slice(self.alloc, self.parts.arrived.come())?;
         let opportunities = self.parts.opportunities.copy()?;
         let queue = self.parts.line.queue.spec();
-        Ok(LinkLog::of(self.alloc, opportunities, queue, arrivals))
+        Ok(LinkLog::of(self.alloc, opportunities, queue, self.parts.burnt, arrivals))
     }
 
-    /// The numbers of the packets inside, the one in transit first.
+    /// The numbers of the packets inside, the one in transit first, or out of memory.
     pub fn inside(&self) -> Result<Vec<u32>, OutOfMemory>
         ensures { IfOk result (λ ids. ids.items ≡ map (λ t. t.packet.id) (inside_of self.now)) }
     {
         self.parts.line.ids(self.alloc)
     }
 
-    /// The moment of the next opportunity; None exactly where none up to the horizon is unburnt.
+    /// The moment of the next opportunity. Returns `None` exactly where all up to the horizon are burnt.
     pub fn next_opportunity(&self) -> Option<u64>
         ensures { result ≡ option_map (λ o. o.moment) (slice_get (opps_of self.now) self.now.burnt) }
     {
@@ -157,16 +157,13 @@ impl LinkCore {
         self.parts.arrived.come()
     }
 
-    /// Gives the link up for its lists, none of which is copied. Its log isn't written out: it is that of all
-    /// arrivals, with every opportunity up to the horizon. `OutOfMemory` is want of memory for the numbers of the
-    /// packets inside.
+    /// Gives the link up for its lists, none of which is copied. Its log isn't written out. Memory may run out for the
+    /// numbers of the packets inside.
     pub fn into_passage(self) -> Result<Passage, OutOfMemory>
-        requires rises { Rise self.arrivals }
-        requires within { AreUpTo self.horizon self.arrivals }
         ensures departed { IfOk result (λ p. p.departed.items ≡ out_of self) }
         ensures lost { IfOk result (λ p. p.lost.items ≡ lost_of self) }
         ensures held { IfOk result (λ p. p.held.items ≡ map (λ t. t.packet.id) (inside_of self)) }
-        ensures log { IfOk result (λ p. p.log ≡ Some (link_log self.queue (opps_of self) self.arrivals)) }
+        ensures log { IfOk result (λ p. p.log ≡ Some (log_of self)) }
     {
         self.parts.into_passage(self.alloc)
     }

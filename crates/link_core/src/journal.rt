@@ -1,4 +1,4 @@
-// The log of a link that keeps one, or of one that keeps none.
+// What a link writes down while it runs: the entries of its log, or nothing.
 ghost use Rattle.std.specs.Prelude.{◌≡◌, ◌+◌, ◌≤◌, ◌++◌, ◌∷◌, [], length, OnOk};
 ghost use Rattle.shell_log.specs.Entries.{AreUpTo, IsEntry, moment_of};
 ghost use Rattle.link_core.specs.inside.Written.{written};
@@ -8,7 +8,7 @@ use std::alloc::Global;
 use std::marker::Model;
 use text_base::OutOfMemory;
 
-/// What a link writes down. Where it keeps no log, nothing is kept and no memory is taken.
+/// The entries that a link writes down. Where it keeps no log, it keeps no entry and takes no memory.
 #[derive(Drop)]
 pub struct Journal {
     kept: bool,
@@ -56,7 +56,7 @@ impl Journal {
         self.log.clear();
     }
 
-    /// Makes room for at least this many entries.
+    /// Makes room for at least `n` more entries, or runs out of memory.
     pub fn reserve(&mut self, n: usize) -> Result<(), OutOfMemory>
         ensures kept { self.new.kept ≡ self.old.kept }
         ensures same { self.new.entries ≡ self.old.entries }
@@ -68,7 +68,7 @@ impl Journal {
         self.log.reserve(n)
     }
 
-    /// Writes an entry down, for which there is room, and which isn't before the last one.
+    /// Writes down an entry for which there is room, and which isn't before the last one.
     pub fn add(&mut self, e: Entry)
         requires spare { 1 ≤ self.old.spare }
         requires form { IsEntry e }

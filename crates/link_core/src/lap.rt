@@ -28,7 +28,7 @@ impl Lap {
         }
     }
 
-    /// Whether opportunity number `j` is in this lap of so many.
+    /// Whether opportunity number `j` is in this lap, which has `count` opportunities.
     pub fn has(self, j: u32, count: usize) -> bool
         ensures { IsTrue result ↔ ((self.first ≤ j) × (j < self.first + count)) }
     {

@@ -1,4 +1,5 @@
-//! One direction of a link: its departures, drops and log are functions of its opportunities and arrivals.
+//! One direction of a link: the opportunities of a trace, a queue in front of them, and the packet in transit. What
+//! departs, what is dropped and what the log says are functions of the opportunities and the arrivals.
 #![tactic(auto)]
 
 mod arrivals;

@@ -1,8 +1,9 @@
-// The log of a link over all its arrivals, not written out.
-ghost use Rattle.std.specs.Prelude.{◌≡◌, [], IfOk};
+// The log of a link that isn't written out yet: what it is made of.
+ghost use Rattle.std.specs.Prelude.{◌≡◌, ◌≤◌, [], length, take, IfOk};
 ghost use Rattle.packet_record.specs.Moments.{AreUpTo, Rise};
-ghost use Rattle.trace_reader.specs.Opps.{opps};
 ghost use Rattle.link_core.specs.Links.{link_log};
+ghost use Rattle.link_core.specs.Promises.{AreCovered};
+ghost use Rattle.link_core.specs.views.Span.{span_opps};
 
 use crate::opportunities::Opportunities;
 use crate::parts::Parts;
@@ -15,47 +16,54 @@ use std::alloc::Global;
 use std::marker::Model;
 use text_base::OutOfMemory;
 
-/// The log of a link over all its arrivals, with every opportunity up to the horizon. It isn't written out: it is made
-/// again from the arrivals, piece by piece. Contracts see its entries.
+/// The log of a link: of the packets that arrived, and of the opportunities that were burnt. It isn't written out: it
+/// is made again from the arrivals, piece by piece. Contracts see its entries.
 #[derive(Drop)]
 pub struct LinkLog {
     alloc: Global,
     opportunities: Opportunities,
     queue: QueueSpec,
+    burnt: u32,
     arrivals: Vec<Timed>,
 }
 
 impl Model for LinkLog {
-    ghost use Rattle.std.specs.Prelude.{List};
+    ghost use Rattle.std.specs.Prelude.{◌≤◌, List, length, take};
     ghost use Rattle.packet_record.specs.Moments.{AreUpTo, Rise};
     ghost use Rattle.shell_log.specs.declared.entry.Entry.{Entry};
     ghost use Rattle.link_core.specs.Links.{link_log};
+    ghost use Rattle.link_core.specs.Promises.{AreCovered};
     ghost use Rattle.link_core.specs.views.Span.{span_opps};
 
     ghost Value = { List Entry };
 
-    ghost view = { λ l. link_log l.queue (span_opps l.opportunities) l.arrivals.items };
+    ghost view = { λ l. link_log l.queue (take l.burnt (span_opps l.opportunities)) l.arrivals.items };
 
-    ghost invariant = { λ l. Rise l.arrivals.items × AreUpTo l.opportunities.horizon l.arrivals.items };
+    ghost invariant = { λ l. Rise l.arrivals.items × AreUpTo l.opportunities.horizon l.arrivals.items
+        × AreCovered (span_opps l.opportunities) l.burnt l.arrivals.items
+        × (l.burnt ≤ length (span_opps l.opportunities)) };
 }
 
 impl LinkLog {
-    // The log of a link with these opportunities.
+    // The log of a link, of whose opportunities the first `burnt` are burnt.
     pub(crate) fn of(
         alloc: Global,
         opportunities: Opportunities,
         queue: QueueSpec,
+        burnt: u32,
         arrivals: Vec<Timed>,
     ) -> LinkLog
         requires rises { Rise arrivals.items }
         requires within { AreUpTo opportunities.horizon arrivals.items }
-        ensures { result ≡ link_log queue
-            (opps opportunities.trace.opportunities opportunities.once opportunities.horizon) arrivals.items }
+        requires covered { AreCovered (span_opps opportunities) burnt arrivals.items }
+        requires few { burnt ≤ length (span_opps opportunities) }
+        ensures { result ≡ link_log queue (take burnt (span_opps opportunities)) arrivals.items }
     {
         LinkLog {
             alloc,
             opportunities,
             queue,
+            burnt,
             arrivals,
         }
     }
@@ -65,16 +73,17 @@ impl LinkLog {
         ensures piece { result.piece ≡ [] }
         ensures rest { result.rest ≡ self }
     {
-        LogPieces::new(Parts::new(
+        let parts = Parts::new(
             self.alloc,
             self.opportunities,
             self.queue,
             true,
             self.arrivals,
-        ))
+        );
+        LogPieces::new(parts, self.burnt)
     }
 
-    /// The log, written out. `OutOfMemory` is want of memory.
+    /// The log, written out, or out of memory.
     pub fn into_log(self) -> Result<Log, OutOfMemory>
         ensures { IfOk result (λ log. log.entries ≡ self) }
     {
@@ -82,6 +91,7 @@ impl LinkLog {
             self.alloc,
             self.opportunities,
             self.queue,
+            self.burnt,
             true,
             self.arrivals,
         )?;

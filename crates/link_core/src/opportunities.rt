@@ -1,4 +1,4 @@
-// The opportunities of a trace up to a horizon. They are counted and looked up, and never listed.
+// The opportunities of a trace up to a horizon. They are counted and looked up, and never stand in a list.
 ghost use Rattle.std.specs.Prelude.{◌≡◌, ◌≤◌, ◌<◌, ◌↔◌, Some, IsTrue, length, slice_get, IfOk, IfSome};
 ghost use Rattle.trace_reader.specs.Orders.{AreRising};
 ghost use Rattle.trace_reader.specs.Opps.{up_to, opps};
@@ -33,7 +33,7 @@ impl Model for Opportunities {
         × IsLap s.trace.opportunities s.lap.first s.lap.start };
 }
 
-// So many are looked at before the trace is searched.
+// How many opportunities are looked at one by one before the trace is searched.
 const NEAR: u32 = 8;
 
 impl Opportunities {
@@ -52,7 +52,14 @@ impl Opportunities {
         }
     }
 
-    /// The same opportunities, whose trace is shared and not copied.
+    /// How many opportunities there are.
+    pub fn len(&self) -> u32
+        ensures { result ≡ length (span_opps self.now) }
+    {
+        self.number
+    }
+
+    /// The same opportunities, whose trace is shared and not copied, or out of memory.
     pub fn copy(&self) -> Result<Self, OutOfMemory>
         ensures { IfOk result (λ o. o ≡ self.now) }
     {
@@ -65,7 +72,7 @@ impl Opportunities {
         })
     }
 
-    /// Opportunity number `j`, counted from 0, which is up to the horizon. It divides only where another lap begins.
+    /// Opportunity number `j`, counted from 0. It divides only where another lap begins.
     pub fn take(&mut self, j: u32) -> Opportunity
         requires { j < length (span_opps self.old) }
         ensures at { Some result ≡ slice_get (span_opps self.old) j }
@@ -81,7 +88,7 @@ impl Opportunities {
         self.lap.opportunity(trace, j)
     }
 
-    /// Opportunity number `j`, counted from 0, if it is up to the horizon.
+    /// Opportunity number `j`, counted from 0. Returns `None` where there are no more than `j`.
     pub fn at(&self, j: u32) -> Option<Opportunity>
         ensures at { result ≡ slice_get (span_opps self.now) j }
         ensures within { IfSome result (λ o. o.moment ≤ 3600000) }
@@ -93,7 +100,7 @@ impl Opportunities {
         self.trace.opportunity(u64::from(j), self.once)
     }
 
-    /// Whether there is an opportunity number `j`, counted from 0, at this moment or earlier. It takes no search.
+    /// Whether there is an opportunity number `j`, counted from 0, at `moment` or earlier. It takes no search.
     pub fn is_due(&mut self, j: u32, moment: u64) -> bool
         ensures due { IsTrue result ↔ (j < length (up_to moment (span_opps self.old))) }
         ensures same { self.new ≡ self.old }
@@ -104,7 +111,7 @@ impl Opportunities {
         self.take(j).moment <= moment
     }
 
-    /// How many are at this moment or earlier, where those below number `j` are. Near `j` it takes no search.
+    /// How many opportunities are at `moment` or earlier, where the first `j` are. Near `j` it takes no search.
     pub fn count_from(&mut self, j: u32, moment: u64) -> u32
         requires { j ≤ length (up_to moment (span_opps self.old)) }
         ensures count { result ≡ length (up_to moment (span_opps self.old)) }
@@ -121,7 +128,7 @@ impl Opportunities {
         self.count_to(moment)
     }
 
-    /// How many are at this moment or earlier.
+    /// How many opportunities are at `moment` or earlier.
     pub fn count_to(&self, moment: u64) -> u32
         ensures count { result ≡ length (up_to moment (span_opps self.now)) }
         ensures within { result ≤ length (span_opps self.now) }

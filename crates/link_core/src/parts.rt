@@ -1,4 +1,4 @@
-// The parts of a link, and its two steps.
+// The parts of a link, and what it does with them: it burns an opportunity, or lets a packet in.
 ghost use Rattle.std.specs.Prelude.{◌≡◌, ◌+◌, ◌-◌, ◌<◌, ◌≤◌, ◌++◌, ◌∷◌, [], length, take, drop, IfOk, OnOk, OnErr};
 ghost use Rattle.std.specs.Prelude.{vec_len, vec_capacity};
 ghost use Prim.Native.Nat.{min};
@@ -32,7 +32,7 @@ pub struct Parts {
 }
 
 impl Parts {
-    /// The parts before any arrival, with a log or without. These packets are to come.
+    /// The parts before any arrival, with a log or without. The packets of `arrivals` are to come.
     pub fn new(
         alloc: Global,
         opportunities: Opportunities,
@@ -65,7 +65,7 @@ impl Parts {
         }
     }
 
-    /// Burns the next opportunity, if there is one.
+    /// Burns the next opportunity. There is one.
     pub fn burn_next(&mut self)
         ghost gone: { Gone }
         requires sound { IsSoundAfter gone self.old }
@@ -89,7 +89,7 @@ impl Parts {
         serve(&mut self.line, o, &mut self.left, &mut self.log);
     }
 
-    // Burns the next opportunity, or, where nothing is inside and no log is kept, all up to this many in all.
+    // Burns the next opportunity. Where nothing is inside and no log is kept, it burns all until `end` are burnt.
     fn burn_some(&mut self, end: u32)
         ghost gone: { Gone }
         requires sound { IsSoundAfter gone self.old }
@@ -114,7 +114,7 @@ impl Parts {
         self.burn_next();
     }
 
-    /// Burns up to this many in all.
+    /// Burns opportunities until `end` of them are burnt.
     pub fn burn_to(&mut self, end: u32)
         ghost gone: { Gone }
         requires sound { IsSoundAfter gone self.old }
@@ -136,7 +136,7 @@ impl Parts {
         }
     }
 
-    /// Lets the next packet in, where all opportunities up to its moment are burnt and no others.
+    /// Lets in the next packet, `t`. All opportunities up to its moment are burnt, and no others.
     #[inline(always)]
     pub fn enter(&mut self, t: Timed)
         ghost gone: { Gone }
@@ -159,12 +159,12 @@ impl Parts {
         note(&mut self.log, t, dropped);
     }
 
-    /// Takes the memory that burning so many more and letting one packet in may need.
+    /// Takes the memory that burning `more` opportunities and letting one packet in may need, or runs out of it.
     #[inline(always)]
     pub fn reserve(&mut self, more: usize) -> Result<(), OutOfMemory>
         ghost gone: { Gone }
         requires sound { IsSoundAfter gone self.old }
-        requires few { more ≤ 16000000 }
+        requires few { more ≤ 4294967295 }
         ensures sound { IsSoundAfter gone self.new }
         ensures link { IsSameLink self.old self.new }
         ensures burnt { self.new.burnt ≡ self.old.burnt }
@@ -182,7 +182,7 @@ impl Parts {
         Ok(())
     }
 
-    /// Burns all that is up to the packet's moment, and then lets the packet in. None was to come.
+    /// Burns every opportunity up to the packet's moment, and then lets the packet in. No other packet was to come.
     pub fn arrive(&mut self, t: Timed) -> Result<(), OutOfMemory>
         requires sound { IsSound self.old }
         requires none { self.old.arrived.coming ≡ [] }
@@ -206,8 +206,8 @@ impl Parts {
         Ok(())
     }
 
-    /// Burns the next up to a bound, at most so many, and answers how many. Where none is due it needs no memory and no
-    /// search.
+    /// Burns the next opportunities up to the moment `bound`, at most `most` of them, and returns how many. Where none
+    /// is due it needs no memory and no search.
     pub fn burn(&mut self, bound: u64, most: u32) -> Result<u32, OutOfMemory>
         ghost gone: { Gone }
         requires sound { IsSoundAfter gone self.old }

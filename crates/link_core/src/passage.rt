@@ -1,4 +1,4 @@
-// What one direction of a shell does with a whole list of packets.
+// The lists of one direction of a shell: what departed, what was dropped, what stayed inside, and a link's log.
 use crate::link_log::LinkLog;
 use packet_record::Timed;
 
@@ -12,6 +12,6 @@ pub struct Passage {
     /// The numbers of the packets that neither departed nor were dropped, in order; in a link the one in transit is the
     /// first.
     pub held: Vec<u32>,
-    /// What happened at a link, in order, not written out; None for the other kinds.
+    /// The log of a link, not written out. `None` for the other kinds of shells.
     pub log: Option<LinkLog>,
 }

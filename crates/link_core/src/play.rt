@@ -1,15 +1,17 @@
-// A link over arrivals that are all in a list: step by step, up to the end or to so many entries of its log.
+// A link that goes over a list of arrivals step by step, and burns its first `last` opportunities: to the end, or until
+// there is a piece of its log.
 ghost use Rattle.std.specs.Prelude.{◌≡◌, ◌<◌, ◌≤◌, ◌++◌, ◌∷◌, [], IsTrue, true, length, drop, IfOk, OnOk, OnErr};
 ghost use Rattle.link_core.specs.inside.Sound.{Gone, IsSoundAfter};
 ghost use Rattle.link_core.specs.inside.Same.{IsSameLink};
 ghost use Rattle.link_core.specs.inside.Play.{CanPlay, IsPlayed, all_arrivals, work, gone_with};
 ghost use Rattle.link_core.specs.views.Play.{rest_of};
+ghost use Rattle.link_core.specs.views.Span.{span_opps};
 
 use crate::parts::Parts;
 use packet_record::Timed;
 use text_base::OutOfMemory;
 
-// One step burns at most so many opportunities where a log is kept, since each may need room in it.
+// One step burns at most as many opportunities as this where a log is kept, since each may need room in it.
 const AT_ONCE: u32 = 2048;
 
 // A piece of the log is ended after the step that makes it as long as this.
@@ -28,17 +30,17 @@ impl Parts {
     }
 
     // Burns what is due before the next packet, or the first of it, and lets the packet in where nothing due is left.
-    fn go_to(&mut self, t: Timed) -> Result<(), OutOfMemory>
+    fn go_to(&mut self, t: Timed, _last: u32) -> Result<(), OutOfMemory>
         ghost gone: { Gone }
         requires sound { IsSoundAfter gone self.old }
-        requires playable { CanPlay self.old }
+        requires playable { CanPlay _last self.old }
         requires next { self.old.arrived.coming ≡ t ∷ drop 1 self.old.arrived.coming }
         ensures sound { IsSoundAfter gone self.new }
-        ensures playable { CanPlay self.new }
+        ensures playable { CanPlay _last self.new }
         ensures link { IsSameLink self.old self.new }
         ensures arrivals { all_arrivals self.new ≡ all_arrivals self.old }
-        ensures less { OnOk result (work self.new < work self.old) }
-        ensures err { OnErr result (0 < work self.new) }
+        ensures less { OnOk result (work _last self.new < work _last self.old) }
+        ensures err { OnErr result (0 < work _last self.new) }
     {
         let due = self.opportunities.count_from(self.burnt, t.moment);
         let end = due.min(self.burnt.saturating_add(self.at_once()));
@@ -51,68 +53,72 @@ impl Parts {
         Ok(())
     }
 
-    #[tactic(auto, using(crate::proofs::PlayLemmas::all_up_to))]
-    // Burns the next opportunities where no packet is to come: whether there is one.
-    fn burn_rest(&mut self) -> Result<bool, OutOfMemory>
+    // Burns the next opportunities, where no packet is to come. Returns false where the first `last` were burnt before.
+    fn burn_rest(&mut self, last: u32) -> Result<bool, OutOfMemory>
         ghost gone: { Gone }
         requires sound { IsSoundAfter gone self.old }
+        requires few { last ≤ length (span_opps self.old.opportunities) }
+        requires so_far { self.old.burnt ≤ last }
         requires none { self.old.arrived.coming ≡ [] }
         ensures sound { IsSoundAfter gone self.new }
         ensures link { IsSameLink self.old self.new }
         ensures arrived { self.new.arrived ≡ self.old.arrived }
-        ensures done { IfOk result (λ more. ¬ IsTrue more → IsPlayed self.new) }
-        ensures less { IfOk result (λ more. IsTrue more → work self.new < work self.old) }
-        ensures err { OnErr result (0 < work self.new) }
+        ensures so_far { self.new.burnt ≤ last }
+        ensures done { IfOk result (λ more. ¬ IsTrue more → IsPlayed last self.new) }
+        ensures less { IfOk result (λ more. IsTrue more → work last self.new < work last self.old) }
+        ensures err { OnErr result (0 < work last self.new) }
     {
-        if self.opportunities.count_to(u64::MAX) == self.burnt {
+        if self.burnt == last {
             return Ok(false);
         }
-        let most = self.at_once();
-        self.burn(u64::MAX, most)?;
+        let end = last.min(self.burnt.saturating_add(self.at_once()));
+        self.reserve((end - self.burnt) as usize)?;
+        self.burn_to(end);
         Ok(true)
     }
 
-    /// Goes on by one step, if there is one: false exactly where all arrivals are in and all opportunities are burnt.
-    pub fn step(&mut self) -> Result<bool, OutOfMemory>
+    /// Goes on by one step. Returns false exactly where there is none: all arrivals are in, and the first `last`
+    /// opportunities are burnt.
+    pub fn step(&mut self, last: u32) -> Result<bool, OutOfMemory>
         ghost gone: { Gone }
         requires sound { IsSoundAfter gone self.old }
-        requires playable { CanPlay self.old }
+        requires playable { CanPlay last self.old }
         ensures sound { IsSoundAfter gone self.new }
-        ensures playable { CanPlay self.new }
+        ensures playable { CanPlay last self.new }
         ensures link { IsSameLink self.old self.new }
         ensures arrivals { all_arrivals self.new ≡ all_arrivals self.old }
-        ensures done { IfOk result (λ more. ¬ IsTrue more → IsPlayed self.new) }
-        ensures less { IfOk result (λ more. IsTrue more → work self.new < work self.old) }
-        ensures err { OnErr result (0 < work self.new) }
+        ensures done { IfOk result (λ more. ¬ IsTrue more → IsPlayed last self.new) }
+        ensures less { IfOk result (λ more. IsTrue more → work last self.new < work last self.old) }
+        ensures err { OnErr result (0 < work last self.new) }
     {
         match self.arrived.next() {
             Some(t) => {
-                self.go_to(t)?;
+                self.go_to(t, last)?;
                 Ok(true)
             }
-            None => self.burn_rest(),
+            None => self.burn_rest(last),
         }
     }
 
-    /// Goes on to the end, with room for so many more departures.
-    pub fn finish(&mut self, departures: usize) -> Result<(), OutOfMemory>
+    /// Goes on to the end, with room for `departures` more departures.
+    pub fn finish(&mut self, last: u32, departures: usize) -> Result<(), OutOfMemory>
         ghost gone: { Gone }
         requires sound { IsSoundAfter gone self.old }
-        requires playable { CanPlay self.old }
+        requires playable { CanPlay last self.old }
         ensures sound { IsSoundAfter gone self.new }
         ensures link { IsSameLink self.old self.new }
         ensures arrivals { all_arrivals self.new ≡ all_arrivals self.old }
-        ensures played { OnOk result (IsPlayed self.new) }
+        ensures played { OnOk result (IsPlayed last self.new) }
     {
         self.left.reserve(departures)?;
         'finishing: loop {
-            if !self.step()? {
+            if !self.step(last)? {
                 return Ok(());
             }
         }
     }
 
-    /// Lets go of the departures and entries in hand.
+    /// Lets go of the departures and of the log's entries that are in hand.
     pub fn let_go(&mut self)
         ghost gone: { Gone }
         requires sound { IsSoundAfter gone self.old }
@@ -128,22 +134,24 @@ impl Parts {
         self.log.clear();
     }
 
-    /// Goes on until there is a piece of the log, or to the end: whether there is an entry in hand. A log is kept.
-    pub fn fill(&mut self) -> Result<bool, OutOfMemory>
+    /// Goes on until there is a piece of the log, or to the end. Returns whether there is an entry in hand. A log is
+    /// kept.
+    pub fn fill(&mut self, last: u32) -> Result<bool, OutOfMemory>
         ghost gone: { Gone }
         requires sound { IsSoundAfter gone self.old }
-        requires playable { CanPlay self.old }
+        requires playable { CanPlay last self.old }
         requires logged { self.old.log.kept ≡ true }
         ensures sound { IsSoundAfter gone self.new }
-        ensures playable { CanPlay self.new }
+        ensures playable { CanPlay last self.new }
         ensures logged { self.new.log.kept ≡ true }
-        ensures same { self.new.log.entries ++ rest_of self.new ≡ self.old.log.entries ++ rest_of self.old }
-        ensures err { OnErr result (0 < length (rest_of self.new)) }
+        ensures same { self.new.log.entries ++ rest_of last self.new ≡ self.old.log.entries ++ rest_of last self.old }
+        ensures err { OnErr result (0 < length (rest_of last self.new)) }
         ensures some { IfOk result (λ more. IsTrue more → 0 < length self.new.log.entries) }
-        ensures none { IfOk result (λ more. ¬ IsTrue more → (self.new.log.entries ≡ []) × (rest_of self.new ≡ [])) }
+        ensures none { IfOk result (λ more. ¬ IsTrue more
+            → (self.new.log.entries ≡ []) × (rest_of last self.new ≡ [])) }
     {
         'filling: while self.log.len() < PIECE {
-            if !self.step()? {
+            if !self.step(last)? {
                 return Ok(self.log.len() > 0);
             }
         }

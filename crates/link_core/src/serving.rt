@@ -1,4 +1,4 @@
-// One opportunity, used.
+// What an opportunity carries, and what is written down of it and of an arrival.
 ghost use Rattle.std.specs.Prelude.{◌≡◌, ◌+◌, ◌-◌, ◌<◌, ◌≤◌, ◌++◌, ◌∷◌, [], length, map, vec_len, vec_capacity};
 ghost use Rattle.packet_record.specs.Packets.{moved_to};
 ghost use Rattle.packet_queue.specs.View.{Queue};
@@ -15,7 +15,8 @@ use packet_record::Timed;
 use shell_log::Entry;
 use trace_reader::Opportunity;
 
-/// Uses an opportunity. What it ends departs; each is written down.
+/// Uses the opportunity `o`: the packets whose last bytes it carries depart. The opportunity and each departure are
+/// written down.
 pub fn serve(line: &mut Line, o: Opportunity, left: &mut Vec<Timed>, log: &mut Journal)
     requires part { IsPart line.old.packet line.old.used }
     requires room { length (inside_line line.old) + vec_len left.old ≤ vec_capacity left.old }
@@ -53,7 +54,7 @@ pub fn serve(line: &mut Line, o: Opportunity, left: &mut Vec<Timed>, log: &mut J
     }
 }
 
-/// Writes down an arrival, and what it dropped.
+/// Writes down the arrival `t`, and what it dropped.
 pub fn note(log: &mut Journal, t: Timed, dropped: Dropped)
     requires spare { 2 ≤ log.old.spare }
     requires order { AreUpTo t.moment log.old.entries }

@@ -1,8 +1,9 @@
-// A link over the whole list of its arrivals.
+// A link over the whole list of its arrivals, and the lists that a link leaves.
 ghost use Rattle.std.specs.Prelude.{◌≡◌, ◌≤◌, Some, [], length, map, take, IfOk};
 ghost use Rattle.packet_record.specs.Moments.{AreUpTo, Rise};
 ghost use Rattle.trace_reader.specs.Opps.{opps};
 ghost use Rattle.link_core.specs.Links.{link_out, link_lost, link_log, link_inside};
+ghost use Rattle.link_core.specs.Promises.{AreCovered};
 ghost use Rattle.link_core.specs.views.Span.{span_opps};
 ghost use Rattle.link_core.specs.inside.Sound.{IsSound};
 ghost use Rattle.link_core.specs.inside.Play.{IsPlayed, all_arrivals};
@@ -17,18 +18,21 @@ use std::alloc::Global;
 use text_base::OutOfMemory;
 use trace_reader::Trace;
 
-// A link after all its arrivals and opportunities.
+// A link after all its arrivals and its first `last` opportunities.
 pub(crate) fn played(
     alloc: Global,
     opportunities: Opportunities,
     queue: QueueSpec,
+    last: u32,
     logged: bool,
     arrivals: Vec<Timed>,
 ) -> Result<Parts, OutOfMemory>
     requires rises { Rise arrivals.items }
     requires within { AreUpTo opportunities.horizon arrivals.items }
+    requires covered { AreCovered (span_opps opportunities) last arrivals.items }
+    requires few { last ≤ length (span_opps opportunities) }
     ensures sound { IfOk result (λ parts. IsSound parts) }
-    ensures played { IfOk result (λ parts. IsPlayed parts) }
+    ensures played { IfOk result (λ parts. IsPlayed last parts) }
     ensures opportunities { IfOk result (λ parts. parts.opportunities ≡ opportunities) }
     ensures spec { IfOk result (λ parts. parts.line.queue.spec ≡ queue) }
     ensures logged { IfOk result (λ parts. parts.log.kept ≡ logged) }
@@ -36,18 +40,16 @@ pub(crate) fn played(
 {
     let packets = arrivals.len();
     let mut parts = Parts::new(alloc, opportunities, queue, logged, arrivals);
-    parts.finish(packets)?;
+    parts.finish(last, packets)?;
     Ok(parts)
 }
 
 impl Parts {
     /// Gives a link's parts up for their lists, none of which is copied. The log isn't written out: it keeps the
-    /// arrivals, and is that of all of them with every opportunity. `OutOfMemory` is want of memory for the numbers of
-    /// the packets inside.
+    /// arrivals. Memory may run out for the numbers of the packets inside.
     pub fn into_passage(self, alloc: Global) -> Result<Passage, OutOfMemory>
         requires sound { IsSound self }
         requires none { self.arrived.coming ≡ [] }
-        requires rises { Rise self.arrived.come }
         requires within { AreUpTo self.opportunities.horizon self.arrived.come }
         ensures departed { IfOk result (λ p. p.departed.items ≡ link_out self.line.queue.spec
             (take self.burnt (span_opps self.opportunities)) self.arrived.come) }
@@ -56,21 +58,28 @@ impl Parts {
         ensures held { IfOk result (λ p. p.held.items ≡ map (λ t. t.packet.id)
             (link_inside self.line.queue.spec (take self.burnt (span_opps self.opportunities)) self.arrived.come)) }
         ensures log { IfOk result (λ p. p.log ≡ Some
-            (link_log self.line.queue.spec (span_opps self.opportunities) self.arrived.come)) }
+            (link_log self.line.queue.spec (take self.burnt (span_opps self.opportunities)) self.arrived.come)) }
     {
         let held = self.line.ids(alloc)?;
         let queue = self.line.queue.spec();
+        let log = LinkLog::of(
+            alloc,
+            self.opportunities,
+            queue,
+            self.burnt,
+            self.arrived.into_list(),
+        );
         Ok(Passage {
             departed: self.left,
             lost: self.line.queue.into_lost(),
             held,
-            log: Some(LinkLog::of(alloc, self.opportunities, queue, self.arrived.into_list())),
+            log: Some(log),
         })
     }
 }
 
 /// Runs a link over all its arrivals, which are in order and up to the horizon, and burns every opportunity up to the
-/// horizon. No log is kept: it can be made again from the arrivals. `OutOfMemory` is want of memory.
+/// horizon, or runs out of memory. No log is kept: it can be made again from the arrivals.
 pub fn run_link(
     alloc: Global,
     trace: Trace,
@@ -93,6 +102,7 @@ pub fn run_link(
         (link_log queue (opps trace.opportunities once horizon) arrivals.items)) }
 {
     let opportunities = Opportunities::new(trace, once, horizon);
-    let parts = played(alloc, opportunities, queue, false, arrivals)?;
+    let last = opportunities.len();
+    let parts = played(alloc, opportunities, queue, last, false, arrivals)?;
     parts.into_passage(alloc)
 }

@@ -9,3 +9,4 @@ pub mod Dues
 pub mod Asking
 pub mod Turning
 pub mod Coursing
+pub mod Forgetting

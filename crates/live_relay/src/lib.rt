@@ -6,7 +6,7 @@
 
 mod clock;
 mod drops;
-mod end_watch;
+mod ends;
 mod fails;
 mod kept;
 mod mem_clock;
@@ -27,6 +27,7 @@ mod wire;
 
 pub use clock::Clock;
 pub use drops::drops_at;
+pub use ends::is_loss;
 pub use mem_clock::MemClock;
 pub use mem_wire::MemWire;
 pub use outcome::{RelayEnd, RelayError, RelayResult};
@@ -37,5 +38,4 @@ pub use rows::RelayRows;
 pub use side::Side;
 pub use sys_clock::SysClock;
 pub use udp_wire::UdpWire;
-pub use unsent::is_loss;
 pub use wire::Wire;

@@ -16,7 +16,7 @@ use text_base::{Bytes, OutOfMemory};
 // The most bytes of a packet.
 pub(crate) const MOST: usize = 1_504;
 
-// The rows, the bytes of those that haven't left yet in each direction, and how many datagrams were refused.
+// The rows, the bytes of those that may still leave in each direction, and how many datagrams were refused.
 #[derive(Drop)]
 pub(crate) struct Stamps {
     pub rows: Vec<Row>,

@@ -1,8 +1,8 @@
 // The machine's clock. It tells no answers.
 ghost use Rattle.std.specs.Prelude.{◌≡◌, None};
 
-use crate::end_watch::EndWatch;
 use crate::{Clock, Pulse};
+use end_watch::{EndWatch, Wanted, wait_for};
 use std::os::fd::RawFd;
 use std::thread;
 use std::time::{Clock as Time, Duration, Instant};
@@ -103,7 +103,7 @@ impl<'a, R: Time + Drop> SysClock<'a, R> {
             let Some(left) = self.micros_left() else {
                 return;
             };
-            if self.end.wait_at(socket, 0) {
+            if wait_for(socket, Wanted::Input, 0) {
                 return;
             }
             let rest = left.saturating_sub(EARLY).min(REST);
@@ -124,7 +124,7 @@ impl<'a, R: Time + Drop> SysClock<'a, R> {
         if self.moment.saturating_sub(self.active) < SILENCE {
             self.rest_briefly(socket);
         } else {
-            self.end.wait_at(socket, WAIT);
+            wait_for(socket, Wanted::Input, WAIT);
         }
     }
 

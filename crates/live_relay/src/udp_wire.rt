@@ -2,34 +2,27 @@
 ghost use Rattle.std.specs.Prelude.{◌≡◌, ◌≤◌, ◌<◌, ◌-◌, ◌^◌, None, false, length, IfOk, IfSome};
 ghost use Rattle.mm_base.specs.Counts.{Rose};
 
-use crate::unsent::{Given, Unsent, give};
+use crate::ends::{Ends, Given, local};
+use crate::unsent::Unsent;
 use crate::{Pulse, Side, Wire};
-use libc::net::{POLLOUT, SO_RCVBUF, SOL_SOCKET, poll, setsockopt};
+use libc::net::{POLLOUT, SO_RCVBUF, SOL_SOCKET, getsockopt, poll, setsockopt};
 use libc::types::pollfd;
 use mm_base::EndError;
 use std::alloc::Global;
 use std::io::{self, Eprint, ErrorKind};
-use std::net::{Ipv4Addr, Net, SocketAddr, UdpSocket};
+use std::net::{Net, UdpSocket};
 use std::os::fd::{AsRawFd, RawFd};
 
 // How many bytes of datagrams the system is asked to keep until they are received. It may grant less.
 const ROOM: u32 = 4 * 1024 * 1024;
 
-// How often a receive passes over an interruption. No run meets it.
-const TRIES: u64 = u64::MAX;
+// How many bytes the value of a socket's option has.
+const SIZE: u32 = 4;
 
 // How often what is kept is tried again at the end, and how many milliseconds are waited before each but the first.
 const WAITS: u32 = 100;
 
 const WAIT: i32 = 10;
-
-// A socket, and where the sides are. The client is known by its latest datagram.
-#[derive(Drop)]
-struct Ends {
-    socket: UdpSocket,
-    server: SocketAddr,
-    client: Option<SocketAddr>,
-}
 
 /// A wire over UDP at the address 127.0.0.1, which tells no content. What comes from the server's port is the server's,
 /// and anything else the client's. What is sent to the client goes to the address from which its latest datagram came,
@@ -38,13 +31,14 @@ struct Ends {
 ///
 /// A receive doesn't wait: where no datagram is there it returns `None`. The clock of the same pulse rests in its
 /// place. A send that finds no room doesn't wait either: the datagram is kept, with those after it, and each receive
-/// tries again to send what is kept.
+/// tries again to send what is kept, to the client that is known by then.
 ///
 /// A datagram is lost, and counted, where the system says that nobody listens where it was sent, that it isn't
 /// permitted, or that it has no buffer for it; where no client is known to which it could go; and where too many are
 /// kept already. An interruption is passed over.
 ///
-/// Where it was opened it says so on the standard error.
+/// Where it was opened it says so on the standard error, and where the system grants less room for datagrams that come
+/// than it was asked for, how much that is.
 ///
 /// Want of memory is no fault. Every other error is counted as one: a port that can't be had; a receive or a send
 /// before `open`; a send that took a part; one more receive than a `u64` counts; and any other error of the system's
@@ -59,55 +53,23 @@ pub struct UdpWire<'a, R: Net + Eprint + Drop> {
     asked: u64,
     faults: u64,
     lost: u64,
+    last_error: Option<i32>,
 }
 
-fn local(port: u16) -> SocketAddr {
-    SocketAddr::from((Ipv4Addr::LOCALHOST, port))
-}
-
-// Asks the system for room for the datagrams that come to a socket. One that it refuses is as before.
-fn ask_for_room(socket: RawFd) {
+// Asks the system for room for the datagrams that come to a socket, and returns how many bytes of them it keeps, as far
+// as it tells. Where it refuses to change it, that is as before.
+fn ask_for_room(socket: RawFd) -> u32 {
     let mut value = [0u8; 16];
-    value[..4].copy_from_slice(&ROOM.to_ne_bytes());
+    value[..SIZE as usize].copy_from_slice(&ROOM.to_ne_bytes());
     // The option's value is its first four bytes, an `int` of C.
-    unsafe {
-        setsockopt(socket, SOL_SOCKET, SO_RCVBUF, &value, 4);
+    let refused = unsafe { setsockopt(socket, SOL_SOCKET, SO_RCVBUF, &value, SIZE) } != 0;
+    let mut size = SIZE;
+    let untold = unsafe { getsockopt(socket, SOL_SOCKET, SO_RCVBUF, &mut value, &mut size) } != 0;
+    if untold {
+        return if refused { 0 } else { ROOM };
     }
-}
-
-impl Ends {
-    // The side at this address. A client's is kept.
-    fn side_at(&mut self, from: SocketAddr) -> Side {
-        if from == self.server {
-            return Side::Server;
-        }
-        self.client = Some(from);
-        Side::Client
-    }
-
-    // The next datagram, where one is there.
-    fn take(&mut self, buf: &mut [u8]) -> io::Result<Option<(Side, usize)>>
-        ensures { IfOk result (λ got. IfSome got (λ r. r.1 ≤ length buf.old)) }
-    {
-        for _ in 0..TRIES {
-            match self.socket.recv_from(buf) {
-                Ok((count, from)) => return Ok(Some((self.side_at(from), count))),
-                Err(error) if error.kind() == ErrorKind::WouldBlock => return Ok(None),
-                Err(error) if error.kind() == ErrorKind::Interrupted => {}
-                Err(error) if error.kind() == ErrorKind::ConnectionRefused => {}
-                Err(error) => return Err(error),
-            }
-        }
-        Ok(None)
-    }
-
-    // Where a side is, if it is known.
-    fn address_of(&self, side: Side) -> Option<SocketAddr> {
-        match side {
-            Side::Client => self.client,
-            Side::Server => Some(self.server),
-        }
-    }
+    // The system tells the double, as it counts what it needs itself beside them.
+    u32::from_ne_bytes([value[0], value[1], value[2], value[3]]) / 2
 }
 
 impl<'a, R: Net + Eprint + Drop> UdpWire<'a, R> {
@@ -126,6 +88,7 @@ impl<'a, R: Net + Eprint + Drop> UdpWire<'a, R> {
             asked: 0,
             faults: 0,
             lost: 0,
+            last_error: None,
         }
     }
 
@@ -143,6 +106,11 @@ impl<'a, R: Net + Eprint + Drop> UdpWire<'a, R> {
         self.lost
     }
 
+    /// The number of the system's error at the last call that was refused. None where none was, or not by the system.
+    pub fn last_error(&self) -> Option<i32> {
+        self.last_error
+    }
+
     // Counts a fault, unless memory was wanting.
     fn refuse(&mut self, error: io::Error) -> EndError
         ensures failed { result ≡ EndError.Failed → Rose self.old.faults self.new.faults }
@@ -150,18 +118,12 @@ impl<'a, R: Net + Eprint + Drop> UdpWire<'a, R> {
         ensures asked { self.new.asked ≡ self.old.asked }
         ensures opened { self.new.opened ≡ self.old.opened }
     {
+        self.last_error = error.raw_os_error();
         if error.kind() == ErrorKind::OutOfMemory {
             return EndError::OutOfMemory;
         }
         self.faults = self.faults.saturating_add(1);
         EndError::Failed
-    }
-
-    fn bind(&self, listen: u16) -> io::Result<UdpSocket> {
-        let socket = UdpSocket::bind(&self.rt, local(listen))?;
-        socket.set_nonblocking(true)?;
-        ask_for_room(socket.as_raw_fd());
-        Ok(socket)
     }
 
     // Says on the standard error that it is open. Where nobody can be told, nobody is.
@@ -170,6 +132,23 @@ impl<'a, R: Net + Eprint + Drop> UdpWire<'a, R> {
         let _ = self.rt.eprintln(format_args!(
             "mm-relay: listening at 127.0.0.1:{listen}, for the server at 127.0.0.1:{to}"
         ));
+    }
+
+    // Says on the standard error how much room there is for datagrams that come, where it is less than was asked for.
+    fn say_room(&self, room: u32) {
+        if room < ROOM {
+            let _ = self.rt.eprintln(format_args!(
+                "mm-relay: the system keeps {room} bytes of datagrams that come, of {ROOM} that were asked for"
+            ));
+        }
+    }
+
+    // A socket at this port that doesn't wait, with the room that the system grants.
+    fn bind(&self, listen: u16) -> io::Result<UdpSocket> {
+        let socket = UdpSocket::bind(&self.rt, local(listen))?;
+        socket.set_nonblocking(true)?;
+        self.say_room(ask_for_room(socket.as_raw_fd()));
+        Ok(socket)
     }
 
     /// Sends what is kept, and waits for room at most a second. What still finds none is lost.
@@ -201,8 +180,7 @@ impl<'a, R: Net + Eprint + Drop> UdpWire<'a, R> {
         ensures opened { self.new.opened ≡ self.old.opened }
     {
         if let Some(ends) = &self.ends {
-            let lost = self.unsent.send_all(&ends.socket)?;
-            self.lost = self.lost.saturating_add(lost);
+            self.unsent.send_all(ends, &mut self.lost)?;
         }
         Ok(())
     }
@@ -236,14 +214,15 @@ impl<'a, R: Net + Eprint + Drop> UdpWire<'a, R> {
         let Some(ends) = &self.ends else {
             return Err(io::Error::from(ErrorKind::NotConnected));
         };
-        let given = match ends.address_of(side) {
-            Some(to) if self.unsent.is_empty() => give(&ends.socket, to, piece)?,
-            Some(_) => Given::Full,
-            None => Given::Lost,
+        let given = if self.unsent.is_empty() {
+            ends.give(side, piece)?
+        } else {
+            Given::Full
         };
-        let is_kept = match (given, ends.address_of(side)) {
-            (Given::Full, Some(to)) => self.unsent.keep(to, piece)?,
-            (given, _) => given == Given::Sent,
+        let is_kept = match given {
+            Given::Sent => true,
+            Given::Full => self.unsent.keep(side, piece)?,
+            Given::Lost => false,
         };
         if is_kept {
             self.pulse.left();

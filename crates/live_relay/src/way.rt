@@ -1,15 +1,16 @@
 // One direction of a relay: what passes it, and what of it was sent.
-ghost use Rattle.std.specs.Prelude.{◌≡◌, ◌≤◌, ◌++◌, List, ℕ, length, map, IfOk, IfSome, IsErrOf, OnErr};
+ghost use Rattle.std.specs.Prelude.{◌≡◌, ◌≤◌, ◌++◌, List, None, ℕ, length, map, IfOk, IfSome, IsErrOf, OnErr};
 ghost use Rattle.std.specs.Prelude.{OnOk};
 ghost use Rattle.std.specs.Option.{option_map};
 ghost use Rattle.mm_base.specs.Counts.{Rose};
 ghost use Rattle.packet_record.specs.Moments.{Rise};
+ghost use Rattle.packet_record.specs.Packets.{number};
 ghost use Rattle.packet_record.specs.declared.item.FlowEnd.TheVariants.{Ended, Open};
 ghost use Rattle.packet_record.specs.Streams.{no_items};
 ghost use Rattle.nest_spec.specs.Nests.{directions_of};
-ghost use Rattle.nest_line.specs.Lines.{IsSettled, up_to};
+ghost use Rattle.nest_line.specs.Lines.{IsSettled, number_all, up_to};
 ghost use Rattle.live_relay.specs.Due.{bytes_in};
-ghost use Rattle.live_relay.specs.inside.Pieces.{Keeps};
+ghost use Rattle.live_relay.specs.inside.Pieces.{Keeps, has_number, kept_at};
 ghost use Rattle.live_relay.specs.inside.Ways.{EndsWay, GoesOn, item_in, StopsSending, waiting};
 ghost use Rattle.live_relay.specs.Wires.{CountsWireFaults, sending_all};
 
@@ -22,11 +23,13 @@ use packet_record::{Direction, Item, Row, Timed};
 use std::alloc::Global;
 use text_base::OutOfMemory;
 
-// One direction of a nest, and how many of the packets that have left it were sent.
+// One direction of a nest, how many of the packets that have left it were sent, and of how many that each of its shells
+// has lost the bytes went.
 #[derive(Drop)]
 pub(crate) struct Way {
     pub line: Line,
     pub sent: usize,
+    pub forgotten: Vec<usize>,
 }
 
 // What a direction is fed at a moment: the row's packet, where it goes there, or a mark.
@@ -40,18 +43,18 @@ fn item_at(direction: Direction, moment: u64, row: Option<Row>) -> Item
 }
 
 // Sends these packets to a side, in order. Their bytes go. It answers `OutOfMemory` also where the bytes of one aren't
-// kept, which no nest leads to: packets leave a direction in the order in which they entered it, each once.
+// kept, which no nest leads to: each packet leaves a direction once at most, and none that was lost leaves it.
 fn send_packets<W: Wire>(
     wire: &mut W,
     side: Side,
     kept: &mut Kept,
     packets: &[Timed],
 ) -> Result<(), EndError>
-    ensures ok { OnOk result ((all : List (List ℕ)) → Keeps all kept.old.pieces.items → (W.view wire.new).told
+    ensures ok { OnOk result ((all : List (List ℕ)) → Keeps all kept.old → (W.view wire.new).told
         ≡ option_map (sending_all side (map (bytes_in all) packets.now)) (W.view wire.old).told) }
-    ensures err { OnErr result ((all : List (List ℕ)) → Keeps all kept.old.pieces.items → StopsSending side
+    ensures err { OnErr result ((all : List (List ℕ)) → Keeps all kept.old → StopsSending side
         (map (bytes_in all) packets.now) (W.view wire.old).told (W.view wire.new).told) }
-    ensures kept { (all : List (List ℕ)) → Keeps all kept.old.pieces.items → Keeps all kept.new.pieces.items }
+    ensures kept { (all : List (List ℕ)) → Keeps all kept.old → Keeps all kept.new }
     ensures asked { (W.view wire.new).asked ≡ (W.view wire.old).asked }
     ensures opened { (W.view wire.new).opened ≡ (W.view wire.old).opened }
     ensures counts { CountsWireFaults (W.view wire.old) (W.view wire.new) }
@@ -64,6 +67,17 @@ fn send_packets<W: Wire>(
         wire.send(side, bytes.as_slice())?;
     }
     Ok(())
+}
+
+// Lets go the bytes of these packets.
+fn forget(kept: &mut Kept, packets: &[Timed])
+    ensures kept { (all : List (List ℕ)) → Keeps all kept.old → Keeps all kept.new }
+    ensures gone { (n : ℕ) → 1 ≤ number (has_number n) packets.now → kept_at kept.new n ≡ None }
+    ensures rest { (n : ℕ) → number (has_number n) packets.now ≡ 0 → kept_at kept.new n ≡ kept_at kept.old n }
+{
+    for packet in packets {
+        let _ = kept.take(packet.packet.id);
+    }
 }
 
 // How many of these packets are at moments up to this one, of which so many are known to be.
@@ -92,7 +106,15 @@ impl Way {
     {
         let line = Line::new(alloc, nest, direction)?;
         line.departed();
-        Ok(Way { line, sent: 0 })
+        let mut forgotten = Vec::new(alloc);
+        for _ in 0..nest.shells() {
+            forgotten.push(0)?;
+        }
+        Ok(Way {
+            line,
+            sent: 0,
+            forgotten,
+        })
     }
 
     /// What holds of its line. It does nothing.
@@ -115,9 +137,17 @@ impl Way {
         requires row { IfSome row (λ r. r.timed.moment ≡ moment) }
         ensures { IfOk result (λ way. GoesOn direction moment row self way) }
     {
-        let Way { line, sent } = self;
+        let Way {
+            line,
+            sent,
+            forgotten,
+        } = self;
         let line = line.feed(item_at(direction, moment, row))?;
-        Ok(Way { line, sent })
+        Ok(Way {
+            line,
+            sent,
+            forgotten,
+        })
     }
 
     /// Feeds the end.
@@ -125,9 +155,17 @@ impl Way {
         requires { self.line.fed.end ≡ Open }
         ensures { IfOk result (λ way. EndsWay self way) }
     {
-        let Way { line, sent } = self;
+        let Way {
+            line,
+            sent,
+            forgotten,
+        } = self;
         let line = line.feed(Item::End)?;
-        Ok(Way { line, sent })
+        Ok(Way {
+            line,
+            sent,
+            forgotten,
+        })
     }
 
     /// Sends to a side the packets at moments up to this one that weren't sent yet.
@@ -142,11 +180,11 @@ impl Way {
         ensures line { self.new.line ≡ self.old.line }
         ensures settled { IsSettled self.old.line }
         ensures sent { OnOk result (self.new.sent ≡ length (up_to moment self.old.line.departed)) }
-        ensures ok { OnOk result ((all : List (List ℕ)) → Keeps all kept.old.pieces.items → (W.view wire.new).told
+        ensures ok { OnOk result ((all : List (List ℕ)) → Keeps all kept.old → (W.view wire.new).told
             ≡ option_map (sending_all side (waiting all moment self.old)) (W.view wire.old).told) }
-        ensures err { OnErr result ((all : List (List ℕ)) → Keeps all kept.old.pieces.items
+        ensures err { OnErr result ((all : List (List ℕ)) → Keeps all kept.old
             → StopsSending side (waiting all moment self.old) (W.view wire.old).told (W.view wire.new).told) }
-        ensures kept { (all : List (List ℕ)) → Keeps all kept.old.pieces.items → Keeps all kept.new.pieces.items }
+        ensures kept { (all : List (List ℕ)) → Keeps all kept.old → Keeps all kept.new }
         ensures asked { (W.view wire.new).asked ≡ (W.view wire.old).asked }
         ensures opened { (W.view wire.new).opened ≡ (W.view wire.old).opened }
         ensures counts { CountsWireFaults (W.view wire.old) (W.view wire.new) }
@@ -157,6 +195,24 @@ impl Way {
         let end = due_count(departed, self.sent, moment);
         send_packets(wire, side, kept, &departed[self.sent..end])?;
         self.sent = end;
+        self.forget_lost(kept);
         Ok(())
+    }
+
+    // Lets go the bytes of what the shells have lost since this was called before. No others go.
+    fn forget_lost(&mut self, kept: &mut Kept)
+        ensures same { (self.new.line ≡ self.old.line) × (self.new.sent ≡ self.old.sent) }
+        ensures kept { (all : List (List ℕ)) → Keeps all kept.old → Keeps all kept.new }
+        ensures rest { (n : ℕ) → number_all (has_number n) self.old.line.lost ≡ 0
+            → kept_at kept.new n ≡ kept_at kept.old n }
+    {
+        for shell in 0..self.forgotten.len() {
+            let lost = self.line.lost(shell);
+            let before = self.forgotten[shell];
+            if before < lost.len() {
+                forget(kept, &lost[before..]);
+                self.forgotten[shell] = lost.len();
+            }
+        }
     }
 }

@@ -37,9 +37,9 @@ pub trait Wire {
         ensures counts { CountsWireFaults (view self.old) (view self.new) }
         ensures failed_cause { IsErrOf result EndError.Failed → Rose (view self.old).faults (view self.new).faults };
 
-    /// Sends the piece to a side as one datagram, or refuses.
+    /// Hands the piece on to a side as one datagram, or refuses. A datagram that was handed on may still be lost.
     ///
-    /// `Failed` is counted as a fault. After a refusal nothing was sent.
+    /// `Failed` is counted as a fault. After a refusal nothing was handed on.
     fn send(&mut self, side: Side, piece: &[u8]) -> Result<(), EndError>
         ensures opened { (view self.new).opened ≡ (view self.old).opened }
         ensures told { (view self.new).told ≡ option_map (after_send side piece.now result) (view self.old).told }

@@ -1,4 +1,4 @@
--- What a log comes to: sums over the entries of each kind, and the ranks of the delays.
+-- What a log comes to: counts and sums over the entries of each kind, and the ranks of the delays.
 use Rattle.std.specs.Prelude.{ℕ, ◌*◌, ◌/◌, ◌==◌, List, [], ◌∷◌, length, sum, Option, Some, None, if◌then◌else◌}
 use Rattle.std.specs.List.{filter_map}
 use Rattle.shell_log.specs.declared.entry.Entry.{Entry}
@@ -8,58 +8,66 @@ use Rattle.shell_log.specs.LogParts.{last_moment}
 use Rattle.log_report.specs.declared.figures.Report.{Report}
 use Rattle.log_report.specs.Ranks.{delays_of}
 
--- what an entry says of a kind, if it is of that kind
+-- The bytes of an arrival, if the entry is one.
 abbrev pub arrived_bytes : Entry → Option ℕ
 arrived_bytes (Arrival moment size) = Some size
 arrived_bytes (Opportunity moment bytes) = None
 arrived_bytes (Departure moment size delay) = None
 arrived_bytes (Drop moment packets bytes) = None
 
+-- The bytes of an opportunity, if the entry is one.
 abbrev pub offered_bytes : Entry → Option ℕ
 offered_bytes (Arrival moment size) = None
 offered_bytes (Opportunity moment bytes) = Some bytes
 offered_bytes (Departure moment size delay) = None
 offered_bytes (Drop moment packets bytes) = None
 
+-- The bytes of a departure, if the entry is one.
 abbrev pub departed_bytes : Entry → Option ℕ
 departed_bytes (Arrival moment size) = None
 departed_bytes (Opportunity moment bytes) = None
 departed_bytes (Departure moment size delay) = Some size
 departed_bytes (Drop moment packets bytes) = None
 
+-- The delay of a departure in milliseconds, if the entry is one.
 abbrev pub delay_of : Entry → Option ℕ
 delay_of (Arrival moment size) = None
 delay_of (Opportunity moment bytes) = None
 delay_of (Departure moment size delay) = Some delay
 delay_of (Drop moment packets bytes) = None
 
+-- The packets of a drop, if the entry is one.
 abbrev pub dropped_packets : Entry → Option ℕ
 dropped_packets (Arrival moment size) = None
 dropped_packets (Opportunity moment bytes) = None
 dropped_packets (Departure moment size delay) = None
 dropped_packets (Drop moment packets bytes) = Some packets
 
+-- The bytes of a drop, if the entry is one.
 abbrev pub dropped_bytes : Entry → Option ℕ
 dropped_bytes (Arrival moment size) = None
 dropped_bytes (Opportunity moment bytes) = None
 dropped_bytes (Departure moment size delay) = None
 dropped_bytes (Drop moment packets bytes) = Some bytes
 
--- how many entries say something, and the sum of what they say
+-- How many entries are of the kind for which `said` gives a number.
 abbrev pub count_in : (Entry → Option ℕ) → List Entry → ℕ
 count_in said es = length (filter_map said es)
 
+-- The sum of the numbers that `said` gives for entries.
 abbrev pub sum_in : (Entry → Option ℕ) → List Entry → ℕ
 sum_in said es = sum (filter_map said es)
 
+-- The moment of the first entry, or 0 where there is none.
 abbrev pub first_moment : List Entry → ℕ
 first_moment [] = 0
 first_moment (e ∷ es) = moment_of e
 
--- a part in thousandths of the whole, if there is a whole
+-- `part` in thousandths of `whole`, rounded down, or none where `whole` is 0.
 abbrev pub thousandths : ℕ → ℕ → Option ℕ
 thousandths part whole = if whole == 0 then None else Some (part * 1000 / whole)
 
+-- The report of entries, of which there is at least one.
 abbrev pub report_over : List Entry → Report
 report_over es = record {
   entries = length es;
@@ -73,7 +81,7 @@ report_over es = record {
   delays = delays_of (filter_map delay_of es);
 }
 
--- the report of a log that has entries
+-- The report of a log, or none where it has no entry.
 abbrev pub report_of : List Entry → Option Report
 report_of [] = None
 report_of (e ∷ es) = Some (report_over (e ∷ es))

@@ -1,4 +1,4 @@
-// The delays of departures, kept as far as their ranks ask for it.
+// The delays of departures, kept as far as their ranks need it.
 ghost use Rattle.std.specs.Prelude.{◌≡◌, ◌≤◌, ◌<◌, ◌+◌, ◌++◌, ◌∷◌, ℕ, List, [], length, sum, vec_len, OnOk, IfOk};
 ghost use Rattle.log_report.specs.Ranks.{at_rank, delays_of};
 
@@ -6,14 +6,17 @@ use crate::Delays;
 use std::alloc::Global;
 use text_base::OutOfMemory;
 
-// Delays below this, in milliseconds, are counted by value.
+// Delays below this number of milliseconds are counted by value.
 const SHORT: usize = 65_536;
 
-// How often each short delay came, and the longer delays as they came.
+// The delays so far.
 #[derive(Drop)]
 pub(crate) struct DelayCounts {
+    // How many delays there are.
     pub count: u64,
+    // How often each delay below `SHORT` came.
     pub short: Vec<u32>,
+    // The other delays.
     pub long: Vec<u64>,
     ghost few: { count ≤ 134217728 },
     ghost short_len: { length short.items ≡ 65536 },
@@ -24,7 +27,7 @@ impl DelayCounts {
     ghost use Rattle.log_report.specs.Counted.{AreCounts};
     ghost use Rattle.log_report.specs.inside.Counted.{AreRanked};
 
-    // No delay.
+    // The counts of no delay.
     pub(crate) fn new(alloc: Global) -> Result<Self, OutOfMemory>
         ensures { IfOk result (AreCounts []) }
     {
@@ -35,7 +38,7 @@ impl DelayCounts {
         })
     }
 
-    // One delay more.
+    // Counts one more delay, in milliseconds.
     #[inline]
     pub(crate) fn add(&mut self, delay: u64) -> Result<(), OutOfMemory>
         requires { self.old.count < 134217728 }
@@ -53,7 +56,7 @@ impl DelayCounts {
         Ok(())
     }
 
-    // The delays at the ranks of a report, if there is one.
+    // Returns the median, the 95th percentile and the greatest of the delays, or `None` where there is none.
     pub(crate) fn ranks(mut self) -> Option<Delays>
         ensures { (delays : List ℕ) → AreCounts delays self → result ≡ delays_of delays }
     {
@@ -68,7 +71,7 @@ impl DelayCounts {
         })
     }
 
-    // The delay at a rank, counted from 1, where the long ones are sorted.
+    // Returns the delay at a rank, counted from 1. The long delays are sorted.
     fn at(&self, rank: u64) -> u64
         requires some { 1 ≤ rank }
         requires within { rank ≤ self.now.count }

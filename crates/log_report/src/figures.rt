@@ -4,16 +4,18 @@ ghost use Rattle.log_report.specs.declared.figures.ReportError.TheVariants as er
 
 use text_base::OutOfMemory;
 
-/// The delays of a log's departures, in milliseconds: of n delays in order, those at the ranks n / 2 and 95 n / 100,
-/// counted from 1 and rounded up, and the greatest.
+/// The delays of a log's departures, in milliseconds.
 #[derive(Clone, Copy, PartialEq, Eq)]
 pub struct Delays {
+    /// Of `n` delays, the least first, the one at the rank `n / 2`, rounded up. Ranks count from 1.
     pub median: u64,
+    /// The delay at the rank `95 n / 100`, rounded up.
     pub p95: u64,
+    /// The greatest delay.
     pub most: u64,
 }
 
-/// What a log comes to. A pair is a number of packets, or of opportunities, and their bytes.
+/// What a log comes to. The first number of a pair counts packets, or opportunities, and the second their bytes.
 #[derive(Clone, Copy, PartialEq, Eq)]
 pub struct Report {
     /// How many entries there are.
@@ -22,13 +24,17 @@ pub struct Report {
     pub first: u64,
     /// The moment of the last entry, in milliseconds.
     pub last: u64,
+    /// The packets that arrived.
     pub arrived: (u64, u64),
+    /// The opportunities.
     pub offered: (u64, u64),
+    /// The packets that departed.
     pub departed: (u64, u64),
+    /// The packets that were dropped.
     pub dropped: (u64, u64),
-    /// The departed bytes in thousandths of the offered ones, rounded down. None where no byte was offered.
+    /// The departed bytes in thousandths of the offered bytes, rounded down, or `None` where no byte was offered.
     pub used: Option<u64>,
-    /// None where nothing departed.
+    /// The delays of the departures, or `None` where nothing departed.
     pub delays: Option<Delays>,
 }
 
@@ -37,7 +43,7 @@ pub struct Report {
 pub enum ReportError {
     /// The log has no entry.
     Empty,
-    /// Memory was wanting.
+    /// Out of memory.
     OutOfMemory,
 }
 

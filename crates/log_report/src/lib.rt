@@ -1,6 +1,6 @@
-//! What a log of a link's direction comes to: its entries counted and summed by kind, the share of the offered bytes
-//! that
-//! was used, and the delays of its departures by rank. A report is made of a log, or of a log's text as it is read.
+//! Sums up the log of one direction of a link: its entries counted and summed by kind, the share of the offered bytes
+//! that was used, and the delays of its departures by rank. A report is made of a log, or of a log's text as it is
+//! read.
 #![tactic(auto)]
 
 mod delays;

@@ -1,4 +1,4 @@
-// Reports written as text.
+// Writes reports as text.
 ghost use Rattle.std.specs.Prelude.{◌≡◌, ◌++◌, ◌∷◌, Some, [], decimal, IfOk, OnOk};
 ghost use Rattle.log_report.specs.ReportText.{report_text, number_line, pair_line, used_line, delay_line};
 
@@ -9,14 +9,17 @@ use text_base::{Bytes, OutOfMemory, write_decimal};
 /// What is printed in place of the report of a log without entries.
 pub const EMPTY: &[u8] = b"empty\n";
 
-// The lines have eight names, at most sixteen numbers of at most twenty digits, and spaces between them.
+// The most bytes of a report: eight names, at most sixteen numbers of at most twenty digits, and what is between them.
 const MOST_BYTES: usize = 512;
 
-/// The text of a report, on eight lines: `entries N`, `span A B` with the moments of the first and the last entry,
-/// `arrived N B`, `offered N B`, `departed N B` and `dropped N B` with packets (or opportunities) and bytes, `used P`
-/// in
-/// thousandths or `used none`, and `delay M P X` with the median, the 95th percentile and the greatest, or `delay
-/// none`.
+/// Returns the text of a report, which has eight lines:
+///
+/// - `entries N`, and `span A B` with the moments of the first and the last entry;
+/// - `arrived N B`, `offered N B`, `departed N B` and `dropped N B` with packets (or opportunities) and bytes;
+/// - `used P` in thousandths, or `used none`;
+/// - `delay M P X` with the median, the 95th percentile and the greatest in milliseconds, or `delay none`.
+///
+/// Returns `OutOfMemory` where an allocation fails.
 pub fn print_report(alloc: Global, report: &Report) -> Result<Bytes, OutOfMemory>
     ensures { IfOk result (λ text. text ≡ report_text (Some report.now)) }
 {
@@ -32,6 +35,7 @@ pub fn print_report(alloc: Global, report: &Report) -> Result<Bytes, OutOfMemory
     Ok(out)
 }
 
+// Writes a name and a number.
 fn write_number(out: &mut Bytes, name: &[u8], number: u64) -> Result<(), OutOfMemory>
     ensures { OnOk result (out.new ≡ out.old ++ number_line name.now number) }
 {
@@ -40,6 +44,7 @@ fn write_number(out: &mut Bytes, name: &[u8], number: u64) -> Result<(), OutOfMe
     out.push(b'\n')
 }
 
+// Writes a name and two numbers.
 fn write_pair(out: &mut Bytes, name: &[u8], pair: (u64, u64)) -> Result<(), OutOfMemory>
     ensures { OnOk result (out.new ≡ out.old ++ pair_line name.now pair) }
 {
@@ -50,6 +55,7 @@ fn write_pair(out: &mut Bytes, name: &[u8], pair: (u64, u64)) -> Result<(), OutO
     out.push(b'\n')
 }
 
+// Writes the share that was used.
 fn write_used(out: &mut Bytes, used: Option<u64>) -> Result<(), OutOfMemory>
     ensures { OnOk result (out.new ≡ out.old ++ used_line used) }
 {
@@ -59,6 +65,7 @@ fn write_used(out: &mut Bytes, used: Option<u64>) -> Result<(), OutOfMemory>
     }
 }
 
+// Writes the delays.
 fn write_delays(out: &mut Bytes, delays: Option<Delays>) -> Result<(), OutOfMemory>
     ensures { OnOk result (out.new ≡ out.old ++ delay_line delays) }
 {

@@ -11,7 +11,7 @@ use shell_log::Entry;
 use std::alloc::Global;
 use text_base::OutOfMemory;
 
-// More entries count as want of memory: their sums might not fit 64 bits.
+// Sums over more entries might not fit 64 bits, so more entries count as out of memory.
 const MOST_ENTRIES: u64 = 134_217_728;
 
 // How many there are, and how many bytes they have.
@@ -22,19 +22,28 @@ pub(crate) struct Sum {
 }
 
 impl Sum {
+    // The sum over nothing.
     const NOTHING: Sum = Sum { count: 0, bytes: 0 };
 }
 
-// The sums over the entries so far, and the delays of the departures among them.
+// The sums over the entries so far.
 #[derive(Drop)]
 pub(crate) struct Sums {
+    // How many entries there are.
     pub entries: u64,
+    // The moment of the first entry, or 0.
     pub first: u64,
+    // The moment of the last entry, or 0.
     pub last: u64,
+    // The packets that arrived.
     pub arrived: Sum,
+    // The opportunities.
     pub offered: Sum,
+    // The packets that departed.
     pub departed: Sum,
+    // The packets that were dropped.
     pub dropped: Sum,
+    // The delays of the packets that departed.
     pub delays: DelayCounts,
     ghost few: { entries ≤ 134217728 },
     ghost delays_few: { delays.count ≤ entries },
@@ -47,7 +56,7 @@ pub(crate) struct Sums {
 impl Sums {
     ghost use Rattle.log_report.specs.Summed.{AreSums};
 
-    // Over no entry.
+    // The sums over no entry.
     pub(crate) fn new(alloc: Global) -> Result<Self, OutOfMemory>
         ensures { IfOk result (AreSums []) }
     {
@@ -63,7 +72,7 @@ impl Sums {
         })
     }
 
-    // One entry more.
+    // Adds one entry.
     #[inline]
     pub(crate) fn add(&mut self, entry: Entry) -> Result<(), OutOfMemory>
         requires { IsEntry entry }
@@ -97,7 +106,7 @@ impl Sums {
         Ok(())
     }
 
-    // The moment of the first entry, where the next one has this.
+    // Returns the moment of the first entry, where the next one has `moment`.
     #[inline]
     fn first_with(&self, moment: u64) -> u64
         ensures { result ≡ (if self.now.entries == 0 then moment else self.now.first) }
@@ -109,7 +118,7 @@ impl Sums {
         }
     }
 
-    // The report of the entries, if there is one.
+    // Returns the report of the entries, or `None` where there is none.
     pub(crate) fn report(self) -> Option<Report>
         ensures { (es : List EntryValue) → AreSums es self → result ≡ report_of es }
     {
@@ -131,7 +140,7 @@ impl Sums {
     }
 }
 
-// A part in thousandths of the whole, rounded down, if there is a whole.
+// Returns `part` in thousandths of `whole`, rounded down, or `None` where `whole` is 0.
 fn thousandths(part: u64, whole: u64) -> Option<u64>
     requires { 1000 * part < 2 ^ 64 }
     ensures { result ≡ thousandths part whole }

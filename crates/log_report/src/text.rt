@@ -1,4 +1,4 @@
-// A report of a log that is read from its text piece by piece.
+// Makes the report of a log while the log's text is read piece by piece.
 ghost use Rattle.std.specs.Prelude.{◌≡◌, ◌≢◌, ◌++◌, ℕ, List, [], None, Some, IfOk, MatchResult};
 ghost use Rattle.shell_log.specs.declared.entry.Entry.{Entry as EntryValue};
 ghost use Rattle.shell_log.specs.Entries.{IsLog};
@@ -13,8 +13,8 @@ use std::alloc::Global;
 use text_base::{OutOfMemory, PieceReader};
 
 /// The report of a log whose text is read piece by piece, wherever the text is cut. Each entry is added to the sums as
-/// it is read; of the entries only what the ranks of their delays ask for is kept: 256 KiB of counts, and 8 bytes for
-/// each delay of 65,536 milliseconds and more.
+/// it is read. Of the entries only what the ranks of their delays need is kept: 256 KiB of counts, and 8 bytes for each
+/// delay of 65,536 milliseconds and more.
 #[derive(Drop)]
 pub struct ReportText {
     text: LogText,
@@ -24,7 +24,7 @@ pub struct ReportText {
 impl ReportText {
     ghost use Rattle.log_report.specs.ReportTexts.{HasRead};
 
-    /// Nothing is read so far.
+    /// Makes a report of which nothing is read so far. Returns `OutOfMemory` where an allocation fails.
     pub fn new(alloc: Global) -> Result<Self, OutOfMemory>
         ensures { IfOk result (HasRead []) }
     {
@@ -34,9 +34,10 @@ impl ReportText {
         })
     }
 
-    /// The report of the log whose text was read, None where that has no entry, or the first refusal of the text, as
-    /// `read_log` answers for it. A log of more than 134,217,728 entries, whose text has 768 MiB and more, counts as
-    /// want of memory.
+    /// Returns the report of the log whose text was read, or `None` where the log has no entry.
+    ///
+    /// Returns the first refusal of the text, the same as `read_log` does. Returns `OutOfMemory` where an allocation
+    /// fails, and also for a log of more than 134,217,728 entries, whose text has at least 768 MiB.
     pub fn finish(self) -> Result<Option<Report>, LogError>
         ensures found { (text : List ℕ) → HasRead text self → IfOk result (λ r. (es : List EntryValue)
             × IsLog es × (text ≡ log_text es) × (r ≡ report_of es)) }
@@ -56,7 +57,7 @@ impl PieceReader for ReportText {
 
     ghost has_read = { HasRead };
 
-    /// Reads the next piece of the text. After a refusal it is passed over.
+    /// Reads the next piece of the text. After a refusal pieces are passed over.
     fn push(&mut self, piece: &[u8]) {
         let mut rest = piece;
         'entries: while let Some((entry, after)) = self.text.next(rest) {

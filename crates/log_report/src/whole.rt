@@ -1,4 +1,4 @@
-// The report of a whole log.
+// Makes the report of a whole log.
 ghost use Rattle.std.specs.Prelude.{◌≡◌, ◌≤◌, ◌↔◌, [], length, Some, Err, IfOk};
 ghost use Rattle.log_report.specs.Reports.{report_of};
 
@@ -7,7 +7,8 @@ use crate::{Report, ReportError};
 use shell_log::Log;
 use std::alloc::Global;
 
-/// The report of a log of at most 134,217,728 entries. `Empty` comes exactly where it has none.
+/// Returns the report of a log of at most 134,217,728 entries. Returns `Empty` exactly where the log has no entry, and
+/// `OutOfMemory` where an allocation fails.
 pub fn report(alloc: Global, log: &Log) -> Result<Report, ReportError>
     requires { length log.now.entries ≤ 134217728 }
     ensures ok { IfOk result (λ r. report_of log.now.entries ≡ Some r) }

@@ -7,8 +7,8 @@ use std::alloc::Global;
 use std::marker::Model;
 use text_base::OutOfMemory;
 
-/// One direction of a loss: each packet that arrives draws one word, in order, which says whether it
-/// is dropped or passes at once.
+/// One direction of a loss: each packet that arrives draws one word, in order, which says whether it is dropped or
+/// passes at once.
 #[derive(Drop)]
 pub struct LossCore<W> {
     share: Rate,
@@ -49,8 +49,8 @@ impl<W: Words> LossCore<W> {
         }
     }
 
-    /// Draws a word for the packet: where `word * 1000000000 < rate * 4294967296` it is lost, else it
-    /// departs at the moment of its arrival. A refusal draws no word and changes nothing.
+    /// Draws a word for the packet: where `word * 1000000000 < rate * 4294967296` it is lost, else it departs at the
+    /// moment of its arrival. Where it runs out of memory it has drawn no word, and nothing has changed.
     pub fn arrive(&mut self, t: Timed) -> Result<(), OutOfMemory>
         ensures ok { OnOk result (Arrives W.word self.old t self.new) }
         ensures stands { (word : ℕ → ℕ) → Stands W.word self.old word → Stands W.word self.new word }

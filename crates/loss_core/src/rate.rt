@@ -52,11 +52,11 @@ impl RateError {
     }
 }
 
-/// Reads a rate: `I`, `I.F` or `.F`, where I is 1 to 10 digits and F is 1 to 9, as the manual page
-/// of mm-loss takes it (a number from 0 to 1). The billionths are exact. It takes no memory.
+/// Reads a rate: `I`, `I.F` or `.F`, where I is 1 to 10 digits and F is 1 to 9, as the manual page of mm-loss takes it
+/// (a number from 0 to 1). The billionths are exact. It takes no memory.
 ///
-/// `BadRate` comes exactly where the text has another form, `AboveOne` exactly where it has this
-/// form and stands for more than 1.
+/// Returns `BadRate` exactly where the text has another form, and `AboveOne` exactly where it has this form and stands
+/// for more than 1.
 pub fn read_rate(text: &str) -> Result<Rate, RateError>
     ensures { MatchResult result (λ rate. rate_of text.now ≡ Ok rate.billionths)
         (λ error. rate_of text.now ≡ Err error) }
@@ -128,7 +128,7 @@ fn point_at(text: &[u8]) -> Option<usize>
     text.iter().position(|byte| *byte == b'.')
 }
 
-// What stands before the first point, and what follows it.
+// Cuts a text at its first point: returns what stands before it, and what follows it.
 fn split_point(text: &[u8]) -> (&[u8], Option<&[u8]>)
     ensures { MatchOption result.1 (parts_of text.now ≡ result.0.now ∷ [])
         (λ rest. parts_of text.now ≡ result.0.now ∷ parts_of rest.now) }

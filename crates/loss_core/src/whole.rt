@@ -8,9 +8,8 @@ use std::alloc::Global;
 use text_base::OutOfMemory;
 
 /// Draws a word for each packet, in order: where `word * 1000000000 < rate * 4294967296` the packet is lost, else it
-/// departs at the moment of its arrival. The list of arrivals becomes the list of departures, and the answer is the
-/// list of those that are lost. `OutOfMemory` is want of memory for the two lists, and leaves the arrivals as they
-/// were.
+/// departs at the moment of its arrival. The list of arrivals becomes the list of departures. Returns the packets that
+/// are lost. Where it runs out of memory for the two lists the arrivals are as they were.
 pub fn lose_all<W: Words + Drop>(
     alloc: Global,
     rate: Rate,

@@ -6,19 +6,18 @@ use rand_chacha::ChaCha20Rng;
 use rand_core::SeedableRng;
 use rand_core::utils::NextWord;
 
-/// A source of 32-bit words. Contracts see it as the function `word`: for each number k the word at
-/// place k from now.
+/// A source of 32-bit words. Contracts see it as the function `word`: for each number k the word at place k from now.
 pub trait Words {
     ghost word: { Self → ℕ → ℕ };
 
-    /// The word at place 0. Afterwards each place has the word that the place after it had.
+    /// Returns the word at place 0. Then each place has the word that the place after it had.
     fn next(&mut self) -> u32
         ensures value { result ≡ word self.old 0 }
         ensures after { (k : ℕ) → word self.new k ≡ word self.old (k + 1) };
 }
 
-/// The words of a seed and a stream: those of the ChaCha20 block function (RFC 8439, section 2.3) in
-/// its first form, with a 64-bit counter and a 64-bit stream.
+/// The words of a seed and a stream: those of the ChaCha20 block function (RFC 8439, section 2.3) in its first form,
+/// with a 64-bit counter and a 64-bit stream.
 #[derive(Drop)]
 pub struct ChaWords {
     rng: ChaCha20Rng,

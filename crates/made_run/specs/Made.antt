@@ -1,4 +1,4 @@
--- What is run for a number: its load over the stated nest, both directions of whose link have its trace.
+-- The run that is made of a number: a load, a trace and a nest that are all stated by it.
 use Rattle.std.specs.Prelude.{◌≡◌, ℕ, ◌+◌, ◌-◌, List, [], ◌∷◌, Option, Some, None, Result, Ok, length, map, slice_get}
 use Rattle.std.specs.Prelude.{codes}
 use Rattle.packet_record.specs.declared.packet.Row.{Row}
@@ -11,7 +11,8 @@ use Rattle.trace_reader.specs.declared.opportunity.Form.TheVariants.{Moments}
 use Rattle.nest_spec.specs.Words.{NestPlan, nest_of}
 use Rattle.nest_spec.specs.Nests.{NestParts, built}
 
--- `mm-delay 20`, and a link with a queue of each kind that drops
+-- The words of the nest: `mm-delay 20`, and a link with a queue of each kind that drops. `T` stands for the trace, in
+-- both directions.
 abbrev pub made_words : List (List ℕ)
 made_words =
     codes "mm-delay" ∷ codes "20"
@@ -19,30 +20,31 @@ made_words =
     ∷ codes "--uplink-queue=droptail" ∷ codes "--uplink-queue-args=packets=50"
     ∷ codes "--downlink-queue=drophead" ∷ codes "--downlink-queue-args=bytes=60000" ∷ []
 
--- the rows of the number's load: they say what the generator draws, and are numbered 1, 2, 3 and on
+-- The rows of the load: `packets` of them, as the generator draws them for `number`, numbered 1, 2, 3 and so on.
 pub record AreMadeRows (number packets : ℕ) (rows : List Row) : Type 0 where
   pub say : map said rows ≡ load_of number packets
   pub numbered : AreNumbered rows
 
--- the number's trace, in the form of moments alone, in which an opportunity has 1504 bytes
+-- The trace of the generator for `number`. Its form has moments alone, so each opportunity has 1504 bytes.
 pub record IsMadeTrace (number : ℕ) (trace : TraceView) : Type 0 where
   pub form : trace.form ≡ Moments
   pub moments : map (λ o. o.moment) trace.opportunities ≡ made_moments number
   pub trace_is : IsTrace trace
 
--- the moment of the last row
+-- The moment of a row in milliseconds, or 0 where there is no row.
 abbrev pub moment_at : Option Row → ℕ
 moment_at None = 0
 moment_at (Some row) = row.timed.moment
 
+-- The moment of the last row, or 0 where there is none.
 abbrev pub last_moment : List Row → ℕ
 last_moment rows = moment_at (slice_get rows (length rows - 1))
 
--- the run ends a second after the last packet's moment
+-- The horizon of the run: a second after the last packet's moment.
 abbrev pub made_horizon : List Row → ℕ
 made_horizon rows = last_moment rows + 1000
 
--- the nest of the words, with the number's trace in both directions and the number as its seed
+-- The nest of the words, with the trace for `number` in both directions of its link and `number` as its seed.
 pub record IsMadeNest (number horizon : ℕ) (nest : NestParts) : Type 0 where
   pub plan : NestPlan
   pub trace : TraceView

@@ -1,4 +1,4 @@
-//! A run of a stated nest over a load and a trace that are made of a number, and its summary.
+//! Runs a stated nest over a load and a trace that are made of a number, and sums it up.
 #![tactic(auto)]
 
 mod made;

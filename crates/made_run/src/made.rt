@@ -1,4 +1,4 @@
-// The nest that is made of a number.
+// Makes the nest of a run from its number.
 ghost use Rattle.std.specs.Prelude.{◌≡◌, ◌≤◌, [], ◌∷◌, IfOk};
 ghost use Rattle.trace_reader.specs.Traces.{IsTrace};
 ghost use Rattle.made_run.specs.Made.{IsMadeNest};
@@ -9,7 +9,7 @@ use std::alloc::Global;
 use text_base::OutOfMemory;
 use trace_reader::{Trace, make_trace};
 
-// The stated nest with the number's trace in both directions, and the number as its seed.
+// Returns the stated nest, with the trace for `number` in both directions of its link and `number` as its seed.
 pub(crate) fn made_nest(alloc: Global, number: u64, horizon: u64) -> Result<Nest, OutOfMemory>
     requires { horizon ≤ 3001000 }
     ensures { IfOk result (IsMadeNest number horizon) }
@@ -20,6 +20,7 @@ pub(crate) fn made_nest(alloc: Global, number: u64, horizon: u64) -> Result<Nest
     build(alloc, words, traces, number, horizon)
 }
 
+// Returns a trace and its copy.
 fn twice(alloc: Global, trace: Trace) -> Result<Vec<Trace>, OutOfMemory>
     ensures traces { IfOk result (λ traces. traces.items ≡ trace ∷ trace ∷ []) }
     ensures trace { IsTrace trace }

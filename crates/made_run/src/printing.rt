@@ -1,4 +1,4 @@
-// Summaries written as text.
+// Prints the summary of a run.
 ghost use Rattle.std.specs.Prelude.{◌≡◌, ◌≤◌, ◌++◌, length, IfOk, OnOk};
 ghost use Rattle.made_run.specs.SummaryText.{last_line, number_line, summary_lines};
 
@@ -10,10 +10,11 @@ use packet_record::Row;
 use std::alloc::Global;
 use text_base::{Bytes, OutOfMemory, write_decimal};
 
-// Seven lines, each of a name of at most nine bytes, a number of at most twenty digits, and a line feed.
+// The most bytes of a summary. It has seven lines, each of a name of at most nine bytes, a number of at most twenty
+// digits, and a line feed.
 const MOST_BYTES: usize = 256;
 
-// The summary of rows and their fates, which stand in the same order.
+// Returns the text of the summary of rows and their fates, which stand in the same order.
 pub(crate) fn print_summary(
     alloc: Global,
     rows: &[Row],
@@ -34,6 +35,7 @@ pub(crate) fn print_summary(
     Ok(out)
 }
 
+// Writes the line of a number.
 fn write_number(out: &mut Bytes, name: &[u8], number: u64) -> Result<(), OutOfMemory>
     ensures { OnOk result (out.new ≡ out.old ++ number_line name.now number) }
 {
@@ -42,6 +44,7 @@ fn write_number(out: &mut Bytes, name: &[u8], number: u64) -> Result<(), OutOfMe
     out.push(b'\n')
 }
 
+// Writes the line of the last departure.
 fn write_last(out: &mut Bytes, last: Option<u64>) -> Result<(), OutOfMemory>
     ensures { OnOk result (out.new ≡ out.old ++ last_line last) }
 {

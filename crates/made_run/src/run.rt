@@ -1,4 +1,4 @@
-// A run of the stated nest over what is made of a number.
+// Runs the nest that is made of a number, and sums the run up.
 ghost use Rattle.std.specs.Prelude.{◌≡◌, ◌≤◌, IfOk};
 ghost use Rattle.made_run.specs.Made.{last_moment, made_horizon};
 ghost use Rattle.made_run.specs.SummaryText.{IsSummary};
@@ -11,10 +11,12 @@ use packet_record::{Row, make_load};
 use std::alloc::Global;
 use text_base::{Bytes, OutOfMemory};
 
-/// The summary of a run over the load of so many packets, 1 to 1,000,000, that the generator makes of a number, through
-/// `mm-delay 20 mm-link T T --uplink-queue=droptail --uplink-queue-args=packets=50 --downlink-queue=drophead
-/// --downlink-queue-args=bytes=60000`, where T is the generator's trace of the number and the seed is the number. The
-/// run ends a second after the last packet's moment. `OutOfMemory` is want of memory.
+/// Returns the summary of the run that is made of `number`, with `packets` packets, 1 to 1,000,000.
+///
+/// The generator's load for `number` goes through `mm-delay 20` and `mm-link T T`, where `T` is the generator's trace
+/// for `number`. The link's queues are `droptail` with `packets=50` for the uplink and `drophead` with `bytes=60000`
+/// for the downlink. `number` is the seed, and the horizon is a second after the last packet's moment. Returns
+/// `OutOfMemory` where an allocation fails.
 #[tactic(auto, using(crate::proofs::LoadLemmas::last_within))]
 pub fn make_summary(alloc: Global, number: u64, packets: u32) -> Result<Bytes, OutOfMemory>
     requires some { 1 ≤ packets }
@@ -29,7 +31,7 @@ pub fn make_summary(alloc: Global, number: u64, packets: u32) -> Result<Bytes, O
     print_summary(alloc, rows, fates.as_slice())
 }
 
-// A second after the last row's moment.
+// Returns the horizon of a run: a second after the last row's moment.
 fn horizon_of(rows: &[Row]) -> u64
     requires { last_moment rows.now ≤ 3000000 }
     ensures { result ≡ made_horizon rows.now }

@@ -1,4 +1,4 @@
-// The stated nest's words.
+// The words of the stated nest.
 ghost use Rattle.std.specs.Prelude.{◌≡◌, Ok, map, string_bytes, IfOk};
 ghost use Rattle.nest_spec.specs.Words.{nest_of};
 ghost use Rattle.made_run.specs.Made.{made_words};
@@ -20,7 +20,7 @@ const WORDS: [&str; 9] = [
     "--downlink-queue-args=bytes=60000",
 ];
 
-// What the words say.
+// Returns what the words say.
 #[tactic(auto, using(crate::proofs::WordLemmas::no_refusal))]
 pub(crate) fn read_words(alloc: Global) -> Result<NestWords, OutOfMemory>
     ensures { IfOk result (λ plan. nest_of made_words ≡ Ok plan) }
@@ -33,6 +33,7 @@ pub(crate) fn read_words(alloc: Global) -> Result<NestWords, OutOfMemory>
     }
 }
 
+// Returns a copy of the words.
 fn copy_words(alloc: Global, words: &[&str]) -> Result<Vec<String>, AllocError>
     ensures { IfOk result (λ list. map string_bytes list.items ≡ map (λ word. word.now) words.now) }
 {

@@ -1,4 +1,4 @@
--- What contracts see of an end of a channel.
+-- The two ends of a channel as contracts see them.
 use Rattle.std.specs.Prelude.{◌≡◌, ℕ, List}
 use Rattle.atomic_table.specs.Seated.{TableId}
 use Rattle.atomic_table.specs.declared.badge.Badge.{Badge}
@@ -6,18 +6,18 @@ use Rattle.crossbeam_channel.specs.declared.flavors.array.Key.{Key}
 use Rattle.packet_record.specs.declared.item.Item.{Item}
 use Rattle.packet_record.specs.declared.item.Stream.{Stream}
 
--- which channel it is
+-- Which channel it is.
 pub record Channel : Type 0 where
   pub table : TableId
   pub key : Badge (Key Item)
 
--- the stream that went through the end, its items one by one, the horizon, and the channel
+-- What went through the end, as a stream and item by item, the horizon in milliseconds, and the channel.
 pub record End : Type 0 where
   pub flow : Stream
   pub items : List Item
   pub horizon : ℕ
   pub channel : Channel
 
--- an end keeps its horizon and its channel
+-- The end has the same horizon and channel.
 abbrev pub IsSameEnd : End → End → Type 0
 IsSameEnd old new = (new.horizon ≡ old.horizon) × (new.channel ≡ old.channel)

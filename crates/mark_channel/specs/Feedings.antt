@@ -1,4 +1,4 @@
--- What one who feeds both directions of a run leaves in what it sent.
+-- What one who feeds both directions of a run has sent.
 use Rattle.std.specs.Prelude.{◌≡◌, ℕ, List}
 use Rattle.packet_record.specs.declared.item.FlowEnd.TheVariants.{Ended as IsOver}
 use Rattle.packet_record.specs.declared.item.Stream.{Stream}
@@ -8,11 +8,11 @@ use Rattle.packet_record.specs.Rows.{entering}
 use Rattle.mark_channel.specs.declared.feeds.FeedEnd.{FeedEnd}
 use Rattle.mark_channel.specs.declared.feeds.FeedEnd.TheVariants.{Ended, OutOfMemory}
 
--- the packets are those of the direction's rows up to the horizon, and the end was sent
+-- The packets of the direction's rows up to the horizon were sent, and then the end.
 abbrev pub HasSentRows : Direction → ℕ → List Row → Stream → Type 0
 HasSentRows d horizon rows sent = (sent.packets ≡ entering d horizon rows) × (sent.end ≡ IsOver)
 
--- where all was fed
+-- `p` is true where all was fed.
 abbrev pub IfFed : FeedEnd → Type 0 → Type 0
 IfFed Ended p = p
 IfFed OutOfMemory p = Unit {0}

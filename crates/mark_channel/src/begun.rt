@@ -1,4 +1,4 @@
-//! The workers of a run that have begun, for which whoever sends first waits.
+//! Counts the workers of a run that have begun. Whoever sends first waits until all have.
 ghost use Rattle.std.specs.Prelude.{◌≡◌, OnErr, OnOk};
 ghost use Rattle.packet_record.specs.declared.item.FlowEnd.TheVariants.{Open};
 ghost use Rattle.packet_record.specs.Streams.{after};
@@ -11,31 +11,36 @@ use std::sync::atomic::{AtomicU64, Ordering};
 use std::thread::yield_now;
 use text_base::OutOfMemory;
 
-// How often all who wait look for the others, together, before the run is given up.
+// How often all who wait look, together, before the run is given up.
 const LOOKS: u32 = 10_000_000;
 
-// The count of a run that is given up, above that of any run's workers.
+// The count of a run that was given up. It is above the number of any run's workers.
 const GIVEN_UP: u64 = 1 << 63;
 
-/// How many workers of a run have begun, and for how many it is waited. Where no thread can be made for a worker, it
-/// begins only once what runs beside it has ended; so one who sent before all have begun could wait for room for ever.
+/// How many workers of a run have begun, and how many must.
+///
+/// Where no thread can be made for a worker, it begins only once what runs beside it has ended. So whoever sent before
+/// all have begun could wait for room for ever.
 #[derive(Drop)]
 pub struct Begun {
+    // How many workers have begun, or at least `GIVEN_UP`.
     count: AtomicU64,
+    // How many must begin.
     workers: u64,
-    // How often those who wait have looked, and how often they may.
+    // How often those who wait have looked so far.
     looked: AtomicU64,
+    // How often they may look.
     looks: u64,
 }
 
 impl Begun {
-    /// A run of so many workers, none of which has begun. All who wait for them look 10,000,000 times together, some
-    /// seconds.
+    /// A run of `workers` workers, none of which has begun. All who wait look 10,000,000 times together, which takes
+    /// some seconds.
     pub fn new(workers: u64) -> Begun {
         Begun::with_looks(workers, LOOKS)
     }
 
-    /// The same where all who wait look so many times together.
+    /// As `new`, but all who wait look `looks` times together.
     pub fn with_looks(workers: u64, looks: u32) -> Begun {
         Begun {
             count: AtomicU64::new(0),
@@ -50,9 +55,10 @@ impl Begun {
         self.count.fetch_add(1, Ordering::SeqCst);
     }
 
-    /// Waits until all workers have begun. Where they haven't at the last look of all who wait it gives the run up: it
-    /// breaks both directions off and answers `OutOfMemory`, as everyone does who waits then or later. It gives way to
-    /// other threads between looks, and takes no memory.
+    /// Waits until all workers have begun. It gives way to other threads between looks, and takes no memory.
+    ///
+    /// Where they haven't begun at the last look of all who wait, the run is given up. Then each one who waits, then or
+    /// later, breaks both directions off and returns `OutOfMemory`.
     pub fn wait<R: Wait>(
         &self,
         rt: &R,
@@ -73,7 +79,7 @@ impl Begun {
         Err(OutOfMemory)
     }
 
-    // Looks until all workers have begun. False where the run is given up, and at the limit, where it gives it up.
+    // Looks until all workers have begun. Returns false where the run was given up, or gives it up after the last look.
     fn have_all_begun(&self) -> bool {
         for _ in 0..self.looks {
             let count = self.count.load(Ordering::SeqCst);

@@ -1,20 +1,20 @@
-// The bells at which the two ends of a channel wait for each other.
+// The bells by which the two ends of a channel wake each other.
 use packet_record::Item;
 use std::alloc::Global;
 use std::sync::Arc;
 use text_base::OutOfMemory;
 use wake_bell::{Bell, Ringer};
 
-// The bells of a channel: at each of them one end sleeps until the other one rings.
+// The bells of a channel. At each one end sleeps until the other end rings.
 #[derive(Drop)]
 pub(crate) struct Bells {
-    // Rung for items that were sent.
+    // Rung after items were sent.
     pub sent: Bell,
-    // Rung for room, where items were received.
+    // Rung after items were received, which makes room.
     pub received: Bell,
 }
 
-// What an end has of the bells: both of them, and itself as one who rings.
+// What an end has of the bells: both bells, and its own ringer.
 #[derive(Drop)]
 pub(crate) struct EndBells {
     pub shared: Arc<Bells>,
@@ -22,7 +22,7 @@ pub(crate) struct EndBells {
 }
 
 impl EndBells {
-    // An item was sent: rings for it, after the last one at once.
+    // Rings after `item` was sent, at once if it is the last.
     pub fn ring_for(&mut self, item: &Item) {
         match item {
             Item::Packet(_) | Item::Mark(_) => self.ringer.add(&self.shared.sent),
@@ -30,14 +30,14 @@ impl EndBells {
         }
     }
 
-    // An item was received: rings for the room.
+    // Rings after an item was received.
     pub fn ring_for_room(&mut self) {
         self.ringer.add(&self.shared.received);
     }
 }
 
-// The bells of both ends of a channel of this capacity. An end rings once it has filled, or freed, three quarters of the
-// places.
+// Makes the bells of both ends of a channel that holds `capacity` items. An end rings once it has filled, or emptied,
+// three quarters of the places.
 pub(crate) fn open_bells(
     alloc: Global,
     capacity: u32,

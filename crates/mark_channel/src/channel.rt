@@ -1,4 +1,4 @@
-//! How a channel is made, and what its two ends show when it is over.
+//! Makes channels, and ends them.
 ghost use Rattle.std.specs.Prelude.{◌≡◌, ◌≤◌, ◌≢◌, [], IfOk};
 ghost use mathlib.Core.List.{IsPrefix};
 ghost use Rattle.packet_record.specs.declared.item.FlowEnd.TheVariants.{Open};
@@ -18,8 +18,9 @@ use std::marker::Brand;
 use text_base::OutOfMemory;
 
 /// Makes a channel that holds up to `capacity` items, 1 to 64, for a run up to `horizon` milliseconds.
-/// All the memory that the channel ever needs is taken here: `OutOfMemory` is the one refusal, and no
-/// later call takes any.
+///
+/// All memory that the channel will ever need is taken here, so no later call takes any. Returns `OutOfMemory` where an
+/// allocation fails.
 pub fn open(alloc: Global, capacity: u32, horizon: u64) -> Result<(Sender, Receiver), OutOfMemory>
     requires some { 1 ≤ capacity }
     requires most { capacity ≤ 64 }
@@ -45,7 +46,7 @@ pub fn open(alloc: Global, capacity: u32, horizon: u64) -> Result<(Sender, Recei
     Ok((sender, receiver))
 }
 
-// Makes the receiver's pass, and fixes the horizon of both.
+// Makes the receiver's pass, and fixes the horizon of both ends.
 fn split<L: Limit>(
     end: &RuledSender<Item, View, InOrder>,
     pass: &mut Pass<Item, View>,
@@ -60,8 +61,8 @@ fn split<L: Limit>(
     end.another::<Roles<L>>(pass)
 }
 
-/// Ends a channel. What was received is a prefix of what was sent, item by item, and all of it where the
-/// receiver got `End` or `Broken`. Items that are still in the channel are dropped.
+/// Ends a channel. What was received is a front of what was sent, item by item, and all of it where `End` or `Broken`
+/// was received. Items that are still in the channel are dropped.
 pub fn settle(sender: Sender, receiver: Receiver)
     requires { sender.channel ≡ receiver.channel }
     ensures prefix { IsStreamPrefix receiver.flow sender.flow }

@@ -1,4 +1,4 @@
-//! One who feeds both directions of a run.
+//! Whatever feeds both directions of a run.
 ghost use Rattle.std.specs.Prelude.{◌≡◌, ◌≢◌, List};
 ghost use Rattle.std.specs.Thread.{IsSync};
 ghost use Rattle.packet_record.specs.declared.item.FlowEnd.TheVariants.{Open};
@@ -18,27 +18,27 @@ use std::thread::Threads;
 /// How a feeding ended.
 #[derive(Clone, Copy, PartialEq, Eq)]
 pub enum FeedEnd {
-    /// All rows up to the horizon were sent, and the end in both directions.
+    /// All rows up to the horizon were sent, and then the end, in both directions.
     Ended,
-    /// A call found no memory, or a thread couldn't be made.
+    /// An allocation failed, or a thread couldn't be made.
     OutOfMemory,
 }
 
-/// Something that feeds both directions of a run with its rows. It may do so over threads of its own.
+/// Something that feeds both directions of a run with its rows. It may use threads of its own.
 pub trait Feeds {
     /// The rows that it feeds.
     ghost fed_rows: { Self → List RowValue };
 
-    /// The rows that it feeds. No two have one number, and their moments never fall.
+    /// Returns the rows that it feeds. No two have one number, and their moments never fall.
     fn rows(&self) -> &[Row]
         ensures rows { result.now ≡ fed_rows self.now }
         ensures apart { AreApart (fed_rows self.now) }
         ensures rises { Rises 0 (fed_rows self.now) };
 
-    /// Sends what the rows give in each direction, where nothing was sent before, up to the horizon of both channels.
-    /// When it returns, both have got `End` or `Broken`.
+    /// Sends what the rows give in each direction up to `horizon`, in milliseconds, which is that of both channels.
+    /// Nothing was sent before. When it returns, `End` or `Broken` was sent in both directions.
     ///
-    /// `OutOfMemory` is want of memory, in any thread.
+    /// Returns `FeedEnd::OutOfMemory` where an allocation fails, in any thread, or a thread can't be made.
     fn feed<R: Threads + Wait + Sync>(
         &mut self,
         rt: &R,

@@ -1,6 +1,6 @@
-//! A bounded channel of items from one sender to one receiver, which loses and doubles none, no mark either.
+//! A bounded channel of items from one sender to one receiver. No item, mark or other, is lost or doubled.
 //!
-//! What an end has carried is a stream that contracts see as its `flow`, and the list of its `items`; the program keeps
+//! Contracts see what went through an end as a stream, its `flow`, and as the list of its `items`; the program keeps
 //! neither. The receiver gets what was sent, item by item, in order. Nothing is promised of when a call that waits
 //! returns.
 #![tactic(auto)]

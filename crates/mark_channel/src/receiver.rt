@@ -1,4 +1,4 @@
-//! The receiving end.
+//! The receiving end of a channel.
 ghost use Rattle.std.specs.Prelude.{◌≡◌, ◌++◌, ◌∷◌, [], IfSome, IfNone};
 ghost use Rattle.packet_record.specs.declared.item.FlowEnd.TheVariants.{Open};
 ghost use Rattle.packet_record.specs.Streams.{after, MayFollow, IsUpTo};
@@ -37,9 +37,10 @@ impl Model for Receiver {
 }
 
 impl Receiver {
-    /// Waits for an item and takes it. The item may follow what was received before and is within the
-    /// channel's horizon: a packet up to it, a mark up to one millisecond past it. Nothing is received
-    /// after `End` or `Broken`. It takes no memory.
+    /// Waits for an item, removes it from the channel and returns it. It takes no memory.
+    ///
+    /// The item may follow what was received before, and is within the channel's horizon: a packet up to it, a mark up
+    /// to one millisecond past it. Nothing is received after `End` or `Broken`.
     pub fn recv<R: Wait>(&mut self, rt: &R) -> Item
         requires { self.old.flow.end ≡ Open }
         ensures follows { MayFollow self.old.flow result }
@@ -62,7 +63,7 @@ impl Receiver {
         unreachable!()
     }
 
-    // Takes the first item, where there is one, and rings for the room.
+    // Returns the first item and rings for the room, or returns `None` where the channel is empty.
     fn receive_at_once<R: Wait>(&mut self, rt: &R) -> Option<Item>
         ensures got { IfSome result (λ item. MayPass self.old item × (self.new ≡ with_item self.old item)) }
         ensures kept { IfNone result (self.new ≡ self.old) }
@@ -72,7 +73,7 @@ impl Receiver {
         Some(item)
     }
 
-    // Takes the first item, where there is one, else sleeps until the sender has sent some.
+    // Returns the first item, or sleeps until the sender has sent some and returns `None`.
     fn receive_or_sleep<R: Wait>(&mut self, rt: &R) -> Option<Item>
         ensures got { IfSome result (λ item. MayPass self.old item × (self.new ≡ with_item self.old item)) }
         ensures kept { IfNone result (self.new ≡ self.old) }

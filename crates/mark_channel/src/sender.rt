@@ -1,4 +1,4 @@
-//! The sending end.
+//! The sending end of a channel.
 ghost use Rattle.std.specs.Prelude.{◌≡◌, ◌++◌, ◌∷◌, [], IsTrue, IsFalse};
 ghost use Rattle.packet_record.specs.Streams.{after, MayFollow, IsUpTo};
 ghost use Rattle.mark_channel.specs.Ends.{IsSameEnd};
@@ -35,10 +35,11 @@ impl Model for Sender {
 }
 
 impl Sender {
-    /// Waits for room, and adds the item at the end of what was sent. The item may follow what was sent
-    /// before and is within the channel's horizon: a packet up to it, a mark up to one millisecond past
-    /// it. It takes no memory. Nothing is promised of how long it waits: a sender whose receiver is gone
-    /// may wait for ever.
+    /// Waits for room, and adds the item at the end of what was sent. It takes no memory.
+    ///
+    /// The item may follow what was sent before, and is within the channel's horizon: a packet up to it, a mark up to
+    /// one millisecond past it. Nothing is promised of how long it waits: a sender whose receiver is gone may wait for
+    /// ever.
     pub fn send<R: Wait>(&mut self, rt: &R, item: Item)
         requires follows { MayFollow self.old.flow item }
         requires within { IsUpTo self.old.horizon item }
@@ -60,7 +61,7 @@ impl Sender {
         unreachable!()
     }
 
-    // Sends the item where there is room, and rings for it. Whether it did.
+    // Sends the item where there is room, and rings for it. Returns whether it did.
     fn send_at_once<R: Wait>(&mut self, rt: &R, item: Item) -> bool
         requires { MayPass self.old item }
         ensures sent { IsTrue result → self.new ≡ with_item self.old item }
@@ -76,7 +77,7 @@ impl Sender {
         is_sent
     }
 
-    // Sends the item where there is room, else sleeps until the receiver has made some. Whether it sent.
+    // Sends the item where there is room, or sleeps until the receiver has made some. Returns whether it sent.
     fn send_or_sleep<R: Wait>(&mut self, rt: &R, item: Item) -> bool
         requires { MayPass self.old item }
         ensures sent { IsTrue result → self.new ≡ with_item self.old item }

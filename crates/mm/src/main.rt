@@ -5,10 +5,15 @@
 ghost use Rattle.std.specs.Prelude.{◌≡◌, IfOk, OnErr};
 ghost use Rattle.std.specs.Process.{exit_status};
 
-use mm_base::{FileDisk, NoPace, StdSink, TcpPort};
+use end_watch::EndWatch;
+use ended_port::EndedPort;
+use mm_base::{FileDisk, NoPace, Sink, StdSink};
 use mm_program::mm_main_told;
-use refusal_lines::{Reason, reason_of, system_reason, tell_reason};
+use refusal_lines::{
+    Ending, Reason, reason_of, show_line, system_reason, tell_commit, tell_reason,
+};
 use refusal_words::Program;
+use std::io::Stderr;
 use std::marker::Sync;
 use std::process::ExitCode;
 use std::sync::Wait;
@@ -17,6 +22,12 @@ use std::{env, io};
 
 // The exit status of want of memory.
 const OUT_OF_MEMORY: u8 = 9;
+
+// The variable of the environment that names a descriptor, whose end is the user's word to end.
+const END: &str = "MM_END_FD";
+
+// Who says that it listens.
+const NAME: &str = "mm replay";
 
 // The words after the program's name. Words of which one isn't UTF-8 have no job, as no words have none.
 fn read_words(rt: &HostRuntime) -> io::Result<Vec<String>> {
@@ -27,16 +38,36 @@ fn read_words(rt: &HostRuntime) -> io::Result<Vec<String>> {
     }
 }
 
+// The descriptor whose end is the user's word to end, where the environment names one.
+fn read_end(rt: &HostRuntime) -> Option<i32> {
+    let text = env::var(rt, END).ok()?;
+    let descriptor = text.parse::<i32>().ok()?;
+    if descriptor < 0 {
+        return None;
+    }
+    Some(descriptor)
+}
+
 // Why the outside refused the call for which the program ends with this status, if that is known.
 fn reason_at(
     status: u8,
     disk: &FileDisk<HostRuntime>,
-    port: &TcpPort<HostRuntime>,
+    port: &EndedPort<'_, HostRuntime, Stderr>,
 ) -> Option<Reason> {
     match status {
         6 | 7 => reason_of(disk.last_error()?),
         8 => system_reason(port.last_error()?),
         _ => None,
+    }
+}
+
+// Says what the machine's files add to what was told: the line for which an input was refused, or the commit of the
+// program. Where they can't be read, nothing more is said.
+fn tell_more<O: Sink>(rt: &HostRuntime, words: &[String], ending: &Ending, told: &mut O) {
+    let _ = tell_commit(rt, words, told);
+    if let Ok(files) = rt.clone() {
+        let mut disk = FileDisk::new(files);
+        let _ = show_line(rt.alloc(), words, &ending.answer, &mut disk, told);
     }
 }
 
@@ -46,7 +77,8 @@ fn run<T: Threads + Wait + Sync>(threads: &T, rt: &HostRuntime) -> io::Result<u8
     let words = read_words(rt)?;
     let mut out = StdSink::new(rt.stdout());
     let mut disk = FileDisk::new(rt.clone()?);
-    let mut port = TcpPort::new(rt.clone()?);
+    let watch = EndWatch::new(read_end(rt));
+    let mut port = EndedPort::new(rt.clone()?, &watch, NAME, rt.stderr());
     let mut told = StdSink::new(rt.stderr());
     let ending = mm_main_told(
         threads,
@@ -59,8 +91,10 @@ fn run<T: Threads + Wait + Sync>(threads: &T, rt: &HostRuntime) -> io::Result<u8
         &mut told,
     );
     if let Some(reason) = reason_at(ending.status, &disk, &port) {
-        let _ = tell_reason(Program::Mm, reason, &mut told);
+        let input = disk.met_input().unwrap_or("");
+        let _ = tell_reason(Program::Mm, reason, input, &mut told);
     }
+    tell_more(rt, &words, &ending, &mut told);
     Ok(ending.status)
 }
 

@@ -1,15 +1,16 @@
 -- A port in memory as its callers see it.
-use Rattle.std.specs.Prelude.{◌≡◌, ◌↔◌, ◌==◌, ℕ, List, [], ◌∷◌, length, Option, Some, Contains, Result, IsErrOf}
+use Rattle.std.specs.Prelude.{◌≡◌, ◌↔◌, ◌==◌, ℕ, List, [], ◌∷◌, length, Some, Contains, Result, IsErrOf}
 use Rattle.mm_base.specs.declared.errors.EndError.{EndError}
 use Rattle.mm_base.specs.declared.errors.EndError.TheVariants.{Failed}
+use Rattle.mm_base.specs.declared.listened.Listened.{Listened}
 use Rattle.mm_base.specs.Counts.{one_more}
 use Rattle.mm_base.specs.MemLink.{MemLinkState, IsUnused}
 use Rattle.mm_base.specs.Port.{PortView}
 
--- the number at which it listened last, the links still to be given, those that are finished, how many were given, the
+-- what it was asked to listen at, the links still to be given, those that are finished, how many were given, the
 -- calls that are to fail, and how many calls and faults there were
 pub record MemPortState : Type 0 where
-  pub listened : Option ℕ
+  pub listened : Listened
   pub waiting : List MemLinkState
   pub finished : List MemLinkState
   pub accepted : ℕ

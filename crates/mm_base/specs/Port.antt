@@ -1,12 +1,13 @@
 -- A port as its callers see it, and what its calls change.
-use Rattle.std.specs.Prelude.{◌≡◌, ℕ, ◌++◌, Bool, true, List, [], ◌∷◌, Option, Some, Result, Ok, Err}
+use Rattle.std.specs.Prelude.{◌≡◌, ℕ, ◌++◌, Bool, true, List, [], ◌∷◌, Option, Result, Ok, Err}
 use Rattle.std.specs.Option.{option_map}
 use Rattle.mm_base.specs.Counts.{CountsFaults}
 use Rattle.mm_base.specs.declared.errors.EndError.{EndError}
+use Rattle.mm_base.specs.declared.listened.Listened.{Listened}
 
 pub record PortView (C : Type 0) : Type 0 where
-  -- the number at which it listened last, once it did
-  pub listened : Option ℕ
+  -- how often it was asked to listen, and at which number last
+  pub listened : Listened
   -- the finished connections, where the port tells them
   pub finished : Option (List C)
   -- how many connections it has given
@@ -23,11 +24,6 @@ pub record PortView (C : Type 0) : Type 0 where
 pub record KeepsPort {C : Type 0} (old new : PortView C) : Type 0 where
   pub counts : CountsFaults (λ (p : PortView C). p.faults) (λ (p : PortView C). p.never_fails) old new
   pub stays : old.drained ≡ true → new.drained ≡ true
-
--- the number after a listening; one that is refused changes nothing
-abbrev pub listened_after : ℕ → Result Unit EndError → Option ℕ → Option ℕ
-listened_after number (Ok done) listened = Some number
-listened_after number (Err error) listened = listened
 
 -- This connection is finished.
 abbrev pub finishing : {C : Type 0} → C → Option (List C) → Option (List C)

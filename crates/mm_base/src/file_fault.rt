@@ -10,7 +10,7 @@ pub enum FileFault {
     NotRegular,
     /// The system's error of this number.
     System { code: i32 },
-    /// Another error, as want of memory.
+    /// Another error: memory was wanting, or the name holds a byte 0, which no file's name does.
     Other,
 }
 

@@ -2,7 +2,7 @@
 use std::alloc::Global;
 use std::fs::Metadata;
 use std::os::unix::fs::MetadataExt;
-use text_base::OutOfMemory;
+use text_base::{OutOfMemory, Text};
 
 /// A file as its file system knows it, whatever path leads to it.
 #[derive(Clone, Copy, PartialEq, Eq)]
@@ -18,29 +18,46 @@ fn node_of(metadata: &Metadata) -> FileNode {
     }
 }
 
+// A file, and the name by which it was read first.
+#[derive(Drop)]
+struct NamedNode {
+    node: FileNode,
+    name: Text,
+}
+
 /// Files that were read, or whose length was asked for.
 #[derive(Drop)]
 pub struct FileNodes {
-    nodes: Vec<FileNode>,
+    alloc: Global,
+    nodes: Vec<NamedNode>,
 }
 
 impl FileNodes {
     /// No file.
     pub fn new(alloc: Global) -> Self {
         FileNodes {
+            alloc,
             nodes: Vec::new(alloc),
         }
     }
 
-    /// Whether this file is among them.
-    pub fn has(&self, metadata: &Metadata) -> bool {
-        self.nodes.contains(&node_of(metadata))
+    /// The place of this file among them, if it is one of them.
+    pub fn find(&self, metadata: &Metadata) -> Option<usize> {
+        let node = node_of(metadata);
+        self.nodes.iter().position(|named| named.node == node)
     }
 
-    /// Adds a file.
-    pub fn add(&mut self, metadata: &Metadata) -> Result<(), OutOfMemory> {
-        if !self.has(metadata) {
-            self.nodes.push(node_of(metadata))?;
+    /// The name by which the file at a place was read first.
+    pub fn name(&self, place: usize) -> Option<&str> {
+        Some(self.nodes.get(place)?.name.as_str())
+    }
+
+    /// Adds a file of this name.
+    pub fn add(&mut self, name: &str, metadata: &Metadata) -> Result<(), OutOfMemory> {
+        if self.find(metadata).is_none() {
+            let name = Text::from_text(self.alloc, name)?;
+            let node = node_of(metadata);
+            self.nodes.push(NamedNode { node, name })?;
         }
         Ok(())
     }

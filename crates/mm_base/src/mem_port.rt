@@ -1,14 +1,15 @@
 // A port in memory, which fails by a list.
-ghost use Rattle.std.specs.Prelude.{◌≡◌, ◌+◌, ◌∷◌, [], true, None, Some, IfOk, OnErr, IfSome, IfNone, IsErrOf};
+ghost use Rattle.std.specs.Prelude.{◌≡◌, ◌+◌, ◌∷◌, [], true, Some, IfOk, OnErr, IfSome, IfNone, IsErrOf};
 ghost use Rattle.std.specs.Prelude.{MatchOption};
 ghost use Rattle.mm_base.specs.Counts.{Rose};
 ghost use Rattle.mm_base.specs.Link.{IsFresh};
+ghost use Rattle.mm_base.specs.Listened.{never, after_listen};
 ghost use Rattle.mm_base.specs.MemLink.{mem_link_view, IsUnused};
 ghost use Rattle.mm_base.specs.MemPort.{mem_port_view, AllUnused, IsPortCall};
-ghost use Rattle.mm_base.specs.Port.{KeepsPort, after_finish, listened_after};
+ghost use Rattle.mm_base.specs.Port.{KeepsPort, after_finish};
 
 use crate::fails::is_failing;
-use crate::{EndError, MemLink, Port};
+use crate::{EndError, Listened, MemLink, Port};
 use std::alloc::Global;
 use std::collections::VecDeque;
 use std::marker::Model;
@@ -17,7 +18,7 @@ use std::marker::Model;
 /// and fails exactly those that its list names. It is drained where no link is left.
 #[derive(Drop)]
 pub struct MemPort {
-    listened: Option<u16>,
+    listened: Listened,
     waiting: VecDeque<MemLink>,
     finished: Vec<MemLink>,
     accepted: u64,
@@ -50,7 +51,7 @@ impl MemPort {
     pub fn new(alloc: Global, links: Vec<MemLink>, fails: Vec<u64>) -> Self
         requires { AllUnused links.items }
         ensures { result ≡ record {
-          listened = None;
+          listened = never;
           waiting = links.items;
           finished = [];
           accepted = 0;
@@ -60,7 +61,7 @@ impl MemPort {
         } }
     {
         MemPort {
-            listened: None,
+            listened: Listened::never(),
             waiting: VecDeque::from(links),
             finished: Vec::new(alloc),
             accepted: 0,
@@ -70,8 +71,8 @@ impl MemPort {
         }
     }
 
-    /// The number at which it listened last. None before it did.
-    pub fn listened(&self) -> Option<u16>
+    /// What it was asked to listen at.
+    pub fn listened(&self) -> Listened
         ensures { result ≡ self.now.listened }
     {
         self.listened
@@ -109,16 +110,23 @@ impl Port for MemPort {
 
     fn listen(&mut self, number: u16) -> Result<(), EndError>
         ensures call { IsPortCall self.old self.new result }
-        ensures listened { self.new.listened ≡ listened_after number result self.old.listened }
+        ensures listened { self.new.listened ≡ after_listen number result self.old.listened }
         ensures waiting { self.new.waiting ≡ self.old.waiting }
         ensures finished { Some self.new.finished ≡ Some self.old.finished }
         ensures accepted { self.new.accepted ≡ self.old.accepted }
         ensures keeps { KeepsPort (mem_port_view self.old) (mem_port_view self.new) }
         ensures failed_cause { IsErrOf result EndError.Failed → Rose self.old.faults self.new.faults }
     {
-        self.call()?;
-        self.listened = Some(number);
-        Ok(())
+        match self.call() {
+            Ok(()) => {
+                self.listened.listen(number);
+                Ok(())
+            }
+            Err(error) => {
+                self.listened.refuse(number);
+                Err(error)
+            }
+        }
     }
 
     fn accept(&mut self) -> Result<Option<MemLink>, EndError>

@@ -2,7 +2,8 @@
 ghost use Rattle.std.specs.Prelude.{◌≡◌, ◌+◌, true, IfOk, OnErr, IsErrOf, MatchOption};
 ghost use Rattle.mm_base.specs.Counts.{Rose};
 ghost use Rattle.mm_base.specs.Link.{IsFresh};
-ghost use Rattle.mm_base.specs.Port.{PortView, KeepsPort, after_finish, listened_after};
+ghost use Rattle.mm_base.specs.Port.{PortView, KeepsPort, after_finish};
+ghost use Rattle.mm_base.specs.Listened.{after_listen};
 
 use crate::{EndError, Link};
 use std::marker::Send;
@@ -14,11 +15,11 @@ pub trait Port {
     /// What the port tells, and what it counts.
     ghost view: { Self → PortView Self.Conn };
 
-    /// Listens at the port of this number.
+    /// Listens at the port of this number. That it was asked to is told, and whether it was refused.
     ///
-    /// `Failed` is counted as a fault. After a refusal it is taken to listen as before.
+    /// `Failed` is counted as a fault. After a refusal of this call it is taken to listen as before.
     fn listen(&mut self, number: u16) -> Result<(), EndError>
-        ensures listened { (view self.new).listened ≡ listened_after number result (view self.old).listened }
+        ensures listened { (view self.new).listened ≡ after_listen number result (view self.old).listened }
         ensures finished { (view self.new).finished ≡ (view self.old).finished }
         ensures accepted { (view self.new).accepted ≡ (view self.old).accepted }
         ensures keeps { KeepsPort (view self.old) (view self.new) }

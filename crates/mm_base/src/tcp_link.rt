@@ -1,5 +1,5 @@
 // A connection over TCP. It tells no content.
-ghost use Rattle.std.specs.Prelude.{◌≡◌, ◌≤◌, ◌<◌, length, None, false, IfOk};
+ghost use Rattle.std.specs.Prelude.{◌≡◌, ◌≤◌, ◌<◌, length, None, false, IfOk, IfSome, IsErrOf};
 ghost use Rattle.mm_base.specs.Counts.{Rose};
 
 use crate::tcp_limits::TcpLimits;
@@ -9,9 +9,9 @@ use std::io::{self, ErrorKind};
 use std::net::{Shutdown, TcpStream};
 use std::time::{Clock, Duration, Instant};
 
-// In how many waits the limit of giving is cut. A wait after which the system's buffer took a byte begins the limit
-// anew, and it may take some in the first few though the peer takes nothing.
-const GIVING_WAITS: u32 = 60;
+/// In how many waits the limit of giving is cut. A wait after which the system's buffer took a byte begins the limit
+/// anew, and it may take some in the first few though the peer takes nothing.
+pub const GIVING_WAITS: u32 = 60;
 
 // How many bytes of a peer are let go at most, after the last byte was given to it.
 const MOST_LAST_BYTES: usize = 67_108_864;
@@ -34,18 +34,29 @@ pub struct TcpLink<K: Clock + Drop> {
     faults: u64,
 }
 
+// Gives bytes of the front of a piece, and waits for room once. None: there was none.
+fn give_once(stream: &mut TcpStream, piece: &[u8]) -> io::Result<Option<usize>>
+    ensures within { IfOk result (λ given. IfSome given (λ n. n ≤ length piece.now)) }
+    ensures some { IfOk result (λ given. IfSome given (λ n. 0 < length piece.now → 0 < n)) }
+{
+    match write_once(stream, piece) {
+        Ok(count) => Ok(Some(count)),
+        Err(error) if error.kind() == ErrorKind::WouldBlock => Ok(None),
+        Err(error) => Err(error),
+    }
+}
+
 // Gives bytes of the front of a piece, and waits for room up to the limit.
 fn give(stream: &mut TcpStream, piece: &[u8]) -> io::Result<usize>
     ensures within { IfOk result (λ n. n ≤ length piece.now) }
     ensures some { IfOk result (λ n. 0 < length piece.now → 0 < n) }
 {
-    'waits: for _ in 1..GIVING_WAITS {
-        match write_once(stream, piece) {
-            Err(error) if error.kind() == ErrorKind::WouldBlock => {}
-            answer => return answer,
+    'waits: for _ in 0..GIVING_WAITS {
+        if let Some(count) = give_once(stream, piece)? {
+            return Ok(count);
         }
     }
-    write_once(stream, piece)
+    Err(io::Error::from(ErrorKind::WouldBlock))
 }
 
 // Hears the next piece of a peer within what is left of a limit. None where it has ended, failed, or is over.
@@ -103,6 +114,20 @@ impl<K: Clock + Drop> TcpLink<K> {
         let mut link = self;
         if !link.has_left {
             link.close_output();
+        }
+    }
+
+    /// Gives bytes of the front of `piece`, as `write` does, but waits for room for one of the `GIVING_WAITS` waits
+    /// alone, and answers how many. None: there was no room, and nothing was given. After a refusal nothing was given.
+    pub fn write_in_one_wait(&mut self, piece: &[u8]) -> Result<Option<usize>, EndError>
+        ensures within { IfOk result (λ given. IfSome given (λ n. n ≤ length piece.now)) }
+        ensures some { IfOk result (λ given. IfSome given (λ n. 0 < length piece.now → 0 < n)) }
+        ensures failed { IsErrOf result EndError.Failed → Rose self.old.faults self.new.faults }
+        ensures grows { self.old.faults ≤ self.new.faults }
+    {
+        match give_once(&mut self.stream, piece) {
+            Ok(given) => Ok(given),
+            Err(error) => Err(self.refuse(error)),
         }
     }
 

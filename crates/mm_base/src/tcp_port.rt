@@ -1,8 +1,9 @@
 // A port of TCP on this machine alone. It tells no content.
 ghost use Rattle.std.specs.Prelude.{◌≡◌, ◌≤◌, ◌<◌, ◌-◌, ◌^◌, None, false, IfOk, OnOk};
 ghost use Rattle.mm_base.specs.Counts.{Rose};
+ghost use Rattle.mm_base.specs.Listened.{never};
 
-use crate::{EndError, Link, Port, TcpLimits, TcpLink};
+use crate::{EndError, Link, Listened, Port, TcpLimits, TcpLink};
 use std::io::{self, ErrorKind};
 use std::marker::Send;
 use std::net::{Ipv4Addr, Net, SocketAddr, TcpListener, TcpStream};
@@ -20,7 +21,7 @@ pub struct TcpPort<R: Net<Stream = TcpStream, Listener = TcpListener> + Clock + 
     rt: R,
     limits: TcpLimits,
     listener: Option<TcpListener>,
-    listened: Option<u16>,
+    listened: Listened,
     accepted: u64,
     faults: u64,
     last_error: Option<i32>,
@@ -29,20 +30,20 @@ pub struct TcpPort<R: Net<Stream = TcpStream, Listener = TcpListener> + Clock + 
 impl<R: Net<Stream = TcpStream, Listener = TcpListener> + Clock + Copy + Drop> TcpPort<R> {
     /// A port over the runtime's network, which doesn't listen yet.
     pub fn new(rt: R) -> Self
-        ensures { (result.accepted ≡ 0) × (result.faults ≡ 0) }
+        ensures { (result.accepted ≡ 0) × (result.faults ≡ 0) × (result.listened ≡ never) }
     {
         Self::with_limits(rt, TcpLimits::accepted())
     }
 
     /// A port whose connections have these limits.
     pub fn with_limits(rt: R, limits: TcpLimits) -> Self
-        ensures { (result.accepted ≡ 0) × (result.faults ≡ 0) }
+        ensures { (result.accepted ≡ 0) × (result.faults ≡ 0) × (result.listened ≡ never) }
     {
         TcpPort {
             rt,
             limits,
             listener: None,
-            listened: None,
+            listened: Listened::never(),
             accepted: 0,
             faults: 0,
             last_error: None,
@@ -124,10 +125,13 @@ impl<R: Net<Stream = TcpStream, Listener = TcpListener> + Clock + Send + Copy + 
         {
             Ok(listener) => {
                 self.listener = Some(listener);
-                self.listened = Some(number);
+                self.listened.listen(number);
                 Ok(())
             }
-            Err(error) => Err(self.refuse(error)),
+            Err(error) => {
+                self.listened.refuse(number);
+                Err(self.refuse(error))
+            }
         }
     }
 

@@ -4,6 +4,7 @@ ghost use Rattle.mm_base.specs.Counts.{Rose};
 ghost use Rattle.mm_base.specs.Files.{Files};
 ghost use Rattle.mm_base.specs.Port.{KeepsPort};
 ghost use Rattle.mm_base.specs.Sink.{CountsSinkFaults};
+ghost use Rattle.command_ends.specs.Alone.{IsLeftAlone};
 ghost use Rattle.command_ends.specs.Answers.{Answers, CountsDisk, IsFaultless, StopsShort};
 ghost use Rattle.command_ends.specs.Causes.{status_of_refusal};
 ghost use Rattle.command_ends.specs.Ends.{IsDone, KeepsFiles, outside};
@@ -30,7 +31,8 @@ use std::thread::Threads;
 /// Does what `mm_main` does, and says on `told`, which is the standard error, why the command line isn't done: the
 /// cause in words, with what was typed and where, or the usage of the commands. Where all is done it says nothing.
 ///
-/// Its status is that of `mm_main`, whatever becomes of `told`; beside it stands what `told` answered.
+/// Its status is that of `mm_main`, whatever becomes of `told`, which is told when the line on `out` is written; beside it
+/// stand the command line's answer, and what `told` answered.
 pub fn mm_main_told<
     R: Threads + Wait + Sync,
     D: Disk + Send,
@@ -84,6 +86,11 @@ pub fn mm_main_told<
     ensures make { named_command (map string_bytes words.now) ≡ Some Command.Make
         → D.view disk.new ≡ D.view disk.old }
 
+    // Where the words have no job, or are refused before any file is read, the disk isn't asked, and neither is the
+    // port.
+    ensures disk_alone { IsLeftAlone (reading_of (map string_bytes words.now)) (D.view disk.old) (D.view disk.new) }
+    ensures port_alone { IsLeftAlone (reading_of (map string_bytes words.now)) (P.view port.old) (P.view port.new) }
+
     // Words that refuse give their status, and so do files that are told, unless reading fails. Nothing refused gives
     // 0, unless a fault is counted: of `out` where the task prints, of the port where it serves.
     ensures by_words { (refusal : Refusal) → refused_first (reading_of (map string_bytes words.now)) ≡ Some refusal
@@ -104,7 +111,11 @@ pub fn mm_main_told<
     ensures port_counts { KeepsPort (P.view port.old) (P.view port.new) }
 {
     let answer = answer(rt, alloc, words, disk, out, port, pace);
+    let status = conclude(&answer, out);
     let told = tell(Program::Mm, words, &answer, told);
-    let status = conclude(answer, out);
-    Ending { status, told }
+    Ending {
+        answer,
+        status,
+        told,
+    }
 }

@@ -4,6 +4,7 @@ ghost use Rattle.mm_base.specs.Counts.{Rose};
 ghost use Rattle.mm_base.specs.Files.{Files};
 ghost use Rattle.mm_base.specs.Port.{KeepsPort};
 ghost use Rattle.mm_base.specs.Sink.{CountsSinkFaults};
+ghost use Rattle.command_ends.specs.Alone.{IsLeftAlone};
 ghost use Rattle.command_ends.specs.Answers.{Answers, CountsDisk, IsFaultless, StopsShort, cause_in};
 ghost use Rattle.command_ends.specs.Causes.{status_of_refusal};
 ghost use Rattle.command_ends.specs.Ends.{Ends, IsDone, KeepsFiles, outside};
@@ -45,6 +46,7 @@ pub(crate) fn answer<R: Threads + Wait + Sync, D: Disk, O: Sink, P: Port + Send,
         → P.view port.new ≡ P.view port.old }
     ensures make { named_command (map string_bytes words.now) ≡ Some Command.Make
         → D.view disk.new ≡ D.view disk.old }
+    ensures alone { IsLeftAlone (reading_of (map string_bytes words.now)) (D.view disk.old) (D.view disk.new) }
     ensures counts { CountsDisk (D.view disk.old) (D.view disk.new) }
     ensures out_counts { CountsSinkFaults (O.view out.old) (O.view out.new) }
     ensures port_counts { KeepsPort (P.view port.old) (P.view port.new) }
@@ -131,6 +133,11 @@ pub fn mm_main<R: Threads + Wait + Sync, D: Disk + Send, O: Sink, P: Port + Send
     ensures make { named_command (map string_bytes words.now) ≡ Some Command.Make
         → D.view disk.new ≡ D.view disk.old }
 
+    // Where the words have no job, or are refused before any file is read, the disk isn't asked, and neither is the
+    // port.
+    ensures disk_alone { IsLeftAlone (reading_of (map string_bytes words.now)) (D.view disk.old) (D.view disk.new) }
+    ensures port_alone { IsLeftAlone (reading_of (map string_bytes words.now)) (P.view port.old) (P.view port.new) }
+
     // Words that refuse give their status, and so do files that are told, unless reading fails. Nothing refused gives
     // 0, unless a fault is counted: of `out` where the task prints, of the port where it serves.
     ensures by_words { (refusal : Refusal) → refused_first (reading_of (map string_bytes words.now)) ≡ Some refusal
@@ -151,5 +158,5 @@ pub fn mm_main<R: Threads + Wait + Sync, D: Disk + Send, O: Sink, P: Port + Send
     ensures port_counts { KeepsPort (P.view port.old) (P.view port.new) }
 {
     let answer = answer(rt, alloc, words, disk, out, port, pace);
-    conclude(answer, out)
+    conclude(&answer, out)
 }

@@ -7,8 +7,10 @@ ghost use Rattle.std.specs.Process.{exit_status};
 
 use command_relay::relay_main_told;
 use live_relay::{Pulse, SysClock, UdpWire, drops_at};
-use mm_base::{FileDisk, StdSink};
-use refusal_lines::{Reason, reason_of, tell_reason};
+use mm_base::{FileDisk, Sink, StdSink};
+use refusal_lines::{
+    Ending, Reason, reason_of, show_line, system_reason, tell_commit, tell_reason,
+};
 use refusal_words::Program;
 use std::process::ExitCode;
 use std::{env, fs, io};
@@ -65,13 +67,8 @@ fn say_how_far(rt: &HostRuntime, clock: &SysClock<'_, HostRuntime>) -> io::Resul
     )
 }
 
-// Says on the standard error how far the relay came, and how many datagrams were lost outside the nest.
-fn report(
-    rt: &HostRuntime,
-    clock: &SysClock<'_, HostRuntime>,
-    wire: &UdpWire<'_, HostRuntime>,
-) -> io::Result<()> {
-    say_how_far(rt, clock)?;
+// Says on the standard error how many datagrams were lost outside the nest.
+fn say_lost(rt: &HostRuntime, wire: &UdpWire<'_, HostRuntime>) -> io::Result<()> {
     let dropped = drops_of(rt, wire.number());
     if dropped > 0 {
         eprintln!(rt;
@@ -85,11 +82,40 @@ fn report(
     Ok(())
 }
 
+// Says on the standard error what became of the datagrams of a relay that ended with this status. How far it came is
+// said where it is done. Where nobody can be told, nobody is.
+fn report(
+    rt: &HostRuntime,
+    status: u8,
+    clock: &SysClock<'_, HostRuntime>,
+    wire: &UdpWire<'_, HostRuntime>,
+) {
+    if status == 0 {
+        let _ = say_how_far(rt, clock);
+    }
+    let _ = say_lost(rt, wire);
+}
+
 // Why the outside refused the call for which the program ends with this status, if that is known.
-fn reason_at(status: u8, disk: &FileDisk<HostRuntime>) -> Option<Reason> {
+fn reason_at(
+    status: u8,
+    disk: &FileDisk<HostRuntime>,
+    wire: &UdpWire<'_, HostRuntime>,
+) -> Option<Reason> {
     match status {
         6 | 7 => reason_of(disk.last_error()?),
+        8 => system_reason(wire.last_error()?),
         _ => None,
+    }
+}
+
+// Says what the machine's files add to what was told: the line for which an input was refused, or the commit of the
+// program. Where they can't be read, nothing more is said.
+fn tell_more<O: Sink>(rt: &HostRuntime, words: &[String], ending: &Ending, told: &mut O) {
+    let _ = tell_commit(rt, words, told);
+    if let Ok(files) = rt.clone() {
+        let mut disk = FileDisk::new(files);
+        let _ = show_line(rt.alloc(), words, &ending.answer, &mut disk, told);
     }
 }
 
@@ -112,13 +138,12 @@ fn run(rt: &HostRuntime) -> io::Result<u8> {
         &mut told,
     );
     wire.finish();
-    if ending.status == 0 {
-        // Where nobody can be told, nobody is.
-        let _ = report(rt, &clock, &wire);
+    report(rt, ending.status, &clock, &wire);
+    if let Some(reason) = reason_at(ending.status, &disk, &wire) {
+        let input = disk.met_input().unwrap_or("");
+        let _ = tell_reason(Program::Relay, reason, input, &mut told);
     }
-    if let Some(reason) = reason_at(ending.status, &disk) {
-        let _ = tell_reason(Program::Relay, reason, &mut told);
-    }
+    tell_more(rt, &words, &ending, &mut told);
     Ok(ending.status)
 }
 

@@ -1,4 +1,5 @@
--- What holds of a world after any steps.
+-- What is true of a world after any steps in any order. `Keeps` says what was collected so far and what logs have so
+-- far, `IsWhole` what a finished world has.
 use Rattle.std.specs.Prelude.{◌≡◌, ℕ, ◌≤◌, ◌<◌, List, [], ◌∷◌, ◌++◌, map, option_to_list}
 use Rattle.packet_record.specs.declared.packet.Timed.{Timed}
 use Rattle.packet_record.specs.declared.packet.Row.{Row}
@@ -19,83 +20,90 @@ use Rattle.nest_spec.specs.Chains.{last_departed, chain_logs}
 use Rattle.nest_core.specs.Worlds.{WorldParts}
 use Rattle.nest_core.specs.WorldSteps.{actors_of, step_of}
 
--- the stream that has come past the first channel of a line: what the feeder behind it has received
+-- The stream that was received from the first channel: what the first shell was fed and what its feeder holds, or what
+-- was collected where there is no shell.
 abbrev pub passed_first : List Stage → Stream → Stream
 passed_first [] collected = collected
 passed_first (s ∷ stages) collected = after_all s.state.fed (option_to_list s.feeder)
 
--- the stream of what the source has sent: what was received of it, and what the first channel holds
+-- The stream of all that the source has sent.
 abbrev pub sent_stream : WorldParts → Stream
 sent_stream w = after_all (passed_first w.line.stages w.line.collected) w.line.channel.items
 
--- the stream of all that the source sends
+-- The stream of all that the source sends.
 abbrev pub source_stream : WorldParts → Stream
 source_stream w = after_all (sent_stream w) w.unsent
 
--- the first list of the chain, as the world keeps it
+-- The packets that enter the world: the first list of the chain.
 abbrev pub arrivals_of : WorldParts → List Timed
 arrivals_of w = (source_stream w).packets
 
+-- The states of the shells, in passing order.
 abbrev pub states_of : WorldParts → List State
 states_of w = map (λ (s : Stage). s.state) w.line.stages
 
+-- What the shells do, in passing order.
 abbrev pub specs_of : WorldParts → List DirSpec
 specs_of w = map (λ (s : State). s.spec) (states_of w)
 
--- the last list of the chain
+-- The packets that depart from the last shell once all that enters has passed: the last list of the chain.
 abbrev pub departed_of : WorldParts → List Timed
 departed_of w = last_departed w.horizon (specs_of w) (arrivals_of w)
 
--- the packets in front are the first of all, and no other is before this moment
+-- The packets of `front` are the first of `all`, and no other is before the moment `bound`.
 pub record IsFrontUntil (bound : ℕ) (front all : List Timed) : Type 0 where
   pub others : List Timed
   pub is : all ≡ front ++ others
   pub later : AreFrom bound others
 
--- each shell's log is a front of its whole log, and each state stands
+-- The state is sound, and the log of its shell so far is a front of `whole`.
 pub record IsUnderWay (s : State) (whole : List Entry) : Type 0 where
   pub stands : Stands s
   pub entries : List Entry
   pub log : whole ≡ shell_log s.spec s.horizon s.burnt s.fed.packets ++ entries
 
+-- Each state is sound, and the log of each shell so far is a front of its whole log.
 abbrev pub AreUnderWay : List State → List (List Entry) → Type 0
 AreUnderWay [] [] = Unit {0}
 AreUnderWay [] (log ∷ logs) = ⊥
 AreUnderWay (s ∷ states) [] = ⊥
 AreUnderWay (s ∷ states) (log ∷ logs) = IsUnderWay s log × AreUnderWay states logs
 
+-- What is true of every world.
 pub record Keeps (w : WorldParts) : Type 0 where
-  -- each state stands, and its log is a front of the log of what arrives at it in the chain
+  -- Each state is sound, and its log is a front of the log of what arrives at its shell in the chain.
   pub shells : AreUnderWay (states_of w) (chain_logs w.horizon (specs_of w) (arrivals_of w))
-  -- the collected packets are a front of those that leave the last shell, and no other is before the collected bound
+  -- What was collected is a front of what departs from the last shell, and no other packet is before its bound.
   pub collected : IsFrontUntil w.line.collected.bound w.line.collected.packets (departed_of w)
 
--- no step but the source's would change the world
+-- Only a step of the source would change the world.
 abbrev pub IsSettled : WorldParts → Type 0
 IsSettled w = (number : ℕ) → 1 ≤ number → number < actors_of w → step_of w number ≡ w
 
--- no step would change the world
+-- No step would change the world.
 abbrev pub IsQuiet : WorldParts → Type 0
 IsQuiet w = (number : ℕ) → number < actors_of w → step_of w number ≡ w
 
+-- The collector has received the end.
 abbrev pub IsFinished : WorldParts → Type 0
 IsFinished w = w.line.collected.end ≡ Ended
 
--- the collected packets are all that leave the last shell, and each log is whole
+-- The log of a shell by what its state was fed and has burnt.
 abbrev pub state_log : State → List Entry
 state_log s = shell_log s.spec s.horizon s.burnt s.fed.packets
 
+-- All that departs from the last shell was collected, and each shell's log is whole.
 pub record IsWhole (w : WorldParts) : Type 0 where
   pub collected : w.line.collected.packets ≡ departed_of w
   pub logs : map state_log (states_of w) ≡ chain_logs w.horizon (specs_of w) (arrivals_of w)
 
--- what the first list is read from, and what the shells do, stays
+-- The horizon, the packets that enter and what the shells do are as they were.
 pub record KeepsFirst (old new : WorldParts) : Type 0 where
   pub horizon : new.horizon ≡ old.horizon
   pub arrivals : arrivals_of new ≡ arrivals_of old
   pub specs : specs_of new ≡ specs_of old
 
--- it is a world of a direction of this nest, at which these rows enter
+-- The world is that of the direction `d` of a nest, at which `rows` enter.
 pub record IsRunOf (nest : NestParts) (d : Direction) (rows : List Row) (w : WorldParts) : Type 0 where
   pub horizon : w.horizon ≡ nest.horizon
   pub arrivals : arrivals_of w ≡ entering d nest.horizon rows

@@ -1,4 +1,4 @@
--- What `.now` of a type means, by the type's fields, and what is true of these.
+-- What contracts see of each type (`.now`), by its fields.
 pub mod Channel
 pub mod Source
 pub mod World

@@ -1,13 +1,13 @@
-// Who takes a step of a world.
+// The actors that take the steps of a world, and their numbers.
 ghost use Rattle.std.specs.Prelude.{◌≡◌};
 ghost use Rattle.nest_core.specs.Actors.{actor_of};
 
-// An actor of a world. Shells are counted from 0, in the order in which packets pass them.
+// An actor of a world. Shells are counted from 0 in passing order.
 #[derive(Clone, Copy)]
 pub(crate) enum Actor {
     // The source sends.
     Source,
-    // The feeder of a shell receives; past the last shell, the collector.
+    // The feeder of a shell receives, or at the place past the last shell the collector.
     Receiver(usize),
     // The feeder of a shell feeds.
     Feeder(usize),
@@ -17,7 +17,7 @@ pub(crate) enum Actor {
     Sender(usize),
 }
 
-// The actor of a number: 0 is the source, and each shell has four more.
+// Returns the actor of a number: 0 is the source, and each shell has four more.
 pub(crate) fn actor_of(number: u32) -> Actor
     ensures { result ≡ actor_of number }
 {

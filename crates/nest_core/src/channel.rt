@@ -1,4 +1,4 @@
-// A bounded channel of items, as a list.
+// A bounded channel of items, held as a queue.
 ghost use Rattle.std.specs.Prelude.{◌≡◌, IsTrue, IfOk};
 ghost use Rattle.nest_core.specs.Channels.{new_channel, has_room, with_last, first_of, without_first};
 
@@ -8,7 +8,7 @@ use std::collections::VecDeque;
 use std::marker::Model;
 use text_base::OutOfMemory;
 
-// The items that were sent and not received, the oldest first, of which there is room for so many.
+// The items that were sent and not received, the oldest first, and how many there may be.
 #[derive(Drop)]
 pub(crate) struct Channel {
     items: VecDeque<Item>,
@@ -29,7 +29,7 @@ impl Model for Channel {
 }
 
 impl Channel {
-    // An empty channel, with all the memory that it ever takes.
+    // Makes an empty channel, with all the memory that it will need.
     pub(crate) fn new(alloc: Global, capacity: usize) -> Result<Channel, OutOfMemory>
         ensures { IfOk result (λ c. c ≡ new_channel capacity) }
     {
@@ -39,6 +39,7 @@ impl Channel {
         })
     }
 
+    // Returns whether another item can be sent.
     pub(crate) fn has_room(&self) -> bool
         ensures { result ≡ has_room self.now }
     {
@@ -53,14 +54,14 @@ impl Channel {
         self.items.push_back_reserved(item);
     }
 
-    // The oldest item, which stays.
+    // Returns the oldest item, which stays in the channel.
     pub(crate) fn first(&self) -> Option<Item>
         ensures { result ≡ first_of self.now.items }
     {
         self.items.front().copied()
     }
 
-    // Takes the oldest item off.
+    // Removes the oldest item and returns it.
     pub(crate) fn receive(&mut self) -> Option<Item>
         ensures first { result ≡ first_of self.old.items }
         ensures rest { self.new ≡ without_first self.old }

@@ -1,8 +1,8 @@
-//! The shells of a nest in single steps, taken in any order.
+//! Runs a nest in single steps, taken in any order.
 //!
-//! A `World` is one direction of a nest: a source, shells that are fed and taken from, and bounded channels
-//! of items between them. Whatever the order of its steps, what it has collected is a front of what the
-//! composition of the shells gives, and it can always go on to the whole of it.
+//! A `World` is one direction of a nest: a source, shells that are fed and taken from, and bounded channels of items
+//! between them. Whatever the order of its steps, what it has collected is a front of what departs from the shells when
+//! each runs over its whole list, and further steps can always complete it.
 #![tactic(auto)]
 
 mod actor;

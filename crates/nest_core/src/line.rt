@@ -1,4 +1,4 @@
-// The shells of a world behind a channel, and the collector behind them.
+// A channel of a world, the shells behind it, and the collector behind the last: who receives from a channel.
 ghost use Rattle.std.specs.Prelude.{◌≡◌, [], OnOk, OnErr, IfOk};
 ghost use Rattle.nest_core.specs.Worlds.{line};
 ghost use Rattle.nest_core.specs.WorldSteps.{received};
@@ -9,7 +9,7 @@ use crate::stage::Stage;
 use packet_record::Flow;
 use text_base::OutOfMemory;
 
-// The collector receives. Answers whether it did.
+// The collector receives an item. Returns whether there was one.
 fn collect(channel: &mut Channel, collected: &mut Flow) -> Result<bool, OutOfMemory>
     requires { MayCollect channel.old [] collected.old.stream }
     ensures ok { OnOk result (line channel.new [] collected.new.stream
@@ -25,7 +25,7 @@ fn collect(channel: &mut Channel, collected: &mut Flow) -> Result<bool, OutOfMem
     Ok(true)
 }
 
-// The feeder of the shell at this place receives; past the last shell, the collector. Answers whether it did.
+// The feeder of the shell at the place `shell` receives, or past the last shell the collector. Returns whether it did.
 pub(crate) fn receive(
     channel: &mut Channel,
     stages: &mut [Stage],

@@ -1,4 +1,4 @@
-// A run of a nest in any order of its steps.
+// Runs a nest in any order of its steps.
 ghost use Rattle.std.specs.Prelude.{◌≡◌, ◌≤◌, ◌<◌, ◌+◌, ◌⊎◌, ◌↔◌, IsTrue, OnOk, OnErr, IfOk};
 ghost use Rattle.std.specs.Bool.{OnTrue, OnFalse};
 ghost use Rattle.nest_spec.specs.Nests.{result_of};
@@ -12,10 +12,10 @@ use std::alloc::Global;
 use std::marker::Model;
 use text_base::OutOfMemory;
 
-// How many items a channel of a run holds.
+// How many items each channel of a run holds.
 const CAPACITY: u32 = 2;
 
-/// The up and the down world of a run, whose channels hold 2 items. Contracts see the two worlds.
+/// The up and the down world of a run. Their channels hold 2 items. Contracts see both worlds.
 #[derive(Drop)]
 pub struct Worlds<'a> {
     up: World<'a>,
@@ -36,7 +36,7 @@ impl<'a> Worlds<'a> {
     ghost use Rattle.nest_core.specs.Orders.{numbers_of, numbered_step, after_round, both_left};
     ghost use Rattle.nest_core.specs.Orders.{AreFinished, AreQuiet, BothKeep};
 
-    /// The worlds before their first step.
+    /// Makes the worlds before their first step. Returns `OutOfMemory` where an allocation fails.
     pub fn new(
         alloc: Global,
         nest: &Nest,
@@ -51,22 +51,22 @@ impl<'a> Worlds<'a> {
         })
     }
 
-    /// The world of the uplink.
+    /// Returns the world of the uplink.
     pub fn up(&self) -> &World<'a>
         ensures { result.now ≡ self.now.up }
     {
         &self.up
     }
 
-    /// The world of the downlink.
+    /// Returns the world of the downlink.
     pub fn down(&self) -> &World<'a>
         ensures { result.now ≡ self.now.down }
     {
         &self.down
     }
 
-    /// How many numbers name an actor: 8 k + 4 for k shells. The first half are the actors of the up world, and
-    /// the others, less that half, those of the down world.
+    /// Returns how many numbers name an actor: `8 k + 4` for `k` shells. The first half are the actors of the up world,
+    /// and the others, less that half, those of the down world.
     pub fn numbers(&self) -> u32
         ensures count { result ≡ numbers_of self.now }
         ensures some { 1 ≤ result }
@@ -74,8 +74,8 @@ impl<'a> Worlds<'a> {
         self.up.actors() + self.down.actors()
     }
 
-    /// Does the step of this number, if it can, and answers whether that changed a world. Where it finds no
-    /// memory both are as they were.
+    /// Does the step `number`, if its actor has something to do, and returns whether that changed a world. `number` is
+    /// less than `numbers()`. Where an allocation fails it returns `OutOfMemory`, and both worlds are as they were.
     pub fn step(&mut self, number: u32) -> Result<bool, OutOfMemory>
         requires { number < numbers_of self.old }
         ensures ok { OnOk result (self.new ≡ numbered_step self.old number) }
@@ -92,7 +92,8 @@ impl<'a> Worlds<'a> {
         }
     }
 
-    /// The worlds after the steps that the bytes of an order name, each by its value modulo the count of numbers.
+    /// Does the steps that the bytes of `order` name, and returns the worlds after them. A byte names the step of its
+    /// value modulo `numbers()`. Where an allocation fails it returns `OutOfMemory`, and the worlds are lost.
     pub fn follow(self, order: &[u8]) -> Result<Worlds<'a>, OutOfMemory>
         ensures is { IfOk result (λ w. w ≡ after_order self.entry order.now) }
         ensures keep { IfOk result (λ w. BothKeep self.entry w) }
@@ -105,7 +106,7 @@ impl<'a> Worlds<'a> {
         Ok(worlds)
     }
 
-    /// Whether both worlds are finished, which is so exactly where no step would change one of them.
+    /// Returns whether both worlds are finished, which is so exactly where no step would change one of them.
     pub fn finished(&self) -> bool
         ensures is { IsTrue result ↔ AreFinished self.now }
         ensures quiet { IsTrue result ↔ AreQuiet self.now }
@@ -113,7 +114,8 @@ impl<'a> Worlds<'a> {
         self.up.finished() && self.down.finished()
     }
 
-    // All numbers in turn from 0. That lowers what is left to do, or nothing could have changed a world.
+    // Does one step of each number, from 0 on. That lowers what is left to do, unless no step could have changed a
+    // world.
     fn round(&mut self) -> Result<(), OutOfMemory>
         ensures ok { OnOk result (self.new ≡ after_round self.old) }
         ensures less { OnOk result ((both_left self.new < both_left self.old) ⊎ AreQuiet self.old) }
@@ -125,8 +127,8 @@ impl<'a> Worlds<'a> {
         Ok(())
     }
 
-    /// The worlds after so many rounds, each of all numbers in turn from 0, that both are finished. There are
-    /// always so many.
+    /// Does rounds of one step of each number until both worlds are finished, which always comes. Where an allocation
+    /// fails it returns `OutOfMemory`, and the worlds are lost.
     pub fn finish(self) -> Result<Worlds<'a>, OutOfMemory>
         ensures ends { IfOk result (λ w. EndsRounds self.entry w) }
         ensures keep { IfOk result (λ w. BothKeep self.entry w) }
@@ -138,7 +140,8 @@ impl<'a> Worlds<'a> {
         Ok(worlds)
     }
 
-    /// The result of a run, from its finished worlds.
+    /// Returns the result of a run, of its finished worlds. `nest` and `schedule` are those of the worlds. Returns
+    /// `OutOfMemory` where an allocation fails.
     pub fn into_result(
         self,
         alloc: Global,
@@ -156,8 +159,8 @@ impl<'a> Worlds<'a> {
     }
 }
 
-/// The two worlds of a run at its end: after the steps that the bytes of the order name, and then after so many
-/// rounds of all numbers in turn that both are finished. `OutOfMemory` is want of memory.
+/// Returns the two worlds of a run at its end: after the steps that the bytes of `order` name, and then rounds of one
+/// step of each number until both are finished. Returns `OutOfMemory` where an allocation fails.
 pub fn run_worlds<'a>(
     alloc: Global,
     nest: &Nest,
@@ -170,9 +173,9 @@ pub fn run_worlds<'a>(
     Worlds::new(alloc, nest, schedule)?.follow(order)?.finish()
 }
 
-/// Runs the schedule through the nest by single steps in the order that any bytes state: `run_worlds`, and the
-/// result of its worlds, which is that of the composition of the shells, whatever the order. It returns for every
-/// order. `OutOfMemory` is want of memory.
+/// Runs the schedule through the nest by single steps, in an order that any bytes state (`run_worlds`), and returns the
+/// result. It comes to its end for every order, and the result doesn't depend on the order. Returns `OutOfMemory` where
+/// an allocation fails.
 pub fn run_order(
     alloc: Global,
     nest: &Nest,

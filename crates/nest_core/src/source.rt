@@ -1,4 +1,4 @@
-// The source of a direction's items.
+// The source of a direction: the items that it sends into the first shell.
 ghost use Rattle.std.specs.Prelude.{◌≡◌, ◌++◌, ◌∷◌, [], drop, option_to_list, IfNone, MatchOption};
 ghost use Rattle.packet_record.specs.Sources.{items_from, source_items};
 ghost use Rattle.packet_record.specs.declared.item.Item.TheVariants.{End};
@@ -6,7 +6,7 @@ ghost use Rattle.packet_record.specs.declared.item.Item.TheVariants.{End};
 use packet_record::{Direction, Item, Row, source_item};
 use std::marker::Model;
 
-// The items that the source of a direction has still to send: those of the rows, and then the end.
+// The items that a source has still to send: those of the rows, and then the end.
 #[derive(Drop)]
 pub(crate) struct Source<'a> {
     direction: Direction,
@@ -14,8 +14,9 @@ pub(crate) struct Source<'a> {
     rows: &'a [Row],
     // The place of the first row that isn't sent.
     place: usize,
-    // The greatest moment that was sent, 0 at first.
+    // The greatest moment that was sent, or 0 before any.
     sent: u64,
+    // Whether the end was sent.
     is_over: bool,
 }
 
@@ -30,7 +31,7 @@ impl<'a> Model for Source<'a> {
     ghost view = { source_view };
 }
 
-// An item that a row gave, the place after that row, and the row's moment.
+// The item that a row gave, the place after that row, and the row's moment.
 #[derive(Drop)]
 struct Found {
     item: Item,
@@ -38,7 +39,8 @@ struct Found {
     sent: u64,
 }
 
-// The next item that the rows from this place on give, where this much was sent.
+// Returns the next item that the rows from `place` on give, or `None` where they give no more. `sent` is the greatest
+// moment that was sent.
 fn next_item(
     direction: Direction,
     horizon: u64,
@@ -63,7 +65,7 @@ fn next_item(
 }
 
 impl<'a> Source<'a> {
-    // All that the rows give.
+    // Makes a source that has sent nothing.
     pub(crate) fn new(direction: Direction, horizon: u64, rows: &'a [Row]) -> Source<'a>
         ensures { result ≡ source_items direction horizon rows.now }
     {
@@ -77,7 +79,7 @@ impl<'a> Source<'a> {
         }
     }
 
-    // The next item, which is then sent.
+    // Returns the next item, which is then sent, or `None` after the end.
     pub(crate) fn next(&mut self) -> Option<Item>
         ensures items { self.old ≡ option_to_list result ++ self.new }
         ensures over { IfNone result (self.old ≡ []) }

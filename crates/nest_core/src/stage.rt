@@ -1,4 +1,4 @@
-// One shell of a world, with its feeder, its drain, and the channel that the drain sends into.
+// A stage of a world: one shell with its feeder, its drain, and the channel that the drain sends into.
 ghost use Rattle.std.specs.Prelude.{◌≡◌, ◌≤◌, ◌&&◌, OnOk, OnErr, IfOk, length, is_some};
 ghost use Rattle.shell_core.specs.Shells.{IsInRange, opportunities};
 ghost use Rattle.shell_state.specs.States.{new_state};
@@ -14,14 +14,16 @@ use text_base::OutOfMemory;
 // The most opportunities that a drain burns in one step.
 pub(crate) const MOST: u32 = 4;
 
-// A shell of a world.
+// A shell of a world with its feeder and its drain.
 #[derive(Drop)]
 pub(crate) struct Stage {
     // What the feeder has received and not fed.
     pub(crate) feeder: Option<Item>,
+    // The shell.
     pub(crate) state: ShellState,
     // What the drain has taken and not sent.
     pub(crate) drain: Option<Item>,
+    // What the drain sends into.
     pub(crate) channel: Channel,
 }
 
@@ -31,7 +33,7 @@ impl Stage {
     ghost use Rattle.nest_core.specs.Channels.{first_of, left_by};
     ghost use Rattle.nest_core.specs.inside.Does.{feeds, takes, sends};
 
-    // The shell before anything reached it.
+    // Makes a stage before anything has reached it.
     pub(crate) fn new(
         alloc: Global,
         spec: DirSpec,
@@ -45,7 +47,7 @@ impl Stage {
         ensures stands { OnOk result (Stands (new_state spec horizon)) }
     {
         let state = ShellState::new(alloc, spec, horizon)?;
-        state.stands();
+        state.stands(); // fact: a new state is sound
         Ok(Stage {
             feeder: None,
             state,
@@ -54,7 +56,7 @@ impl Stage {
         })
     }
 
-    // The feeder receives from the channel before the shell, where it holds nothing. Answers whether it did.
+    // The feeder receives from the channel before the shell, where it holds nothing. Returns whether it did.
     pub(crate) fn receive(&mut self, channel: &mut Channel) -> bool
         ensures after { self.new ≡ after_receiving (first_of channel.old.items) self.old }
         ensures channel { channel.new ≡ left_by (receives (first_of channel.old.items) self.old) channel.old }
@@ -67,7 +69,7 @@ impl Stage {
         self.feeder.is_some()
     }
 
-    // The feeder feeds what it holds. Answers whether it did.
+    // The feeder feeds what it holds. Returns whether it held an item.
     pub(crate) fn feed(&mut self) -> Result<bool, OutOfMemory>
         requires { MayFeed self.old }
         ensures ok { OnOk result (self.new ≡ fed_stage self.old) }
@@ -82,7 +84,8 @@ impl Stage {
         Ok(true)
     }
 
-    // The drain takes, where it holds nothing and more may be taken. Answers whether that changed anything.
+    // The drain takes, where it holds nothing and neither `End` nor `Broken` was taken. Returns whether that changed
+    // anything.
     pub(crate) fn take(&mut self) -> Result<bool, OutOfMemory>
         ensures ok { OnOk result (self.new ≡ taken_stage self.old) }
         ensures did { IfOk result (λ did. did ≡ takes self.old) }
@@ -101,7 +104,7 @@ impl Stage {
         }
     }
 
-    // The drain sends what it holds, where there is room. Answers whether it did.
+    // The drain sends what it holds, where the channel has room. Returns whether it did.
     pub(crate) fn send(&mut self) -> bool
         ensures after { self.new ≡ sent_stage self.old }
         ensures did { result ≡ sends self.old }

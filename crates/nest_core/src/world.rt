@@ -23,9 +23,9 @@ use text_base::OutOfMemory;
 /// channels between them, and what a collector received behind the last.
 ///
 /// A step is an action of one actor: the source sends, a feeder receives or feeds, a drain takes or sends, or the
-/// collector receives. Whatever steps were taken, in any order, what was collected is a front of what the
-/// composition of the shells gives. Contracts see the items that the source has still to send, the channels as
-/// lists, what feeders and drains hold, the shells' states, and the collected stream.
+/// collector receives. Whatever steps were taken, in any order, what was collected is a front of what departs from the
+/// shells when each runs over its whole list. Contracts see the items that the source has still to send, the channels
+/// as lists, what feeders and drains hold, the shells' states, and the collected stream.
 #[derive(Drop)]
 pub struct World<'a> {
     horizon: u64,
@@ -57,8 +57,8 @@ impl<'a> World<'a> {
     ghost use Rattle.nest_core.specs.inside.Does.{IsAmong, does};
     ghost use Rattle.nest_core.specs.inside.Standing.{WorldStands};
 
-    /// A direction of the nest before its first step: nothing is sent yet. The source sends the items of the
-    /// schedule's rows, and each channel holds so many items, 1 to 64.
+    /// Makes the world of a direction before its first step: nothing is sent yet. The source will send the items of the
+    /// schedule's rows. Each channel holds `capacity` items, 1 to 64. Returns `OutOfMemory` where an allocation fails.
     pub fn new(
         alloc: Global,
         nest: &Nest,
@@ -83,9 +83,11 @@ impl<'a> World<'a> {
         })
     }
 
-    /// How many actors it has: 4 k + 2 for k shells. They are numbered from 0: the source is 0; shell j, counted from 0
-    /// in the order in which packets pass, has 4 j + 1, where its feeder receives, 4 j + 2, where that feeds, 4 j + 3,
-    /// where its drain takes, and 4 j + 4, where that sends; the collector is 4 k + 1.
+    /// Returns how many actors the world has: `4 k + 2` for `k` shells.
+    ///
+    /// They are numbered from 0: the source is 0, and the collector `4 k + 1`. Shell `j`, counted from 0 in passing
+    /// order, has four: its feeder receives (`4 j + 1`) and feeds (`4 j + 2`), and its drain takes (`4 j + 3`) and
+    /// sends (`4 j + 4`).
     pub fn actors(&self) -> u32
         ensures count { result ≡ actors_of self.now }
         ensures most { result ≤ 34 }
@@ -93,9 +95,12 @@ impl<'a> World<'a> {
         4 * self.stages.len() as u32 + 2
     }
 
-    /// Does the step of the actor of this number, if it can, and answers whether that changed the world. A
-    /// drain's take burns at most 4 opportunities. A step keeps what the first list is read from, and each that
-    /// changes the world lowers what is left to do. Where it finds no memory the world is as it was.
+    /// Does the step of the actor numbered `actor`, if it has something to do, and returns whether that changed the
+    /// world. `actor` is less than `actors()`.
+    ///
+    /// A drain's take burns at most 4 opportunities. A step changes neither the packets that enter nor what the shells
+    /// do, and a step that changes the world lowers what is left to do. Where an allocation fails it returns
+    /// `OutOfMemory`, and the world is as it was.
     pub fn step(&mut self, actor: u32) -> Result<bool, OutOfMemory>
         requires { actor < actors_of self.old }
         ensures ok { OnOk result (self.new ≡ step_of self.old actor) }
@@ -106,11 +111,11 @@ impl<'a> World<'a> {
         ensures keeps { KeepsFirst self.old self.new }
         ensures actors { actors_of self.new ≡ actors_of self.old }
     {
-        self.reached();
+        self.reached(); // fact: the streams of the world fit each other
         self.act(actor_of(actor))
     }
 
-    // The actor takes its step, if it can. Answers whether it did.
+    // Does an actor's step, if it has something to do. Returns whether it had.
     fn act(&mut self, actor: Actor) -> Result<bool, OutOfMemory>
         requires { IsAmong (length self.old.line.stages) actor }
         ensures ok { OnOk result (self.new ≡ act self.old actor) }
@@ -126,14 +131,14 @@ impl<'a> World<'a> {
         }
     }
 
-    // What was reached by steps. It does nothing.
+    // The streams of the world fit each other. It does nothing; calls make the fact known.
     fn reached(&self)
         ensures { WorldStands self.now }
     {
         let _ = &self.horizon;
     }
 
-    // The source sends its next item, where there is room.
+    // The source sends its next item, where the channel has room. Returns whether it did.
     fn send_next(&mut self) -> bool
         ensures after { self.new ≡ act self.old Actor.Source }
         ensures did { result ≡ does self.old Actor.Source }
@@ -150,6 +155,7 @@ impl<'a> World<'a> {
         }
     }
 
+    // The feeder of a shell receives, or past the last shell the collector.
     fn receive(&mut self, shell: usize) -> Result<bool, OutOfMemory>
         ensures ok { OnOk result (self.new ≡ act self.old (Actor.Receiver shell)) }
         ensures did { IfOk result (λ did. did ≡ does self.old (Actor.Receiver shell)) }
@@ -163,6 +169,7 @@ impl<'a> World<'a> {
         )
     }
 
+    // The feeder of a shell feeds.
     fn feed(&mut self, shell: usize) -> Result<bool, OutOfMemory>
         requires { shell < length self.old.line.stages }
         ensures ok { OnOk result (self.new ≡ act self.old (Actor.Feeder shell)) }
@@ -172,6 +179,7 @@ impl<'a> World<'a> {
         self.stages[shell].feed()
     }
 
+    // The drain of a shell takes.
     fn take(&mut self, shell: usize) -> Result<bool, OutOfMemory>
         requires { shell < length self.old.line.stages }
         ensures ok { OnOk result (self.new ≡ act self.old (Actor.Taker shell)) }
@@ -181,6 +189,7 @@ impl<'a> World<'a> {
         self.stages[shell].take()
     }
 
+    // The drain of a shell sends.
     fn send(&mut self, shell: usize) -> bool
         requires { shell < length self.old.line.stages }
         ensures after { self.new ≡ act self.old (Actor.Sender shell) }
@@ -189,9 +198,9 @@ impl<'a> World<'a> {
         self.stages[shell].send()
     }
 
-    /// What was collected, and what is true of it: its packets are a front of those that leave the last shell in
-    /// the chain, and no other of them is before its bound. In a world that no step but the source's would
-    /// change, none is before the bound of what the source has sent.
+    /// Returns what was collected. Its packets are a front of all that departs from the last shell in the chain, and no
+    /// other packet of that list is before its bound. In a world that only a step of the source would change, no other
+    /// is before the bound of what the source has sent.
     pub fn collected(&self) -> &Flow
         ensures stream { result.now.stream ≡ self.now.line.collected }
         ensures front { IsFrontUntil self.now.line.collected.bound self.now.line.collected.packets
@@ -202,8 +211,8 @@ impl<'a> World<'a> {
         &self.collected
     }
 
-    /// Whether the collector has received the end. Then all that leaves the last shell is collected, and every
-    /// log is whole; and no step would change the world, which is so in no other.
+    /// Returns whether the collector has received the end, which is so exactly where no step would change the world.
+    /// Then all that departs from the last shell is collected, and every log is whole.
     pub fn finished(&self) -> bool
         ensures is { IsTrue result ↔ IsFinished self.now }
         ensures quiet { IsTrue result ↔ IsQuiet self.now }
@@ -212,7 +221,7 @@ impl<'a> World<'a> {
         self.collected.end() == FlowEnd::Ended
     }
 
-    /// Whether no step would change the world. That is so in finished worlds, and in no others, so no shell is asked.
+    /// Returns whether no step would change the world. That is so exactly in finished worlds, so no shell is asked.
     pub fn quiet(&self) -> bool
         ensures is { IsTrue result ↔ IsQuiet self.now }
         ensures finished { OnTrue result (IsFinished self.now) }
@@ -220,26 +229,27 @@ impl<'a> World<'a> {
         self.finished()
     }
 
-    /// What is true of every world: each state stands, each shell's log is a front of its whole log over what
-    /// arrives at it in the chain, and what was collected is a front of what leaves the last shell. It does
-    /// nothing.
+    /// What is true of every world: each state is sound, each shell's log so far is a front of its whole log over what
+    /// arrives at it in the chain, and what was collected is a front of what departs from the last shell. It does
+    /// nothing; a call makes the fact known.
     pub fn stands(&self)
         ensures { Keeps self.now }
     {
         let _ = &self.horizon;
     }
 
-    // The states of the shells of a finished world, in passing order.
+    // Returns the states of the shells of a finished world, in passing order.
     pub(crate) fn into_states(self, alloc: Global) -> Result<Vec<ShellState>, OutOfMemory>
         requires { IsFinished self }
         ensures { IfOk result (λ states. HavePassed self.entry.horizon
             (specs_of self.entry) (arrivals_of self.entry) states.items) }
     {
-        self.reached();
+        self.reached(); // fact: the streams of the world fit each other
         states_of(alloc, self.stages)
     }
 }
 
+// Returns the shells' states.
 fn states_of(alloc: Global, stages: Vec<Stage>) -> Result<Vec<ShellState>, OutOfMemory>
     ensures { IfOk result (λ states. states.items ≡ map (λ s. s.state) stages.items) }
 {
@@ -247,7 +257,7 @@ fn states_of(alloc: Global, stages: Vec<Stage>) -> Result<Vec<ShellState>, OutOf
     Ok(states)
 }
 
-// The shells of a direction, before anything reached them.
+// Makes the shells of a direction, before anything has reached them.
 fn new_stages(
     alloc: Global,
     nest: &Nest,

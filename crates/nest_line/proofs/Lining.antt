@@ -16,7 +16,8 @@ use Rattle.nest_line.specs.views.Line.{line_view}
 use Rattle.nest_line.specs.inside.Meeting.{Meet}
 use Rattle.nest_line.specs.views.Meeting.{fed_of, last_taken, specs_of}
 use Rattle.nest_line.specs.declared.line.Line.TheInside.{Inside}
-use Rattle.nest_line.proofs.Settling.{last_rises, line_ended, line_entered, line_front, line_passed, not_cut}
+use Rattle.nest_line.proofs.Settling.{last_rises, line_ended, line_entered, line_front, line_once}
+use Rattle.nest_line.proofs.Settling.{line_passed, not_cut}
 use Rattle.nest_line.proofs.Settling.{settled_at}
 
 rises_all : (h : ℕ) (states : List State) → 1 ≤ length states → Meet h (fed_of states) states
@@ -37,6 +38,7 @@ line_settles l is = record {
       (never_cut l.horizon l.states.items is.some is.meet) le within;
   ended = λ e. line_ended l.horizon (fed_of l.states.items) l.states.items is.meet e;
   foretells = λ coming come. line_front l.horizon (fed_of l.states.items) l.states.items coming is.meet come;
+  once = λ p. line_once p l.horizon (fed_of l.states.items) l.states.items is.meet;
   entered = λ p none. line_entered p l.horizon (fed_of l.states.items) l.states.items is.meet none;
 }
 

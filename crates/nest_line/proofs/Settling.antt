@@ -28,9 +28,9 @@ use Rattle.shell_state.proofs.Keeping.{licensed_open, licensed-le}
 use Rattle.shell_state.proofs.Foretelling.{foretells_more, out_goes_on, finished}
 use Rattle.shell_state.proofs.GoingOn.{keeps_up}
 use Rattle.nest_spec.specs.Passed.{HavePassed}
-use Rattle.nest_line.specs.Lines.{IsFront, last_out, up_to}
+use Rattle.nest_line.specs.Lines.{IsFront, last_out, number_all, up_to}
 use Rattle.nest_line.specs.inside.Meeting.{IsSound, Rests, Meet}
-use Rattle.nest_line.specs.views.Meeting.{last_taken, specs_of}
+use Rattle.nest_line.specs.views.Meeting.{last_taken, lost_of, specs_of}
 
 link_or_not : (c : DirSpec) → (IsLink c) ⊎ (IsLink c → ⊥)
 link_or_not Pass = inr (λ link. link)
@@ -282,6 +282,19 @@ line_entered p h whole [] meet none = none
 line_entered p h whole (s ∷ states) meet none =
     line_entered p h s.taken states meet.2 (taken_entered p s meet.1.sound.stands
     (ap (λ (f : Stream). number p f.packets) meet.0 ∙ none))
+
+-- each packet that came to the first shell is lost or has left the last once at most
+pub line_once : (p : Packet → Bool) (h : ℕ) (whole : Stream) (states : List State) → Meet h whole states
+    → number_all p (lost_of states) + number p (last_taken whole.packets states) ≤ number p whole.packets
+line_once p h whole [] meet = omega arith
+line_once p h whole (s ∷ states) meet =
+    let rest = line_once p h s.taken states meet.2 in
+    let st = meet.1.sound.stands in
+    let once = number_once p s.spec s.horizon s.burnt s.fed.packets st.built in
+    let parts : number p (departures s) ≡ number p s.taken.packets + number p (ready s) =
+    ap (number p) st.taken ∙ number-append p s.taken.packets (ready s) in
+    let fed : number p s.fed.packets ≡ number p whole.packets = ap (λ (f : Stream). number p f.packets) meet.0 in
+    omega arith
 
 pub not_cut : (h : ℕ) (whole : Stream) (s : State) (states : List State) → Meet h whole (s ∷ states) → whole.end ≡ Cut
     → ⊥

@@ -1,3 +1,3 @@
--- What proofs and the clauses of inner functions cite, and no caller needs.
+-- What only proofs and the clauses of private functions cite.
 pub mod LineViews
 pub mod Meeting

@@ -1,3 +1,3 @@
--- What `.now` of a type means, by the type's fields, and what is true of these.
+-- What contracts see of each public type (`.now`), by its fields.
 pub mod Line
 pub mod Meeting

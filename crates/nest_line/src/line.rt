@@ -1,5 +1,5 @@
-// A direction of a nest that packets pass as they come.
-ghost use Rattle.std.specs.Prelude.{◌≡◌, ◌≤◌, false, length, IfOk};
+// A line: one direction of a nest, which is fed items one by one.
+ghost use Rattle.std.specs.Prelude.{◌≡◌, ◌≤◌, [], false, get_or, length, IfOk};
 ghost use Rattle.packet_record.specs.declared.item.FlowEnd.TheVariants.{Ended};
 ghost use Rattle.packet_record.specs.Streams.{MayFollow, IsUpTo, no_items};
 ghost use Rattle.shell_state.specs.Steps.{breaks};
@@ -17,10 +17,11 @@ use std::alloc::Global;
 use std::marker::Model;
 use text_base::OutOfMemory;
 
-/// One direction of a nest, which is fed items and lets each pass all its shells as far as it can before the next.
+/// One direction of a nest. It is fed items, and lets each pass all shells as far as it can before the next.
 ///
-/// Contracts see what its shells do, the horizon, the stream that was fed, and the packets that have left the last
-/// shell. Some of these are at moments past the stream's bound already, where no packet that may still come can change
+/// Contracts see what its shells do, the horizon, the stream that was fed, what each shell has dropped, and the packets
+/// that have departed from the last shell. Some of these may have moments after the stream's bound, where no packet that
+/// may still come can change
 /// them.
 #[derive(Drop)]
 pub struct Line {
@@ -42,22 +43,21 @@ impl Model for Line {
 }
 
 impl Line {
-    /// A direction of a nest before anything was fed. `OutOfMemory` is want of memory.
+    /// Makes a line before anything was fed. Returns `OutOfMemory` where an allocation fails.
     pub fn new(alloc: Global, nest: &Nest, direction: Direction) -> Result<Line, OutOfMemory>
         ensures specs { IfOk result (λ line. line.specs ≡ directions_of direction nest.now) }
         ensures horizon { IfOk result (λ line. line.horizon ≡ nest.now.horizon) }
         ensures fed { IfOk result (λ line. line.fed ≡ no_items) }
     {
         let horizon = nest.horizon();
-        // What holds of every nest: it has a shell.
-        nest.shells();
+        nest.shells(); // fact: a nest has at least one shell
         let mut states = new_states(alloc, nest, direction)?;
         advance(horizon, states.as_mut_slice(), Item::Mark(0))?;
         Ok(Line { horizon, states })
     }
 
-    /// Feeds the item, which isn't `Broken`, and lets all that it leads to pass. `OutOfMemory` is want of memory; the
-    /// line is then given up.
+    /// Feeds `item`, which isn't `Broken` and may follow what was fed, and lets all that comes of it pass. Where an
+    /// allocation fails it returns `OutOfMemory`, and the line is lost.
     pub fn feed(self, item: Item) -> Result<Line, OutOfMemory>
         requires follows { MayFollow self.fed item }
         requires within { IsUpTo self.horizon item }
@@ -72,8 +72,8 @@ impl Line {
         Ok(Line { horizon, states })
     }
 
-    /// The packets that have left the last shell, in order. Up to the bound of what was fed they are those of the whole
-    /// composition, whatever is still fed; at the end all of them.
+    /// Returns the packets that have departed from the last shell, in order. Up to the bound of what was fed they are
+    /// all that depart, whatever is fed later; once the end was fed they are all.
     pub fn departed(&self) -> &[Timed]
         ensures departed { result.now ≡ self.now.departed }
         ensures settled { IsSettled self.now }
@@ -81,7 +81,18 @@ impl Line {
         last_departed(self.states.as_slice(), &[])
     }
 
-    /// The states of the shells in passing order, where the end was fed.
+    /// Returns the packets that shell `shell` has dropped so far, in order. Shells are counted from 0, in passing order;
+    /// past the last one there are none.
+    pub fn lost(&self, shell: usize) -> &[Timed]
+        ensures { result.now ≡ get_or self.now.lost shell [] }
+    {
+        match self.states.get(shell) {
+            Some(state) => state.lost(),
+            None => &[],
+        }
+    }
+
+    /// Returns the states of the shells in passing order. The end was fed.
     pub fn states(&self) -> &[ShellState]
         requires { self.now.fed.end ≡ Ended }
         ensures { HavePassed self.now.horizon self.now.specs self.now.fed.packets result.now }
@@ -90,7 +101,7 @@ impl Line {
     }
 }
 
-// The packets that have left the last of these shells, where those came to the first.
+// Returns the packets that were taken from the last shell, or `packets` where there is no shell.
 fn last_departed<'a>(states: &'a [ShellState], packets: &'a [Timed]) -> &'a [Timed]
     ensures { result.now ≡ last_taken packets.now states.now }
 {
@@ -100,7 +111,7 @@ fn last_departed<'a>(states: &'a [ShellState], packets: &'a [Timed]) -> &'a [Tim
     }
 }
 
-// The states of the shells in a direction before anything was fed.
+// Makes the states of the shells in a direction, before anything was fed.
 fn new_states(
     alloc: Global,
     nest: &Nest,
@@ -114,7 +125,7 @@ fn new_states(
     let mut states = Vec::with_capacity(alloc, nest.shells() as usize)?;
     for spec in specs {
         let state = ShellState::new(alloc, spec, horizon)?;
-        state.stands();
+        state.stands(); // fact: a new state is sound
         states.push(state)?;
     }
     Ok(states)

@@ -1,4 +1,4 @@
-// Items pass shells, each to its rest before the next.
+// Lets items pass shells: each shell is fed what was taken from the one before it, and then taken from until it rests.
 ghost use Rattle.std.specs.Prelude.{◌≡◌, ◌≤◌, false, List, length, IfOk, OnOk};
 ghost use Rattle.std.specs.Bool.{OnTrue, OnFalse};
 ghost use Rattle.packet_record.specs.declared.packet.Timed.{Timed as TimedValue};
@@ -18,7 +18,7 @@ use text_base::OutOfMemory;
 // The most opportunities that one take burns.
 const MOST: u32 = 256;
 
-// Whether there may be more to take after this.
+// Returns whether there may be more to take after `taken`.
 fn goes_on(taken: Taken) -> bool
     ensures { result ≡ goes_on taken }
 {
@@ -28,7 +28,7 @@ fn goes_on(taken: Taken) -> bool
     }
 }
 
-// Takes once, and answers whether there may be more to take.
+// Takes once, and returns whether there may be more to take.
 fn take_once(state: &mut ShellState) -> Result<bool, OutOfMemory>
     requires whole { state.old.broken ≡ false }
     requires going { state.old.taken.end ≡ Open }
@@ -38,12 +38,12 @@ fn take_once(state: &mut ShellState) -> Result<bool, OutOfMemory>
     ensures more { IfOk result (λ more. OnTrue more (TakesFewer state.old state.new)) }
     ensures done { IfOk result (λ more. OnFalse more (state.new.taken.end ≡ Open → Waits state.new)) }
 {
-    state.stands();
+    state.stands(); // fact: the state is sound
     let taken = state.take(MOST)?;
     Ok(goes_on(taken))
 }
 
-// Takes until there is nothing to take before more is fed.
+// Takes until nothing can be taken before more is fed.
 fn take_all(state: &mut ShellState) -> Result<(), OutOfMemory>
     requires whole { state.old.broken ≡ false }
     requires going { state.old.taken.end ≡ Open }
@@ -56,7 +56,7 @@ fn take_all(state: &mut ShellState) -> Result<(), OutOfMemory>
     Ok(())
 }
 
-// Feeds these packets.
+// Feeds the packets.
 fn feed_packets(state: &mut ShellState, packets: &[Timed]) -> Result<(), OutOfMemory>
     requires whole { state.old.broken ≡ false }
     requires follow { AllFollow state.old.horizon state.old.fed (packet_items packets.now) }
@@ -77,7 +77,7 @@ fn feed_rest(state: &mut ShellState, before: &ShellState) -> Result<(), OutOfMem
     requires horizon { before.now.horizon ≡ state.old.horizon }
     ensures { OnOk result (Caught state.old before.now state.new) }
 {
-    before.stands();
+    before.stands(); // fact: what was taken may be fed to the next shell
     let taken = before.taken();
     let fed = state.fed().packets().len();
     feed_packets(state, &taken.packets()[fed..])?;
@@ -93,7 +93,7 @@ fn feed_from(state: &mut ShellState, before: &ShellState) -> Result<(), OutOfMem
     ensures taken { OnOk result (state.new.taken ≡ state.old.taken) }
     ensures fed { OnOk result (state.new.fed ≡ before.now.taken) }
 {
-    before.stands();
+    before.stands(); // fact: what was taken may be fed to the next shell
     feed_rest(state, before)?;
     if before.taken().end() == FlowEnd::Ended {
         return state.feed(Item::End);
@@ -101,7 +101,7 @@ fn feed_from(state: &mut ShellState, before: &ShellState) -> Result<(), OutOfMem
     Ok(())
 }
 
-// Feeds the shells what was taken from the one before them, and takes from each until it rests.
+// Feeds each shell what was taken from the one before it, the first from `before`, and takes from each until it rests.
 pub(crate) fn pass_on(
     _horizon: u64,
     before: &ShellState,
@@ -119,11 +119,11 @@ pub(crate) fn pass_on(
     };
     feed_from(first, before)?;
     take_all(first)?;
-    first.stands();
+    first.stands(); // fact: the state is sound
     pass_on(_horizon, first, rest)
 }
 
-// Feeds the first shell the item, and the others what comes of it.
+// Feeds `item` to the first shell, and to the others what comes of it.
 pub(crate) fn advance(
     _horizon: u64,
     states: &mut [ShellState],
@@ -144,6 +144,6 @@ pub(crate) fn advance(
     };
     first.feed(item)?;
     take_all(first)?;
-    first.stands();
+    first.stands(); // fact: the state is sound
     pass_on(_horizon, first, rest)
 }

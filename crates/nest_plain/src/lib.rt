@@ -1,4 +1,4 @@
-//! A run of a nest shell by shell, in one thread.
+//! Runs a nest shell by shell, in one thread: each shell over its whole list of arrivals.
 #![tactic(auto)]
 
 mod nest_run;

@@ -1,4 +1,4 @@
-// What a run gives before its logs are written out.
+// The result of a run before its logs are written out.
 ghost use Rattle.std.specs.Prelude.{◌≡◌, IfOk};
 ghost use Rattle.nest_spec.specs.RunViews.{all_named};
 ghost use Rattle.nest_plain.specs.Unwritten.{unwritten};
@@ -11,9 +11,9 @@ use text_base::OutOfMemory;
 /// A log that isn't written out, and the name of its file.
 pub type UnwrittenLog = Named<LinkLog>;
 
-/// The fate of each packet in the order of their rows, and the logs that have a name in the order of the shells, up
-/// before down. The logs aren't written out: each keeps the arrivals of its link. Contracts see the fates, and the
-/// names and entries of the logs.
+/// The fate of each row, in the order of the rows, and the logs that have a name, in the order of the shells, up before
+/// down. A log isn't written out: it keeps the arrivals of its link. Contracts see the fates, and the names and entries
+/// of the logs.
 #[derive(Drop)]
 pub struct NestRun {
     fates: Vec<PackedFate>,
@@ -31,14 +31,14 @@ impl Model for NestRun {
 }
 
 impl NestRun {
-    /// The run with these fates and logs.
+    /// The run of `fates` and `logs`.
     pub fn new(fates: Vec<PackedFate>, logs: Vec<UnwrittenLog>) -> Self
         ensures { result ≡ record { fates = fates.items; logs = unwritten logs.items } }
     {
         NestRun { fates, logs }
     }
 
-    /// The fates, one for each row, and the named logs.
+    /// Returns the fates, one for each row, and the named logs.
     pub fn into_parts(self) -> (Vec<PackedFate>, Vec<UnwrittenLog>)
         ensures fates { result.0.items ≡ self.fates }
         ensures logs { unwritten result.1.items ≡ self.logs }
@@ -46,8 +46,8 @@ impl NestRun {
         (self.fates, self.logs)
     }
 
-    /// The same with its fates as rows and its logs written out, each of which lets its arrivals go. `OutOfMemory` is
-    /// want of memory.
+    /// Returns the same result with the fates as rows and the logs written out. Each log gives up its arrivals once it
+    /// is written. Returns `OutOfMemory` where an allocation fails.
     pub fn into_result(self) -> Result<RunResult, OutOfMemory>
         ensures { IfOk result (λ r. r ≡ self) }
     {
@@ -57,7 +57,7 @@ impl NestRun {
     }
 }
 
-// Each log, written out.
+// Writes each log out.
 fn write_out(logs: Vec<UnwrittenLog>) -> Result<Vec<NamedLog>, OutOfMemory>
     ensures { IfOk result (λ list. all_named list.items ≡ unwritten logs.items) }
 {

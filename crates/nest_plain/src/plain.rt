@@ -1,4 +1,4 @@
-// A run of a nest shell by shell.
+// Runs a schedule through a nest, shell by shell.
 ghost use Rattle.std.specs.Prelude.{◌≡◌, map, option_map, IfOk, OnOk};
 ghost use Rattle.packet_record.specs.declared.packet.Row.{Row as RowValue};
 ghost use Rattle.packet_record.specs.Rows.{entering, Rises};
@@ -19,7 +19,7 @@ use packet_record::{Direction, Row, Schedule, Timed};
 use std::alloc::Global;
 use text_base::OutOfMemory;
 
-// The packets of a direction up to the horizon.
+// Returns the packets of a direction up to the horizon.
 fn entering(
     alloc: Global,
     direction: Direction,
@@ -36,8 +36,8 @@ fn entering(
     Ok(packets)
 }
 
-// A direction's packets through its shells, their fates marked: the logs of its shells in passing order, where they
-// have names.
+// Runs a direction's packets through its shells and marks their fates. Returns the logs of the shells in passing order,
+// `None` for one without a name.
 fn run_direction(
     alloc: Global,
     nest: &Nest,
@@ -64,8 +64,8 @@ fn run_direction(
     Ok(logs)
 }
 
-/// Runs the schedule through the nest, each shell over its whole list of arrivals and then the next: the fate of each
-/// packet and the named logs, as the composition of the shells' functions gives them. The logs aren't written out.
+/// Runs the schedule through the nest, each shell over its whole list of arrivals and then the next. Returns the fate
+/// of each packet and the named logs, which aren't written out. Returns `OutOfMemory` where an allocation fails.
 pub fn run_nest(alloc: Global, nest: &Nest, schedule: &Schedule) -> Result<NestRun, OutOfMemory>
     ensures value { IfOk result (λ r. r ≡ result_of nest.now schedule.now) }
     ensures once { OnOk result (HaveOneFate nest.now schedule.now) }
@@ -78,7 +78,8 @@ pub fn run_nest(alloc: Global, nest: &Nest, schedule: &Schedule) -> Result<NestR
     Ok(NestRun::new(marking.into_fates(), logs))
 }
 
-/// Runs the schedule through the nest as `run_nest` does, and writes the logs out.
+/// Runs the schedule through the nest as `run_nest` does, and writes the logs out. Returns `OutOfMemory` where an
+/// allocation fails.
 pub fn run_plain(alloc: Global, nest: &Nest, schedule: &Schedule) -> Result<RunResult, OutOfMemory>
     ensures value { IfOk result (λ r. r ≡ result_of nest.now schedule.now) }
     ensures once { OnOk result (HaveOneFate nest.now schedule.now) }

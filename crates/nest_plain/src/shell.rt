@@ -1,4 +1,4 @@
-// Each shell over its whole list of arrivals, then the next.
+// Runs shells one after the other, each over its whole list of arrivals.
 ghost use Rattle.std.specs.Prelude.{◌≡◌, ◌≤◌, ◌++◌, IsSome, length, map, option_map, OnOk, IfOk};
 ghost use Rattle.std.specs.Vec.Iter.{into_iter_items};
 ghost use Rattle.packet_record.specs.declared.packet.Row.{Row as RowValue};
@@ -24,7 +24,8 @@ use std::alloc::Global;
 use std::vec::IntoIter;
 use text_base::OutOfMemory;
 
-// One shell over all that arrives, whose fates in it are marked: what departs, and the log, where it has a name.
+// Runs one shell over all that arrives, and marks the fates of packets that it drops or keeps. Returns what departs,
+// and the shell's log, where it has a name.
 fn run_shell(
     alloc: Global,
     marking: &mut Marking<'_>,
@@ -62,7 +63,8 @@ fn run_shell(
     Ok((departed, named))
 }
 
-// Each shell over what departed from the one before it. Adds the log of each, where it has a name.
+// Runs each shell over what departed from the one before it. Adds the log of each to `logs`, or `None` where it has no
+// name.
 pub(crate) fn run_shells(
     marking: &mut Marking<'_>,
     logs: &mut Vec<Option<UnwrittenLog>>,

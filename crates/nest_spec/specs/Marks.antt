@@ -1,5 +1,5 @@
--- What contracts see of a marking, and what marking does: the fates of rows, marked shell by shell. That this
--- gives the fates of the walk is proved.
+-- A marking: the rows of a run, and their fates so far. Fates are marked shell by shell as the packets pass. Fates that
+-- are marked so through a whole walk are those of the walk, which is proved.
 use Rattle.std.specs.Prelude.{ℕ, ◌==◌, List, if◌then◌else◌}
 use Rattle.std.specs.List.{list_any}
 use Rattle.std.specs.Option.{option_map_or}
@@ -12,27 +12,29 @@ use Rattle.nest_spec.specs.declared.mark.Mark.{Mark}
 use Rattle.nest_spec.specs.declared.mark.Mark.TheVariants.{Drops, Leaves}
 use Rattle.nest_spec.specs.Fates.{find_id}
 
--- the rows, and the fates so far
+-- The rows, and a fate for each.
 pub record Marks : Type 0 where
   pub rows : List Row
   pub fates : List FateRow
 
+-- The marking of `rows` and `fates`.
 abbrev pub marks : List Row → List FateRow → Marks
 marks rows fates = record { rows = rows; fates = fates }
 
--- the fate of a packet that a shell dropped, or that left the last shell
+-- The fate of a packet that is marked: dropped by a shell, or departed from the last shell.
 abbrev pub mark_fate : Mark → Timed → Fate
 mark_fate (Drops shell) t = fates.Dropped shell t.moment
 mark_fate Leaves t = fates.Departed t.moment
 
--- where the rows of these packets are marked
+-- The fates `f`, where the rows of `packets` have the fate of `mark`.
 abbrev pub marked : List Timed → Mark → (Row → Fate) → Row → Fate
 marked packets mark f row = option_map_or (mark_fate mark) (find_id row.timed.packet.id packets) (f row)
 
--- where the rows of these numbers are inside a shell
+-- The fates `f`, where the rows whose numbers are in `ids` are inside `shell`.
 abbrev pub held_in : List ℕ → ℕ → (Row → Fate) → Row → Fate
 held_in ids shell f row = if list_any (λ id. id == row.timed.packet.id) ids then fates.Inside shell else f row
 
--- where packets have passed the shell of this number, which dropped some and holds those of these numbers
+-- The fates `f` once packets have passed the shell `number`: it dropped `lost`, and the packets numbered in `held` are
+-- still inside it.
 abbrev pub passed : ℕ → List Timed → List ℕ → (Row → Fate) → Row → Fate
 passed number lost held f = marked lost (Drops number) (held_in held number f)

@@ -1,4 +1,4 @@
--- The numbers of the refusals of a nest's words.
+-- The number of each refusal of a nest's words, and the word or shell that it names.
 use Rattle.std.specs.Prelude.{ℕ, Option, Some, None}
 use Rattle.packet_queue.specs.Faults.{number_of_fault}
 use Rattle.loss_core.specs.Rates.{error_number}
@@ -7,6 +7,7 @@ use Rattle.nest_spec.specs.declared.error.NestError.TheVariants.{NoShell, Unknow
 use Rattle.nest_spec.specs.declared.error.NestError.TheVariants.{BadOption, RepeatedOption, TooManyShells, Queue, Rate}
 use Rattle.nest_spec.specs.declared.error.NestError.TheVariants.{BadDirection, OutOfMemory}
 
+-- The number of a refusal, 1 to 10, or 0 for out of memory.
 abbrev pub number_of : NestError → ℕ
 number_of NoShell = 1
 number_of (UnknownShell word) = 2
@@ -20,7 +21,7 @@ number_of (Rate shell fault) = 9
 number_of (BadDirection shell) = 10
 number_of OutOfMemory = 0
 
--- the word or the shell that a refusal names, or 0
+-- The word or the shell that a refusal names, counted from 1, or 0 where it names none.
 abbrev pub place_of : NestError → ℕ
 place_of NoShell = 0
 place_of (UnknownShell word) = word
@@ -34,7 +35,7 @@ place_of (Rate shell fault) = shell
 place_of (BadDirection shell) = shell
 place_of OutOfMemory = 0
 
--- the number of the refusal of a queue's or a rate's words
+-- The number of the error that a queue's or a loss rate's words have, if the refusal is of one.
 abbrev pub inner_of : NestError → Option ℕ
 inner_of NoShell = None
 inner_of (UnknownShell word) = None

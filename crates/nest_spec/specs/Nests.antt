@@ -27,19 +27,19 @@ use Rattle.nest_spec.specs.Walk.{Step, walk, named_log, in_nest_order}
 use Rattle.nest_spec.specs.Fates.{fate_in, fated}
 pub use Rattle.nest_spec.specs.Walk.{NamedEntries}
 
--- the shells, the outermost first, the seed of their losses, and the horizon
+-- The shells, the outermost first, the seed of their losses, and the horizon in milliseconds.
 pub record NestParts : Type 0 where
   pub shells : List Shell
   pub seed : ℕ
   pub horizon : ℕ
 
--- one direction of a link with its trace, and with the first of these names where it is logged
+-- One direction of a link, with its trace. Its log, where it has one, has the first of `names` as its name.
 abbrev pub side_with : LinkSide → Trace → List Text → Side
 side_with side trace names =
     record { trace = trace; queue = side.queue; log = if side.logged then slice_get names 0 else None }
 
--- The shells of these words. Each link takes the next two traces, and each of its sides that is logged the next name,
--- up before down.
+-- The shells of their words. Each link takes the next two traces, and each of its directions that is logged the next
+-- name, up before down.
 abbrev pub shells_of : List ShellWords → List Trace → List Text → List Shell
 shells_of [] traces names = []
 shells_of (words.Delay ms ∷ more) traces names = Delay ms ∷ shells_of more traces names
@@ -50,6 +50,7 @@ shells_of (words.Link once up down ∷ more) (t ∷ u ∷ traces) names =
     Link once (side_with up t names) (side_with down u (drop (log_in up) names))
     ∷ shells_of more traces (drop (log_in down) (drop (log_in up) names))
 
+-- The nest of a plan, with `traces` in the order of their names.
 abbrev pub built : NestPlan → List Trace → ℕ → ℕ → NestParts
 built plan traces seed horizon = record {
   shells = shells_of plan.shells traces plan.logs;
@@ -57,10 +58,11 @@ built plan traces seed horizon = record {
   horizon = horizon;
 }
 
--- how many opportunities a link has up to a horizon, in both directions together
+-- How many opportunities one direction of a link has up to the horizon `h`. With `once` the trace doesn't begin again.
 abbrev pub side_opportunities : ℕ → Bool → Side → ℕ
 side_opportunities h once side = length (opps side.trace.opportunities once h)
 
+-- How many opportunities all links have up to the horizon `h`, in both directions together.
 abbrev pub all_opportunities : ℕ → List Shell → ℕ
 all_opportunities h [] = 0
 all_opportunities h (Delay ms ∷ shells) = all_opportunities h shells
@@ -68,32 +70,35 @@ all_opportunities h (Loss d rate ∷ shells) = all_opportunities h shells
 all_opportunities h (Link once up down ∷ shells) =
     side_opportunities h once up + side_opportunities h once down + all_opportunities h shells
 
--- of the nest of these words with these traces, whatever the names of its logs
+-- How many opportunities the links of words have with `traces`, in both directions together.
 abbrev pub opportunities_of : ℕ → List ShellWords → List Trace → ℕ
 opportunities_of h shells traces = all_opportunities h (shells_of shells traces [])
 
--- the stream of the words of a shell's loss
+-- The stream of random words that the loss of shell `number` draws from: twice the number for up, one more for down.
 abbrev pub stream_of : ℕ → Direction → ℕ
 stream_of number Up = 2 * number
 stream_of number Down = 2 * number + 1
 
+-- Of a pair of values for up and down, that of the direction.
 abbrev pub side_in : {A : Type 0} → Direction → A → A → A
 side_in Up up down = up
 side_in Down up down = down
 
--- What the shell of this number does in a direction. A loss is of one direction, and the other passes every packet.
+-- What the shell `number` does in the direction `d`. A loss drops packets in the direction that it names, and passes
+-- every packet in the other.
 abbrev pub spec_in : Direction → ℕ → ℕ → Shell → DirSpec
 spec_in d seed number (Delay ms) = specs.Delay ms
 spec_in d seed number (Loss named rate) =
     if goes d named then specs.Loss rate seed (stream_of number d) else specs.Pass
 spec_in d seed number (Link once up down) = specs.Link (side_in d up down).trace once (side_in d up down).queue
 
--- the name of its log, if it has one
+-- The name of a shell's log in the direction `d`, if it has one.
 abbrev pub log_name : Direction → Shell → Option Text
 log_name d (Delay ms) = None
 log_name d (Loss named rate) = None
 log_name d (Link once up down) = (side_in d up down).log
 
+-- The shell `number` in the direction `d`: its number, what it does there, and the name of its log there.
 abbrev pub in_direction : Direction → ℕ → ℕ → Shell → ShellDirection
 in_direction d seed number shell = record {
   number = number;
@@ -101,38 +106,39 @@ in_direction d seed number shell = record {
   log = log_name d shell;
 }
 
--- shells in a direction, the first with this number
+-- Shells in the direction `d`, in the order of the nest. The first has the number `number`.
 abbrev pub all_in_direction : Direction → ℕ → ℕ → List Shell → List ShellDirection
 all_in_direction d seed number [] = []
 all_in_direction d seed number (shell ∷ shells) = in_direction d seed number shell ∷ all_in_direction d seed
     (number + 1) shells
 
--- an uplink packet passes the innermost shell first, a downlink packet the outermost
+-- A nest's shells in the order in which packets pass them: up the innermost first, down the outermost first.
 abbrev pub in_passing_order : {A : Type 0} → Direction → List A → List A
 in_passing_order Up xs = reverse xs
 in_passing_order Down xs = xs
 
--- the shells of a nest in a direction, in passing order; they are numbered from 1, the outermost first
+-- The shells of a nest in a direction, in passing order. They are numbered from 1, the outermost first.
 abbrev pub shells_in : Direction → NestParts → List ShellDirection
 shells_in d nest = in_passing_order d (all_in_direction d nest.seed 1 nest.shells)
 
--- what they do
+-- What the shells of a nest do in a direction, in passing order.
 abbrev pub directions_of : Direction → NestParts → List DirSpec
 directions_of d nest = map (λ (s : ShellDirection). s.spec) (shells_in d nest)
 
--- each direction is in its range and has few opportunities
+-- Each shell's delay is within its range, and each has at most 16,000,000 opportunities up to the horizon `h`.
 abbrev pub AllFit : ℕ → List DirSpec → Type 0
 AllFit h [] = Unit {0}
 AllFit h (c ∷ specs) = IsInRange c × (length (opportunities c h) ≤ 16000000) × AllFit h specs
 
--- a delay is at most an hour
+-- Each delay is at most an hour.
 abbrev pub AreInRange : List Shell → Type 0
 AreInRange [] = Unit {0}
 AreInRange (Delay ms ∷ shells) = (ms ≤ 3600000) × AreInRange shells
 AreInRange (Loss d rate ∷ shells) = AreInRange shells
 AreInRange (Link once up down ∷ shells) = AreInRange shells
 
--- what is true of every nest
+-- What is true of every nest: it has 1 to 8 shells, delays and a horizon of at most an hour, and at most 16,000,000
+-- opportunities up to the horizon.
 pub record IsNest (nest : NestParts) : Type 0 where
   pub some : 1 ≤ length nest.shells
   pub few : length nest.shells ≤ 8
@@ -140,26 +146,30 @@ pub record IsNest (nest : NestParts) : Type 0 where
   pub horizon : nest.horizon ≤ 3600000
   pub opportunities : all_opportunities nest.horizon nest.shells ≤ 16000000
 
--- the walk of what enters in a direction (Entering) through the nest
+-- The walk of the packets that enter in a direction, up to the horizon, through the nest.
 abbrev pub walk_of : Direction → NestParts → List Row → List Step
 walk_of d nest rows = walk nest.horizon (shells_in d nest) (entering d nest.horizon rows)
 
--- Fate: the rows past the horizon are unsent
+-- The fate of a row. A row whose moment is after the horizon is unsent.
 abbrev pub fate_of : NestParts → List Row → Row → Fate
 fate_of nest rows row =
     if nat_lt nest.horizon row.timed.moment then fates.Unsent
     else fate_in row.timed.packet.id (entering row.direction nest.horizon rows) (walk_of row.direction nest rows)
 
--- Result: the fate of each row, and the logs that have a name, in the nest's order, up before down
+-- The result of a run: the fate of each row in their order, and the logs that have a name in the nest's order, up
+-- before down.
 pub record RunLists : Type 0 where
   pub fates : List FateRow
   pub logs : List NamedEntries
 
+-- The result of `fates` and `logs`.
 abbrev pub run_lists : List FateRow → List NamedEntries → RunLists
 run_lists fates logs = record { fates = fates; logs = logs }
 
+-- The named logs of a run in the nest's order, up before down.
 abbrev pub logs_of : NestParts → List Row → List NamedEntries
 logs_of nest rows = in_nest_order (map named_log (walk_of Up nest rows)) (map named_log (walk_of Down nest rows))
 
+-- The result of a run of `rows` through a nest.
 abbrev pub result_of : NestParts → List Row → RunLists
 result_of nest rows = run_lists (fated (fate_of nest rows) rows) (logs_of nest rows)

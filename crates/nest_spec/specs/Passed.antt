@@ -1,12 +1,12 @@
--- The states of shells through which packets have passed.
+-- The states of shells through which packets have passed to the end.
 use Rattle.std.specs.Prelude.{◌≡◌, ℕ, List, [], ◌∷◌}
 use Rattle.packet_record.specs.declared.packet.Timed.{Timed}
 use Rattle.packet_record.specs.declared.item.FlowEnd.TheVariants.{Ended}
 use Rattle.shell_core.specs.declared.spec.DirSpec.{DirSpec}
 use Rattle.shell_state.specs.States.{State}
 
--- The states of these directions in passing order: each was fed what was taken from the one before it, the first these
--- packets, and was taken to its end.
+-- The states of shells that do `specs`, in passing order. The first was fed `arrived`, each other what was taken from
+-- the one before it, and each was taken to its end.
 abbrev pub HavePassed : ℕ → List DirSpec → List Timed → List State → Type 0
 HavePassed h [] arrived [] = Unit {0}
 HavePassed h [] arrived (s ∷ states) = ⊥

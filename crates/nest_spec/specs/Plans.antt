@@ -1,50 +1,56 @@
--- What holds of every nest that words state.
+-- What is true of every nest that words state: how many shells, traces and logs it has.
 use Rattle.std.specs.Prelude.{◌≡◌, ℕ, ◌+◌, ◌≤◌, List, [], ◌∷◌, length, if◌then◌else◌}
 use Rattle.nest_spec.specs.Words.{NestPlan}
 use Rattle.nest_spec.specs.declared.shell_words.ShellWords.{ShellWords}
 use Rattle.nest_spec.specs.declared.shell_words.ShellWords.TheVariants.{Delay, Loss, Link}
 use Rattle.nest_spec.specs.declared.shell_words.LinkSide.{LinkSide}
 
--- a delay is at most an hour
+-- A delay is at most an hour.
 abbrev pub IsShell : ShellWords → Type 0
 IsShell (Delay ms) = ms ≤ 3600000
 IsShell (Loss d rate) = Unit {0}
 IsShell (Link once up down) = Unit {0}
 
+-- Each delay is at most an hour.
 abbrev pub AreShells : List ShellWords → Type 0
 AreShells [] = Unit {0}
 AreShells (shell ∷ shells) = IsShell shell × AreShells shells
 
--- how many traces and logs a shell names
+-- How many traces a shell names.
 abbrev pub traces_in : ShellWords → ℕ
 traces_in (Delay ms) = 0
 traces_in (Loss d rate) = 0
 traces_in (Link once up down) = 2
 
+-- How many logs one direction of a link names.
 abbrev pub log_in : LinkSide → ℕ
 log_in side = if side.logged then 1 else 0
 
+-- How many logs a shell names.
 abbrev pub logs_in : ShellWords → ℕ
 logs_in (Delay ms) = 0
 logs_in (Loss d rate) = 0
 logs_in (Link once up down) = log_in up + log_in down
 
+-- How many traces all shells name.
 abbrev pub trace_count : List ShellWords → ℕ
 trace_count [] = 0
 trace_count (shell ∷ shells) = traces_in shell + trace_count shells
 
+-- How many logs all shells name.
 abbrev pub log_count : List ShellWords → ℕ
 log_count [] = 0
 log_count (shell ∷ shells) = logs_in shell + log_count shells
 
--- at most eight shells, each with its traces and logs
+-- What is true of a plan while its words are read: it has at most eight shells, and as many traces and logs as these
+-- name.
 pub record IsPart (plan : NestPlan) : Type 0 where
   pub few : length plan.shells ≤ 8
   pub shells : AreShells plan.shells
   pub traces : length plan.traces ≡ trace_count plan.shells
   pub logs : length plan.logs ≡ log_count plan.shells
 
--- and at least one
+-- What is true of a whole plan: it has at least one shell too.
 pub record IsPlan (plan : NestPlan) : Type 0 where
   pub some : 1 ≤ length plan.shells
   pub part : IsPart plan

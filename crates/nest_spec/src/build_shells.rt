@@ -1,4 +1,4 @@
-// The shells of words, each link with its traces and the names of its logs.
+// Builds the shells of a nest from its words: each link gets its traces and the names of its logs.
 ghost use Rattle.std.specs.Prelude.{◌≡◌, ◌≤◌, ◌<◌, ◌+◌, ◌∷◌, ◌++◌, List, is_some, length, option_to_list, OnOk, IfOk};
 ghost use Rattle.std.specs.Vec.Iter.{into_iter_items};
 ghost use Rattle.nest_spec.specs.declared.shell_words.ShellWords.{ShellWords as WordsValue};
@@ -11,7 +11,7 @@ use std::vec::IntoIter;
 use text_base::{OutOfMemory, Text};
 use trace_reader::Trace;
 
-/// The shells of these words with these traces, one for each of the words' traces.
+// Returns the shells of `words`, whose links take `traces` in their order. There is a trace for each name in the words.
 pub(crate) fn build_shells(
     alloc: Global,
     words: NestWords,
@@ -32,6 +32,7 @@ pub(crate) fn build_shells(
     Ok(shells)
 }
 
+// Adds the shells of `words`, which take the next of `traces` and `names`.
 fn push_shells(
     shells: &mut Vec<Shell>,
     words: &[ShellWords],
@@ -51,7 +52,7 @@ fn push_shells(
     push_shells(shells, words, traces, names)
 }
 
-// The shell of these words, which takes the traces and names of its sides.
+// Returns the shell of `words`, and takes the traces and names that it needs.
 fn shell_of(words: ShellWords, traces: &mut IntoIter<Trace>, names: &mut IntoIter<Text>) -> Shell
     requires traces { traces_in words ≤ length (into_iter_items traces.old) }
     requires names { logs_in words ≤ length (into_iter_items names.old) }
@@ -72,7 +73,7 @@ fn shell_of(words: ShellWords, traces: &mut IntoIter<Trace>, names: &mut IntoIte
     }
 }
 
-// The side of these words with the next trace, and with the next name where it is logged.
+// Returns one direction of a link. It takes the next trace, and the next name where it is logged.
 fn side_of(words: LinkSide, traces: &mut IntoIter<Trace>, names: &mut IntoIter<Text>) -> Side
     requires traces { 0 < length (into_iter_items traces.old) }
     requires names { log_in words ≤ length (into_iter_items names.old) }

@@ -6,38 +6,38 @@ use loss_core::RateError;
 use packet_queue::QueueError;
 use std::alloc::{AllocError, AllocFailed};
 
-/// Why words are no nest. Words are counted from 1, and so are shells, the outermost first. No refusal names a word
-/// past the 4294967295th.
+/// Why words are no nest. Words and shells are counted from 1, shells from the outermost. A word after the 4294967295th
+/// is named as the 4294967295th.
 #[derive(Clone, Copy, Debug, PartialEq, Eq)]
 pub enum NestError {
     /// 1: there are no words.
     NoShell,
-    /// 2: where a shell must begin, the word is none of `mm-delay`, `mm-loss` and `mm-link`.
+    /// 2: a shell must begin at the word, which is none of `mm-delay`, `mm-loss` and `mm-link`.
     UnknownShell { word: u32 },
-    /// 3: a word that this shell needs is missing, or one that may not be empty is empty.
+    /// 3: a word that the shell needs is missing, or one that may not be empty is empty.
     MissingWord { shell: u32 },
-    /// 4: a delay isn't a number of 1 to 10 digits, at most 3,600,000.
+    /// 4: the delay of the shell isn't a number of 1 to 10 digits that is at most 3,600,000.
     BadNumber { shell: u32 },
-    /// 5: mm-link has no such option, or a log's name after `=` begins with a hyphen.
+    /// 5: `mm-link` has no such option, or a log's name after `=` begins with a hyphen.
     BadOption { word: u32 },
-    /// 6: the option stands in this shell before.
+    /// 6: the option at the word was given to this shell before.
     RepeatedOption { word: u32 },
     /// 7: a ninth shell begins.
     TooManyShells,
-    /// 8: the words for a queue of this shell are refused.
+    /// 8: the words for a queue of the shell are refused.
     Queue { shell: u32, fault: QueueError },
-    /// 9: the rate of this shell is refused.
+    /// 9: the loss rate of the shell is refused.
     Rate { shell: u32, fault: RateError },
-    /// 10: a loss's direction is neither `uplink` nor `downlink`.
+    /// 10: the direction of the shell, a loss, is neither `uplink` nor `downlink`.
     BadDirection { shell: u32 },
-    /// Memory was wanting. The words weren't refused.
+    /// Out of memory. The words weren't refused.
     OutOfMemory,
 }
 
 impl NestError {
     ghost use Rattle.nest_spec.specs.NestFaults.{number_of, place_of, inner_of};
 
-    /// The number of the refusal, 1 to 10, or 0 for want of memory.
+    /// Returns the number of the refusal, 1 to 10, or 0 for out of memory.
     pub fn number(self) -> u32
         ensures { result ≡ number_of self }
     {
@@ -56,7 +56,7 @@ impl NestError {
         }
     }
 
-    /// The word or the shell that the refusal names, or 0 where it names none.
+    /// Returns the word or the shell that the refusal names, or 0 where it names none.
     pub fn place(self) -> u32
         ensures { result ≡ place_of self }
     {
@@ -72,7 +72,7 @@ impl NestError {
         }
     }
 
-    /// The number of the refusal inside this one, of a queue or a rate.
+    /// Returns the number of the error that the queue or the rate has, or `None` where the refusal is of neither.
     pub fn inner(self) -> Option<u32>
         ensures { result ≡ inner_of self }
     {

@@ -1,4 +1,4 @@
-// The text of fates.
+// Prints fates: a line for each packet.
 ghost use Rattle.std.specs.Prelude.{◌≡◌, ◌+◌, ◌≤◌, ◌++◌, length, IfOk};
 ghost use Rattle.nest_spec.specs.FateTexts.{fate_text, fate_line, fates_text};
 
@@ -6,7 +6,7 @@ use crate::{Fate, FateRow, PackedFate};
 use std::alloc::Global;
 use text_base::{Bytes, LineBuffer, OutOfMemory, PrintLine, print_lines};
 
-/// The text of these fates: a line for each, in their order. `OutOfMemory` is want of memory.
+/// Returns the text of `fates`: a line for each, in their order. Returns `OutOfMemory` where an allocation fails.
 pub fn print_fates(alloc: Global, fates: &[FateRow]) -> Result<Bytes, OutOfMemory>
     ensures { IfOk result (λ text. text ≡ fates_text fates.now) }
 {
@@ -34,7 +34,7 @@ impl PrintLine for PackedFate {
     }
 }
 
-/// Puts the text of a fate, of at most 39 bytes, in front.
+/// Puts the text of `fate`, at most 39 bytes, in front of `out`. There must be room for 41 bytes.
 #[inline(always)]
 pub fn put_fate(out: &mut LineBuffer, fate: Fate)
     requires { length out.old + 41 ≤ 147456 }

@@ -1,4 +1,4 @@
-// The result of a run, from the states of the shells.
+// Gathers the result of a run from the shells' states: the fate of each row, and the named logs.
 ghost use Rattle.std.specs.Prelude.{◌≡◌, ◌≤◌, ◌++◌, IsSome, map, option_map, IfOk, OnOk};
 ghost use Rattle.packet_record.specs.declared.item.FlowEnd.TheVariants.{Ended};
 ghost use Rattle.packet_record.specs.declared.packet.Row.{Row as RowValue};
@@ -28,8 +28,8 @@ use shell_state::ShellState;
 use std::alloc::Global;
 use text_base::{OutOfMemory, Text};
 
-// Marks the fates of what arrived at these shells, and of what passed them all, and adds the log of each, where it
-// has a name.
+// Marks the fates of packets that arrived at `shells` and passed them, and adds the log of each shell to `logs`, or
+// `None` where it has no name.
 fn gather_shells(
     marking: &mut Marking<'_>,
     logs: &mut Vec<Option<NamedLog>>,
@@ -55,8 +55,7 @@ fn gather_shells(
         return Ok(());
     };
     let (state, states) = states.split_first().unwrap();
-    // What holds of every state that stands: what was lost and held is the whole shell's.
-    state.stands();
+    state.stands(); // fact: what the state lost and holds is what the whole shell loses and keeps inside
     let held = state.inside()?;
     marking.pass(shell.number, state.lost(), held.as_slice());
     logs.push(named_log(*logs.allocator(), &shell.log, state)?)?;
@@ -70,7 +69,7 @@ fn gather_shells(
     )
 }
 
-// The log of a link, written out, where it has a name.
+// Returns the log of a link, written out, where it has a name.
 fn named_log(
     alloc: Global,
     name: &Option<Text>,
@@ -91,7 +90,8 @@ fn named_log(
     }))
 }
 
-// Marks the fates of a direction's rows: the logs of its shells in passing order, where they have names.
+// Marks the fates of a direction's rows, and returns the logs of its shells in passing order, `None` for one without a
+// name.
 fn gather_direction(
     alloc: Global,
     marking: &mut Marking<'_>,
@@ -126,9 +126,11 @@ fn gather_direction(
     Ok(logs)
 }
 
-/// The result of a run: the fate of each row, and the logs of the nest that have a name. The states are those of the
-/// nest's shells in passing order, each of which was fed what the one before it passed on, the first the direction's
-/// rows up to the horizon, and was taken to its end.
+/// Returns the result of a run: the fate of each row, and the logs of the nest that have a name.
+///
+/// `up` and `down` are the states of the nest's shells in passing order. The first was fed the direction's rows up to
+/// the horizon, each other what was taken from the one before it, and each was taken to its end. No two rows have one
+/// number. Returns `OutOfMemory` where an allocation fails.
 pub fn gather(
     alloc: Global,
     nest: &Nest,

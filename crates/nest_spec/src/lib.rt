@@ -1,4 +1,5 @@
-//! Nests of shells: their words, what becomes of their packets, and its text.
+//! Nests of shells: the words that state a nest, what becomes of each packet that is sent through it, and how that is
+//! printed.
 #![tactic(auto)]
 
 mod build_shells;

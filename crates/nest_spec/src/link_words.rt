@@ -1,4 +1,4 @@
-// The words of mm-link.
+// Reads the words after `mm-link`: two traces, and options in any place.
 ghost use Rattle.std.specs.Prelude.{◌≡◌, false, true, is_some, Some, None, Ok, Err, map, string_bytes, option_map};
 ghost use Rattle.std.specs.Prelude.{MatchResult};
 ghost use Rattle.nest_spec.specs.Words.{nothing_given, side, with_side, given, give, has_traces, give_trace};
@@ -10,7 +10,7 @@ use crate::NestError;
 use crate::shell_words::next;
 use packet_record::Direction;
 
-// An option that takes a value, by its direction.
+// An option that takes a value, with its direction.
 #[derive(Clone, Copy)]
 pub(crate) enum LinkOption {
     Log(Direction),
@@ -27,6 +27,7 @@ pub(crate) struct SideWords<'a> {
     pub args: Option<&'a str>,
 }
 
+// What the words have given so far. `once` is for both directions.
 #[derive(Clone, Copy)]
 pub(crate) struct LinkWords<'a> {
     pub once: bool,
@@ -37,6 +38,7 @@ pub(crate) struct LinkWords<'a> {
 impl<'a> LinkWords<'a> {
     ghost use Rattle.nest_spec.specs.inside.LinkWords.{side_given, link_given};
 
+    // Nothing is given.
     pub(crate) fn new() -> Self
         ensures { link_given result ≡ nothing_given }
     {
@@ -53,6 +55,7 @@ impl<'a> LinkWords<'a> {
         }
     }
 
+    // Returns what is given in a direction.
     fn side(&self, direction: Direction) -> SideWords<'a>
         ensures { side_given result ≡ side direction (link_given self.now) }
     {
@@ -62,6 +65,7 @@ impl<'a> LinkWords<'a> {
         }
     }
 
+    // Returns what is given once a direction has `side`.
     fn with_side(self, direction: Direction, side: SideWords<'a>) -> Self
         ensures { link_given result ≡ with_side direction (side_given side.entry) (link_given self.entry) }
     {
@@ -73,6 +77,7 @@ impl<'a> LinkWords<'a> {
         words
     }
 
+    // Returns whether an option has a value.
     fn is_given(&self, option: LinkOption) -> bool
         ensures { result ≡ is_some (given option (link_given self.now)) }
     {
@@ -83,6 +88,7 @@ impl<'a> LinkWords<'a> {
         }
     }
 
+    // Returns what is given once an option has `value`.
     fn give(self, option: LinkOption, value: &'a str) -> Self
         ensures { link_given result ≡ give option value.now (link_given self.entry) }
     {
@@ -105,12 +111,14 @@ impl<'a> LinkWords<'a> {
         }
     }
 
+    // Returns whether both traces are given.
     fn has_traces(&self) -> bool
         ensures { result ≡ has_traces (link_given self.now) }
     {
         self.up.trace.is_some() && self.down.trace.is_some()
     }
 
+    // Returns what is given once a trace is named: the first is for up, the second for down.
     fn give_trace(self, name: &'a str) -> Self
         ensures { link_given result ≡ give_trace name.now (link_given self.entry) }
     {
@@ -125,6 +133,7 @@ impl<'a> LinkWords<'a> {
     }
 }
 
+// Returns whether the word begins with a hyphen.
 fn begins_with_hyphen(word: &str) -> bool
     ensures { result ≡ begins_with_hyphen word.now }
 {
@@ -134,7 +143,7 @@ fn begins_with_hyphen(word: &str) -> bool
     }
 }
 
-// The name of an option's word, and the value after its first `=`.
+// Returns the name in an option's word, and the value after its first `=`, if it has one.
 fn name_and_value(word: &str) -> (&str, Option<&str>)
     ensures name { result.0.now ≡ name_in word.now }
     ensures value { option_map (λ s. s.now) result.1 ≡ value_in word.now }
@@ -145,6 +154,7 @@ fn name_and_value(word: &str) -> (&str, Option<&str>)
     }
 }
 
+// Returns the option of a name, or `None` where no option that takes a value has it.
 fn option_named(name: &str) -> Option<LinkOption>
     ensures { result ≡ option_named name.now }
 {
@@ -159,7 +169,7 @@ fn option_named(name: &str) -> Option<LinkOption>
     }
 }
 
-// Whether a value after `=` is one.
+// Checks a value after `=`: a log's name isn't empty, and doesn't begin with a hyphen.
 fn check_own_value(shell: u32, place: u32, option: LinkOption, value: &str) -> Result<(), NestError>
     ensures { MatchResult result (λ _. own_value shell place option value.now ≡ Ok value.now)
         (λ e. own_value shell place option value.now ≡ Err e) }
@@ -176,6 +186,7 @@ fn check_own_value(shell: u32, place: u32, option: LinkOption, value: &str) -> R
     Ok(())
 }
 
+// Returns whether `word` is to be a log's name and is empty.
 fn is_name_missing(option: LinkOption, word: &str) -> bool
     ensures { result ≡ is_name_missing option word.now }
 {
@@ -185,7 +196,7 @@ fn is_name_missing(option: LinkOption, word: &str) -> bool
     }
 }
 
-// Whether the next word is the value of an option.
+// Checks a value that is a word of its own: it doesn't begin with a hyphen, and a log's name isn't empty.
 fn check_next_value(shell: u32, option: LinkOption, word: &str) -> Result<(), NestError>
     ensures { MatchResult result (λ _. next_value shell option word.now ≡ Ok word.now)
         (λ e. next_value shell option word.now ≡ Err e) }
@@ -196,7 +207,7 @@ fn check_next_value(shell: u32, option: LinkOption, word: &str) -> Result<(), Ne
     Ok(())
 }
 
-// What was given after an option's word, and the option that waits for its value.
+// What is given after an option's word, and the option that takes the next word as its value, if one does.
 #[derive(Clone, Copy)]
 pub(crate) struct OptionWords<'a> {
     pub given: LinkWords<'a>,
@@ -205,6 +216,7 @@ pub(crate) struct OptionWords<'a> {
 
 ghost use Rattle.nest_spec.specs.inside.LinkWords.{text_of, link_given, option_given, rest_given};
 
+// Reads the option at the word `place`.
 fn read_option<'a>(
     shell: u32,
     place: u32,
@@ -221,6 +233,7 @@ fn read_option<'a>(
     read_valued(shell, place, option_named(name), value, given)
 }
 
+// Reads `--once`, which may be given once.
 fn read_once<'a>(place: u32, given: LinkWords<'a>) -> Result<OptionWords<'a>, NestError>
     ensures { MatchResult result
         (λ o. (given.entry.once ≡ false)
@@ -238,6 +251,7 @@ fn read_once<'a>(place: u32, given: LinkWords<'a>) -> Result<OptionWords<'a>, Ne
     })
 }
 
+// Reads an option that takes a value: it must be known, and not have been given before.
 fn read_valued<'a>(
     shell: u32,
     place: u32,
@@ -268,7 +282,7 @@ fn read_valued<'a>(
     })
 }
 
-// What a link was given, and the words after its own, the first with its place.
+// What a link was given, and the words that follow, the first of which is at `place`.
 #[derive(Clone, Copy)]
 pub(crate) struct LinkRest<'a> {
     pub given: LinkWords<'a>,
@@ -276,7 +290,7 @@ pub(crate) struct LinkRest<'a> {
     pub rest: &'a [String],
 }
 
-// Reads a link's words on, where an option may wait for its value.
+// Reads the words of a link from `place` on. An option that waits takes the next word as its value.
 #[tactic(auto, unfolding(crate::specs::Words::link_from))]
 pub(crate) fn read_link_words<'a>(
     shell: u32,

@@ -6,12 +6,16 @@ ghost use Rattle.nest_spec.specs.inside.PackedFates.{IsShort};
 use crate::Fate;
 use packet_record::Timed;
 
+// What happened to a packet that is marked.
 #[derive(Clone, Copy)]
 pub(crate) enum Mark {
+    // `shell` dropped it.
     Drops { shell: u32 },
+    // It departed from the last shell.
     Leaves,
 }
 
+// Returns the fate of a packet that is marked, at the packet's moment.
 pub(crate) fn fate_by(mark: Mark, t: Timed) -> Fate
     ensures fate { result ≡ mark_fate mark t }
     ensures short { t.moment ≤ 3600000 → IsShort result }

@@ -1,4 +1,4 @@
-// The fates of rows while their packets pass the shells.
+// Marks the fates of a run's rows, shell by shell, while their packets pass.
 ghost use Rattle.std.specs.Prelude.{◌≡◌, length, map, IfOk};
 ghost use Rattle.packet_record.specs.declared.packet.Row.{Row as RowValue};
 ghost use Rattle.nest_spec.specs.declared.fate.Fate.{Fate as FateValue};
@@ -18,7 +18,7 @@ use std::alloc::Global;
 use std::marker::Model;
 use text_base::OutOfMemory;
 
-/// The fates of a run's rows while its packets pass the shells. Contracts see the rows and their fates, one for each.
+/// The rows of a run, and a fate for each, which changes while packets pass the shells. Contracts see both lists.
 #[derive(Drop)]
 pub struct Marking<'a> {
     rows: &'a [Row],
@@ -40,7 +40,8 @@ impl<'a> Model for Marking<'a> {
 }
 
 impl<'a> Marking<'a> {
-    /// The fates before any packet is sent: every row is unsent.
+    /// Begins a marking in which every row is unsent. No two rows have one number. Returns `OutOfMemory` where an
+    /// allocation fails.
     pub fn new(alloc: Global, rows: &'a [Row]) -> Result<Marking<'a>, OutOfMemory>
         requires apart { AreApart rows.now }
         ensures { IfOk result (λ m. m ≡ marks rows.now (fated (λ _. Fate.Unsent) rows.now)) }
@@ -52,8 +53,8 @@ impl<'a> Marking<'a> {
         })
     }
 
-    /// The fates before any packet of a schedule is sent, as in `new`. That its rows are numbered from 1 isn't looked
-    /// at.
+    /// Begins a marking of a schedule's rows, as `new`, but doesn't look whether they are numbered from 1. Returns
+    /// `OutOfMemory` where an allocation fails.
     pub fn of_schedule(alloc: Global, schedule: &'a Schedule) -> Result<Marking<'a>, OutOfMemory>
         ensures { IfOk result (λ m. m ≡ marks schedule.now (fated (λ _. Fate.Unsent) schedule.now)) }
     {
@@ -65,8 +66,8 @@ impl<'a> Marking<'a> {
         })
     }
 
-    /// The packets have passed the shell of this number: those that it lost are dropped there, and those of these
-    /// numbers are still inside it.
+    /// Marks what packets did at the shell `number`: the packets in `lost` were dropped there, and those numbered in
+    /// `held` are still inside. Moments of `lost` are at most 3,600,000.
     pub fn pass(&mut self, number: u32, lost: &[Timed], held: &[u32])
         requires short { AreUpTo 3600000 lost.now }
         ensures rows { self.new.rows ≡ self.old.rows }
@@ -78,7 +79,7 @@ impl<'a> Marking<'a> {
         mark_all(&self.places, self.rows, lost, drops, &mut self.list);
     }
 
-    /// These packets have passed the last shell of their direction.
+    /// Marks `departed` as departed from the last shell of their direction. Their moments are at most 3,600,000.
     pub fn depart(&mut self, departed: &[Timed])
         requires short { AreUpTo 3600000 departed.now }
         ensures rows { self.new.rows ≡ self.old.rows }
@@ -94,7 +95,7 @@ impl<'a> Marking<'a> {
         );
     }
 
-    /// The fate of each row, in their order.
+    /// Returns the fate of each row, in their order.
     pub fn into_fates(self) -> Vec<PackedFate>
         ensures { result.items ≡ self.entry.fates }
     {
@@ -102,7 +103,7 @@ impl<'a> Marking<'a> {
     }
 }
 
-// The row of a number gets this fate.
+// Gives the row of the number `id` a fate. Nothing happens where no row has that number.
 #[inline(always)]
 fn put(places: &Places, rows: &[Row], id: u32, fate: Fate, list: &mut Vec<PackedFate>)
     requires short { IsShort fate }
@@ -118,7 +119,7 @@ fn put(places: &Places, rows: &[Row], id: u32, fate: Fate, list: &mut Vec<Packed
     }
 }
 
-// Each packet's row is marked; the first of a number counts.
+// Marks the row of each packet. Where two packets have one number, the first counts.
 fn mark_all(
     places: &Places,
     rows: &[Row],
@@ -141,7 +142,7 @@ fn mark_all(
     }
 }
 
-// The rows of these numbers are inside a shell.
+// Marks the rows numbered in `ids` as inside `shell`.
 fn hold_all(places: &Places, rows: &[Row], ids: &[u32], shell: u32, list: &mut Vec<PackedFate>)
     requires places { ArePlaces rows.now places.now }
     requires length { length list.old.items ≡ length rows.now }
@@ -156,7 +157,7 @@ fn hold_all(places: &Places, rows: &[Row], ids: &[u32], shell: u32, list: &mut V
     }
 }
 
-// The row of a packet that isn't sent.
+// Returns the row of a packet that isn't sent.
 #[inline(always)]
 fn unsent(row: Row) -> PackedFate
     ensures { result ≡ fate_row row Fate.Unsent }
@@ -168,6 +169,7 @@ fn unsent(row: Row) -> PackedFate
     })
 }
 
+// Returns the rows as unsent.
 fn all_unsent(alloc: Global, rows: &[Row]) -> Result<Vec<PackedFate>, OutOfMemory>
     ensures { IfOk result (λ v. v.items ≡ fated (λ _. Fate.Unsent) rows.now) }
 {

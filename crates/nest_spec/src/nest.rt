@@ -1,4 +1,4 @@
-// A nest of shells.
+// A nest of shells, built from its words and traces, and what its shells do in each direction.
 ghost use Rattle.std.specs.Prelude.{◌≡◌, ◌≤◌, ◌+◌, ◌++◌, length, OnOk, IfOk};
 ghost use Rattle.nest_spec.specs.Nests.{IsNest, AllFit, built, opportunities_of};
 ghost use Rattle.nest_spec.specs.Nests.{all_in_direction, directions_of, in_passing_order, shells_in};
@@ -13,7 +13,7 @@ use std::marker::Model;
 use text_base::OutOfMemory;
 use trace_reader::Trace;
 
-/// A nest of 1 to 8 shells, the outermost first, with the seed of its losses and its horizon.
+/// 1 to 8 shells, the outermost first, with the seed of their losses and the horizon in milliseconds.
 #[derive(Drop)]
 pub struct Nest {
     shells: Vec<Shell>,
@@ -34,8 +34,10 @@ impl Model for Nest {
     ghost invariant = { HasNest };
 }
 
-/// The nest of these words with these traces, one for each of the words' traces in their order. At most 16,000,000
-/// opportunities are up to the horizon, which is at most 3,600,000 ms.
+/// Returns the nest of `words`, whose links take `traces` in their order, one for each name in the words.
+///
+/// `horizon` is at most 3,600,000 ms, and the links have at most 16,000,000 opportunities up to it
+/// (`NestWords::opportunities`). Returns `OutOfMemory` where an allocation fails.
 pub fn build(
     alloc: Global,
     words: NestWords,
@@ -57,7 +59,7 @@ pub fn build(
 }
 
 impl Nest {
-    /// How many shells it has, 1 to 8.
+    /// Returns how many shells the nest has, 1 to 8.
     pub fn shells(&self) -> u32
         ensures count { result ≡ length self.now.shells }
         ensures nest { IsNest self.now }
@@ -65,7 +67,8 @@ impl Nest {
         self.shells.len() as u32
     }
 
-    /// The horizon in milliseconds: everything at a moment up to it happens, and nothing after it.
+    /// Returns the horizon in milliseconds, at most 3,600,000. What is at a moment up to it happens, and nothing after
+    /// it.
     pub fn horizon(&self) -> u64
         ensures value { result ≡ self.now.horizon }
         ensures most { result ≤ 3600000 }
@@ -73,8 +76,8 @@ impl Nest {
         self.horizon
     }
 
-    /// The shells in a direction, in the order in which its packets pass them: up the innermost first, down the
-    /// outermost.
+    /// Returns the shells in a direction, in passing order: up the innermost first, down the outermost first. Returns
+    /// `OutOfMemory` where an allocation fails.
     pub fn shells_in(&self, direction: Direction) -> Result<Vec<ShellDirection>, OutOfMemory>
         ensures list { IfOk result (λ list. list.items ≡ shells_in direction self.now) }
         ensures some { IfOk result (λ list. 1 ≤ length list.items) }
@@ -87,7 +90,7 @@ impl Nest {
         Ok(in_passing_order(direction, list))
     }
 
-    /// What the shells do in a direction, in the same order.
+    /// Returns what the shells do in a direction, in passing order. Returns `OutOfMemory` where an allocation fails.
     pub fn directions(&self, direction: Direction) -> Result<Vec<DirSpec>, OutOfMemory>
         ensures list { IfOk result (λ list. list.items ≡ directions_of direction self.now) }
         ensures fit { IfOk result (λ list. AllFit self.now.horizon list.items) }
@@ -100,6 +103,7 @@ impl Nest {
     }
 }
 
+// Returns shells that stand the outermost first in the order in which packets pass them.
 fn in_passing_order<T>(direction: Direction, mut list: Vec<T>) -> Vec<T>
     ensures { result.items ≡ in_passing_order direction list.items }
 {
@@ -109,7 +113,7 @@ fn in_passing_order<T>(direction: Direction, mut list: Vec<T>) -> Vec<T>
     list
 }
 
-// Adds these shells in a direction, the first with this number.
+// Adds `shells` in a direction, the first with the number `number`.
 fn push_directions(
     list: &mut Vec<ShellDirection>,
     direction: Direction,

@@ -1,4 +1,4 @@
-// The words for a nest.
+// Reads the words for a nest, as `mm-delay 20 mm-loss uplink 0.1`.
 ghost use Rattle.std.specs.Prelude.{◌≡◌, ◌≢◌, ◌≤◌, ◌+◌, ◌*◌, ◌++◌, Ok, Err, length, map, string_bytes, option_map};
 ghost use Rattle.std.specs.Prelude.{option_to_list, MatchResult, OnOk};
 ghost use Rattle.nest_spec.specs.Words.{with_shell, passed_over, shells_from, nest_of};
@@ -17,8 +17,8 @@ use std::marker::Model;
 use text_base::{OutOfMemory, Text};
 use trace_reader::Trace;
 
-/// A nest as its words state it: 1 to 8 shells, the outermost first, and the names of its traces and logs in that
-/// order, up before down.
+/// A nest as its words state it: 1 to 8 shells, the outermost first, and the names of traces and logs in that order, up
+/// before down.
 #[derive(Drop)]
 pub struct NestWords {
     shells: Vec<ShellWords>,
@@ -40,7 +40,7 @@ impl Model for NestWords {
 }
 
 impl NestWords {
-    /// The shells in order, the outermost first.
+    /// Returns the shells, the outermost first.
     pub fn shells(&self) -> &[ShellWords]
         ensures shells { result.now ≡ self.now.shells }
         ensures plan { IsPlan self.now }
@@ -48,7 +48,7 @@ impl NestWords {
         self.shells.as_slice()
     }
 
-    /// The names of the traces in the order of the shells, up before down.
+    /// Returns the names of the traces in the order of the shells, up before down.
     pub fn traces(&self) -> &[Text]
         ensures traces { result.now ≡ self.now.traces }
         ensures plan { IsPlan self.now }
@@ -56,7 +56,7 @@ impl NestWords {
         self.traces.as_slice()
     }
 
-    /// The names of the logs in the order of the shells, up before down; those with a name alone.
+    /// Returns the names of the logs in the order of the shells, up before down. A direction without a log has none.
     pub fn logs(&self) -> &[Text]
         ensures logs { result.now ≡ self.now.logs }
         ensures plan { IsPlan self.now }
@@ -66,8 +66,8 @@ impl NestWords {
 }
 
 impl NestWords {
-    /// How many opportunities the links have up to a horizon, both directions of all links together; `once` holds for
-    /// both directions of its link. There is a trace for each name.
+    /// Returns how many opportunities all links have up to `horizon`, in both directions together. `traces` has a trace
+    /// for each name, in their order, and `horizon` is at most 3,600,000 ms.
     pub fn opportunities(&self, traces: &[Trace], horizon: u64) -> u64
         requires traces { length traces.now ≡ length self.now.traces }
         requires horizon { horizon ≤ 3600000 }
@@ -76,6 +76,7 @@ impl NestWords {
         count_opportunities(self.shells.as_slice(), traces, horizon)
     }
 
+    // Returns the shells, and the names of the logs.
     pub(crate) fn into_parts(self) -> (Vec<ShellWords>, Vec<Text>)
         ensures shells { result.0.items ≡ self.shells }
         ensures logs { result.1.items ≡ self.logs }
@@ -90,6 +91,7 @@ impl NestWords {
     }
 }
 
+// Returns how many opportunities the links of `shells` have up to `horizon`.
 fn count_opportunities(shells: &[ShellWords], traces: &[Trace], horizon: u64) -> u64
     requires traces { length traces.now ≡ trace_count shells.now }
     requires horizon { horizon ≤ 3600000 }
@@ -108,6 +110,7 @@ fn count_opportunities(shells: &[ShellWords], traces: &[Trace], horizon: u64) ->
         + count_opportunities(shells, &traces[2..], horizon)
 }
 
+// Returns how many opportunities one direction of a link has up to `horizon`.
 #[tactic(auto, using(crate::proofs::CountLemmas::count_within))]
 fn count_in(trace: &Trace, once: bool, horizon: u64) -> u64
     requires { horizon ≤ 3600000 }
@@ -117,7 +120,7 @@ fn count_in(trace: &Trace, once: bool, horizon: u64) -> u64
     trace.count_to(horizon, once)
 }
 
-// A nest that is being read.
+// A nest whose words are being read.
 #[derive(Drop)]
 pub(crate) struct Draft {
     pub shells: Vec<ShellWords>,
@@ -125,6 +128,7 @@ pub(crate) struct Draft {
     pub logs: Vec<Text>,
 }
 
+// Adds a name to the list, if there is one.
 fn push_name(alloc: Global, list: &mut Vec<Text>, name: Option<&str>) -> Result<(), OutOfMemory>
     ensures { OnOk result (list.new.items ≡ list.old.items ++ option_to_list (text_of name.entry)) }
 {
@@ -134,6 +138,7 @@ fn push_name(alloc: Global, list: &mut Vec<Text>, name: Option<&str>) -> Result<
     Ok(())
 }
 
+// Adds the names of both directions to the list, up before down.
 fn push_names(
     alloc: Global,
     list: &mut Vec<Text>,
@@ -147,7 +152,7 @@ fn push_names(
     push_name(alloc, list, down)
 }
 
-// Adds a shell at the inside.
+// Adds a shell inside the others, with the names of its traces and logs.
 fn add_shell(alloc: Global, draft: &mut Draft, read: &ShellRead) -> Result<(), OutOfMemory>
     ensures { OnOk result (draft_plan draft.new ≡ with_shell (draft_plan draft.old) (shell_given read.now)) }
 {
@@ -156,7 +161,7 @@ fn add_shell(alloc: Global, draft: &mut Draft, read: &ShellRead) -> Result<(), O
     push_names(alloc, &mut draft.logs, read.up_log, read.down_log)
 }
 
-// The words that are left without one `--` in front, where any are left.
+// Passes over one word `--` after a shell. Returns the words from there on, or `None` where no word is left.
 fn pass_over<'a>(place: u32, words: &'a [String]) -> Option<(u32, &'a [String])>
     ensures { option_map place_and_words result ≡ passed_over place (map string_bytes words.now) }
 {
@@ -168,7 +173,8 @@ fn pass_over<'a>(place: u32, words: &'a [String]) -> Option<(u32, &'a [String])>
     }
 }
 
-// Reads shells where one must begin and so many may. `missing` is the refusal where no word is left.
+// Reads shells from the word `place` on, where a shell must begin. There may be `left` more, and `missing` is the
+// refusal where no word is left.
 #[tactic(auto, unfolding(crate::specs::Words::shells_from))]
 fn read_shells(
     alloc: Global,
@@ -205,8 +211,9 @@ fn read_shells(
 }
 
 /// Reads the words for a nest: shells of `mm-delay D`, `mm-loss uplink|downlink RATE` and `mm-link UPTRACE DOWNTRACE`
-/// with its options in any place, one word `--` after a whole shell passed over. Ok exactly where the words are a
-/// nest, and each refusal is the first from the left.
+/// with its options in any place. One word `--` after a whole shell is passed over.
+///
+/// Returns the first refusal from the left, or `NestError::OutOfMemory` where an allocation fails.
 pub fn read_nest(alloc: Global, words: &[String]) -> Result<NestWords, NestError>
     ensures { MatchResult result
         (λ nest. nest_of (map string_bytes words.now) ≡ Ok nest)

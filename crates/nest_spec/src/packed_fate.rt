@@ -1,4 +1,4 @@
-// The fate of a packet in 12 bytes.
+// Holds the fate of a packet in 12 bytes.
 ghost use Rattle.std.specs.Prelude.{◌≡◌, ◌≤◌, ◌<◌, IfOk};
 ghost use Rattle.nest_spec.specs.inside.PackedFates.{IsShort};
 ghost use Rattle.nest_spec.specs.views.PackedFate.{fate_at};
@@ -9,23 +9,26 @@ use std::alloc::Global;
 use std::marker::Model;
 use text_base::OutOfMemory;
 
-// The kinds of fates.
+// The kind of a fate, in the two lowest bits of `PackedFate::number`: the packet departed.
 const DEPARTED: u32 = 0;
 
+// The packet was dropped.
 const DROPPED: u32 = 1;
 
+// The packet is inside a shell.
 const INSIDE: u32 = 2;
 
+// The packet isn't sent.
 const UNSENT: u32 = 3;
 
-/// A packet of a run by its number and its direction, with its fate, whose moment is at most 3,600,000: a fate row in
-/// 12 bytes. Contracts see the fate row.
+/// A fate row in 12 bytes: the number and direction of a packet, and its fate, whose moment is at most 3,600,000.
+/// Contracts see the fate row.
 #[derive(Drop)]
 pub struct PackedFate {
     id: u32,
     // The shell of the fate, or 0.
     shell: u32,
-    // Eight times the moment of the fate, or 0; and four for down; and the kind of the fate.
+    // Eight times the fate's moment (0 where it has none), plus 4 for down, plus the kind of the fate.
     number: u32,
 }
 
@@ -40,7 +43,7 @@ impl Model for PackedFate {
 }
 
 impl PackedFate {
-    // The row in 12 bytes.
+    // Packs a row whose fate's moment is at most 3,600,000.
     #[inline(always)]
     pub(crate) fn new(row: FateRow) -> Self
         requires { IsShort row.fate }
@@ -59,6 +62,7 @@ impl PackedFate {
         }
     }
 
+    // Packs a fate of `kind`, with the shell and moment that it has, or 0.
     #[inline(always)]
     fn of_kind(id: u32, direction: Direction, kind: u32, shell: u32, moment: u64) -> Self
         requires kind { kind < 4 }
@@ -80,7 +84,7 @@ impl PackedFate {
         }
     }
 
-    /// The row.
+    /// Returns the fate row.
     #[inline(always)]
     pub fn row(&self) -> FateRow
         ensures { result ≡ self.now }
@@ -92,6 +96,7 @@ impl PackedFate {
         }
     }
 
+    // Returns the packet's direction.
     #[inline(always)]
     fn direction(&self) -> Direction
         ensures { result ≡ self.now.direction }
@@ -103,6 +108,7 @@ impl PackedFate {
         }
     }
 
+    // Returns the packet's fate.
     #[inline(always)]
     fn fate(&self) -> Fate
         ensures { result ≡ self.now.fate }
@@ -118,7 +124,7 @@ impl PackedFate {
     }
 }
 
-/// The rows of these. `OutOfMemory` is want of memory.
+/// Returns the fate rows of `fates`. Returns `OutOfMemory` where an allocation fails.
 pub fn unpack_fates(alloc: Global, fates: &[PackedFate]) -> Result<Vec<FateRow>, OutOfMemory>
     ensures { IfOk result (λ rows. rows.items ≡ fates.now) }
 {

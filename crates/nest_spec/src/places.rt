@@ -1,4 +1,4 @@
-// The places of rows by their numbers.
+// Finds the row of a packet by its number.
 ghost use Rattle.std.specs.Prelude.{◌≡◌, ◌≤◌, ◌-◌, ◌+◌, ℕ, length, MatchOption, IfOk};
 ghost use Rattle.packet_record.specs.Rows.{AreApart};
 ghost use Rattle.nest_spec.specs.inside.Index.{IsIndex, IsNowhere, IsOnlyAt, AreFromOne};
@@ -10,14 +10,16 @@ use std::alloc::Global;
 use std::collections::HashMap;
 use text_base::OutOfMemory;
 
-// Where the row of each number stands: in order from 1, as in a schedule, or as an index says.
+// Where the row of each number stands.
 #[derive(Drop)]
 pub(crate) enum Places {
+    // The rows are numbered 1, 2, 3 and so on, as in a schedule.
     Numbered,
+    // The index has the place of each number.
     Indexed(HashMap<u32, usize>),
 }
 
-// Whether the numbers are 1, 2, 3 and on.
+// Returns whether the rows are numbered 1, 2, 3 and so on.
 fn are_numbered(rows: &[Row]) -> bool
     ensures { OnTrue result (AreFromOne rows.now) }
 {
@@ -29,6 +31,7 @@ fn are_numbered(rows: &[Row]) -> bool
     true
 }
 
+// Returns the place of each row by its number.
 fn index_of(alloc: Global, rows: &[Row]) -> Result<HashMap<u32, usize>, OutOfMemory>
     requires apart { AreApart rows.now }
     ensures { IfOk result (λ m. IsIndex rows.now m) }
@@ -43,6 +46,7 @@ fn index_of(alloc: Global, rows: &[Row]) -> Result<HashMap<u32, usize>, OutOfMem
     Ok(index)
 }
 
+// Returns where the rows stand. No index is made where they are numbered 1, 2, 3 and so on.
 pub(crate) fn places_of(alloc: Global, rows: &[Row]) -> Result<Places, OutOfMemory>
     requires apart { AreApart rows.now }
     ensures { IfOk result (λ places. ArePlaces rows.now places) }
@@ -54,6 +58,7 @@ pub(crate) fn places_of(alloc: Global, rows: &[Row]) -> Result<Places, OutOfMemo
     Ok(Places::Indexed(index))
 }
 
+// Returns the place of the row `id`, if there is one, of rows that are numbered 1, 2, 3 and so on.
 fn place_by_number(rows: &[Row], id: u32) -> Option<usize>
     requires { AreFromOne rows.now }
     ensures { MatchOption result (IsNowhere rows.now id) (λ i. IsOnlyAt rows.now id i) }
@@ -65,6 +70,7 @@ fn place_by_number(rows: &[Row], id: u32) -> Option<usize>
     Some(number - 1)
 }
 
+// Returns the place of the row `id`, if there is one, as the index has it.
 fn place_by_index(index: &HashMap<u32, usize>, rows: &[Row], id: u32) -> Option<usize>
     requires { IsIndex rows.now index.now }
     ensures { MatchOption result (IsNowhere rows.now id) (λ i. IsOnlyAt rows.now id i) }
@@ -73,6 +79,7 @@ fn place_by_index(index: &HashMap<u32, usize>, rows: &[Row], id: u32) -> Option<
     index.get(&id).copied()
 }
 
+// Returns the place of the row `id`, if there is one.
 pub(crate) fn place_of(places: &Places, rows: &[Row], id: u32) -> Option<usize>
     requires { ArePlaces rows.now places.now }
     ensures { MatchOption result (IsNowhere rows.now id) (λ i. IsOnlyAt rows.now id i) }

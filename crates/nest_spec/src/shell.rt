@@ -1,4 +1,4 @@
-// A shell of a nest.
+// The shells of a nest, and what each does in one direction.
 ghost use Rattle.std.specs.Prelude.{◌≡◌, ◌≤◌, IfOk};
 ghost use Rattle.nest_spec.specs.Nests.{stream_of, spec_in, log_name, in_direction, side_in};
 
@@ -10,35 +10,41 @@ use std::alloc::Global;
 use text_base::{OutOfMemory, Text};
 use trace_reader::Trace;
 
-/// One direction of a link: its trace, its queue, and the name of its log, if it has one.
+/// One direction of a link.
 #[derive(Drop)]
 pub struct Side {
+    /// The opportunities.
     pub trace: Trace,
+    /// What is dropped of packets that wait.
     pub queue: QueueSpec,
+    /// The name of the log's file, if the direction has a log.
     pub log: Option<Text>,
 }
 
 /// A shell of a nest, with all that its words name.
 #[derive(Drop)]
 pub enum Shell {
-    /// Packets depart so many milliseconds after they arrive.
+    /// Packets depart `ms` milliseconds after they arrive.
     Delay { ms: u64 },
-    /// Packets of the direction are dropped at the rate.
+    /// Packets in `direction` are dropped at `rate`.
     Loss { direction: Direction, rate: Rate },
-    /// Packets depart when a trace lets them. `once` holds for both directions.
+    /// Packets depart when a trace lets them. With `once` neither trace begins again at its end.
     Link { once: bool, up: Side, down: Side },
 }
 
-/// What a shell is in one direction: its number, from 1 for the outermost, what it does there, and the name of its log
-/// there, if it has one.
+/// A shell in one direction.
 #[derive(Drop)]
 pub struct ShellDirection {
+    /// The shell's number, from 1 for the outermost.
     pub number: u32,
+    /// What the shell does.
     pub spec: DirSpec,
+    /// The name of the log's file, if the direction has a log.
     pub log: Option<Text>,
 }
 
 impl Shell {
+    // Returns the shell in a direction. `number` is its number, and `seed` that of the nest's losses.
     pub(crate) fn in_direction(
         &self,
         alloc: Global,
@@ -56,6 +62,7 @@ impl Shell {
         })
     }
 
+    // Returns what the shell does in a direction.
     fn spec(&self, direction: Direction, seed: u64, number: u32) -> Result<DirSpec, OutOfMemory>
         requires { number ≤ 8 }
         ensures { IfOk result (λ spec. spec ≡ spec_in direction seed number self.now) }
@@ -86,6 +93,7 @@ impl Shell {
         }
     }
 
+    // Returns the name of the shell's log in a direction, if it has one.
     fn log_name(&self, alloc: Global, direction: Direction) -> Result<Option<Text>, OutOfMemory>
         ensures { IfOk result (λ name. name ≡ log_name direction self.now) }
     {
@@ -99,6 +107,7 @@ impl Shell {
     }
 }
 
+// Returns the direction of a link.
 fn side_in<'a>(direction: Direction, up: &'a Side, down: &'a Side) -> &'a Side
     ensures { result.now ≡ side_in direction up.now down.now }
 {
@@ -108,7 +117,7 @@ fn side_in<'a>(direction: Direction, up: &'a Side, down: &'a Side) -> &'a Side
     }
 }
 
-// The stream of a loss's words: twice the shell's number for up, one more for down.
+// Returns the stream of random words of a loss: twice the shell's number for up, one more for down.
 fn stream_of(number: u32, direction: Direction) -> u64
     requires { number ≤ 8 }
     ensures { result ≡ stream_of number direction }

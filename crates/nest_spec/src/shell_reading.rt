@@ -1,4 +1,4 @@
-// The words of one shell.
+// Reads the words of one shell, after the word that begins it.
 ghost use Rattle.std.specs.Prelude.{◌≡◌, Some, None, Ok, Err, map, string_bytes, unwrap_or, codes, [], option_map};
 ghost use Rattle.std.specs.Prelude.{MatchResult};
 ghost use Rattle.text_base.specs.Numbers.{decimal_of};
@@ -18,7 +18,8 @@ use packet_record::Direction;
 use text_base::limits::HOUR;
 use text_base::read_decimal;
 
-// What was read of one shell, and the words that are left, the first with its place.
+// What was read of one shell: what it says, the names of its traces and logs, and the words that follow, the first of
+// which is at `place`.
 #[derive(Clone, Copy)]
 pub(crate) struct ShellRead<'a> {
     pub shell: ShellWords,
@@ -30,7 +31,7 @@ pub(crate) struct ShellRead<'a> {
     pub rest: &'a [String],
 }
 
-// A shell without traces and logs.
+// Returns what was read of a shell that has no traces and logs.
 fn bare<'a>(shell: ShellWords, place: u32, rest: &'a [String]) -> ShellRead<'a>
     ensures { shell_given result ≡ shell_read shell [] [] place (map string_bytes rest.now) }
 {
@@ -45,6 +46,7 @@ fn bare<'a>(shell: ShellWords, place: u32, rest: &'a [String]) -> ShellRead<'a>
     }
 }
 
+// Reads the milliseconds of a delay, at most an hour.
 fn read_ms(shell: u32, word: &str) -> Result<u64, NestError>
     ensures { result ≡ delay_ms shell (decimal_of word.now) }
 {
@@ -54,6 +56,7 @@ fn read_ms(shell: u32, word: &str) -> Result<u64, NestError>
     }
 }
 
+// Reads the words after `mm-delay`.
 fn read_delay<'a>(shell: u32, place: u32, words: &'a [String]) -> Result<ShellRead<'a>, NestError>
     ensures { MatchResult result (λ r. delay_words shell place (map string_bytes words.now) ≡ Ok (shell_given r))
         (λ e. delay_words shell place (map string_bytes words.now) ≡ Err e) }
@@ -65,6 +68,7 @@ fn read_delay<'a>(shell: u32, place: u32, words: &'a [String]) -> Result<ShellRe
     Ok(bare(ShellWords::Delay { ms }, next(place), rest))
 }
 
+// Reads the direction of a loss.
 fn read_direction(shell: u32, word: &str) -> Result<Direction, NestError>
     ensures { result ≡ loss_direction shell word.now }
 {
@@ -75,6 +79,7 @@ fn read_direction(shell: u32, word: &str) -> Result<Direction, NestError>
     }
 }
 
+// Reads the rate of a loss.
 fn read_shell_rate(shell: u32, word: &str) -> Result<Rate, NestError>
     ensures { result ≡ loss_rate shell (rate_value word.now) }
 {
@@ -84,6 +89,7 @@ fn read_shell_rate(shell: u32, word: &str) -> Result<Rate, NestError>
     }
 }
 
+// Reads the rate of a loss from the next word.
 fn read_rate_word<'a>(
     shell: u32,
     place: u32,
@@ -100,6 +106,7 @@ fn read_rate_word<'a>(
     Ok(bare(ShellWords::Loss { direction, rate }, next(place), rest))
 }
 
+// Reads the words after `mm-loss`.
 fn read_loss<'a>(shell: u32, place: u32, words: &'a [String]) -> Result<ShellRead<'a>, NestError>
     ensures { MatchResult result (λ r. loss_words shell place (map string_bytes words.now) ≡ Ok (shell_given r))
         (λ e. loss_words shell place (map string_bytes words.now) ≡ Err e) }
@@ -111,6 +118,7 @@ fn read_loss<'a>(shell: u32, place: u32, words: &'a [String]) -> Result<ShellRea
     read_rate_word(shell, next(place), direction, rest)
 }
 
+// Returns the name of a direction's queue, `infinite` where none is given.
 fn queue_kind<'a>(side: &SideWords<'a>) -> &'a str
     ensures { result.now ≡ unwrap_or (side_given side.now).queue (codes "infinite") }
 {
@@ -120,6 +128,7 @@ fn queue_kind<'a>(side: &SideWords<'a>) -> &'a str
     }
 }
 
+// Returns the arguments of a direction's queue, empty where none are given.
 fn queue_args<'a>(side: &SideWords<'a>) -> &'a str
     ensures { result.now ≡ unwrap_or (side_given side.now).args [] }
 {
@@ -129,6 +138,7 @@ fn queue_args<'a>(side: &SideWords<'a>) -> &'a str
     }
 }
 
+// Reads the queue of a direction.
 fn read_side_queue(shell: u32, side: SideWords) -> Result<QueueSpec, NestError>
     ensures { result ≡ queue_given shell (side_given side.entry) }
 {
@@ -138,6 +148,7 @@ fn read_side_queue(shell: u32, side: SideWords) -> Result<QueueSpec, NestError>
     }
 }
 
+// Returns one direction of a link: its queue, and whether it is logged.
 fn link_side(queue: QueueSpec, side: SideWords) -> LinkSide
     ensures { result ≡ side_words queue (side_given side.entry) }
 {
@@ -147,7 +158,7 @@ fn link_side(queue: QueueSpec, side: SideWords) -> LinkSide
     }
 }
 
-// The end of a link's words: its traces, then its queues.
+// Makes a link of what its words gave: both traces must be given, and then the queues are read, up before down.
 fn read_link_end<'a>(shell: u32, read: LinkRest<'a>) -> Result<ShellRead<'a>, NestError>
     ensures { MatchResult result (λ r. link_end shell (rest_given read.entry) ≡ Ok (shell_given r))
         (λ e. link_end shell (rest_given read.entry) ≡ Err e) }
@@ -172,6 +183,7 @@ fn read_link_end<'a>(shell: u32, read: LinkRest<'a>) -> Result<ShellRead<'a>, Ne
     })
 }
 
+// Reads the words after `mm-link`.
 fn read_link<'a>(shell: u32, place: u32, words: &'a [String]) -> Result<ShellRead<'a>, NestError>
     ensures { MatchResult result (λ r. link_words shell place (map string_bytes words.now) ≡ Ok (shell_given r))
         (λ e. link_words shell place (map string_bytes words.now) ≡ Err e) }
@@ -180,7 +192,7 @@ fn read_link<'a>(shell: u32, place: u32, words: &'a [String]) -> Result<ShellRea
     read_link_end(shell, read)
 }
 
-// The words after the one that begins a shell of this kind.
+// Reads the words after the one that begins a shell. `place` is that of the first of them.
 pub(crate) fn read_shell<'a>(
     kind: ShellKind,
     shell: u32,

@@ -6,7 +6,7 @@ use loss_core::Rate;
 use packet_queue::QueueSpec;
 use packet_record::Direction;
 
-/// The three shells.
+/// The three kinds of shells.
 #[derive(Clone, Copy, PartialEq, Eq)]
 pub enum ShellKind {
     /// `mm-delay`
@@ -17,10 +17,12 @@ pub enum ShellKind {
     Link,
 }
 
-/// One direction of a link: its queue, and whether its log has a name.
+/// One direction of a link, as its words state it.
 #[derive(Clone, Copy, PartialEq, Eq)]
 pub struct LinkSide {
+    /// The queue.
     pub queue: QueueSpec,
+    /// Whether a log's name is given, so that the direction is logged.
     pub logged: bool,
 }
 
@@ -31,12 +33,12 @@ pub enum ShellWords {
     Delay {
         ms: u64,
     },
-    /// `mm-loss DIRECTION RATE`
+    /// `mm-loss DIRECTION RATE`.
     Loss {
         direction: Direction,
         rate: Rate,
     },
-    /// `mm-link UPTRACE DOWNTRACE` and its options. `once` holds for both directions.
+    /// `mm-link UPTRACE DOWNTRACE` with its options. `once` is for both directions.
     Link {
         once: bool,
         up: LinkSide,
@@ -44,6 +46,7 @@ pub enum ShellWords {
     },
 }
 
+// Returns the kind of shell that a word begins, if it begins one.
 pub(crate) fn kind_of(word: &str) -> Option<ShellKind>
     ensures { result ≡ kind_of word.now }
 {
@@ -55,7 +58,7 @@ pub(crate) fn kind_of(word: &str) -> Option<ShellKind>
     }
 }
 
-// The place after this one.
+// Returns the place after `place`, at most 4294967295.
 pub(crate) fn next(place: u32) -> u32
     ensures { result ≡ next place }
 {

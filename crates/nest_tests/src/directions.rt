@@ -1,4 +1,4 @@
-// Directions of shells by static words, and what runs of them leave.
+// Directions of shells made of static words, and the logs that they leave.
 ghost use Rattle.std.specs.Prelude.{◌≤◌, length};
 ghost use Rattle.shell_core.specs.Shells.{IsInRange, opportunities};
 
@@ -12,16 +12,17 @@ use text_base::limits::{HOUR, MOST_OPPORTUNITIES};
 // What a direction does.
 #[derive(Clone, Copy)]
 pub enum Kind {
+    // Packets pass at once.
     Pass,
-    // So many milliseconds.
+    // A delay in milliseconds.
     Delay(u64),
-    // A rate, a seed and a stream.
+    // A loss: its rate, its seed and its stream.
     Loss(&'static str, u64, u64),
-    // A trace, which is played again and again, and a queue with its arguments.
+    // A link: its trace, which is played again and again, its queue, and the queue's arguments.
     Link(&'static [u8], &'static str, &'static str),
 }
 
-// A link with this trace, which is played again and again, and this queue.
+// Returns a link whose trace is played again and again. `queue` is the queue's name and its arguments.
 #[tactic(auto, unfolding(shell_core::specs::Shells::opportunities))]
 fn link_of(
     rt: &impl Abort,
@@ -43,7 +44,7 @@ fn link_of(
     }
 }
 
-// A direction of this kind, which runs up to the horizon.
+// Returns the direction of a kind, for a run up to `horizon`.
 #[tactic(auto, unfolding(shell_core::specs::Shells::opportunities))]
 pub fn direction_of(rt: &impl Abort, alloc: Global, kind: Kind, horizon: u64) -> DirSpec
     requires horizon { horizon ≤ 3600000 }
@@ -65,7 +66,7 @@ pub fn direction_of(rt: &impl Abort, alloc: Global, kind: Kind, horizon: u64) ->
     }
 }
 
-// The log of a passage, written out.
+// Returns the log of a passage, written out.
 pub fn log_of(rt: &impl Abort, passage: Passage) -> Log {
     passage
         .log

@@ -1,4 +1,4 @@
-// The text of each kind of fate, and the types that may cross threads.
+// Tests of the lines of fates, and of the types that threads may share.
 use crate::checks::check;
 use crate::inputs::is_text;
 use nest_spec::{Fate, FateRow, Nest, NestWords, RunResult, print_fates};
@@ -9,7 +9,7 @@ use std::process::Abort;
 
 fn is_shared<T: Send + Sync>(_: &T) {}
 
-// The words of a nest, the nest and what its run gives may be sent to other threads and shared between them.
+// The words of a nest, the nest and the result of its run may be sent to other threads and shared between them.
 fn cross(words: &NestWords, nest: &Nest, run: &RunResult) {
     is_shared(words);
     is_shared(nest);
@@ -42,9 +42,10 @@ static ROWS: [FateRow; 4] = [
     },
 ];
 
+// The lines of `ROWS`.
 const LINES: &[u8] = b"1 up departed 25\n2 down dropped 1 0\n3 up inside 8\n1000000 down unsent\n";
 
-// Whether the text of these fates is this.
+// Returns whether the text of `fates` is `said`.
 fn are_printed(rt: &impl Abort, alloc: Global, fates: &[FateRow], said: &[u8]) -> bool {
     is_text(rt, print_fates(alloc, fates), said)
 }

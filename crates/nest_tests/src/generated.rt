@@ -1,4 +1,4 @@
-// Generated cases for tests.
+// Links, queues and packets that are drawn by a generator of numbers.
 ghost use Rattle.std.specs.Prelude.{◌<◌};
 
 use crate::inputs::{packets_of, trace_of};
@@ -10,7 +10,7 @@ use std::process::Abort;
 use text_base::{Bytes, OutOfMemory};
 use trace_reader::{Opportunity, Trace};
 
-// Numbers below a limit, one after another.
+// A generator of numbers.
 #[derive(Drop)]
 pub struct Numbers {
     state: u64,
@@ -21,6 +21,7 @@ impl Numbers {
         Numbers { state }
     }
 
+    // Returns the next number, which is below `limit`, or 0 where `limit` is 0.
     pub fn below(&mut self, limit: u16) -> u16
         ensures { 0 < limit → result < limit }
     {
@@ -36,7 +37,8 @@ impl Numbers {
     }
 }
 
-// Lines, each of a moment, a text and a size: how many there are, the limit of the gap before each, and the sizes.
+// Lines to draw: how many, the limit of the gap between the moments of two, the text between moment and size, and the
+// sizes to choose from.
 struct Lines {
     count: u32,
     gap: u16,
@@ -44,14 +46,14 @@ struct Lines {
     sizes: &'static [u64],
 }
 
-// One of these sizes.
+// Returns one of the sizes.
 fn some_size(numbers: &mut Numbers, sizes: &[u64]) -> u64 {
     let limit = u16::try_from(sizes.len()).unwrap_or(u16::MAX);
     let drawn = numbers.below(limit);
     sizes.get(usize::from(drawn)).copied().unwrap_or(1)
 }
 
-// Adds the lines, and answers the last moment.
+// Adds the lines to `text`, and returns the last moment.
 fn put_lines(text: &mut Bytes, numbers: &mut Numbers, lines: &Lines) -> Result<u64, OutOfMemory> {
     let mut moment: u64 = 0;
     for _ in 0..lines.count {
@@ -68,7 +70,7 @@ static OPPORTUNITIES: Lines = Lines {
     sizes: &[1, 701, 1401],
 };
 
-// A trace of four opportunities.
+// Returns a trace of four opportunities.
 pub fn some_trace(rt: &impl Abort, alloc: Global, numbers: &mut Numbers) -> Trace {
     let mut text = Bytes::from_slice(alloc, b"# mm-trace 2\n").expect(rt, "memory");
     let last = put_lines(&mut text, numbers, &OPPORTUNITIES).expect(rt, "memory");
@@ -83,14 +85,14 @@ static ROWS: Lines = Lines {
     sizes: &[1, 100, 700, 1504],
 };
 
-// Nine packets, all of them up.
+// Returns nine packets that go up.
 pub fn some_packets(rt: &impl Abort, alloc: Global, numbers: &mut Numbers) -> Vec<Timed> {
     let mut text = Bytes::new(alloc);
     put_lines(&mut text, numbers, &ROWS).expect(rt, "memory");
     packets_of(rt, alloc, text.as_slice())
 }
 
-// None, or once or twice so many.
+// Returns no limit, or one of `unit` or twice that.
 fn some_limit(numbers: &mut Numbers, unit: u64) -> Option<u64> {
     match numbers.below(3) {
         0 => None,
@@ -98,7 +100,7 @@ fn some_limit(numbers: &mut Numbers, unit: u64) -> Option<u64> {
     }
 }
 
-// A queue of any kind, with limits or without.
+// Returns a queue of any kind, with limits or without.
 pub fn some_queue(numbers: &mut Numbers) -> QueueSpec {
     let kind = match numbers.below(3) {
         0 => QueueKind::Infinite,
@@ -112,7 +114,7 @@ pub fn some_queue(numbers: &mut Numbers) -> QueueSpec {
     }
 }
 
-// The opportunities of a trace up to a horizon.
+// Returns the opportunities of a trace up to `horizon`, of the first 200.
 pub fn opportunities_to(
     rt: &impl Abort,
     alloc: Global,

@@ -1,5 +1,5 @@
-// Traces, queues, rates and schedules of texts that must say one. No clause says which, so that a test knows only what
-// it looks at.
+// Traces, queues, rates and schedules, read from texts that must be right. No clause says what is read, so a test knows
+// only what it looks at.
 use loss_core::{Rate, read_rate};
 use packet_queue::{QueueSpec, read_queue};
 use packet_record::{Row, Schedule, Timed, make_load, read_schedule};
@@ -25,13 +25,13 @@ pub fn schedule_of(rt: &impl Abort, alloc: Global, text: &[u8]) -> Schedule {
     read_schedule(alloc, text).expect(rt, "a schedule")
 }
 
-// The load of this number, of so many rows.
+// Returns the load that is made of `number`, of `rows` rows.
 pub fn load_of(rt: &impl Abort, alloc: Global, number: u64, rows: u32) -> Schedule {
     assert!(rt; 1 <= rows && rows <= MOST_LINES);
     make_load(alloc, number, rows).expect(rt, "memory")
 }
 
-// The packets of these rows.
+// Returns the packets of rows.
 fn packets_in(rt: &impl Abort, alloc: Global, rows: &[Row]) -> Vec<Timed> {
     let mut packets = Vec::new(alloc);
     for row in rows {
@@ -40,12 +40,12 @@ fn packets_in(rt: &impl Abort, alloc: Global, rows: &[Row]) -> Vec<Timed> {
     packets
 }
 
-// The packets of a schedule.
+// Returns the packets of a schedule's text.
 pub fn packets_of(rt: &impl Abort, alloc: Global, text: &[u8]) -> Vec<Timed> {
     packets_in(rt, alloc, schedule_of(rt, alloc, text).rows())
 }
 
-// Whether a text was made, and is this.
+// Returns whether a text was made and is `said`.
 pub fn is_text(rt: &impl Abort, text: Result<Bytes, OutOfMemory>, said: &[u8]) -> bool {
     text.expect(rt, "memory").as_slice() == said
 }

@@ -1,5 +1,5 @@
-//! Tests of links, shells of all kinds, their states, and nests, through the public calls of the crates below. They
-//! stand apart from these, so that each of these is proved once, without tests.
+//! Tests of links, shells of all kinds, their states, and nests, through the public calls of the crates below. They are
+//! a crate of their own, so that each crate below is proved once, without tests.
 #![tactic(auto)]
 
 #[cfg(test)]

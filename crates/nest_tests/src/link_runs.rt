@@ -1,4 +1,4 @@
-// A link over the whole list of its arrivals, and one that is fed packet by packet.
+// Runs a link over the whole list of its arrivals, and packet by packet.
 ghost use Rattle.std.specs.Prelude.{◌≡◌, ◌≤◌, [], OnOk, length};
 ghost use Rattle.std.specs.Bool.{OnTrue};
 ghost use Rattle.packet_record.specs.Moments.{AreUpTo};
@@ -18,7 +18,7 @@ use text_base::OutOfMemory;
 use text_base::limits::{HOUR, MOST_OPPORTUNITIES};
 use trace_reader::Trace;
 
-// Lets one packet in, not before the last.
+// Lets one packet in, which isn't before `last`.
 #[tactic(auto, using(link_core::proofs::FeedLemmas::up_to_push, link_core::proofs::FeedLemmas::up_to_later, link_core::proofs::FeedLemmas::count_more))]
 fn feed_one(link: &mut LinkCore, last: u64, t: Timed) -> Result<(), OutOfMemory>
     requires within { t.moment ≤ link.old.horizon }
@@ -32,7 +32,7 @@ fn feed_one(link: &mut LinkCore, last: u64, t: Timed) -> Result<(), OutOfMemory>
     link.arrive(t)
 }
 
-// Lets these packets in. False: the moments decrease somewhere, or pass the horizon.
+// Lets the packets in. Returns false where a packet is before the one before it, or after the horizon.
 fn feed(link: &mut LinkCore, horizon: u64, packets: &[Timed]) -> Result<bool, OutOfMemory>
     requires horizon { link.old.horizon ≡ horizon }
     requires arrivals { link.old.arrivals ≡ [] }
@@ -49,7 +49,7 @@ fn feed(link: &mut LinkCore, horizon: u64, packets: &[Timed]) -> Result<bool, Ou
     Ok(true)
 }
 
-// A link's direction, how long it runs, and the packets that come.
+// A link in one direction, its horizon in milliseconds, and the packets that arrive.
 #[derive(Drop)]
 pub struct Trial {
     pub trace: Trace,
@@ -60,6 +60,7 @@ pub struct Trial {
 }
 
 impl Trial {
+    // Returns whether horizon and opportunities are within their limits.
     fn fits(&self) -> bool
         ensures horizon { OnTrue result (self.now.horizon ≤ 3600000) }
         ensures few { OnTrue result
@@ -69,7 +70,7 @@ impl Trial {
     }
 }
 
-// A link before any arrival.
+// Returns the link before any packet has arrived.
 fn new_link(rt: &impl Abort, alloc: Global, trial: &Trial) -> LinkCore
     ensures horizon { result.horizon ≡ trial.now.horizon }
     ensures arrivals { result.arrivals ≡ [] }
@@ -80,16 +81,22 @@ fn new_link(rt: &impl Abort, alloc: Global, trial: &Trial) -> LinkCore
     LinkCore::new(alloc, trace, trial.once, trial.queue, trial.horizon).expect(rt, "memory")
 }
 
-// The link after the packets, one by one.
-pub fn run_singly(rt: &impl Abort, alloc: Global, trial: &Trial) -> LinkCore {
+// Returns the link after all packets arrived one by one; what is due before the last of them is burnt.
+pub fn feed_singly(rt: &impl Abort, alloc: Global, trial: &Trial) -> LinkCore {
     let mut link = new_link(rt, alloc, trial);
     let fed = feed(&mut link, trial.horizon, &trial.packets).expect(rt, "memory");
     check(rt, fed, "packets in order");
+    link
+}
+
+// The same link after all its opportunities.
+pub fn run_singly(rt: &impl Abort, alloc: Global, trial: &Trial) -> LinkCore {
+    let mut link = feed_singly(rt, alloc, trial);
     link.burn(trial.horizon, u32::MAX).expect(rt, "memory");
     link
 }
 
-// The link over all the packets.
+// Returns what becomes of the packets where the link runs over their whole list.
 pub fn run_over(rt: &impl Abort, alloc: Global, trial: &Trial) -> Passage {
     assert!(rt; trial.fits());
     let trace = trial.trace.copy().expect(rt, "memory");
@@ -105,6 +112,7 @@ pub fn run_over(rt: &impl Abort, alloc: Global, trial: &Trial) -> Passage {
     .expect(rt, "memory")
 }
 
+// A log in pieces: all its entries, how many pieces there were, and how many entries the longest had.
 #[derive(Drop)]
 pub struct Pieces {
     pub entries: Vec<Entry>,
@@ -112,6 +120,7 @@ pub struct Pieces {
     pub longest: usize,
 }
 
+// Adds one piece.
 fn add_piece(all: &mut Pieces, piece: &[Entry]) -> Result<(), OutOfMemory> {
     all.number = all.number.saturating_add(1);
     all.longest = all.longest.max(piece.len());
@@ -127,7 +136,7 @@ fn gather(pieces: &mut LogPieces, all: &mut Pieces) -> Result<(), OutOfMemory> {
     Ok(())
 }
 
-// The pieces of a log put together.
+// Returns all pieces of a log.
 pub fn put_together(rt: &impl Abort, alloc: Global, log: LinkLog) -> Pieces {
     let mut all = Pieces {
         entries: Vec::new(alloc),
@@ -138,7 +147,7 @@ pub fn put_together(rt: &impl Abort, alloc: Global, log: LinkLog) -> Pieces {
     all
 }
 
-// The pieces of a passage's log put together.
+// Returns all pieces of a passage's log.
 pub fn pieces_of(rt: &impl Abort, alloc: Global, passage: Passage) -> Pieces {
     put_together(rt, alloc, passage.log.expect(rt, "a log"))
 }

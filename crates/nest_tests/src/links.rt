@@ -1,9 +1,10 @@
-// Worked cases of a link, and generated ones beside a plain slow program: one by one and over whole lists.
+// Tests of links. Worked cases, and generated ones that are compared with a plain slow program, run both packet by
+// packet and over whole lists.
 use crate::checks::check;
 use crate::directions::log_of;
 use crate::generated::{Numbers, opportunities_to, some_packets, some_queue, some_trace};
 use crate::inputs::{is_text, packets_of, queue_of, trace_of};
-use crate::link_runs::{Pieces, Trial, pieces_of, run_over, run_singly};
+use crate::link_runs::{Pieces, Trial, feed_singly, pieces_of, put_together, run_over, run_singly};
 use crate::packets::{Ways, went};
 use crate::slow::{Slow, slow_link};
 use link_core::{LinkCore, Passage};
@@ -12,7 +13,7 @@ use shell_log::{Entry, print_log};
 use std::alloc::Global;
 use std::process::Abort;
 
-// A link by the texts of its trace and its queue, its horizon, and the rows of what comes.
+// A link and its packets: the texts of its trace and of its queue with arguments, its horizon, and a schedule's text.
 #[derive(Clone, Copy)]
 struct Link {
     trace: &'static [u8],
@@ -22,7 +23,7 @@ struct Link {
     schedule: &'static [u8],
 }
 
-// What must become of the packets of a link, and the text of its log.
+// What must become of a link's packets, and the text that its log must have.
 struct Case {
     name: &'static str,
     link: Link,
@@ -30,7 +31,7 @@ struct Case {
     log: &'static [u8],
 }
 
-// The link and the packets of these texts.
+// Returns the link and its packets.
 fn trial_of(rt: &impl Abort, alloc: Global, link: Link) -> Trial {
     Trial {
         trace: trace_of(rt, alloc, link.trace),
@@ -41,34 +42,34 @@ fn trial_of(rt: &impl Abort, alloc: Global, link: Link) -> Trial {
     }
 }
 
-// What the whole list gives.
+// Returns what becomes of the packets over the whole list.
 fn over_all(rt: &impl Abort, alloc: Global, link: Link) -> Passage {
     run_over(rt, alloc, &trial_of(rt, alloc, link))
 }
 
-// Whether the log of a passage is this.
+// Returns whether the log of a passage has the text `said`.
 fn has_log(rt: &impl Abort, alloc: Global, passage: Passage, said: &[u8]) -> bool {
     is_text(rt, print_log(alloc, &log_of(rt, passage)), said)
 }
 
-// Whether the packets of a passage went these ways.
+// Returns whether the packets of a passage went the ways.
 fn have_gone(passage: &Passage, ways: &Ways) -> bool {
     went(&passage.departed, &passage.lost, &passage.held, ways)
 }
 
-// Whether the whole list gives what is said.
+// Returns whether the run over the whole list gives what the case expects.
 fn is_as_said(rt: &impl Abort, alloc: Global, case: &Case) -> bool {
     have_gone(&over_all(rt, alloc, case.link), &case.ways)
         && has_log(rt, alloc, over_all(rt, alloc, case.link), case.log)
 }
 
-// Whether the packets of a link went these ways, and no opportunity is left.
+// Returns whether the packets of a link went the ways, and no opportunity is left.
 fn has_ended(rt: &impl Abort, link: &LinkCore, ways: &Ways) -> bool {
     let inside = link.inside().expect(rt, "memory");
     went(link.departed(), link.lost(), &inside, ways) && link.next_opportunity().is_none()
 }
 
-// Whether the packets give one by one what is said.
+// Returns whether the run packet by packet gives what the case expects.
 fn is_as_said_singly(rt: &impl Abort, alloc: Global, case: &Case) -> bool {
     let trial = trial_of(rt, alloc, case.link);
     has_ended(rt, &run_singly(rt, alloc, &trial), &case.ways)
@@ -208,7 +209,7 @@ static CASES: [Case; 8] = [
     },
 ];
 
-// Whether both runs of a link give what is said.
+// Returns whether both runs give what the case expects.
 fn are_as_said(rt: &impl Abort, alloc: Global, case: &Case) -> bool {
     is_as_said(rt, alloc, case) && is_as_said_singly(rt, alloc, case)
 }
@@ -220,7 +221,7 @@ fn worked_cases(rt: HostRuntime) {
     }
 }
 
-// A generated link and its packets.
+// Returns a drawn link and its packets.
 fn draw_trial(rt: &impl Abort, alloc: Global, numbers: &mut Numbers) -> Trial {
     Trial {
         trace: some_trace(rt, alloc, numbers),
@@ -231,43 +232,65 @@ fn draw_trial(rt: &impl Abort, alloc: Global, numbers: &mut Numbers) -> Trial {
     }
 }
 
-// What the slow program says.
+// Returns what the slow program gives.
 fn slow_of(rt: &impl Abort, alloc: Global, trial: &Trial) -> Slow {
     let opps = opportunities_to(rt, alloc, &trial.trace, trial.once, 20);
     slow_link(rt, alloc, &trial.queue, &opps, &trial.packets, 20)
 }
 
-// Whether these departed and were lost, as the slow program says.
+// Returns whether the packets departed and were lost as the slow program says.
 fn agree(departed: &[Timed], lost: &[Timed], slow: &Slow) -> bool {
     departed == slow.departed.as_slice() && lost == slow.lost.as_slice()
 }
 
-// Whether a link is as the slow program says.
+// Returns whether the packets of a link went as the slow program says.
 fn agrees_singly(link: &LinkCore, slow: &Slow) -> bool {
     agree(link.departed(), link.lost(), slow)
 }
 
-// Whether a passage of so many packets is as the slow program says, and each departed, was lost or stays inside.
+// Returns whether the packets of a passage went as the slow program says, and each of the `packets` packets departed,
+// was lost or stays inside.
 fn agrees_over_all(passage: &Passage, packets: usize, slow: &Slow) -> bool {
     let gone = passage.departed.len().saturating_add(passage.lost.len());
     agree(&passage.departed, &passage.lost, slow)
         && passage.held.len().saturating_add(gone) == packets
 }
 
-// Whether the log of a trial is as the slow program says.
+// Returns whether the log of a trial is as the slow program says.
 fn agrees_with_log(rt: &impl Abort, alloc: Global, trial: &Trial, slow: &Slow) -> bool {
     let pieces = pieces_of(rt, alloc, run_over(rt, alloc, trial));
     pieces.entries.as_slice() == slow.log.as_slice()
 }
 
-// Whether both runs of a trial give what the slow program says.
+// Returns whether `entries` are the first of `log`.
+fn are_first(entries: &[Entry], log: &[Entry]) -> bool {
+    entries.len() <= log.len() && entries == &log[..entries.len()]
+}
+
+// Returns whether the log of a link so far is what the slow program's begins with, with the opportunities that are burnt.
+fn agrees_so_far(rt: &impl Abort, alloc: Global, link: &LinkCore, slow: &Slow) -> bool {
+    let pieces = put_together(rt, alloc, link.log().expect(rt, "memory"));
+    are_first(&pieces.entries, &slow.log)
+        && count_opportunities(&pieces.entries) == link.burnt() as usize
+}
+
+// Returns whether the logs of a trial after its last packet, and after one more opportunity, are as the slow program says.
+fn agrees_in_the_middle(rt: &impl Abort, alloc: Global, trial: &Trial, slow: &Slow) -> bool {
+    let mut link = feed_singly(rt, alloc, trial);
+    let fed = agrees_so_far(rt, alloc, &link, slow);
+    link.burn(trial.horizon, 1).expect(rt, "memory");
+    fed && agrees_so_far(rt, alloc, &link, slow)
+}
+
+// Returns whether both runs of a trial give what the slow program says.
 fn agrees(rt: &impl Abort, alloc: Global, trial: &Trial, slow: &Slow) -> bool {
     agrees_singly(&run_singly(rt, alloc, trial), slow)
         && agrees_over_all(&run_over(rt, alloc, trial), trial.packets.len(), slow)
         && agrees_with_log(rt, alloc, trial, slow)
+        && agrees_in_the_middle(rt, alloc, trial, slow)
 }
 
-// Whether both runs of a generated link give what the slow program says.
+// Returns whether both runs of a drawn link give what the slow program says.
 fn agrees_once(rt: &impl Abort, alloc: Global, numbers: &mut Numbers) -> bool {
     let trial = draw_trial(rt, alloc, numbers);
     agrees(rt, alloc, &trial, &slow_of(rt, alloc, &trial))
@@ -285,7 +308,7 @@ fn generated_cases_are_as_the_slow_program_says(rt: HostRuntime) {
     }
 }
 
-// How many opportunities a log has.
+// Returns how many opportunities a log has.
 fn count_opportunities(entries: &[Entry]) -> usize {
     let mut count: usize = 0;
     for entry in entries {
@@ -296,7 +319,7 @@ fn count_opportunities(entries: &[Entry]) -> usize {
     count
 }
 
-// A link over which these packets go, with an opportunity of 1504 bytes each millisecond up to the horizon.
+// Returns a link for a schedule, with an opportunity of 1504 bytes each millisecond up to `horizon`.
 fn each_millisecond(horizon: u64, schedule: &'static [u8]) -> Link {
     Link {
         trace: b"1\n",
@@ -307,7 +330,8 @@ fn each_millisecond(horizon: u64, schedule: &'static [u8]) -> Link {
     }
 }
 
-// Four packets, two of them at first, with many thousand opportunities between them; the last one stays inside.
+// Four packets, the first two at once, with many thousand opportunities before the third and the last. The last stays
+// inside.
 const GAP: &[u8] = b"0 up 1504\n0 up 1504\n15000 up 700\n30000 up 1504\n";
 
 static OVER_GAP: Ways = Ways {
@@ -316,12 +340,12 @@ static OVER_GAP: Ways = Ways {
     inside: &[4],
 };
 
-// What passes a link with a gap between its packets.
+// Returns what becomes of the packets with the gaps.
 fn over_gap(rt: &impl Abort, alloc: Global) -> Passage {
     over_all(rt, alloc, each_millisecond(30_000, GAP))
 }
 
-// Whether a log in pieces has many short ones, which have the entries of the log written out, and an opportunity each
+// Returns whether the pieces are many short ones, have the entries of the log written out, and an opportunity for each
 // millisecond.
 fn is_in_pieces(pieces: &Pieces, entries: &[Entry]) -> bool {
     pieces.entries.as_slice() == entries
@@ -330,14 +354,14 @@ fn is_in_pieces(pieces: &Pieces, entries: &[Entry]) -> bool {
         && count_opportunities(entries) == 30_000
 }
 
-// Whether a log is the same in pieces and written out.
+// Returns whether a log is the same in pieces and written out.
 fn is_same_in_pieces(rt: &impl Abort, alloc: Global) -> bool {
     let pieces = pieces_of(rt, alloc, over_gap(rt, alloc));
     let log = log_of(rt, over_gap(rt, alloc));
     is_in_pieces(&pieces, log.entries())
 }
 
-// Whether packets with a gap between them go their ways.
+// Returns whether the packets with the gaps go their ways.
 fn pass_gap(rt: &impl Abort, alloc: Global) -> bool {
     have_gone(&over_gap(rt, alloc), &OVER_GAP)
 }
@@ -352,14 +376,14 @@ fn a_log_in_pieces_is_the_whole_log(rt: HostRuntime) {
     check(&rt, is_same_in_pieces(&rt, rt.alloc()), "the log in pieces");
 }
 
-// Whether a log in pieces has so many entries, all of them opportunities, and a log of none has no piece.
+// Returns whether a log in pieces has `count` entries, all of them opportunities, and no piece where `count` is 0.
 fn are_opportunities(pieces: &Pieces, count: usize) -> bool {
     pieces.entries.len() == count
         && count_opportunities(&pieces.entries) == count
         && (pieces.number == 0) == (count == 0)
 }
 
-// Whether a link over which nothing goes logs so many opportunities.
+// Returns whether a link at which nothing arrives logs `count` opportunities.
 fn logs_opportunities(rt: &impl Abort, alloc: Global, horizon: u64, count: usize) -> bool {
     let link = each_millisecond(horizon, b"");
     are_opportunities(&pieces_of(rt, alloc, over_all(rt, alloc, link)), count)
@@ -373,4 +397,32 @@ fn a_link_without_arrivals_has_its_opportunities(rt: HostRuntime) {
         "3,000 opportunities",
     );
     check(&rt, logs_opportunities(&rt, rt.alloc(), 0, 0), "none");
+}
+
+// What the log of a link says after a packet and then one of two opportunities of one moment.
+const HALF_A_MOMENT: &[u8] = b"# base timestamp: 0\n0 + 100\n5 # 1504\n5 - 100 5\n";
+
+// Whether a log that is asked in the middle has the opportunity that is burnt, and not the other of its moment.
+fn has_half_a_moment(rt: &impl Abort, alloc: Global) -> bool {
+    let link = Link {
+        trace: b"5\n5\n9\n",
+        once: false,
+        queue: ("infinite", ""),
+        horizon: 20,
+        schedule: b"0 up 100\n",
+    };
+    let mut link = feed_singly(rt, alloc, &trial_of(rt, alloc, link));
+    link.burn(20, 1).expect(rt, "memory");
+    let log = link.log().expect(rt, "memory");
+    let log = log.into_log().expect(rt, "memory");
+    is_text(rt, print_log(alloc, &log), HALF_A_MOMENT)
+}
+
+#[test]
+fn a_log_in_the_middle_has_what_is_burnt(rt: HostRuntime) {
+    check(
+        &rt,
+        has_half_a_moment(&rt, rt.alloc()),
+        "a log after one of two opportunities",
+    );
 }

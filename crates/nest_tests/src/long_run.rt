@@ -1,4 +1,5 @@
-// One run of eight shells of all kinds in both directions, and a count of it that knows no shell's rule.
+// Tests one run of eight shells of all kinds in both directions. Its fates and logs are counted by means that know no
+// shell's rule.
 use crate::checks::check;
 use crate::nests::{Coming, Prepared, Trip, plain_run, prepare, stepped_run};
 use nest_spec::{Fate, FateRow, NamedLog, RunResult};
@@ -7,14 +8,14 @@ use shell_log::{Entry, Log};
 use std::alloc::Global;
 use std::process::Abort;
 
-// The load's last row is at about 15,000 ms.
+// The horizon in milliseconds. The load's last row is at about 15,000 ms.
 const HORIZON: u64 = 14_000;
 
 // 1504 bytes every second millisecond on the average, in a lap of 60 ms with a gap.
 const TRACE: &[u8] =
     b"# mm-trace 2\n0 700\n4 3000\n9 1504\n10 6000\n22 4000\n23 9000\n35 1504\n50 20000\n60 800\n";
 
-// Delays, losses both ways, and links with all three queues, each of which logs both sides.
+// Delays, losses in both directions, and links with all three queues, each of which has a log in both directions.
 const WORDS: &str = "mm-delay 7 \
     mm-loss uplink 0.02 \
     mm-link t t --uplink-log 3u --downlink-log 3d --uplink-queue=droptail --uplink-queue-args=packets=12 \
@@ -33,9 +34,10 @@ static TRIP: Trip = Trip {
     coming: Coming::Load(9, 10_000),
 };
 
+// The sum of all delays, in milliseconds.
 const DELAYS: u64 = 58;
 
-// What the fates of a direction come to, from a shell on.
+// How many packets of a direction had each kind of fate.
 #[derive(Clone, Copy)]
 struct Counts {
     departed: u64,
@@ -44,6 +46,7 @@ struct Counts {
     unsent: u64,
 }
 
+// The counts of no fate.
 const NONE: Counts = Counts {
     departed: 0,
     dropped: 0,
@@ -51,6 +54,7 @@ const NONE: Counts = Counts {
     unsent: 0,
 };
 
+// Returns one more than `count`, where `counts`.
 fn more(count: u64, counts: bool) -> u64 {
     if counts {
         count.saturating_add(1)
@@ -59,7 +63,7 @@ fn more(count: u64, counts: bool) -> u64 {
     }
 }
 
-// One fate more, where it is past these shells or in one of them.
+// Adds a fate. Drops and packets inside count only at `shells`.
 fn with(counts: Counts, fate: Fate, shells: &[u32]) -> Counts {
     match fate {
         Fate::Departed { .. } => Counts {
@@ -81,6 +85,7 @@ fn with(counts: Counts, fate: Fate, shells: &[u32]) -> Counts {
     }
 }
 
+// Returns the counts of a direction. Drops and packets inside count only at `shells`.
 fn counted(fates: &[FateRow], direction: Direction, shells: &[u32]) -> Counts {
     let mut counts = NONE;
     for row in fates {
@@ -91,8 +96,8 @@ fn counted(fates: &[FateRow], direction: Direction, shells: &[u32]) -> Counts {
     counts
 }
 
-// A row has its own fate: its number and direction, unsent exactly past the horizon, departed neither before its way
-// takes nor before the last of its direction.
+// Returns whether the fate can be that of the row: unsent exactly after the horizon, departed neither before all delays
+// have passed nor before `last`, the last departure of its direction.
 fn is_its_own(row: &Row, fate: &FateRow, last: u64) -> bool {
     let late = row.timed.moment > HORIZON;
     let moment = match fate.fate {
@@ -109,6 +114,7 @@ fn is_its_own(row: &Row, fate: &FateRow, last: u64) -> bool {
         && moment <= HORIZON
 }
 
+// Returns the moment of a departure, else 0.
 fn moment_of(fate: Fate) -> u64 {
     match fate {
         Fate::Departed { moment } => moment,
@@ -116,12 +122,12 @@ fn moment_of(fate: Fate) -> u64 {
     }
 }
 
-// Whether a fate is that of a row.
+// Returns whether the fate has the number and direction of the row.
 fn is_of(fate: &FateRow, row: &Row) -> bool {
     row.timed.packet.id == fate.id && row.direction == fate.direction
 }
 
-// Each row of a direction has its own fate, and the departures of the direction are in order.
+// Returns whether each row of a direction has its own fate, and the departures of the direction are in order.
 fn are_their_own(rows: &[Row], fates: &[FateRow], direction: Direction) -> bool {
     let mut last = 0;
     for i in 0..rows.len().min(fates.len()) {
@@ -138,7 +144,7 @@ fn are_their_own(rows: &[Row], fates: &[FateRow], direction: Direction) -> bool 
     rows.len() == fates.len()
 }
 
-// How many rows go in a direction.
+// Returns how many rows go in a direction.
 fn count_rows(rows: &[Row], direction: Direction) -> u64 {
     let mut count = 0;
     for row in rows {
@@ -149,7 +155,8 @@ fn count_rows(rows: &[Row], direction: Direction) -> u64 {
 
 static ALL: [u32; 8] = [1, 2, 3, 4, 5, 6, 7, 8];
 
-// Each packet of the direction has departed, or was dropped, or is inside, or is unsent, and some of each.
+// Returns whether each packet of the direction has departed, was dropped, is inside or is unsent, and there are some of
+// each.
 fn add_up(rows: &[Row], fates: &[FateRow], direction: Direction) -> bool {
     let counts = counted(fates, direction, &ALL);
     let all = counts
@@ -165,7 +172,7 @@ fn add_up(rows: &[Row], fates: &[FateRow], direction: Direction) -> bool {
     all == count_rows(rows, direction) && some > 0
 }
 
-// How many packets a log says arrived, departed and were dropped.
+// Returns how many packets arrived, departed and were dropped, by a log.
 fn lines(log: &Log) -> (u64, u64, u64) {
     let (mut arrived, mut departed, mut dropped) = (0, 0, 0u64);
     for entry in log.entries() {
@@ -179,7 +186,7 @@ fn lines(log: &Log) -> (u64, u64, u64) {
     (arrived, departed, dropped)
 }
 
-// One side of a link, and the shells that its packets pass after it.
+// One direction of a link, and the shells that its packets pass after it.
 #[derive(Clone, Copy)]
 struct Side {
     number: u32,
@@ -187,7 +194,7 @@ struct Side {
     later: &'static [u32],
 }
 
-// In the order of the logs.
+// The directions of the links, in the order of their logs.
 static SIDES: [Side; 6] = [
     Side {
         number: 3,
@@ -221,7 +228,7 @@ static SIDES: [Side; 6] = [
     },
 ];
 
-// The fates say of a side what its log says.
+// Returns whether the fates agree with the log of a link's direction.
 fn is_as_logged(side: Side, log: &Log, fates: &[FateRow]) -> bool {
     let here = counted(fates, side.direction, &[side.number]);
     let later = counted(fates, side.direction, side.later);
@@ -235,6 +242,7 @@ fn is_as_logged(side: Side, log: &Log, fates: &[FateRow]) -> bool {
     lines(log) == (arrived, passed, here.dropped)
 }
 
+// Returns whether the fates agree with all logs.
 fn are_as_logged(logs: &[NamedLog], fates: &[FateRow]) -> bool {
     for i in 0..logs.len().min(SIDES.len()) {
         if !is_as_logged(SIDES[i], &logs[i].log, fates) {
@@ -244,10 +252,12 @@ fn are_as_logged(logs: &[NamedLog], fates: &[FateRow]) -> bool {
     logs.len() == SIDES.len()
 }
 
+// Returns whether two logs have the same name and entries.
 fn is_same(this: &NamedLog, that: &NamedLog) -> bool {
     this.name.as_str() == that.name.as_str() && this.log.entries() == that.log.entries()
 }
 
+// Returns whether both lists have the same logs.
 fn are_same(these: &[NamedLog], those: &[NamedLog]) -> bool {
     for i in 0..these.len().min(those.len()) {
         if !is_same(&these[i], &those[i]) {
@@ -257,24 +267,24 @@ fn are_same(these: &[NamedLog], those: &[NamedLog]) -> bool {
     these.len() == those.len()
 }
 
-// Each row of a direction has one fate, of which there are all kinds.
+// Returns whether each row of a direction has its own fate, and there are fates of all kinds.
 fn is_whole(rows: &[Row], run: &RunResult, direction: Direction) -> bool {
     are_their_own(rows, run.fates(), direction) && add_up(rows, run.fates(), direction)
 }
 
-// Whether each row has one fate, and the logs say what the fates say.
+// Returns whether each row has its own fate, and the logs agree with the fates.
 fn is_as_said(rows: &[Row], run: &RunResult) -> bool {
     is_whole(rows, run, Direction::Up)
         && is_whole(rows, run, Direction::Down)
         && are_as_logged(run.logs(), run.fates())
 }
 
-// Whether two runs give the same.
+// Returns whether two runs have the same result.
 fn agree(this: &RunResult, that: &RunResult) -> bool {
     this.fates() == that.fates() && are_same(this.logs(), that.logs())
 }
 
-// Whether a run has one fate for each row, and a run by steps gives the same.
+// Returns whether each row of a run has its own fate, and a run by steps has the same result.
 fn has_one_fate_each(rt: &impl Abort, alloc: Global, prepared: &Prepared) -> bool {
     let run = plain_run(rt, alloc, prepared);
     is_as_said(prepared.schedule.rows(), &run)

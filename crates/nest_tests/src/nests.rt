@@ -1,4 +1,4 @@
-// Nests by their words, and their runs.
+// Nests made of words, and their runs.
 ghost use Rattle.std.specs.Prelude.{◌≡◌, ◌≤◌, length};
 ghost use Rattle.std.specs.Bool.{OnTrue};
 ghost use Rattle.nest_spec.specs.Nests.{opportunities_of};
@@ -13,14 +13,16 @@ use std::process::Abort;
 use text_base::limits::{HOUR, MOST_OPPORTUNITIES};
 use trace_reader::Trace;
 
-// What comes to a nest: the rows of a text, or a load by its number and how many rows it has.
+// What arrives at a nest.
 #[derive(Clone, Copy)]
 pub enum Coming {
+    // The rows of a schedule's text.
     Rows(&'static [u8]),
+    // The load of a number, and how many rows it has.
     Load(u64, u32),
 }
 
-// The words of a nest, each of whose traces is the same, its horizon, and what comes to it.
+// The words of a nest, the text of the trace that all its links have, its horizon in milliseconds, and what arrives.
 pub struct Trip {
     pub nest: &'static str,
     pub trace: &'static [u8],
@@ -28,14 +30,14 @@ pub struct Trip {
     pub coming: Coming,
 }
 
-// A nest and the schedule that goes through it.
+// A nest, and the schedule that goes through it.
 #[derive(Drop)]
 pub struct Prepared {
     pub nest: Nest,
     pub schedule: Schedule,
 }
 
-// The words between the spaces of a text.
+// Returns the words of a text, which spaces part.
 pub fn words_of(rt: &impl Abort, alloc: Global, text: &str) -> Vec<String> {
     let mut words = Vec::new(alloc);
     for word in text.split(' ') {
@@ -45,12 +47,12 @@ pub fn words_of(rt: &impl Abort, alloc: Global, text: &str) -> Vec<String> {
     words
 }
 
-// The nest that a text says.
+// Returns the nest that the words of a text state.
 pub fn nest_words_of(rt: &impl Abort, alloc: Global, text: &str) -> NestWords {
     read_nest(alloc, words_of(rt, alloc, text).as_slice()).expect(rt, "a nest")
 }
 
-// So many traces of this text.
+// Returns `count` traces of the same text.
 fn traces_of(rt: &impl Abort, alloc: Global, count: usize, text: &[u8]) -> Vec<Trace> {
     let mut traces = Vec::new(alloc);
     for _ in 0..count {
@@ -60,7 +62,7 @@ fn traces_of(rt: &impl Abort, alloc: Global, count: usize, text: &[u8]) -> Vec<T
     traces
 }
 
-// Whether these are as many traces as the words have, and have few enough opportunities up to the horizon.
+// Returns whether there is a trace for each name in the words, and horizon and opportunities are within their limits.
 fn fit(words: &NestWords, traces: &[Trace], horizon: u64) -> bool
     ensures traces { OnTrue result (length traces.now ≡ length words.now.traces) }
     ensures horizon { OnTrue result (horizon ≤ 3600000) }
@@ -71,7 +73,7 @@ fn fit(words: &NestWords, traces: &[Trace], horizon: u64) -> bool
         && words.opportunities(traces, horizon) <= MOST_OPPORTUNITIES
 }
 
-// The nest of these words with these traces.
+// Returns the nest of words with traces.
 fn built(
     rt: &impl Abort,
     alloc: Global,
@@ -83,14 +85,14 @@ fn built(
     build(alloc, words, traces, 0, horizon).expect(rt, "memory")
 }
 
-// The nest of a trip.
+// Returns the nest of a trip.
 fn nest_of(rt: &impl Abort, alloc: Global, trip: &Trip) -> Nest {
     let words = nest_words_of(rt, alloc, trip.nest);
     let traces = traces_of(rt, alloc, words.traces().len(), trip.trace);
     built(rt, alloc, words, traces, trip.horizon)
 }
 
-// The schedule of what comes.
+// Returns the schedule of what arrives.
 fn schedule_for(rt: &impl Abort, alloc: Global, coming: Coming) -> Schedule {
     match coming {
         Coming::Rows(text) => schedule_of(rt, alloc, text),
@@ -98,7 +100,7 @@ fn schedule_for(rt: &impl Abort, alloc: Global, coming: Coming) -> Schedule {
     }
 }
 
-// The nest and the schedule of a trip.
+// Returns the nest and the schedule of a trip.
 pub fn prepare(rt: &impl Abort, alloc: Global, trip: &Trip) -> Prepared {
     Prepared {
         nest: nest_of(rt, alloc, trip),
@@ -106,12 +108,12 @@ pub fn prepare(rt: &impl Abort, alloc: Global, trip: &Trip) -> Prepared {
     }
 }
 
-// A run over whole lists, shell by shell.
+// Returns the result of a run over whole lists, shell by shell.
 pub fn plain_run(rt: &impl Abort, alloc: Global, prepared: &Prepared) -> RunResult {
     run_plain(alloc, &prepared.nest, &prepared.schedule).expect(rt, "memory")
 }
 
-// A run by single steps in this order, which is gathered from the states of the shells.
+// Returns the result of a run by single steps in an order.
 pub fn stepped_run(rt: &impl Abort, alloc: Global, prepared: &Prepared, order: &[u8]) -> RunResult {
     run_order(alloc, &prepared.nest, &prepared.schedule, order).expect(rt, "memory")
 }

@@ -1,4 +1,4 @@
-// Lists of packets for tests.
+// Lists of packets, and comparisons of them.
 ghost use Rattle.packet_record.specs.Moments.{AreUpTo, Rise};
 
 use crate::checks::check;
@@ -7,7 +7,7 @@ use std::alloc::Global;
 use std::process::Abort;
 use text_base::{Bytes, OutOfMemory, write_decimal};
 
-// A packet of 1000 bytes.
+// Returns a packet of 1000 bytes.
 pub fn timed(moment: u64, id: u32) -> Timed {
     Timed {
         moment,
@@ -15,7 +15,7 @@ pub fn timed(moment: u64, id: u32) -> Timed {
     }
 }
 
-// Ten thousand packets, ten at each millisecond.
+// Returns ten thousand packets, ten at each millisecond.
 pub fn many_packets(rt: &impl Abort, alloc: Global) -> Vec<Timed> {
     let mut packets = Vec::new(alloc);
     for id in 0..10_000u32 {
@@ -26,7 +26,7 @@ pub fn many_packets(rt: &impl Abort, alloc: Global) -> Vec<Timed> {
     packets
 }
 
-// These packets, of which none may be before one that stands earlier, or past the horizon.
+// Returns the packets. The test ends where one is before the one before it, or after the horizon.
 #[tactic(auto, using(link_core::proofs::FeedLemmas::up_to_push, link_core::proofs::FeedLemmas::up_to_later, link_core::proofs::FeedLemmas::rise_push))]
 pub fn in_order(rt: &impl Abort, alloc: Global, horizon: u64, packets: &[Timed]) -> Vec<Timed>
     ensures rises { Rise result.items }
@@ -45,7 +45,7 @@ pub fn in_order(rt: &impl Abort, alloc: Global, horizon: u64, packets: &[Timed])
     list
 }
 
-// Adds a line of two numbers.
+// Adds a line: a number, the text `between`, and another number.
 pub fn put_line(
     text: &mut Bytes,
     first: u64,
@@ -58,7 +58,7 @@ pub fn put_line(
     text.append(b"\n")
 }
 
-// Whether these packets are the first of those, by their numbers and moments.
+// Returns whether the packets are the first of `said`, by their numbers and moments.
 pub fn are_first(packets: &[Timed], said: &[(u32, u64)]) -> bool {
     for i in 0..packets.len().min(said.len()) {
         let (id, moment) = said[i];
@@ -69,19 +69,20 @@ pub fn are_first(packets: &[Timed], said: &[(u32, u64)]) -> bool {
     packets.len() <= said.len()
 }
 
-// Whether these packets are those, by their numbers and moments.
+// Returns whether the packets are those of `said`, by their numbers and moments.
 pub fn are(packets: &[Timed], said: &[(u32, u64)]) -> bool {
     packets.len() == said.len() && are_first(packets, said)
 }
 
-// Which packets departed and were lost, by their numbers and moments, and the numbers of those that stay inside.
+// The ways of packets: which departed and which were lost, by numbers and moments, and the numbers of those that stay
+// inside.
 pub struct Ways {
     pub departed: &'static [(u32, u64)],
     pub lost: &'static [(u32, u64)],
     pub inside: &'static [u32],
 }
 
-// Whether packets went these ways.
+// Returns whether packets went the ways.
 pub fn went(departed: &[Timed], lost: &[Timed], inside: &[u32], ways: &Ways) -> bool {
     are(departed, ways.departed) && are(lost, ways.lost) && inside == ways.inside
 }

@@ -1,4 +1,4 @@
-// Runs of small nests, each at once over whole lists and by states: their fates and logs.
+// Tests of small nests: the fates and logs of a run over whole lists and of one by steps.
 use crate::checks::check;
 use crate::inputs::is_text;
 use crate::link_runs::{Pieces, put_together};
@@ -9,25 +9,25 @@ use shell_log::print_log;
 use std::alloc::Global;
 use std::process::Abort;
 
-// The name and the text of a log.
+// The name of a log, and its text.
 pub struct LogText {
     name: &'static str,
     text: &'static [u8],
 }
 
-// A run of a nest and what it must give: the text of the fates, and the name and the text of each log.
+// A run, and what it must give: the text of the fates, and the name and text of each log.
 pub struct Case {
     pub trip: Trip,
     pub fates: &'static [u8],
     pub logs: &'static [LogText],
 }
 
-// Whether a log has this name and this text.
+// Returns whether a log has the name and the text of `said`.
 fn is_log(rt: &impl Abort, alloc: Global, named: &NamedLog, said: &LogText) -> bool {
     named.name.as_str() == said.name && is_text(rt, print_log(alloc, &named.log), said.text)
 }
 
-// Whether the logs have these names and these texts.
+// Returns whether the logs have the names and texts of `said`.
 fn are_logs(rt: &impl Abort, alloc: Global, logs: &[NamedLog], said: &[LogText]) -> bool {
     for i in 0..logs.len().min(said.len()) {
         if !is_log(rt, alloc, &logs[i], &said[i]) {
@@ -37,19 +37,19 @@ fn are_logs(rt: &impl Abort, alloc: Global, logs: &[NamedLog], said: &[LogText])
     logs.len() == said.len()
 }
 
-// Whether a run gives what is said.
+// Returns whether a run gives what the case expects.
 pub fn is_as_said(rt: &impl Abort, alloc: Global, case: &Case, run: &RunResult) -> bool {
     is_text(rt, print_fates(alloc, run.fates()), case.fates)
         && are_logs(rt, alloc, run.logs(), case.logs)
 }
 
-// Whether both runs give what is said.
+// Returns whether both runs give what the case expects.
 fn are_as_said(rt: &impl Abort, alloc: Global, case: &Case, prepared: &Prepared) -> bool {
     is_as_said(rt, alloc, case, &plain_run(rt, alloc, prepared))
         && is_as_said(rt, alloc, case, &stepped_run(rt, alloc, prepared, &[]))
 }
 
-// Whether a small nest gives what is said.
+// Returns whether both runs of the case's nest give what the case expects.
 fn gives(rt: &impl Abort, alloc: Global, case: &Case) -> bool {
     are_as_said(rt, alloc, case, &prepare(rt, alloc, &case.trip))
 }
@@ -145,19 +145,19 @@ fn small_nests_give_what_is_said(rt: HostRuntime) {
     }
 }
 
-// Whether a log that is put together is in one piece, with the entries of this one.
+// Returns whether a log in pieces is one piece, with the entries of `written`.
 fn is_one_piece(pieces: &Pieces, written: &NamedLog) -> bool {
     pieces.number == 1 && pieces.entries.as_slice() == written.log.entries()
 }
 
-// Whether a log that is still to be made has the name and the entries of this one, in one piece.
+// Returns whether a log that isn't written out has the name and the entries of `written`, in one piece.
 fn is_made(rt: &impl Abort, alloc: Global, made: UnwrittenLog, written: &NamedLog) -> bool {
     let Named { name, log } = made;
     let pieces = put_together(rt, alloc, log);
     name.as_str() == written.name.as_str() && is_one_piece(&pieces, written)
 }
 
-// Whether the logs that are still to be made have the names and entries of these.
+// Returns whether logs that aren't written out have the names and entries of `written`.
 fn are_made(
     rt: &impl Abort,
     alloc: Global,
@@ -173,17 +173,17 @@ fn are_made(
     logs.is_empty()
 }
 
-// Whether packed fates are those of a run.
+// Returns whether packed fates are those of a run.
 fn has_fates(rt: &impl Abort, alloc: Global, fates: &[PackedFate], run: &RunResult) -> bool {
     unpack_fates(alloc, fates).expect(rt, "memory").as_slice() == run.fates()
 }
 
-// A run whose logs aren't written out.
+// Returns a run whose logs aren't written out.
 fn unwritten_run(rt: &impl Abort, alloc: Global, prepared: &Prepared) -> NestRun {
     run_nest(alloc, &prepared.nest, &prepared.schedule).expect(rt, "memory")
 }
 
-// Whether a run whose logs aren't written out gives two logs, and what this one gives.
+// Returns whether a run whose logs aren't written out has two logs, and the fates and logs of `whole`.
 fn is_unwritten(rt: &impl Abort, alloc: Global, run: NestRun, whole: &RunResult) -> bool {
     let (fates, mut logs) = run.into_parts();
     logs.len() == 2
@@ -198,7 +198,7 @@ static LOGGED: Trip = Trip {
     coming: Coming::Rows(b"0 up 1000\n1 down 700\n"),
 };
 
-// Whether a run whose logs aren't written out gives what one gives that writes them out.
+// Returns whether a run gives the same with its logs written out and not.
 fn makes_logs(rt: &impl Abort, alloc: Global, prepared: &Prepared) -> bool {
     let whole = plain_run(rt, alloc, prepared);
     is_unwritten(rt, alloc, unwritten_run(rt, alloc, prepared), &whole)

@@ -1,4 +1,4 @@
-// A whole list of packets through a shell of each kind.
+// Tests of a shell of each kind that runs over a whole list of packets.
 use crate::checks::check;
 use crate::directions::{Kind, direction_of, log_of};
 use crate::packets::{Ways, in_order, timed, went};
@@ -7,14 +7,14 @@ use shell_log::{Log, print_log};
 use std::alloc::Global;
 use std::process::Abort;
 
-// What three packets through a direction, up to 100 ms, must give.
+// A kind of shell, and what must become of three packets, up to 100 ms.
 struct Case {
     name: &'static str,
     kind: Kind,
     ways: Ways,
 }
 
-// Three packets through a direction, up to 100 ms.
+// Runs a shell over three packets, up to 100 ms.
 fn pass(rt: &impl Abort, alloc: Global, kind: Kind) -> Passage {
     let three = [timed(5, 1), timed(80, 2), timed(81, 3)];
     let packets = in_order(rt, alloc, 100, &three);
@@ -22,18 +22,18 @@ fn pass(rt: &impl Abort, alloc: Global, kind: Kind) -> Passage {
     run_whole(alloc, direction, 100, packets).expect(rt, "memory")
 }
 
-// Whether the packets went their ways, and links alone have a log.
+// Returns whether the packets went their ways, and only a link has a log.
 fn is_as_said(passage: &Passage, case: &Case) -> bool {
     passage.log.is_some() == matches!(case.kind, Kind::Link(..))
         && went(&passage.departed, &passage.lost, &passage.held, &case.ways)
 }
 
-// Whether the packets go through a direction as is said.
+// Returns whether the packets go through a shell as the case expects.
 fn passes(rt: &impl Abort, alloc: Global, case: &Case) -> bool {
     is_as_said(&pass(rt, alloc, case.kind), case)
 }
 
-// A link with an opportunity for each packet of 1504 bytes every 4 ms.
+// A link with an opportunity of 1504 bytes every 4 ms, and room for one packet.
 const FULL: Kind = Kind::Link(b"4\n", "droptail", "packets=1");
 
 static CASES: [Case; 4] = [
@@ -82,15 +82,16 @@ fn packets_pass_each_kind(rt: HostRuntime) {
     }
 }
 
+// The first lines of the log of `FULL`.
 const START: &[u8] = b"# base timestamp: 0\n4 # 1504\n5 + 1000\n8 # 1504\n8 - 1000 3\n";
 
-// Whether the text of a log starts so.
+// Returns whether the text of a log begins with `start`.
 fn starts(rt: &impl Abort, alloc: Global, log: &Log, start: &[u8]) -> bool {
     let text = print_log(alloc, log).expect(rt, "memory");
     text.as_slice().starts_with(start)
 }
 
-// Whether the log of the packets through a direction starts so.
+// Returns whether the log of a shell with the three packets begins with `start`.
 fn logs(rt: &impl Abort, alloc: Global, kind: Kind, start: &[u8]) -> bool {
     starts(rt, alloc, &log_of(rt, pass(rt, alloc, kind)), start)
 }

@@ -1,4 +1,5 @@
-// A plain slow program of the definitions, written apart from the contracts: it sums over whole lists again and again.
+// A plain slow program of a link, written apart from the contracts and from the code: it sums over whole lists again
+// and again.
 ghost use Rattle.std.specs.Prelude.{◌<◌, length};
 
 use packet_queue::{QueueKind, QueueSpec};
@@ -9,6 +10,7 @@ use std::process::Abort;
 use text_base::OutOfMemory;
 use trace_reader::Opportunity;
 
+// What becomes of the packets: which departed and which were lost, and the log.
 #[derive(Drop)]
 pub struct Slow {
     pub departed: Vec<Timed>,
@@ -16,12 +18,14 @@ pub struct Slow {
     pub log: Vec<Entry>,
 }
 
+// The packets that entered the queue and weren't lost, and those that were lost.
 #[derive(Drop)]
 struct Kept {
     kept: Vec<Timed>,
     lost: Vec<Timed>,
 }
 
+// Returns how many bytes the packets have.
 fn size_of_all(packets: &[Timed]) -> u64 {
     let mut sum: u64 = 0;
     for t in packets {
@@ -30,7 +34,7 @@ fn size_of_all(packets: &[Timed]) -> u64 {
     sum
 }
 
-// The bytes of the packets before a moment.
+// Returns how many bytes the packets before `moment` have.
 fn size_before(packets: &[Timed], moment: u64) -> u64 {
     let mut sum: u64 = 0;
     for t in packets {
@@ -41,6 +45,7 @@ fn size_before(packets: &[Timed], moment: u64) -> u64 {
     sum
 }
 
+// Returns how many bytes of `kept` are sent up to the moment `until`.
 fn sent(kept: &[Timed], opps: &[Opportunity], until: u64) -> u64 {
     let mut sum: u64 = 0;
     for o in opps {
@@ -52,6 +57,7 @@ fn sent(kept: &[Timed], opps: &[Opportunity], until: u64) -> u64 {
     sum
 }
 
+// Returns whether `n` is within the limit. A limit of 0 is none.
 fn within(limit: Option<u64>, n: u64) -> bool {
     match limit {
         None => true,
@@ -59,11 +65,12 @@ fn within(limit: Option<u64>, n: u64) -> bool {
     }
 }
 
+// Returns whether the packets fit the limits of the queue.
 fn fits(queue: &QueueSpec, packets: &[Timed]) -> bool {
     within(queue.packets, packets.len() as u64) && within(queue.bytes, size_of_all(packets))
 }
 
-// Keeps a packet, or loses it at a moment.
+// Keeps a packet, or loses it at `moment`.
 fn put(after: &mut Kept, t: Timed, is_lost: bool, moment: u64) -> Result<(), OutOfMemory> {
     if is_lost {
         after.lost.push(Timed {
@@ -76,7 +83,7 @@ fn put(after: &mut Kept, t: Timed, is_lost: bool, moment: u64) -> Result<(), Out
     Ok(())
 }
 
-// Keeps and loses of the packets that wait, the last of which comes at this moment.
+// Keeps or loses each packet that waits, the last of which arrives at `moment`.
 fn queued(
     queue: &QueueSpec,
     after: &mut Kept,
@@ -94,7 +101,7 @@ fn queued(
     Ok(())
 }
 
-// How many of these packets, the first ones, leave or have left when so many bytes are sent.
+// Returns how many of the packets, the first ones, have departed or are in transit once `bytes` are sent.
 fn count_gone(kept: &[Timed], bytes: u64) -> usize {
     let mut sum: u64 = 0;
     let mut count: usize = 0;
@@ -107,14 +114,14 @@ fn count_gone(kept: &[Timed], bytes: u64) -> usize {
     count
 }
 
-// These packets, and one more.
+// Returns the packets, and one more.
 fn with(rt: &impl Abort, alloc: Global, packets: &[Timed], t: Timed) -> Vec<Timed> {
     let mut list = Vec::from_slice(alloc, packets).expect(rt, "memory");
     list.push(t).expect(rt, "memory");
     list
 }
 
-// What is kept of those that were kept and a new packet, and what that loses.
+// Returns what is kept of `kept` and a new packet, and what is lost as it arrives.
 fn arrive(
     rt: &impl Abort,
     alloc: Global,
@@ -133,7 +140,7 @@ fn arrive(
     after
 }
 
-// The number of the first opportunity with which so many bytes are sent, or how many there are.
+// Returns the number of the first opportunity with which `bytes` are sent, or how many opportunities there are.
 fn first_with(kept: &[Timed], opps: &[Opportunity], bytes: u64) -> usize {
     for i in 0..opps.len() {
         if sent(kept, &opps[..i + 1], u64::MAX) >= bytes {
@@ -143,6 +150,7 @@ fn first_with(kept: &[Timed], opps: &[Opportunity], bytes: u64) -> usize {
     opps.len()
 }
 
+// Logs an opportunity and the departures at it.
 fn log_opportunity(
     log: &mut Vec<Entry>,
     kept: &[Timed],
@@ -168,6 +176,7 @@ fn log_opportunity(
     Ok(())
 }
 
+// Logs an arrival and the packets that it loses.
 fn log_arrival(log: &mut Vec<Entry>, t: Timed, lost: &[Timed]) -> Result<(), OutOfMemory> {
     log.push(Entry::Arrival {
         moment: t.moment,
@@ -183,7 +192,7 @@ fn log_arrival(log: &mut Vec<Entry>, t: Timed, lost: &[Timed]) -> Result<(), Out
     Ok(())
 }
 
-// What is kept and lost of all these.
+// Returns what is kept and lost of all arrivals.
 fn keep(
     rt: &impl Abort,
     alloc: Global,
@@ -203,7 +212,7 @@ fn keep(
     all
 }
 
-// The packets that the arrival of this number lost.
+// Returns the packets that arrival `number` loses.
 fn lost_at(
     rt: &impl Abort,
     alloc: Global,
@@ -218,7 +227,7 @@ fn lost_at(
     arrive(rt, alloc, queue, opps, &before.kept, arrivals[number]).lost
 }
 
-// What departs of the packets that are kept.
+// Returns which of the packets that are kept depart.
 fn depart(rt: &impl Abort, alloc: Global, kept: &[Timed], opps: &[Opportunity]) -> Vec<Timed> {
     let mut departed = Vec::new(alloc);
     let mut sum: u64 = 0;
@@ -235,7 +244,7 @@ fn depart(rt: &impl Abort, alloc: Global, kept: &[Timed], opps: &[Opportunity]) 
     departed
 }
 
-// The opportunities of a moment.
+// Logs the opportunities of a moment.
 fn log_opportunities(
     log: &mut Vec<Entry>,
     kept: &[Timed],
@@ -250,7 +259,7 @@ fn log_opportunities(
     Ok(())
 }
 
-// The arrivals of a moment.
+// Logs the arrivals of a moment.
 fn log_arrivals(
     rt: &impl Abort,
     alloc: Global,
@@ -268,7 +277,7 @@ fn log_arrivals(
     }
 }
 
-// What happens up to the horizon, moment by moment.
+// Returns the log up to the horizon, moment by moment.
 fn log_all(
     rt: &impl Abort,
     alloc: Global,
@@ -294,7 +303,7 @@ fn log_all(
     log
 }
 
-// What becomes of all arrivals up to the horizon, and the log.
+// Returns what becomes of all arrivals up to the horizon, and the log.
 pub fn slow_link(
     rt: &impl Abort,
     alloc: Global,

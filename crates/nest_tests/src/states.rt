@@ -1,4 +1,4 @@
-// States that are fed and taken from.
+// Tests of states of shells, which are fed and taken from.
 ghost use Rattle.std.specs.Prelude.{◌≡◌, ◌≤◌, ◌↔◌, IsTrue};
 ghost use Rattle.packet_record.specs.Streams.{IsUpTo};
 
@@ -12,6 +12,7 @@ use text_base::OutOfMemory;
 mod many;
 mod steps;
 
+// Returns whether the item is within the horizon.
 fn is_within(item: &Item, horizon: u64) -> bool
     ensures { IsTrue result ↔ IsUpTo horizon item.now }
 {
@@ -22,6 +23,7 @@ fn is_within(item: &Item, horizon: u64) -> bool
     }
 }
 
+// Returns whether the stream is open.
 fn is_open(end: FlowEnd) -> bool
     ensures { IsTrue result ↔ (end ≡ FlowEnd.Open) }
 {
@@ -31,6 +33,7 @@ fn is_open(end: FlowEnd) -> bool
     }
 }
 
+// Returns whether the stream has ended.
 fn is_over(end: FlowEnd) -> bool
     ensures { IsTrue result ↔ (end ≡ FlowEnd.Ended) }
 {
@@ -40,7 +43,8 @@ fn is_over(end: FlowEnd) -> bool
     }
 }
 
-// Feeds an item. False: it may not follow what was fed, or is past the horizon, and nothing has changed.
+// Feeds an item. Returns false where it may not follow what was fed, or is after the horizon; the state is then as it
+// was.
 fn feed(state: &mut ShellState, horizon: u64, item: Item) -> Result<bool, OutOfMemory>
     requires { state.old.horizon ≡ horizon }
     ensures { state.new.horizon ≡ horizon }
@@ -55,7 +59,7 @@ fn feed(state: &mut ShellState, horizon: u64, item: Item) -> Result<bool, OutOfM
     Ok(true)
 }
 
-// Takes once. None: the end was taken before.
+// Takes once. Returns `None` where the end was taken before.
 fn take_one(state: &mut ShellState, most: u32) -> Result<Option<Taken>, OutOfMemory>
     requires { 1 ≤ most }
     ensures { state.new.horizon ≡ state.old.horizon }
@@ -67,7 +71,7 @@ fn take_one(state: &mut ShellState, most: u32) -> Result<Option<Taken>, OutOfMem
     Ok(Some(answer))
 }
 
-// A state of this kind, of which nothing was fed or taken.
+// Returns a state of a kind of shell, before anything was fed or taken.
 fn state_of(rt: &impl Abort, alloc: Global, kind: Kind, horizon: u64) -> ShellState
     requires { horizon ≤ 3600000 }
     ensures { result.horizon ≡ horizon }
@@ -78,7 +82,7 @@ fn state_of(rt: &impl Abort, alloc: Global, kind: Kind, horizon: u64) -> ShellSt
 
 fn moves<T: Send>(_: &T) {}
 
-// A state may move to another thread.
+// A state may be sent to another thread.
 fn cross(state: &ShellState) {
     moves(state);
 }

@@ -1,4 +1,4 @@
-// The words for nests, and each refusal.
+// Tests of the words for nests, and of each refusal.
 use crate::checks::check;
 use crate::nests::{nest_words_of, words_of};
 use nest_spec::{NestError, NestWords, read_nest};
@@ -6,7 +6,7 @@ use std::alloc::Global;
 use std::process::Abort;
 use text_base::Text;
 
-// Whether the texts are these two.
+// Returns whether the texts are `first` and `second`.
 fn are(texts: &[Text], first: &str, second: &str) -> bool {
     match texts {
         [one, two] => one.as_str() == first && two.as_str() == second,
@@ -14,10 +14,11 @@ fn are(texts: &[Text], first: &str, second: &str) -> bool {
     }
 }
 
+// Words with options in any place.
 const THREE_SHELLS: &str =
     "mm-delay 0020 mm-link --uplink-log=u a --once b --downlink-log d -- mm-loss downlink .5";
 
-// Whether words have three shells, and these traces and logs.
+// Returns whether the words of `THREE_SHELLS` were read: three shells, two traces and two logs.
 fn are_three_shells(words: &NestWords) -> bool {
     words.shells().len() == 3 && are(words.traces(), "a", "b") && are(words.logs(), "u", "d")
 }
@@ -28,7 +29,7 @@ fn reads_a_nest(rt: HostRuntime) {
     check(&rt, are_three_shells(&words), "three shells");
 }
 
-// Why words are refused.
+// Returns why the words are refused, or `None` where they aren't.
 fn refusal(alloc: Global, words: &[String]) -> Option<NestError> {
     read_nest(alloc, words).err()
 }
@@ -39,10 +40,12 @@ fn refuses_no_words(rt: HostRuntime) {
     check(&rt, refused, "no shell");
 }
 
+// Words in which a ninth shell begins.
 const NINE: &str =
     "mm-delay 1 mm-delay 1 mm-delay 1 mm-delay 1 mm-delay 1 mm-delay 1 mm-delay 1 mm-delay 1 mm-delay";
 
-// Words that are refused, and the number, the place and the inner number of what is at fault.
+// Words that are refused, with the number of the refusal, the place that it names, and the number of the error inside
+// it.
 static REFUSED: [(&str, u32, u32, Option<u32>); 29] = [
     ("", 2, 1, None),
     ("mm-delays 5", 2, 1, None),
@@ -80,7 +83,7 @@ static REFUSED: [(&str, u32, u32, Option<u32>); 29] = [
     ("mm-link a b --uplink-log=x --uplink-log", 6, 5, None),
 ];
 
-// Whether words are refused with this number, place and inner number.
+// Returns whether the words are refused as `said`: the number, the place, and the number inside.
 fn is_refused(rt: &impl Abort, alloc: Global, text: &str, said: (u32, u32, Option<u32>)) -> bool {
     match refusal(alloc, words_of(rt, alloc, text).as_slice()) {
         None => false,

@@ -1,7 +1,7 @@
 -- The option words of the other commands.
-use Rattle.std.specs.Prelude.{List, [], ◌∷◌, Option, Some, None, codes, option_and_then}
+use Rattle.std.specs.Prelude.{Bool, List, [], ◌∷◌, Option, Some, None, codes, is_some, option_and_then}
 use Rattle.option_words.specs.Options.{Opt, Text}
-use Rattle.option_words.specs.Givens.{givens, valued, ◌>>=◌}
+use Rattle.option_words.specs.Givens.{flag, givens, valued, ◌>>=◌}
 
 -- ---- `report --log LOG`
 
@@ -120,29 +120,37 @@ migrate_from _ = None
 abbrev pub migrate_texts : List Text → Option MigrateTexts
 migrate_texts words = option_and_then migrate_from (givens migrate_table words)
 
--- ---- `replay --store STORE --port PORT --connections CONNECTIONS [--site-port SITE-PORT]`
+-- ---- `replay --store STORE --port PORT --connections CONNECTIONS [--site-port SITE-PORT] [--until-ended]`
 
 pub record ReplayTexts : Type 0 where
   pub store : Text
   pub port : Text
   pub connections : Text
   pub site_port : Option Text
+  pub until_ended : Bool
 
 abbrev pub replay_table : List Opt
 replay_table =
     valued (codes "store") ∷ valued (codes "port") ∷ valued (codes "connections")
-    ∷ valued (codes "site-port") ∷ []
+    ∷ valued (codes "site-port") ∷ flag (codes "until-ended") ∷ []
 
 -- those that must be there are
-unfoldable pub replay_with : Option Text → Option Text → Option Text → Option Text → Option ReplayTexts
-replay_with store port connections site_port = do
+unfoldable pub replay_with : Option Text → Option Text → Option Text → Option Text → Bool → Option ReplayTexts
+replay_with store port connections site_port until_ended = do
   given_store ← store
   given_port ← port
   given_connections ← connections
-  Some (record { store = given_store; port = given_port; connections = given_connections; site_port = site_port })
+  Some (record {
+    store = given_store;
+    port = given_port;
+    connections = given_connections;
+    site_port = site_port;
+    until_ended = until_ended;
+  })
 
 abbrev pub replay_from : List (Option Text) → Option ReplayTexts
-replay_from (store ∷ port ∷ connections ∷ site_port ∷ []) = replay_with store port connections site_port
+replay_from (store ∷ port ∷ connections ∷ site_port ∷ until_ended ∷ []) =
+    replay_with store port connections site_port (is_some until_ended)
 replay_from _ = None
 
 abbrev pub replay_texts : List Text → Option ReplayTexts
@@ -174,28 +182,38 @@ merge_from _ = None
 abbrev pub merge_texts : List Text → Option MergeTexts
 merge_texts words = option_and_then merge_from (givens merge_table words)
 
--- ---- `mm-record --port PORT --to TO --connections CONNECTIONS --out OUT`
+-- ---- `mm-record --port PORT --to TO --connections CONNECTIONS --out OUT [--until-ended]`
 
 pub record ProxyTexts : Type 0 where
   pub port : Text
   pub to : Text
   pub connections : Text
   pub out : Text
+  pub until_ended : Bool
 
 abbrev pub proxy_table : List Opt
-proxy_table = valued (codes "port") ∷ valued (codes "to") ∷ valued (codes "connections") ∷ valued (codes "out") ∷ []
+proxy_table =
+    valued (codes "port") ∷ valued (codes "to") ∷ valued (codes "connections") ∷ valued (codes "out")
+    ∷ flag (codes "until-ended") ∷ []
 
 -- those that must be there are
-unfoldable pub proxy_with : Option Text → Option Text → Option Text → Option Text → Option ProxyTexts
-proxy_with port to connections out = do
+unfoldable pub proxy_with : Option Text → Option Text → Option Text → Option Text → Bool → Option ProxyTexts
+proxy_with port to connections out until_ended = do
   given_port ← port
   given_to ← to
   given_connections ← connections
   given_out ← out
-  Some (record { port = given_port; to = given_to; connections = given_connections; out = given_out })
+  Some (record {
+    port = given_port;
+    to = given_to;
+    connections = given_connections;
+    out = given_out;
+    until_ended = until_ended;
+  })
 
 abbrev pub proxy_from : List (Option Text) → Option ProxyTexts
-proxy_from (port ∷ to ∷ connections ∷ out ∷ []) = proxy_with port to connections out
+proxy_from (port ∷ to ∷ connections ∷ out ∷ until_ended ∷ []) =
+    proxy_with port to connections out (is_some until_ended)
 proxy_from _ = None
 
 abbrev pub proxy_texts : List Text → Option ProxyTexts

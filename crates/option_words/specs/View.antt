@@ -51,6 +51,7 @@ replay_texts_of w = record {
   port = w.port.now;
   connections = w.connections.now;
   site_port = option_map (λ s. s.now) w.site_port;
+  until_ended = w.until_ended;
 }
 
 abbrev pub merge_texts_of : MergeWords → MergeTexts
@@ -62,7 +63,13 @@ merge_texts_of w = record {
 }
 
 abbrev pub proxy_texts_of : ProxyWords → ProxyTexts
-proxy_texts_of w = record { port = w.port.now; to = w.to.now; connections = w.connections.now; out = w.out.now }
+proxy_texts_of w = record {
+  port = w.port.now;
+  to = w.to.now;
+  connections = w.connections.now;
+  out = w.out.now;
+  until_ended = w.until_ended;
+}
 
 abbrev pub relay_texts_of : RelayWords → RelayTexts
 relay_texts_of w = record {

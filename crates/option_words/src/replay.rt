@@ -5,7 +5,7 @@ ghost use Rattle.option_words.specs.View.{replay_texts_of};
 ghost use Rattle.option_words.specs.inside.Values.{opt};
 
 use crate::given::read_given;
-use crate::table::{OptionSpec, valued};
+use crate::table::{OptionSpec, flag, valued};
 use std::alloc::{AllocError, Global};
 
 /// The values that the option words of `replay` give.
@@ -15,9 +15,10 @@ pub struct ReplayWords<'a> {
     pub port: &'a str,
     pub connections: &'a str,
     pub site_port: Option<&'a str>,
+    pub until_ended: bool,
 }
 
-fn replay_options<'a>() -> [OptionSpec<'a>; 4]
+fn replay_options<'a>() -> [OptionSpec<'a>; 5]
     ensures { map opt result ≡ replay_table }
 {
     [
@@ -25,6 +26,7 @@ fn replay_options<'a>() -> [OptionSpec<'a>; 4]
         valued("port"),
         valued("connections"),
         valued("site-port"),
+        flag("until-ended"),
     ]
 }
 
@@ -34,21 +36,23 @@ fn replay_words<'a>(
     port: Option<&'a str>,
     connections: Option<&'a str>,
     site_port: Option<&'a str>,
+    until_ended: bool,
 ) -> Option<ReplayWords<'a>>
     ensures { option_map replay_texts_of result ≡ replay_with (option_map
         (λ s. s.now) store.entry) (option_map (λ s. s.now) port.entry) (option_map
-        (λ s. s.now) connections.entry) (option_map (λ s. s.now) site_port.entry) }
+        (λ s. s.now) connections.entry) (option_map (λ s. s.now) site_port.entry) until_ended }
 {
     Some(ReplayWords {
         store: store?,
         port: port?,
         connections: connections?,
         site_port,
+        until_ended,
     })
 }
 
-/// The values of these option words of `replay`: `--store`, `--port` and `--connections`, which must be there, and
-/// `--site-port`.
+/// The values of these option words of `replay`: `--store`, `--port` and `--connections`, which must be there,
+/// `--site-port` and the flag `--until-ended`.
 /// `None` comes exactly where the words aren't these options, each at most once. `AllocError` is want of memory.
 pub fn parse_replay<'a>(
     alloc: Global,
@@ -58,7 +62,7 @@ pub fn parse_replay<'a>(
 {
     let table = replay_options();
     match read_given(alloc, &table, words)? {
-        Some(given) => Ok(replay_words(given[0], given[1], given[2], given[3])),
+        Some(given) => Ok(replay_words(given[0], given[1], given[2], given[3], given[4].is_some())),
         None => Ok(None),
     }
 }

@@ -1,4 +1,4 @@
-//! The three queues of a link: infinite, droptail and drophead.
+//! The three queues of a link (infinite, droptail and drophead), and the words for one.
 #![tactic(auto)]
 
 mod queue;

@@ -87,7 +87,7 @@ impl PacketQueue {
         self.size as u128
     }
 
-    /// The numbers of the packets that wait, in order.
+    /// The numbers of the packets that wait, in order, or out of memory.
     pub fn ids(&self, alloc: Global) -> Result<Vec<u32>, OutOfMemory>
         ensures { IfOk result (λ ids. ids.items ≡ map (λ t. t.packet.id) self.now.packets) }
     {
@@ -109,8 +109,8 @@ impl PacketQueue {
         self.gone
     }
 
-    /// Makes room for at least this many packets. Beyond 2^40 packets there is no memory, so that the sum of their
-    /// sizes fits 64 bits.
+    /// Makes room for at least `n` more packets, or runs out of memory. Beyond 2^40 packets it always does, so that
+    /// the sum of their sizes fits 64 bits.
     pub fn reserve(&mut self, n: usize) -> Result<(), OutOfMemory>
         ensures ok { OnOk result (n ≤ self.new.spare) }
         ensures err { OnErr result (self.new ≡ self.old) }
@@ -132,7 +132,7 @@ impl PacketQueue {
         Ok(())
     }
 
-    /// Takes the first packet; None exactly where none waits.
+    /// Takes the first packet. Returns `None` exactly where none waits.
     pub fn dequeue(&mut self) -> Option<Timed>
         ensures packets { self.old.packets ≡ option_to_list result ++ self.new.packets }
         ensures none { IsSome result ↔ (0 < length self.old.packets) }
@@ -145,7 +145,7 @@ impl PacketQueue {
         first
     }
 
-    /// Lets in a packet that arrives at its moment, and answers what this dropped.
+    /// Lets in a packet that arrives at its moment, and returns what this dropped.
     ///
     /// An infinite queue drops nothing. Droptail drops the new packet where the queue with it would pass a limit.
     /// Drophead appends it, and drops from the head until no limit is passed. (Manual page of mm-link.)
@@ -247,10 +247,10 @@ impl PacketQueue {
     }
 }
 
-// So many packets wait at most, far more than there is memory for. The sum of their sizes then fits 64 bits.
+// How many packets wait at most: far more than there is memory for, so that the sum of their sizes fits 64 bits.
 const MOST: usize = 1 << 40;
 
-// Room is made for so many packets at once.
+// For how many packets room is made at once.
 const AT_ONCE: usize = 64;
 
 const NOTHING: Dropped = Dropped {

@@ -1,4 +1,4 @@
-// The words for a queue.
+// How the words for a queue are read: its kind, and the limits of its arguments.
 ghost use Rattle.std.specs.Prelude.{◌≡◌, ◌∷◌, ◌<◌, Some, None, length, position, option_to_list, IfSome, ◌==◌, reverse};
 ghost use Rattle.std.specs.List.{slice_split};
 ghost use Rattle.packet_queue.specs.Arguments.{after_spaces, trimmed, items_of, number_of, limit_of, with_limits};
@@ -63,7 +63,7 @@ fn with_limits(
     }
 }
 
-// A limit of 0 is none.
+// Returns a limit, where there is one above 0.
 fn above_zero(limit: Option<u64>) -> Option<u64>
     ensures { result ≡ limit_of (option_to_list limit) }
 {
@@ -129,7 +129,7 @@ fn read_limits(args: &[u8]) -> Option<Limits>
     Some(limits)
 }
 
-// What stands before the first comma, and what after it.
+// Cuts a text at its first comma: returns what stands before it, and what stands after it.
 fn first_item(text: &[u8]) -> (&[u8], Option<&[u8]>)
     ensures items { slice_split (λ b. b == 44) text.now ≡ result.0.now ∷ items_after result.1 }
     ensures shorter { IfSome result.1 (λ more. length more.now < length text.now) }

@@ -29,7 +29,7 @@ impl Draws {
         }
     }
 
-    /// The next draw, below 65537.
+    /// Returns the next draw, which is below 65537.
     pub fn draw(&mut self) -> u32
         ensures value { result ≡ next_draw self.old }
         ensures after { self.new ≡ result }

@@ -1,4 +1,4 @@
-// The record of a stream of items.
+// What a stream of items was, kept with its packets.
 ghost use Rattle.std.specs.Prelude.{◌≡◌, ◌≤◌, ◌↔◌, max, IsTrue, IsOk, OnOk, OnErr};
 ghost use Rattle.packet_record.specs.Streams.{no_items, after, MayFollow};
 ghost use Rattle.packet_record.specs.Takes.{spare_after, NeedsRoom, HasRoomFor};
@@ -9,7 +9,7 @@ use std::marker::Model;
 use text_base::OutOfMemory;
 
 /// What a stream of items was: its packets in order, the greatest moment that any item named (0 at first), and how it
-/// ended. Contracts see these three as a `Stream`, and beside it a number `spare`: so many more packets take no memory.
+/// ended. Contracts see these three as a `Stream`, and beside it a number `spare`: as many more packets take no memory.
 #[derive(Drop)]
 pub struct Flow {
     packets: Vec<Timed>,
@@ -70,7 +70,7 @@ impl Flow {
         self.reach.may_follow(item)
     }
 
-    /// Makes room for so many packets, and takes no memory where there is that room.
+    /// Makes room for `count` more packets, or runs out of memory. It takes none where there is that room.
     pub fn reserve(&mut self, count: usize) -> Result<(), OutOfMemory>
         ensures same { self.new.stream ≡ self.old.stream }
         ensures ok { OnOk result (self.new.spare ≡ max self.old.spare count) }
@@ -86,7 +86,7 @@ impl Flow {
         Ok(())
     }
 
-    /// Adds an item that takes no room, or for which there is room.
+    /// Adds an item which takes no room, or for which there is room.
     pub fn add(&mut self, item: Item)
         requires follows { MayFollow self.old.stream item }
         requires room { HasRoomFor self.old.spare item }

@@ -13,7 +13,7 @@ use std::marker::Model;
 use text_base::OutOfMemory;
 use text_base::limits::GREATEST_MOMENT;
 
-// The rows of the lines so far, the moment of the last (0 at first), and the first refusal, also for want of memory.
+// The rows of the lines so far, the moment of the last (0 at first), and the first refusal; out of memory is one too.
 #[derive(Drop)]
 pub(crate) struct ScheduleRows {
     rows: Vec<Row>,
@@ -46,7 +46,7 @@ impl ScheduleRows {
         self.rows.as_slice()
     }
 
-    // No rows, with room for so many.
+    // No rows, with room for `most` rows, or out of memory.
     pub(crate) fn with_room(alloc: Global, most: usize) -> Result<Self, OutOfMemory>
         ensures { IfOk result (λ r. r ≡ none_gathered) }
     {
@@ -75,7 +75,7 @@ impl ScheduleRows {
         Ok(())
     }
 
-    // Takes what the next line says, or that it says nothing. After a refusal it is passed over.
+    // Takes what the next line says, or `None` where it says nothing. After a refusal the line is passed over.
     #[inline]
     pub(crate) fn take(&mut self, says: Option<(u64, Direction, u64)>)
         requires within { IfSome says (λ s. s.0 ≤ GREATEST_MOMENT) }
@@ -91,14 +91,14 @@ impl ScheduleRows {
         }
     }
 
-    // Whether a line was refused, or memory was wanting.
+    // Whether a line was refused, or memory ran out.
     pub(crate) fn is_refused(&self) -> bool
         ensures { result ≡ is_some self.now.refused }
     {
         self.refused.is_some()
     }
 
-    // Memory is wanting.
+    // Takes note that memory ran out.
     pub(crate) fn want_memory(&mut self)
         ensures { self.new ≡ refusing ScheduleError.OutOfMemory self.old }
     {

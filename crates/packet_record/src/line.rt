@@ -1,4 +1,4 @@
-// What one line of a schedule says.
+// How one line of a schedule is read: what it says.
 ghost use Rattle.std.specs.Prelude.{◌≡◌, ◌≤◌, ◌∷◌, ◌++◌, ℕ, List, Some, true, IfSome, MatchOption};
 ghost use Rattle.text_base.specs.inside.Lines.{is_one_line};
 ghost use Rattle.text_base.specs.Numbers.{BeginsOtherwise};
@@ -10,7 +10,7 @@ use crate::Direction;
 use text_base::limits::GREATEST_MOMENT;
 use text_base::split_decimal;
 
-// The direction between two spaces at the front of a text, and what follows.
+// Returns the direction between two spaces at the front of a text, and what follows.
 #[inline]
 fn split_direction(text: &[u8]) -> Option<(Direction, &[u8])>
     ensures read { IfSome result (λ r. text.now ≡ direction_text r.0 ++ r.1.now) }
@@ -24,7 +24,7 @@ fn split_direction(text: &[u8]) -> Option<(Direction, &[u8])>
     }
 }
 
-// What is said at the front of a text, and what follows it.
+// Returns what is said at the front of a text, and what follows it.
 #[inline(always)]
 fn split_said(text: &[u8]) -> Option<((u64, Direction, u64), &[u8])>
     ensures read { IfSome result (λ r. (line : List ℕ) × (text.now ≡ line ++ r.1.now) × (said_of line ≡ Some r.0)) }
@@ -38,8 +38,8 @@ fn split_said(text: &[u8]) -> Option<((u64, Direction, u64), &[u8])>
     Some(((moment, direction, size), rest))
 }
 
-// What the line at the front of a text says, and what follows its line feed. None where the text has no line feed, or
-// the line says nothing.
+// Returns what the line at the front of a text says, and what follows its line feed. Returns `None` where the text has
+// no line feed, or the line says nothing.
 #[inline]
 #[tactic(auto, using(crate::proofs::LineLemmas::line_in_front, crate::proofs::SaidLemmas::said_within))]
 pub(crate) fn split_line(text: &[u8]) -> Option<((u64, Direction, u64), &[u8])>

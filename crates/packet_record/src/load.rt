@@ -9,9 +9,9 @@ use std::alloc::Global;
 use text_base::OutOfMemory;
 use text_base::limits::MOST_LINES;
 
-/// The schedule of so many packets, 1 to 1,000,000, that the generator makes of a number. Each packet takes three
-/// draws: the first modulo 4 is the milliseconds since the packet before (the first since moment 0), the second modulo
-/// 4 gives the direction (0 and 1 go up), and the third modulo 1461 plus 40 is the size in bytes.
+/// The schedule of `packets` packets, 1 to 1,000,000, that the generator makes of `number`, or out of memory. Each
+/// packet takes three draws: the first modulo 4 is the milliseconds since the packet before (the first since moment 0),
+/// the second modulo 4 gives the direction (0 and 1 go up), and the third modulo 1461 plus 40 is the size in bytes.
 pub fn make_load(alloc: Global, number: u64, packets: u32) -> Result<Schedule, OutOfMemory>
     requires some { 1 ≤ packets }
     requires most { packets ≤ MOST_LINES }
@@ -28,7 +28,7 @@ pub fn make_load(alloc: Global, number: u64, packets: u32) -> Result<Schedule, O
     Ok(Schedule::from_rows(rows))
 }
 
-// The row after so many, the last at this moment.
+// Draws the row behind `before` rows, the last of them at `moment`.
 fn draw_row(draws: &mut Draws, before: u32, moment: u64) -> Row
     requires few { before < MOST_LINES }
     requires low { moment ≤ 3 * before }

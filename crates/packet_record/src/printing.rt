@@ -1,4 +1,4 @@
-// Schedules printed.
+// How a schedule is written as text.
 ghost use Rattle.std.specs.Prelude.{◌≡◌, IfOk};
 ghost use Rattle.packet_record.specs.Printing.{row_text, schedule_text};
 ghost use Rattle.packet_record.specs.Schedules.{IsScheduleText};
@@ -7,7 +7,7 @@ use crate::{Row, Schedule};
 use std::alloc::Global;
 use text_base::{Bytes, LineBuffer, OutOfMemory, PrintLine, print_lines};
 
-/// The text of a schedule. Reading it gives the schedule again.
+/// The text of a schedule, or out of memory. Reading the text gives the schedule again.
 pub fn print_schedule(alloc: Global, schedule: &Schedule) -> Result<Bytes, OutOfMemory>
     ensures text { IfOk result (λ text. text ≡ schedule_text schedule.now) }
     ensures read { IfOk result (λ text. IsScheduleText text schedule.now) }

@@ -1,4 +1,4 @@
-// How far a stream of items has come.
+// How far a stream of items has come, without its packets.
 ghost use Rattle.std.specs.Prelude.{◌≡◌, ◌↔◌, IsTrue};
 ghost use Rattle.packet_record.specs.Reaches.{nowhere, reach_after, IsNext};
 

@@ -45,7 +45,7 @@ impl Model for ScheduleText {
 impl ScheduleText {
     ghost use Rattle.packet_record.specs.PartsRead.{HasRead, HasReadAll, IsLeft};
 
-    /// Nothing is read so far. Room is made for the rows of a text of so many bytes.
+    /// Begins to read, with room for the rows of a text of `bytes` bytes, or runs out of memory.
     pub fn new(alloc: Global, bytes: usize) -> Result<Self, OutOfMemory>
         ensures read { IfOk result (λ text. HasRead [] text) }
         ensures none { IfOk result (λ text. text.gathered.rows ≡ []) }
@@ -64,7 +64,7 @@ impl ScheduleText {
         self.rows.rows()
     }
 
-    /// Whether a line was refused, or memory was wanting.
+    /// Whether a line was refused, or memory ran out.
     pub fn is_refused(&self) -> bool
         ensures { result ≡ is_some self.now.gathered.refused }
     {
@@ -102,8 +102,8 @@ impl ScheduleText {
         self.kept.clear();
     }
 
-    // Reads a text up to its first line feed, and answers what follows. None where it has no line feed: then nothing is
-    // read.
+    // Reads a text up to its first line feed, and returns what follows. Returns `None` where it has no line feed:
+    // nothing is read then.
     #[inline]
     fn next_line<'a>(&mut self, text: &'a [u8]) -> Option<&'a [u8]>
         ensures some { IfSome result (λ after. (whole rest : List ℕ) → IsLeft whole (text.now ++ rest) self.old
@@ -147,7 +147,7 @@ impl ScheduleText {
         self.rows.finish()
     }
 
-    /// The schedule of the text that was read, or its first refusal, as `read_schedule` answers for the text.
+    /// The schedule of the text that was read, or its first refusal, as `read_schedule` returns them for the text.
     pub fn finish(mut self) -> Result<Schedule, ScheduleError>
         ensures found { (text : List ℕ) → HasRead text self → IfOk result (λ rows. IsScheduleText text rows) }
         ensures exact { (text : List ℕ) → HasRead text self → MatchResult result
@@ -164,8 +164,7 @@ impl PieceReader for ScheduleText {
 
     ghost has_read = { HasRead };
 
-    /// Reads the next piece of the text. After a refusal it is passed over: nothing changes, so no memory is taken, and
-    /// none can be wanting.
+    /// Reads the next piece of the text. After a refusal it is passed over: nothing changes, and no memory is taken.
     fn push(&mut self, piece: &[u8])
         ensures read { (text : List ℕ) → HasRead text self.old → HasRead (text ++ piece.now) self.new }
         ensures grows { IsPrefix self.old.gathered.rows self.new.gathered.rows }
@@ -182,15 +181,15 @@ impl PieceReader for ScheduleText {
     }
 }
 
-// What is kept of a part of a line, after so many bytes of the line: a line that has more than 26 bytes says nothing,
-// however it goes on.
+// What is kept of a part of a line, of which `kept` bytes were kept before. A line that has more than 26 bytes says
+// nothing, however it goes on.
 fn kept_front(kept: usize, part: &[u8]) -> &[u8]
     ensures { result.now ≡ take (MOST_KEPT - kept) part.now }
 {
     &part[..part.len().min(MOST_KEPT.saturating_sub(kept))]
 }
 
-// How many rows the schedule of a text of so many bytes has at most: a line has no fewer than six bytes and its line
+// How many rows the schedule of a text of `bytes` bytes has at most: a line has no fewer than six bytes and its line
 // feed.
 #[tactic(auto, using(crate::proofs::RoomLemmas::rows_fit))]
 fn most_rows(bytes: usize) -> usize

@@ -1,6 +1,7 @@
 -- How `mm-record` ends, from what its serving did.
-use Rattle.std.specs.Prelude.{◌⊎◌}
-use Rattle.std.proofs.Common.{◌≡◌, inl, inr, ℕ, ap, arith, List, [], Option, Some, None, Err, refl, sym, subst}
+use Rattle.std.specs.Prelude.{◌⊎◌, Result, if◌then◌else◌}
+use Rattle.std.proofs.Common.{◌≡◌, inl, inr, ℕ, ap, arith, List, [], Option, Some, None, Ok, Err, refl, sym}
+use Rattle.std.proofs.Common.{Bool, true, false, subst}
 use Rattle.mm_base.specs.Disk.{DiskView, OnlyReads}
 use Rattle.mm_base.specs.Files.{Files}
 use Rattle.mm_base.specs.Link.{LinkView}
@@ -18,9 +19,10 @@ use Rattle.command_ends.specs.declared.cause.WordsRefusal.TheVariants.{Usage}
 use Rattle.command_ends.proofs.EndLemmas.{keeps_all}
 use Rattle.command_ends.proofs.ReadingLemmas.{HasOneEnd, RefusesWordsFirst, asked_first}
 use Rattle.command_ends.specs.Readings.{Reaches, Stop, AtTask, AtRefusal, AtFile, asked}
-use Rattle.record_proxy.specs.Proxying.{ProxyJob, StopsAsProxy, cause_of, proxy_job_of, proxy_output, proxy_reading}
+use Rattle.record_proxy.specs.Proxying.{ProxyJob, ServesJob, StopsProxy, cause_of, proxy_job_of, proxy_output}
+use Rattle.record_proxy.specs.Proxying.{proxy_reading}
 use Rattle.record_proxy.specs.Proxying.{IsProxyStatus, proxy_words, proxy_work}
-use Rattle.record_proxy.specs.Servings.{Net, IsServed, ServingSays}
+use Rattle.record_proxy.specs.Servings.{Net, ServingSays, most_recorded}
 use Rattle.record_proxy.specs.declared.ends.ProxyError.{ProxyError}
 use Rattle.record_proxy.specs.declared.ends.ProxyError.TheVariants as errors
 
@@ -46,10 +48,27 @@ job_one (Some job) = tt
 pub proxy_words_one : (words : List Text) → HasOneEnd (proxy_words words)
 proxy_words_one words = job_one (proxy_job_of words)
 
+module _ {C X : Type 0} (client_view : C → LinkView) (server_view : X → LinkView) (old new : Net C X)
+    (records : List Record) (result : Result Served ProxyError) where
+  -- a serving beside each other, and one in turn, is that of a job that asks for it
+  pub serves_beside : (site connections : ℕ) (beside : Bool) → beside ≡ true
+      → ServingSays site client_view server_view true most_recorded old new [] records result
+      → ServingSays site client_view server_view beside (if beside then most_recorded else connections) old new []
+      records result
+  serves_beside site connections true is x = x
+  serves_beside site connections false is x = absurd (cc is)
+
+  pub serves_in_turn : (site connections : ℕ) (beside : Bool) → beside ≡ false
+      → ServingSays site client_view server_view false connections old new [] records result
+      → ServingSays site client_view server_view beside (if beside then most_recorded else connections) old new []
+      records result
+  serves_in_turn site connections true is x = absurd (cc is)
+  serves_in_turn site connections false is x = x
+
 module _ {C X : Type 0} (client_view : C → LinkView) (server_view : X → LinkView) (job : ProxyJob) (told : Option Files)
     (old new : Net C X) where
   pub finishes : (records : List Record) (n : Served)
-      → IsServed job.site client_view server_view job.connections old new [] records n
+      → ServesJob client_view server_view job old new records (Ok n)
       → Finishes (proxy_work client_view server_view) (proxy_reading job) told old new (proxy_output job.out records n)
   finishes records n serving = record {
     task = job;
@@ -59,7 +78,7 @@ module _ {C X : Type 0} (client_view : C → LinkView) (server_view : X → Link
 
 module _ {C X : Type 0} (client_view : C → LinkView) (server_view : X → LinkView) (job : ProxyJob) (disk : DiskView)
     (out : SinkView) (old new : Net C X) where
-  stops_for : (cause : Cause) → StopsAsProxy client_view server_view job.site job.connections old new cause
+  stops_for : (cause : Cause) → StopsProxy client_view server_view job old new cause
       → IsStopped (proxy_work client_view server_view) (proxy_reading job) (outside disk out old)
       (outside disk out new) cause
   stops_for cause stopped = record {
@@ -71,7 +90,7 @@ module _ {C X : Type 0} (client_view : C → LinkView) (server_view : X → Link
   }
 
   ends_for : (e : ProxyError) (store : List Record)
-      → ServingSays job.site client_view server_view job.connections old new [] store (Err e)
+      → ServesJob client_view server_view job old new store (Err e)
       → Ends (proxy_work client_view server_view) (proxy_reading job) (outside disk out old) (outside disk out new)
       (Some (cause_of e))
   ends_for errors.Port store s = record {
@@ -82,7 +101,7 @@ module _ {C X : Type 0} (client_view : C → LinkView) (server_view : X → Link
       Serving (stops_for OutOfMemory
       (record { error = errors.OutOfMemory; cause_is = refl; store = store; serving = s }))
 
-  pub ends_serving : (cause : Cause) → StopsAsProxy client_view server_view job.site job.connections old new cause
+  pub ends_serving : (cause : Cause) → StopsProxy client_view server_view job old new cause
       → Ends (proxy_work client_view server_view) (proxy_reading job) (outside disk out old) (outside disk out new)
       (Some cause)
   ends_serving cause stopped =

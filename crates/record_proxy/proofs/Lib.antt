@@ -10,4 +10,5 @@ pub mod ClientLemmas
 pub mod ServerLemmas
 pub mod FirstLemmas
 pub mod ServingLemmas
+pub mod PoolLemmas
 pub mod CommandLemmas

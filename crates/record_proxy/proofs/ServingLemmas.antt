@@ -1,5 +1,6 @@
 -- Clients that are served one after the other.
-use Rattle.std.proofs.Common.{◌≡◌, ◌∙◌, ◌<◌, ◌≤◌, inl, inr, ℕ, ◌+◌, ◌-◌, ◌^◌, List, [], ◌∷◌, ◌++◌, map, Option}
+use Rattle.std.proofs.Common.{◌≡◌, ◌∙◌, ◌<◌, ◌≤◌, inl, inr, ℕ, ◌+◌, ◌-◌, ◌^◌, Bool, false, List, []}
+use Rattle.std.proofs.Common.{◌∷◌, ◌++◌, map, Option}
 use Rattle.std.proofs.Common.{Some, None, Ok, Err, refl, sym, ap, subst, append_assoc, append-nil, length-append, arith}
 use Rattle.std.specs.Prelude.{Result, IsErrOf, sum_by}
 use Rattle.std.specs.List.{flat_map}
@@ -22,7 +23,7 @@ use Rattle.record_proxy.specs.Links.{IsStored, HasFaultCause, links}
 use Rattle.record_proxy.specs.inside.Passing.{Dials, EndsWith, Joins, ServesOne, plus}
 use Rattle.record_proxy.specs.Servings.{IsJoined, IsDialed, Dialed, NotDialed, GivenUp, Joined, Passage, Net, Serves}
 use Rattle.record_proxy.specs.Servings.{Rises, RisesFor, tally, counted_as, end_of, lost_of, dials_of, servers_of}
-use Rattle.record_proxy.specs.Servings.{added_of}
+use Rattle.record_proxy.specs.Servings.{Known, added_of}
 use Rattle.record_proxy.specs.Servings.{finished_with, net}
 use Rattle.record_proxy.specs.declared.ends.ProxyEnd.{ProxyEnd}
 use Rattle.record_proxy.specs.declared.ends.ProxyEnd.TheVariants.{ClientFault, ServerFault}
@@ -33,13 +34,13 @@ pub if_ok : {T E : Type 0} {P Q : T → Type 0} (r : Result T E) → ((x : T) �
 if_ok (Ok x) f p = f x p
 if_ok (Err e) f p = tt
 
-risen : (old new : ℕ) → old ≡ 0 → Rose old new → 0 < new
+pub risen : (old new : ℕ) → old ≡ 0 → Rose old new → 0 < new
 risen old new none rose = elim (cases_lt 0 new) [
   | inl some ↦ some
   | inr zero_new ↦ let less : old < new = rose (omega (arith, zero_new)) in omega (arith, less)
 ]
 
-same_finished : {C : Type 0} (told : Option (List C)) → told ≡ finished_with [] told
+pub same_finished : {C : Type 0} (told : Option (List C)) → told ≡ finished_with [] told
 same_finished None = refl
 same_finished (Some l) = ap Some (sym (append-nil l))
 
@@ -104,7 +105,7 @@ module _ {X : Type 0} (site : ℕ) (server_view : X → LinkView) where
     }
     joins_so (Err NoMemory) finished dialed later rose counted is = absurd is
 
-  rises_later : (d : Dialed X) (old mid new : ℕ) → old ≤ mid → RisesFor d mid new → RisesFor d old new
+  pub rises_later : (d : Dialed X) (old mid new : ℕ) → old ≤ mid → RisesFor d mid new → RisesFor d old new
   rises_later NotDialed old mid new grows r =
       let later : mid ≤ new = r.0 in
       (omega (arith, grows, later), λ few. let less : mid < new = r.1 few in omega (arith, grows, less))
@@ -129,7 +130,7 @@ module _ {X : Type 0} (site : ℕ) (server_view : X → LinkView) where
 
 -- ---- all of them
 
-keeps_then : {C : Type 0} {x y z : PortView C} → KeepsPort x y → KeepsPort y z → KeepsPort x z
+pub keeps_then : {C : Type 0} {x y z : PortView C} → KeepsPort x y → KeepsPort y z → KeepsPort x z
 keeps_then a b = record { counts = CountsFaults-then a.counts b.counts; stays = λ h. b.stays (a.stays h) }
 
 finished_more : {C : Type 0} (a b : List C) (told : Option (List C))
@@ -182,13 +183,18 @@ abbrev pub passage_of : {C X : Type 0} {site : ℕ} {client_view : C → LinkVie
     → ServesOne site client_view server_view old new store store' end → Passage C X
 passage_of one = record { client = one.client; dialed = one.dials.dialed }
 
-module _ {C X : Type 0} (site : ℕ) (client_view : C → LinkView) (server_view : X → LinkView) where
+module _ {C X : Type 0} (site : ℕ) (client_view : C → LinkView) (server_view : X → LinkView) (beside : Bool) where
+  abbrev Each : Passage C X → Type 0
+  Each q = Known beside (IsDialed site server_view (client_view q.client) q.dialed)
+
+  abbrev So : Net C X → Net C X → List Record → List Record → List (Passage C X) → Type 0
+  So old new store store' ps = Serves site client_view server_view beside old new store store' ps
+
   -- it listens, and no client was accepted
   pub serves_none : (old new : PortView C) (dialer : DialerView X) (store : List Record) → KeepsPort old new
-      → new.finished ≡ old.finished → new.accepted ≡ old.accepted
-      → Serves site client_view server_view (net old dialer) (net new dialer) store store []
+      → new.finished ≡ old.finished → new.accepted ≡ old.accepted → So (net old dialer) (net new dialer) store store []
   serves_none old new dialer store keeps finished accepted = record {
-    each = All-nil (λ (q : Passage C X). IsDialed site server_view (client_view q.client) q.dialed);
+    each = All-nil Each;
     accepted = accepted ∙ omega arith;
     finished = finished ∙ same_finished old.finished;
     dialed = omega arith;
@@ -199,52 +205,76 @@ module _ {C X : Type 0} (site : ℕ) (client_view : C → LinkView) (server_view
     keeps = keeps;
   }
 
-  pub serves_push : (old mid new : Net C X) (port : PortView C) (store mid_store store' : List Record)
-      (ps : List (Passage C X))
-      → Serves site client_view server_view old mid store mid_store ps
-      → port.accepted ≡ mid.port.accepted + 1 → port.finished ≡ mid.port.finished → KeepsPort mid.port port
-      → (end : Option ProxyEnd)
-      → (one : ServesOne site client_view server_view (net port mid.dialer) new mid_store store' end)
-      → Serves site client_view server_view old new store store'
-      (ps ++ passage_of one ∷ [])
-  serves_push old mid new port store mid_store store' ps s accepted kept keeps end one =
-      let d = one.dials.dialed in
-      let p : Passage C X = record { client = one.client; dialed = d } in
-      let more = lost_more d mid.dialer.faults new.dialer.faults one.dials.rises in
+  -- nothing of it changes
+  pub serves_same : (old mid new : Net C X) (store store' : List Record) (ps : List (Passage C X))
+      → So old mid store store' ps
+      → new.port.accepted ≡ mid.port.accepted → new.port.finished ≡ mid.port.finished → KeepsPort mid.port new.port
+      → new.dialer.dialed ≡ mid.dialer.dialed → new.dialer.finished ≡ mid.dialer.finished
+      → new.dialer.faults ≡ mid.dialer.faults → So old new store store' ps
+  serves_same old mid new store store' ps s accepted finished keeps dialed dials_finished faults = record {
+    each = s.each;
+    accepted = accepted ∙ s.accepted;
+    finished = finished ∙ s.finished;
+    dialed = dialed ∙ s.dialed;
+    dials_finished = dials_finished ∙ s.dials_finished;
+    rises = subst (λ (n : ℕ). Rises old.dialer.faults ps n) (sym faults) s.rises;
+    lost = λ few. let k = s.lost (omega (arith, few, faults)) in omega (arith, k, faults);
+    records = s.records;
+    keeps = keeps_then s.keeps keeps;
+  }
+
+  -- one client more was accepted and finished
+  pub serves_next : (old mid new : Net C X) (store mid_store store' : List Record) (ps : List (Passage C X))
+      (p : Passage C X) → So old mid store mid_store ps → Each p
+      → new.port.accepted ≡ mid.port.accepted + 1
+      → new.port.finished ≡ finished_with (p.client ∷ []) mid.port.finished → KeepsPort mid.port new.port
+      → new.dialer.dialed ≡ mid.dialer.dialed + dials_of p.dialed
+      → new.dialer.finished ≡ finished_with (servers_of p.dialed) mid.dialer.finished
+      → RisesFor p.dialed mid.dialer.faults new.dialer.faults → store' ≡ mid_store ++ added_of p.dialed
+      → So old new store store' (ps ++ p ∷ [])
+  serves_next old mid new store mid_store store' ps p s is accepted finished keeps dialed dials_finished rises records =
+      let d = p.dialed in
+      let more = lost_more d mid.dialer.faults new.dialer.faults rises in
       record {
-        each = All-push (λ (q : Passage C X). IsDialed site server_view (client_view q.client) q.dialed) ps p s.each
-            one.dials.is;
-        accepted = let a = s.accepted in let b = one.accepted in omega (
-          arith,
-          a,
-          b,
-          accepted,
-          length-append ps
-              (p ∷ []),
-        );
-        finished = one.finished ∙ ap (finished_with (one.client ∷ [])) (kept ∙ s.finished)
-            ∙ finished_more (map (λ (q : Passage C X). q.client) ps) (one.client ∷ []) old.port.finished
+        each = All-push Each ps p s.each is;
+        accepted = let a = s.accepted in omega (arith, a, accepted, length-append ps (p ∷ []));
+        finished = finished ∙ ap (finished_with (p.client ∷ [])) s.finished
+            ∙ finished_more (map (λ (q : Passage C X). q.client) ps) (p.client ∷ []) old.port.finished
             ∙ ap (λ l. finished_with l old.port.finished)
             (sym (map-append (λ (q : Passage C X). q.client) ps (p ∷ [])));
-        dialed = let a = s.dialed in let b = one.dials.count in omega (
+        dialed = let a = s.dialed in omega (
           arith,
           a,
-          b,
+          dialed,
           sum_push (λ (q : Passage C X). dials_of q.dialed) ps p,
         );
-        dials_finished = one.dials.finished ∙ ap (finished_with (servers_of d)) s.dials_finished
+        dials_finished = dials_finished ∙ ap (finished_with (servers_of d)) s.dials_finished
             ∙ finished_more (flat_map (λ (q : Passage C X). servers_of q.dialed) ps) (servers_of d) old.dialer.finished
             ∙ ap (λ l. finished_with l old.dialer.finished)
             (sym (flat_push (λ (q : Passage C X). servers_of q.dialed) ps p));
-        rises = rises_push old.dialer.faults ps mid.dialer.faults p new.dialer.faults s.rises one.dials.rises;
+        rises = rises_push old.dialer.faults ps mid.dialer.faults p new.dialer.faults s.rises rises;
         lost = λ few.
             let grows : mid.dialer.faults ≤ new.dialer.faults = more.0 in
             let a : old.dialer.faults + sum_by (λ (q : Passage C X). lost_of q.dialed) ps ≤ mid.dialer.faults
             = s.lost (omega (arith, grows, few)) in
             let b : mid.dialer.faults + lost_of d ≤ new.dialer.faults = more.1 few in
             omega (arith, a, b, sum_push (λ (q : Passage C X). lost_of q.dialed) ps p);
-        records = one.dials.records ∙ ap (λ l. l ++ added_of d) s.records
+        records = records ∙ ap (λ l. l ++ added_of d) s.records
             ∙ append_assoc store (flat_map (λ (q : Passage C X). added_of q.dialed) ps) (added_of d)
             ∙ ap (λ l. store ++ l) (sym (flat_push (λ (q : Passage C X). added_of q.dialed) ps p));
-        keeps = keeps_then s.keeps (keeps_then keeps one.keeps);
+        keeps = keeps_then s.keeps keeps;
       }
+
+module _ {C X : Type 0} (site : ℕ) (client_view : C → LinkView) (server_view : X → LinkView) where
+  pub serves_push : (old mid new : Net C X) (port : PortView C) (store mid_store store' : List Record)
+      (ps : List (Passage C X))
+      → Serves site client_view server_view false old mid store mid_store ps
+      → port.accepted ≡ mid.port.accepted + 1 → port.finished ≡ mid.port.finished → KeepsPort mid.port port
+      → (end : Option ProxyEnd)
+      → (one : ServesOne site client_view server_view (net port mid.dialer) new mid_store store' end)
+      → Serves site client_view server_view false old new store store'
+      (ps ++ passage_of one ∷ [])
+  serves_push old mid new port store mid_store store' ps s accepted kept keeps end one =
+      serves_next site client_view server_view false old mid new store mid_store store' ps (passage_of one) s
+      one.dials.is (one.accepted ∙ accepted) (one.finished ∙ ap (finished_with (one.client ∷ [])) kept)
+      (keeps_then keeps one.keeps) one.dials.count one.dials.finished one.dials.rises one.dials.records

@@ -1,5 +1,6 @@
 -- What `mm-record` is asked for, and what it does with its port and its dialer.
-use Rattle.std.specs.Prelude.{◌≡◌, ◌⊎◌, ℕ, List, [], Option, Some, Err, option_and_then}
+use Rattle.std.specs.Prelude.{◌≡◌, ◌⊎◌, ℕ, Bool, List, [], Option, Some, Result, Ok, Err, option_and_then}
+use Rattle.std.specs.Prelude.{if◌then◌else◌}
 use Rattle.mm_base.specs.Counts.{Rose}
 use Rattle.mm_base.specs.Link.{LinkView}
 use Rattle.record_store.specs.declared.record.Record.{Record}
@@ -15,24 +16,36 @@ use Rattle.command_ends.specs.declared.cause.Cause.{Cause}
 use Rattle.command_ends.specs.declared.cause.Cause.TheVariants.{NetFault, OutOfMemory}
 use Rattle.command_replay.specs.Replay.{served_line}
 use Rattle.command_stores.specs.Written.{store_file}
-use Rattle.record_proxy.specs.Servings.{Net, IsServed, ServingSays}
+use Rattle.record_proxy.specs.Servings.{Net, ServingSays, most_recorded}
 use Rattle.record_proxy.specs.declared.ends.ProxyError.{ProxyError}
 use Rattle.record_proxy.specs.declared.ends.ProxyError.TheVariants as errors
 
--- the port to listen at, the site's port, how many clients are served, and the name of the store's file
+-- the port to listen at, the site's port, how many clients are served, and the name of the store's file; or, where it
+-- is recorded until ended, how many are served at a time
 pub record ProxyJob : Type 0 where
   pub port : ℕ
   pub site : ℕ
   pub connections : ℕ
   pub out : Text
+  pub until_ended : Bool
+
+-- how many clients are served in all at most
+abbrev pub most_of : ProxyJob → ℕ
+most_of job = if job.until_ended then most_recorded else job.connections
 
 -- the numbers are within their ranges
 unfoldable pub proxy_job_with : ProxyTexts → Option ProxyJob
 proxy_job_with texts = do
   port ← port_of texts.port
   site ← port_of texts.to
-  connections ← number_within 0 64 texts.connections
-  Some (record { port = port; site = site; connections = connections; out = texts.out })
+  connections ← number_within (if texts.until_ended then 1 else 0) 64 texts.connections
+  Some (record {
+    port = port;
+    site = site;
+    connections = connections;
+    out = texts.out;
+    until_ended = texts.until_ended;
+  })
 
 -- the job of the words
 unfoldable pub proxy_job_of : List Text → Option ProxyJob
@@ -56,25 +69,25 @@ abbrev pub proxy_output : Text → List Record → Served → Output
 proxy_output out records served = record { files = store_file out records; printed = served_line served }
 
 module _ {C X : Type 0} (client_view : C → LinkView) (server_view : X → LinkView) where
-  -- A serving stopped for this cause.
-  pub record StopsAsProxy (site most : ℕ) (old new : Net C X) (cause : Cause) : Type 0 where
-    pub error : ProxyError
-    pub cause_is : cause ≡ cause_of error
-    pub store : List Record
-    pub serving : ServingSays site client_view server_view most old new [] store (Err error)
+  -- What the serving of a job did, from no records on: one client after the other, or many beside each other.
+  abbrev pub ServesJob : ProxyJob → Net C X → Net C X → List Record → Result Served ProxyError → Type 0
+  ServesJob job old new records result =
+      ServingSays job.site client_view server_view job.until_ended (most_of job) old new [] records result
 
   module _ (job : ProxyJob) (old new : Net C X) where
-    -- The clients of the job were served, from no records on; the records of all are written, and it is printed how
-    -- they ended.
+    -- The serving stopped by itself, for this cause.
+    pub record StopsProxy (cause : Cause) : Type 0 where
+      pub error : ProxyError
+      pub cause_is : cause ≡ cause_of error
+      pub store : List Record
+      pub serving : ServesJob job old new store (Err error)
+
+    -- The clients of the job were served; the records of all are written, and it is printed how they ended.
     pub record GivesProxy (output : Output) : Type 0 where
       pub records : List Record
       pub served : Served
-      pub serving : IsServed job.site client_view server_view job.connections old new [] records served
+      pub serving : ServesJob job old new records (Ok served)
       pub output_is : output ≡ proxy_output job.out records served
-
-    -- The serving stopped by itself.
-    abbrev pub StopsProxy : Cause → Type 0
-    StopsProxy cause = StopsAsProxy job.site job.connections old new cause
 
 -- what a job does with its port and its dialer, of whose connections this is seen
 abbrev pub proxy_work : {C X : Type 0} → (C → LinkView) → (X → LinkView) → ProxyJob → Work (Net C X)

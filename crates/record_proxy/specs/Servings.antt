@@ -1,5 +1,6 @@
 -- What a proxy does to its port and its dialer.
-use Rattle.std.specs.Prelude.{◌≡◌, ◌⊎◌, ◌<◌, ◌≤◌, ℕ, ◌+◌, ◌-◌, ◌^◌, ◌++◌, true, List, [], ◌∷◌, length, map}
+use Rattle.std.specs.Prelude.{◌≡◌, ◌⊎◌, ◌<◌, ◌≤◌, ℕ, ◌+◌, ◌-◌, ◌^◌, ◌++◌, Bool, true, false, List, [], ◌∷◌, length}
+use Rattle.std.specs.Prelude.{map}
 use Rattle.std.specs.Prelude.{All, Option, Some, None, Result, Ok, Err, sum_by}
 use Rattle.std.specs.List.{flat_map}
 use Rattle.std.specs.Option.{option_map}
@@ -128,34 +129,46 @@ net port dialer = record { port = port; dialer = dialer }
 abbrev pub finished_with : {C : Type 0} → List C → Option (List C) → Option (List C)
 finished_with conns told = option_map (λ finished. finished ++ conns) told
 
+-- What holds, and by which links it does. Where it comes from another thread it's known that it holds, and no more.
+abbrev pub Known : Bool → Type 0 → Type 0
+Known false T = T
+Known true T = ∥ T ∥₁
+
+-- how many clients a proxy accepts at most that has no limit of its own
+abbrev pub most_recorded : ℕ
+most_recorded = 4294967295
+
 module _ {C X : Type 0} (site : ℕ) (client_view : C → LinkView) (server_view : X → LinkView) where
   abbrev pub IsPassage : Passage C X → Type 0
   IsPassage p = IsDialed site server_view (client_view p.client) p.dialed
 
-  -- These clients were accepted, and each was finished, in the order of acceptance. The store has the records of all,
-  -- in that order. Those for which the dialer failed are no more than the faults that it counted.
-  pub record Serves (old new : Net C X) (store store' : List Record) (ps : List (Passage C X)) : Type 0 where
-    pub each : All IsPassage ps
-    pub accepted : new.port.accepted ≡ old.port.accepted + length ps
-    pub finished : new.port.finished ≡ finished_with (map (λ (p : Passage C X). p.client) ps) old.port.finished
-    pub dialed : new.dialer.dialed ≡ old.dialer.dialed + sum_by (λ (p : Passage C X). dials_of p.dialed) ps
-    pub dials_finished : new.dialer.finished
-        ≡ finished_with (flat_map (λ (p : Passage C X). servers_of p.dialed) ps) old.dialer.finished
-    pub rises : Rises old.dialer.faults ps new.dialer.faults
-    pub lost : new.dialer.faults < 2 ^ 64 - 1
-        → old.dialer.faults + sum_by (λ (p : Passage C X). lost_of p.dialed) ps ≤ new.dialer.faults
-    pub records : store' ≡ store ++ flat_map (λ (p : Passage C X). added_of p.dialed) ps
-    pub keeps : KeepsPort old.port new.port
+  -- These clients were accepted, and each was finished, in this order: that of their acceptance, or where they are
+  -- served beside each other that in which they ended. The store has the records of all, in this order. Those for which
+  -- the dialer failed are no more than the faults that it counted.
+  pub record Serves (beside : Bool) (old new : Net C X) (store store' : List Record) (ps : List (Passage C X)) : Type 0
+    where
+      pub each : All (λ (p : Passage C X). Known beside (IsPassage p)) ps
+      pub accepted : new.port.accepted ≡ old.port.accepted + length ps
+      pub finished : new.port.finished ≡ finished_with (map (λ (p : Passage C X). p.client) ps) old.port.finished
+      pub dialed : new.dialer.dialed ≡ old.dialer.dialed + sum_by (λ (p : Passage C X). dials_of p.dialed) ps
+      pub dials_finished : new.dialer.finished
+          ≡ finished_with (flat_map (λ (p : Passage C X). servers_of p.dialed) ps) old.dialer.finished
+      pub rises : Rises old.dialer.faults ps new.dialer.faults
+      pub lost : new.dialer.faults < 2 ^ 64 - 1
+          → old.dialer.faults + sum_by (λ (p : Passage C X). lost_of p.dialed) ps ≤ new.dialer.faults
+      pub records : store' ≡ store ++ flat_map (λ (p : Passage C X). added_of p.dialed) ps
+      pub keeps : KeepsPort old.port new.port
 
   -- A serving of at most so many clients that is done: as many as it should, or the port is drained.
-  pub record IsServed (most : ℕ) (old new : Net C X) (store store' : List Record) (n : Served) : Type 0 where
-    pub passages : List (Passage C X)
-    pub serves : Serves old new store store' passages
-    pub counts : n ≡ tally passages
-    pub many : (length passages ≡ most) ⊎ ((length passages < most) × (new.port.drained ≡ true))
+  pub record IsServed (beside : Bool) (most : ℕ) (old new : Net C X) (store store' : List Record) (n : Served) : Type 0
+    where
+      pub passages : List (Passage C X)
+      pub serves : Serves beside old new store store' passages
+      pub counts : n ≡ tally passages
+      pub many : (length passages ≡ most) ⊎ ((length passages < most) × (new.port.drained ≡ true))
 
   -- Or it stopped, by a fault of the port or for want of memory.
-  abbrev pub ServingSays : ℕ → Net C X → Net C X → List Record → List Record → Result Served ProxyError → Type 0
-  ServingSays most old new store store' (Ok n) = IsServed most old new store store' n
-  ServingSays most old new store store' (Err errors.Port) = Rose old.port.faults new.port.faults
-  ServingSays most old new store store' (Err errors.OutOfMemory) = Unit {0}
+  abbrev pub ServingSays : Bool → ℕ → Net C X → Net C X → List Record → List Record → Result Served ProxyError → Type 0
+  ServingSays beside most old new store store' (Ok n) = IsServed beside most old new store store' n
+  ServingSays beside most old new store store' (Err errors.Port) = Rose old.port.faults new.port.faults
+  ServingSays beside most old new store store' (Err errors.OutOfMemory) = Unit {0}

@@ -1,9 +1,10 @@
 // The program `mm-record`: its words, the clients that it serves, the store that it writes and the line that it prints.
-ghost use Rattle.std.specs.Prelude.{◌≡◌, ◌≢◌, ◌⊎◌, [], Some, IfOk, IfErr, OnErr, map, string_bytes};
+ghost use Rattle.std.specs.Prelude.{◌≡◌, ◌≢◌, ◌⊎◌, [], Some, Ok, IfOk, IfErr, OnErr, map, string_bytes};
 ghost use Rattle.mm_base.specs.Counts.{Rose};
 ghost use Rattle.mm_base.specs.Files.{Files};
 ghost use Rattle.mm_base.specs.Port.{KeepsPort};
 ghost use Rattle.mm_base.specs.Sink.{CountsSinkFaults};
+ghost use Rattle.command_ends.specs.Alone.{IsLeftAlone};
 ghost use Rattle.command_ends.specs.Answers.{Answers, CountsDisk, IsFaultless, StopsShort, cause_in};
 ghost use Rattle.command_ends.specs.Causes.{status_of_refusal};
 ghost use Rattle.command_ends.specs.Ends.{Ends, IsDone, KeepsFiles, outside};
@@ -11,14 +12,15 @@ ghost use Rattle.command_ends.specs.Readings.{Reaches, AtTask, refused_first};
 ghost use Rattle.command_ends.specs.declared.cause.Refusal.{Refusal};
 ghost use Rattle.command_ends.specs.declared.cause.Refusal.TheVariants.{Words};
 ghost use Rattle.command_ends.specs.declared.cause.WordsRefusal.{WordsRefusal};
-ghost use Rattle.record_proxy.specs.Proxying.{ProxyJob as JobValue, StopsAsProxy, cause_of, proxy_reading, proxy_words};
-ghost use Rattle.record_proxy.specs.Proxying.{IsProxyStatus, proxy_work};
-ghost use Rattle.record_proxy.specs.Servings.{IsServed, net};
+ghost use Rattle.record_proxy.specs.Proxying.{ProxyJob as JobValue, ServesJob, StopsProxy, cause_of, proxy_reading};
+ghost use Rattle.record_proxy.specs.Proxying.{IsProxyStatus, proxy_words, proxy_work};
+ghost use Rattle.record_proxy.specs.Servings.{net};
 ghost use Rattle.record_proxy.specs.inside.Values.{proxy_values};
 
 use crate::dialer::Dialer;
 use crate::ends::ProxyError;
 use crate::job::ProxyJob;
+use crate::pool::serve_until_ended;
 use crate::serving::serve;
 use crate::words::read_proxy;
 use command_ends::{Cause, conclude};
@@ -28,6 +30,9 @@ use mm_base::{Disk, Port, Sink};
 use record_store::Store;
 use replay_server::Served;
 use std::alloc::Global;
+use std::marker::{Send, Sync};
+use std::sync::Wait;
+use std::thread::Threads;
 
 // Why a serving stopped.
 fn cause_of(error: ProxyError) -> Cause
@@ -40,7 +45,8 @@ fn cause_of(error: ProxyError) -> Cause
 }
 
 // Serves the clients of a job, and adds the records of what they say to the store.
-fn serve_job<P: Port, X: Dialer>(
+fn serve_job<P: Port + Send, X: Dialer + Send, R: Threads + Wait + Sync>(
+    rt: &R,
     alloc: Global,
     job: &ProxyJob<'_>,
     port: &mut P,
@@ -48,20 +54,26 @@ fn serve_job<P: Port, X: Dialer>(
     store: &mut Store,
 ) -> Result<Served, Cause>
     requires { store.old ≡ [] }
-    ensures served { IfOk result (λ n. IsServed job.now.site P.Conn.view X.Conn.view job.now.connections
-        (net (P.view port.old) (X.view dialer.old)) (net (P.view port.new) (X.view dialer.new)) [] store.new n) }
-    ensures stopped { IfErr result (λ cause. StopsAsProxy P.Conn.view X.Conn.view job.now.site job.now.connections
+    ensures served { IfOk result (λ n. ServesJob P.Conn.view X.Conn.view (proxy_values job.now)
+        (net (P.view port.old) (X.view dialer.old)) (net (P.view port.new) (X.view dialer.new)) store.new (Ok n)) }
+    ensures stopped { IfErr result (λ cause. StopsProxy P.Conn.view X.Conn.view (proxy_values job.now)
         (net (P.view port.old) (X.view dialer.old)) (net (P.view port.new) (X.view dialer.new)) cause) }
     ensures keeps { KeepsPort (P.view port.old) (P.view port.new) }
 {
-    match serve(alloc, job, port, dialer, store) {
+    let served = if job.until_ended {
+        serve_until_ended(rt, alloc, job, port, dialer, store)
+    } else {
+        serve(alloc, job, port, dialer, store)
+    };
+    match served {
         Ok(served) => Ok(served),
         Err(error) => Err(cause_of(error)),
     }
 }
 
 // Does the job: its clients are served, the records are written, and then it is printed how they ended.
-fn record<D: Disk, O: Sink, P: Port, X: Dialer>(
+fn record<D: Disk, O: Sink, P: Port + Send, X: Dialer + Send, R: Threads + Wait + Sync>(
+    rt: &R,
     alloc: Global,
     job: &ProxyJob<'_>,
     disk: &mut D,
@@ -77,13 +89,14 @@ fn record<D: Disk, O: Sink, P: Port, X: Dialer>(
     ensures out_counts { CountsSinkFaults (O.view out.old) (O.view out.new) }
 {
     let mut store = Store::new(alloc);
-    let served = serve_job(alloc, job, port, dialer, &mut store)?;
+    let served = serve_job(rt, alloc, job, port, dialer, &mut store)?;
     write_store(alloc, disk, job.out, &store)?;
     print_served(alloc, served, out)
 }
 
 // Does what the words say.
-pub(crate) fn answer<D: Disk, O: Sink, P: Port, X: Dialer>(
+pub(crate) fn answer<D: Disk, O: Sink, P: Port + Send, X: Dialer + Send, R: Threads + Wait + Sync>(
+    rt: &R,
     alloc: Global,
     words: &[String],
     disk: &mut D,
@@ -94,28 +107,35 @@ pub(crate) fn answer<D: Disk, O: Sink, P: Port, X: Dialer>(
     ensures ends { Ends (proxy_work P.Conn.view X.Conn.view) (proxy_words (map string_bytes words.now))
         (outside (D.view disk.old) (O.view out.old) (net (P.view port.old) (X.view dialer.old)))
         (outside (D.view disk.new) (O.view out.new) (net (P.view port.new) (X.view dialer.new))) (cause_in result) }
+    ensures alone { IsLeftAlone (proxy_words (map string_bytes words.now)) (D.view disk.old) (D.view disk.new) }
     ensures keeps { KeepsPort (P.view port.old) (P.view port.new) }
     ensures counts { CountsDisk (D.view disk.old) (D.view disk.new) }
     ensures out_counts { CountsSinkFaults (O.view out.old) (O.view out.new) }
 {
     match read_proxy(alloc, words)? {
-        Some(job) => record(alloc, &job, disk, out, port, dialer),
+        Some(job) => record(rt, alloc, &job, disk, out, port, dialer),
         None => Err(Cause::usage()),
     }
 }
 
 /// Does what the words after the program's name say, and answers the exit status.
 ///
-/// `--port N --to N --connections N --out FILE` listens at a port of 1 to 65,535, accepts 0 to 64 clients one after the
-/// other, dials the site's port for each, passes what the two say unchanged, and finishes both. Then it writes the
-/// store of all exchanges, recorded from the site's port, in the order of acceptance, and prints how the connections
-/// ended, as `closed C bad B broken K full F`. A connection for which the dialer fails is counted as broken.
+/// `--port N --to N --connections N --out FILE [--until-ended]` listens at a port of 1 to 65,535, accepts 0 to 64
+/// clients one after the other, dials the site's port for each, passes what the two say unchanged, and finishes both.
+/// Then it writes the store of all exchanges, recorded from the site's port, in the order of acceptance, and prints how
+/// the connections ended, as `closed C bad B broken K full F`. A connection for which the dialer fails is counted as
+/// broken.
+///
+/// With `--until-ended` up to N clients, then 1 to 64, are served at a time, without a limit in all but 4,294,967,295,
+/// until the port has no more, and the store has the records connection after connection in the order in which these
+/// ended.
 ///
 /// 0: it is done. 2: the words have no job. 7: writing the store failed; or printing on `out`, and then the store is
 /// whole. 8: the port can't be listened at, or a client can't be accepted or finished. 9: memory was wanting. At 2
 /// and at 8 no file is changed. A status other than 0 is explained by one line on `out`, but for a fault of `out`
 /// itself.
-pub fn proxy_main<D: Disk, O: Sink, P: Port, X: Dialer>(
+pub fn proxy_main<D: Disk, O: Sink, P: Port + Send, X: Dialer + Send, R: Threads + Wait + Sync>(
+    rt: &R,
     alloc: Global,
     words: &[String],
     disk: &mut D,
@@ -149,6 +169,11 @@ pub fn proxy_main<D: Disk, O: Sink, P: Port, X: Dialer>(
 
     ensures statuses { IsProxyStatus result }
 
+    // Where the words have no job the disk isn't asked, and neither are the port and the dialer.
+    ensures disk_alone { IsLeftAlone (proxy_words (map string_bytes words.now)) (D.view disk.old) (D.view disk.new) }
+    ensures net_alone { IsLeftAlone (proxy_words (map string_bytes words.now)) (net (P.view port.old) (X.view dialer.old))
+        (net (P.view port.new) (X.view dialer.new)) }
+
     // Words that refuse give their status. A job gives 0, unless a fault is counted.
     ensures by_words { (refusal : Refusal)
         → refused_first (proxy_words (map string_bytes words.now)) ≡ Some refusal
@@ -164,6 +189,6 @@ pub fn proxy_main<D: Disk, O: Sink, P: Port, X: Dialer>(
     ensures counts { CountsDisk (D.view disk.old) (D.view disk.new) }
     ensures out_counts { CountsSinkFaults (O.view out.old) (O.view out.new) }
 {
-    let answer = answer(alloc, words, disk, out, port, dialer);
-    conclude(answer, out)
+    let answer = answer(rt, alloc, words, disk, out, port, dialer);
+    conclude(&answer, out)
 }

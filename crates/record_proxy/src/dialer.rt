@@ -6,11 +6,12 @@ ghost use Rattle.mm_base.specs.Port.{after_finish};
 ghost use Rattle.record_proxy.specs.Dialers.{DialerView, CountsDials};
 
 use mm_base::{EndError, Link};
+use std::marker::Send;
 
 /// A place to which connections go out. It counts its faults, as a port does, and the connections that it gives. The
 /// count of faults never falls, and where it stands at the last value of a `u64` it is taken as risen.
 pub trait Dialer {
-    type Conn: Link + Drop;
+    type Conn: Link + Send + Drop;
 
     /// What the dialer tells, and what it counts.
     ghost view: { Self → DialerView Self.Conn };

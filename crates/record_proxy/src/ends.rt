@@ -1,4 +1,5 @@
 // How connections end.
+use text_base::OutOfMemory;
 
 /// How a proxied connection ended.
 #[derive(Clone, Copy, PartialEq, Eq)]
@@ -25,4 +26,15 @@ pub enum ProxyError {
     Port,
     /// For want of memory.
     OutOfMemory,
+}
+
+impl From<OutOfMemory> for ProxyError {
+    ghost use Rattle.std.specs.Prelude.{◌≡◌};
+    ghost use Rattle.record_proxy.specs.declared.ends.ProxyError.TheVariants as errors;
+
+    ghost from_gives = { λ _ error. error ≡ errors.OutOfMemory };
+
+    fn from(_: OutOfMemory) -> Self {
+        ProxyError::OutOfMemory
+    }
 }

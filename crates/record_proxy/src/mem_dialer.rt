@@ -1,7 +1,8 @@
 // A dialer in memory, which fails by a list.
-ghost use Rattle.std.specs.Prelude.{◌≡◌, ◌⊎◌, ◌≤◌, ◌+◌, ◌∷◌, [], Some, None, IfOk, OnErr, IsErrOf, IsOk, Contains};
+ghost use Rattle.std.specs.Prelude.{◌≡◌, ◌⊎◌, ◌≤◌, ◌+◌, ◌∷◌, [], Some, IfOk, OnErr, IsErrOf, IsOk, Contains};
 ghost use Rattle.mm_base.specs.Counts.{Rose, one_more};
 ghost use Rattle.mm_base.specs.Link.{IsFresh};
+ghost use Rattle.mm_base.specs.Listened.{never};
 ghost use Rattle.mm_base.specs.MemLink.{mem_link_view};
 ghost use Rattle.mm_base.specs.MemPort.{AllUnused, IsPortCall};
 ghost use Rattle.mm_base.specs.Port.{after_finish};
@@ -34,7 +35,7 @@ impl MemDialer {
     pub fn new(alloc: Global, links: Vec<MemLink>, fails: Vec<u64>) -> Self
         requires { AllUnused links.items }
         ensures links { result.links ≡ record {
-          listened = None;
+          listened = never;
           waiting = links.items;
           finished = [];
           accepted = 0;

@@ -1,5 +1,5 @@
 // A proxy: clients one after the other, and a connection dialed for each.
-ghost use Rattle.std.specs.Prelude.{◌≡◌, ◌<◌, ◌≤◌, ◌+◌, ◌∷◌, [], Option, Ok, Err, IfOk, IsErrOf, IsOk};
+ghost use Rattle.std.specs.Prelude.{◌≡◌, ◌<◌, ◌≤◌, ◌+◌, ◌∷◌, [], false, Option, Ok, Err, IfOk, IsErrOf, IsOk};
 ghost use Rattle.mm_base.specs.Counts.{Rose};
 ghost use Rattle.mm_base.specs.Link.{IsFresh};
 ghost use Rattle.mm_base.specs.Port.{KeepsPort, after_finish};
@@ -19,7 +19,7 @@ use std::alloc::Global;
 use text_base::OutOfMemory;
 
 /// No connection.
-fn nothing() -> Served
+pub(crate) fn nothing() -> Served
     ensures { result ≡ no_ends }
 {
     Served {
@@ -31,8 +31,8 @@ fn nothing() -> Served
 }
 
 /// One end more. None: the dialer failed.
-fn with_end(end: Option<ProxyEnd>, n: Served) -> Served
-    requires { total n < 64 }
+pub(crate) fn with_end(end: Option<ProxyEnd>, n: Served) -> Served
+    requires { total n < 4294967295 }
     ensures one { result ≡ plus n (counted_as end) }
     ensures within { total result ≤ total n + 1 }
 {
@@ -47,7 +47,7 @@ fn with_end(end: Option<ProxyEnd>, n: Served) -> Served
 }
 
 /// What a refusal of the port is to a serving.
-fn refused(error: EndError) -> ProxyError
+pub(crate) fn refused(error: EndError) -> ProxyError
     ensures { result ≡ ProxyError.Port → error ≡ EndError.Failed }
 {
     match error {
@@ -74,7 +74,7 @@ fn ended(
 }
 
 /// Says to both sides that nothing further will be given.
-fn part<A: Link, B: Link>(client: &mut A, server: &mut B)
+pub(crate) fn part<A: Link, B: Link>(client: &mut A, server: &mut B)
     ensures client { A.view client.new ≡ A.view client.old }
     ensures server { B.view server.new ≡ B.view server.old }
 {
@@ -83,7 +83,7 @@ fn part<A: Link, B: Link>(client: &mut A, server: &mut B)
 }
 
 /// Finishes a dialed connection.
-fn finish_dialed<X: Dialer>(dialer: &mut X, server: X::Conn) -> Result<(), EndError>
+pub(crate) fn finish_dialed<X: Dialer>(dialer: &mut X, server: X::Conn) -> Result<(), EndError>
     ensures finished { (X.view dialer.new).finished ≡ after_finish server result (X.view dialer.old).finished }
     ensures dialed { (X.view dialer.new).dialed ≡ (X.view dialer.old).dialed }
     ensures counts { CountsDials (X.view dialer.old) (X.view dialer.new) }
@@ -184,7 +184,7 @@ pub fn serve<P: Port, X: Dialer>(
     dialer: &mut X,
     store: &mut Store,
 ) -> Result<Served, ProxyError>
-    ensures serving { ServingSays job.now.site P.Conn.view X.Conn.view job.now.connections
+    ensures serving { ServingSays job.now.site P.Conn.view X.Conn.view false job.now.connections
         (net (P.view port.old) (X.view dialer.old)) (net (P.view port.new) (X.view dialer.new)) store.old store.new
         result }
     ensures keeps { KeepsPort (P.view port.old) (P.view port.new) }

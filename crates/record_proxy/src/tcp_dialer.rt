@@ -3,37 +3,49 @@ ghost use Rattle.std.specs.Prelude.{◌≡◌, ◌≤◌, ◌<◌, ◌-◌, ◌^
 ghost use Rattle.mm_base.specs.Counts.{Rose};
 
 use crate::dialer::Dialer;
-use mm_base::{EndError, TcpLimits, TcpLink};
+use end_watch::EndWatch;
+use ended_port::{EndedLink, Silence};
+use mm_base::{EndError, TcpLimits};
 use std::io::{self, ErrorKind};
+use std::marker::Send;
 use std::net::{Ipv4Addr, Net, SocketAddr, TcpListener, TcpStream};
-use std::time::Clock;
+use std::time::{Clock, Duration};
+
+// How long it waits for a site that has no room for one more connection, in seconds.
+const DIAL_LIMIT: u64 = 10;
 
 /// A dialer of TCP at the address 127.0.0.1. It tells no content. Each error but want of memory is counted as a
-/// fault: a port at which nobody listens, or one more connection than a `u64` counts. A connection that it gives waits
+/// fault: a port at which nobody listens, a site that has no room for one more connection for ten seconds, or one more
+/// connection than a `u64` counts. A connection that it gives waits
 /// for a byte no longer than a minute; then its read is a fault of that connection.
 #[derive(Drop)]
-pub struct TcpDialer<R: Net<Stream = TcpStream, Listener = TcpListener> + Clock + Copy + Drop> {
+pub struct TcpDialer<'a, R: Net<Stream = TcpStream, Listener = TcpListener> + Clock + Copy + Drop> {
     rt: R,
     limits: TcpLimits,
+    watch: &'a EndWatch,
     dialed: u64,
     faults: u64,
 }
 
-impl<R: Net<Stream = TcpStream, Listener = TcpListener> + Clock + Copy + Drop> TcpDialer<R> {
+impl<'a, R: Net<Stream = TcpStream, Listener = TcpListener> + Clock + Copy + Drop> TcpDialer<
+    'a,
+    R,
+> {
     /// A dialer over the runtime's network, which has given no connection.
-    pub fn new(rt: R) -> Self
+    pub fn new(rt: R, watch: &'a EndWatch) -> Self
         ensures { (result.dialed ≡ 0) × (result.faults ≡ 0) }
     {
-        Self::with_limits(rt, TcpLimits::dialed())
+        Self::with_limits(rt, watch, TcpLimits::dialed())
     }
 
     /// A dialer whose connections have these limits.
-    pub fn with_limits(rt: R, limits: TcpLimits) -> Self
+    pub fn with_limits(rt: R, watch: &'a EndWatch, limits: TcpLimits) -> Self
         ensures { (result.dialed ≡ 0) × (result.faults ≡ 0) }
     {
         TcpDialer {
             rt,
             limits,
+            watch,
             dialed: 0,
             faults: 0,
         }
@@ -53,11 +65,17 @@ impl<R: Net<Stream = TcpStream, Listener = TcpListener> + Clock + Copy + Drop> T
     }
 
     // A connection to a port of this machine, where it can still be counted.
-    fn link_to(&self, number: u16) -> io::Result<TcpLink<R>>
+    fn link_to(&self, number: u16) -> io::Result<EndedLink<'a, R>>
         ensures ok { IfOk result (λ link. link.faults ≡ 0) }
         ensures room { OnOk result (self.now.dialed < 2 ^ 64 - 1) }
     {
-        TcpLink::new(self.rt, self.stream_to(number)?, self.limits)
+        EndedLink::new(
+            self.rt,
+            self.stream_to(number)?,
+            self.limits,
+            self.watch,
+            Silence::Fault,
+        )
     }
 
     // A stream to a port of this machine, where it can still be counted.
@@ -67,17 +85,18 @@ impl<R: Net<Stream = TcpStream, Listener = TcpListener> + Clock + Copy + Drop> T
         if self.dialed == u64::MAX {
             return Err(io::Error::from(ErrorKind::Unsupported));
         }
-        TcpStream::connect(&self.rt, SocketAddr::from((Ipv4Addr::LOCALHOST, number)))
+        let address = SocketAddr::from((Ipv4Addr::LOCALHOST, number));
+        TcpStream::connect_timeout(&self.rt, &address, Duration::from_secs(DIAL_LIMIT))
     }
 }
 
-impl<R: Net<Stream = TcpStream, Listener = TcpListener> + Clock + Copy + Drop> Dialer
-    for TcpDialer<R> {
-    type Conn = TcpLink<R>;
+impl<'a, R: Net<Stream = TcpStream, Listener = TcpListener> + Clock + Send + Copy + Drop> Dialer
+    for TcpDialer<'a, R> {
+    type Conn = EndedLink<'a, R>;
 
     ghost view = { λ d. record { finished = None; dialed = d.dialed; faults = d.faults } };
 
-    fn dial(&mut self, number: u16) -> Result<TcpLink<R>, EndError> {
+    fn dial(&mut self, number: u16) -> Result<EndedLink<'a, R>, EndError> {
         match self.link_to(number) {
             Ok(link) => {
                 self.dialed += 1;
@@ -87,7 +106,7 @@ impl<R: Net<Stream = TcpStream, Listener = TcpListener> + Clock + Copy + Drop> D
         }
     }
 
-    fn finish(&mut self, conn: TcpLink<R>) -> Result<(), EndError> {
+    fn finish(&mut self, conn: EndedLink<'a, R>) -> Result<(), EndError> {
         conn.end();
         Ok(())
     }

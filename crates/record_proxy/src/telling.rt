@@ -4,6 +4,7 @@ ghost use Rattle.mm_base.specs.Counts.{Rose};
 ghost use Rattle.mm_base.specs.Files.{Files};
 ghost use Rattle.mm_base.specs.Port.{KeepsPort};
 ghost use Rattle.mm_base.specs.Sink.{CountsSinkFaults};
+ghost use Rattle.command_ends.specs.Alone.{IsLeftAlone};
 ghost use Rattle.command_ends.specs.Answers.{Answers, CountsDisk, IsFaultless, StopsShort};
 ghost use Rattle.command_ends.specs.Causes.{status_of_refusal};
 ghost use Rattle.command_ends.specs.Ends.{IsDone, KeepsFiles, outside};
@@ -24,12 +25,24 @@ use mm_base::{Disk, Port, Sink};
 use refusal_lines::{Ending, tell};
 use refusal_words::Program;
 use std::alloc::Global;
+use std::marker::{Send, Sync};
+use std::sync::Wait;
+use std::thread::Threads;
 
 /// Does what `proxy_main` does, and says on `told`, which is the standard error, why the command line isn't done: the
 /// cause in words, with what was typed and where, or the usage. Where all is done it says nothing.
 ///
-/// Its status is that of `proxy_main`, whatever becomes of `told`; beside it stands what `told` answered.
-pub fn proxy_main_told<D: Disk, O: Sink, P: Port, X: Dialer, T: Sink>(
+/// Its status is that of `proxy_main`, whatever becomes of `told`, which is told when the line on `out` is written; beside
+/// it stand the command line's answer, and what `told` answered.
+pub fn proxy_main_told<
+    D: Disk,
+    O: Sink,
+    P: Port + Send,
+    X: Dialer + Send,
+    T: Sink,
+    R: Threads + Wait + Sync,
+>(
+    rt: &R,
     alloc: Global,
     words: &[String],
     disk: &mut D,
@@ -73,6 +86,11 @@ pub fn proxy_main_told<D: Disk, O: Sink, P: Port, X: Dialer, T: Sink>(
 
     ensures statuses { IsProxyStatus result.status }
 
+    // Where the words have no job the disk isn't asked, and neither are the port and the dialer.
+    ensures disk_alone { IsLeftAlone (proxy_words (map string_bytes words.now)) (D.view disk.old) (D.view disk.new) }
+    ensures net_alone { IsLeftAlone (proxy_words (map string_bytes words.now)) (net (P.view port.old) (X.view dialer.old))
+        (net (P.view port.new) (X.view dialer.new)) }
+
     // Words that refuse give their status. A job gives 0, unless a fault is counted.
     ensures by_words { (refusal : Refusal)
         → refused_first (proxy_words (map string_bytes words.now)) ≡ Some refusal
@@ -88,8 +106,12 @@ pub fn proxy_main_told<D: Disk, O: Sink, P: Port, X: Dialer, T: Sink>(
     ensures counts { CountsDisk (D.view disk.old) (D.view disk.new) }
     ensures out_counts { CountsSinkFaults (O.view out.old) (O.view out.new) }
 {
-    let answer = answer(alloc, words, disk, out, port, dialer);
+    let answer = answer(rt, alloc, words, disk, out, port, dialer);
+    let status = conclude(&answer, out);
     let told = tell(Program::Record, words, &answer, told);
-    let status = conclude(answer, out);
-    Ending { status, told }
+    Ending {
+        answer,
+        status,
+        told,
+    }
 }

@@ -16,12 +16,14 @@ fn with_numbers<'a>(texts: ProxyWords<'a>) -> Option<ProxyJob<'a>>
 {
     let port = read_port(texts.port)?;
     let site = read_port(texts.to)?;
-    let connections = read_within(texts.connections, 0, 64)?;
+    let least = if texts.until_ended { 1 } else { 0 };
+    let connections = read_within(texts.connections, least, 64)?;
     Some(ProxyJob {
         port,
         site,
         connections: connections as u32,
         out: texts.out,
+        until_ended: texts.until_ended,
     })
 }
 

@@ -1,7 +1,7 @@
--- The text of a store in pieces.
+-- The text of a store in pieces, as contracts see it.
 use Rattle.std.specs.Prelude.{ℕ, List}
 
--- the piece in hand, and the text that is still to come
+-- The piece in hand, and the text that is still to come.
 pub record Pieces : Type 0 where
   pub piece : List ℕ
   pub rest : List ℕ

@@ -1,11 +1,11 @@
--- The numbers and places of refusals.
+-- The numbers of refusals, and the places or records that they name.
 use Rattle.std.specs.Prelude.{ℕ}
 use Rattle.record_store.specs.declared.store_error.StoreError.{StoreError}
 use Rattle.record_store.specs.declared.store_error.StoreError.TheVariants as stores
 use Rattle.record_store.specs.declared.errors.PairError.{PairError}
 use Rattle.record_store.specs.declared.errors.PairError.TheVariants as pairs
 
--- the number of a refusal of a text, 0 for want of memory
+-- The number of a text's refusal, 1 to 5, or 0 for out of memory.
 abbrev pub number_of : StoreError → ℕ
 number_of stores.BadMagic = 1
 number_of (stores.BadHeader place) = 2
@@ -14,7 +14,7 @@ number_of (stores.BadMessage number) = 4
 number_of (stores.BadScheme place) = 5
 number_of stores.OutOfMemory = 0
 
--- the place or the record that it names, 0 where it names none
+-- The place or the number of the record that a refusal names, or 0 where it names none.
 abbrev pub place_named : StoreError → ℕ
 place_named stores.BadMagic = 0
 place_named (stores.BadHeader place) = place
@@ -23,7 +23,7 @@ place_named (stores.BadMessage number) = number
 place_named (stores.BadScheme place) = place
 place_named stores.OutOfMemory = 0
 
--- the number of a refusal of two streams, 0 for want of memory
+-- The number of a refusal of two streams, 1 to 4, or 0 for out of memory.
 abbrev pub pair_number : PairError → ℕ
 pair_number (pairs.BadRequest n) = 1
 pair_number (pairs.BadResponse n) = 2
@@ -31,7 +31,7 @@ pair_number (pairs.Unanswered n) = 3
 pair_number pairs.ExtraResponse = 4
 pair_number pairs.OutOfMemory = 0
 
--- the request that it names, 0 where it names none
+-- The number of the request that a refusal names, or 0 where it names none.
 abbrev pub request_named : PairError → ℕ
 request_named (pairs.BadRequest n) = n
 request_named (pairs.BadResponse n) = n

@@ -1,4 +1,4 @@
-// Where the parts of a record stand.
+// Finds the parts of a record in a store's text.
 ghost use Rattle.std.specs.Prelude.{◌≡◌, ◌≤◌, ◌<◌, ◌+◌, ◌^◌, ◌==◌, length, position, IfOk, IfSome};
 ghost use Rattle.record_store.specs.inside.Headers.{IsShort};
 ghost use Rattle.record_store.specs.Cuts.{cut_at_header, cut_of};
@@ -7,8 +7,8 @@ ghost use Rattle.record_store.specs.inside.Cuts.{IsInside};
 use crate::header::{Form, Header, read_header};
 use crate::store_error::StoreError;
 
-/// A record's port, and where its parts stand, counted from the record's place: the request begins, the response
-/// begins, and the response ends, before the line feed that ends the record.
+/// A record's port, and where its parts are, counted in bytes from the record's place: where the request begins, where
+/// the response begins, and where it ends. A line feed follows there.
 #[derive(Clone, Copy, PartialEq, Eq)]
 pub struct Cut {
     pub port: u16,
@@ -17,7 +17,7 @@ pub struct Cut {
     pub end: usize,
 }
 
-// The place of the first line feed.
+// Returns the place of the first line feed, if there is one.
 fn line_end(text: &[u8]) -> Option<usize>
     ensures place { result ≡ position (λ byte. byte == 10) text.now }
     ensures within { IfSome result (λ end. end < length text.now) }
@@ -25,7 +25,10 @@ fn line_end(text: &[u8]) -> Option<usize>
     text.iter().position(|byte| *byte == b'\n')
 }
 
-/// The parts of the record that stands at a place, where these are the bytes from it on; or why none stands there.
+/// Returns the parts of the record at `place`, from which on the text is `bytes`.
+///
+/// Returns `Truncated` where its header line has no end or the parts aren't all there, and `BadHeader` or `BadScheme`
+/// as `StoreError` says.
 pub fn cut_record(form: Form, place: u64, bytes: &[u8]) -> Result<Cut, StoreError>
     requires { place + length bytes.now < 2 ^ 64 }
     ensures cut { result ≡ cut_of form place bytes.now }
@@ -38,7 +41,7 @@ pub fn cut_record(form: Form, place: u64, bytes: &[u8]) -> Result<Cut, StoreErro
     cut_at(place, bytes, end + 1, header)
 }
 
-// The parts after a header and its line feed.
+// Returns the parts after a header and its line feed. They begin at `start`.
 fn cut_at(place: u64, bytes: &[u8], start: usize, header: Header) -> Result<Cut, StoreError>
     requires place { place + length bytes.now < 2 ^ 64 }
     requires start { start ≤ length bytes.now }

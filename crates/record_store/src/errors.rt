@@ -1,28 +1,29 @@
-// Why two streams are no store.
+// Why the bytes of a client and a server are no store.
 ghost use Rattle.std.specs.Prelude.{◌≡◌};
 ghost use Rattle.record_store.specs.declared.errors.PairError.TheVariants as errors;
 
 use std::alloc::AllocFailed;
 use text_base::OutOfMemory;
 
-/// Why a client's and a server's bytes are no pairs. `n` counts requests from 1.
+/// Why the bytes of a client and a server don't pair. `n` counts requests from 1.
 #[derive(Clone, Copy, Debug, PartialEq, Eq)]
 pub enum PairError {
-    /// 1: the client's request `n` is refused, or cut off.
+    /// 1: request `n` of the client is refused or cut off.
     BadRequest { n: u64 },
-    /// 2: what the server's bytes have in place of the response to request `n` is refused, or cut off.
+    /// 2: in place of the response to request `n` the server's bytes have something that is refused or cut off.
     BadResponse { n: u64 },
-    /// 3: the server's bytes are used up before the response to request `n`.
+    /// 3: the server's bytes end before the response to request `n`.
     Unanswered { n: u64 },
     /// 4: bytes are left after the last response.
     ExtraResponse,
+    /// Out of memory. The bytes weren't refused.
     OutOfMemory,
 }
 
 impl PairError {
     ghost use Rattle.record_store.specs.Refusals.{pair_number, request_named};
 
-    /// The number of the error, 1 to 4; 0 for want of memory.
+    /// Returns the number of the error, 1 to 4, or 0 for out of memory.
     pub fn number(self) -> u32
         ensures { result ≡ pair_number self }
     {
@@ -35,7 +36,7 @@ impl PairError {
         }
     }
 
-    /// The request that it names, or 0 where it names none.
+    /// Returns the number of the request that the error names, or 0 where it names none.
     pub fn request(self) -> u64
         ensures { result ≡ request_named self }
     {

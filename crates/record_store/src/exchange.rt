@@ -1,4 +1,4 @@
-// One whole request and one whole response, from bytes.
+// Makes a record of the bytes of one request and one response.
 ghost use Rattle.std.specs.Prelude.{IfOk};
 ghost use Rattle.record_store.specs.inside.Exchanges.{OneRequest, OneResponse, OneExchange};
 
@@ -7,8 +7,8 @@ use http_frame::{Request, Response, first_request, first_response};
 use std::alloc::Global;
 use text_base::OutOfMemory;
 
-/// The record of these bytes; None exactly where they aren't one whole request and one whole response to it of status
-/// 200 or more.
+/// Returns the record of the bytes, or `None` exactly where they aren't one whole request and one whole response to it
+/// with a status of 200 or more. Returns `OutOfMemory` where an allocation fails.
 pub fn exchange_of(
     alloc: Global,
     port: u16,
@@ -30,7 +30,7 @@ pub fn exchange_of(
     }
 }
 
-// The request that all of the bytes are.
+// Returns the request that all the bytes are, or `None` where they aren't one.
 fn one_request(alloc: Global, bytes: &[u8]) -> Result<Option<Request>, OutOfMemory>
     ensures { IfOk result (OneRequest bytes.now) }
 {
@@ -46,7 +46,8 @@ fn one_request(alloc: Global, bytes: &[u8]) -> Result<Option<Request>, OutOfMemo
     }
 }
 
-// The response of a final status that all of the bytes are, to a HEAD request or to another.
+// Returns the response that all the bytes are, to a HEAD request (`to_head`) or to another, with a status of 200 or
+// more, or `None` where they aren't one.
 fn one_response(alloc: Global, to_head: bool, bytes: &[u8]) -> Result<Option<Response>, OutOfMemory>
     ensures { IfOk result (OneResponse to_head bytes.now) }
 {

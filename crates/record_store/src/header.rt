@@ -1,4 +1,4 @@
-// The header line of a record, read.
+// Reads the header line of a record.
 ghost use Rattle.std.specs.Prelude.{◌≡◌, ◌≤◌, IfOk, IfSome};
 ghost use Rattle.std.specs.List.{list_all};
 ghost use Rattle.record_store.specs.Headers.{number_up_to, lengths_of, port_and_lengths_of, is_scheme, check_scheme};
@@ -11,11 +11,13 @@ use text_base::{read_canonical, split_word};
 /// The two forms of a store's text. Records of form 1 have port 0.
 #[derive(Clone, Copy, PartialEq, Eq)]
 pub enum Form {
+    /// `MMSTORE 1`
     One,
+    /// `MMSTORE 2`
     Two,
 }
 
-/// What a header says: the port, and the lengths of the request and of the response.
+/// What a header says: the port, and the lengths of the request and the response in bytes.
 #[derive(Clone, Copy, PartialEq, Eq)]
 pub struct Header {
     pub port: u16,
@@ -23,7 +25,7 @@ pub struct Header {
     pub response: usize,
 }
 
-/// What a line at a place says, if it is a header of that form; or why it is none.
+/// Returns what the line at `place` says, or `BadHeader` or `BadScheme` where it is no header of the form.
 pub fn read_header(form: Form, place: u64, line: &[u8]) -> Result<Header, StoreError>
     ensures header { result ≡ header_of form place line.now }
     ensures short { IfOk result IsShort }
@@ -35,6 +37,7 @@ pub fn read_header(form: Form, place: u64, line: &[u8]) -> Result<Header, StoreE
     read_by_form(form, place, rest)
 }
 
+// Reads the words after the first one.
 fn read_by_form(form: Form, place: u64, rest: &[u8]) -> Result<Header, StoreError>
     ensures header { result ≡ header_by_form form place rest.now }
     ensures short { IfOk result IsShort }
@@ -51,7 +54,7 @@ fn read_by_form(form: Form, place: u64, rest: &[u8]) -> Result<Header, StoreErro
     }
 }
 
-// The header, where the scheme is `http`.
+// Returns the header, where the scheme is `http`.
 fn with_scheme(place: u64, scheme: &[u8], header: Header) -> Result<Header, StoreError>
     ensures header { result ≡ check_scheme place scheme.now header }
     ensures same { IfOk result (λ h. h ≡ header) }
@@ -65,19 +68,21 @@ fn with_scheme(place: u64, scheme: &[u8], header: Header) -> Result<Header, Stor
     }
 }
 
-// One or more lower-case letters.
+// Returns whether the word is one or more lower-case letters.
 fn is_lower_word(word: &[u8]) -> bool
     ensures { result ≡ is_scheme word.now }
 {
     !word.is_empty() && all_letters(word)
 }
 
+// Returns whether all bytes are lower-case letters.
 fn all_letters(word: &[u8]) -> bool
     ensures { result ≡ list_all is_letter word.now }
 {
     word.iter().all(|byte| b'a' <= *byte && *byte <= b'z')
 }
 
+// Reads three words: the port, and the lengths.
 fn read_port_and_lengths(rest: &[u8]) -> Option<Header>
     ensures header { result ≡ port_and_lengths_of rest.now }
     ensures short { IfSome result IsShort }
@@ -87,6 +92,7 @@ fn read_port_and_lengths(rest: &[u8]) -> Option<Header>
     read_lengths(port as u16, rest)
 }
 
+// Reads two words: the lengths.
 fn read_lengths(port: u16, rest: &[u8]) -> Option<Header>
     ensures header { result ≡ lengths_of port rest.now }
     ensures short { IfSome result IsShort }
@@ -101,7 +107,8 @@ fn read_lengths(port: u16, rest: &[u8]) -> Option<Header>
     })
 }
 
-// The number that a word stands for, if it is a decimal without a leading zero and no greater than that.
+// Returns the number that the word states, or `None` where it isn't a decimal without a leading zero that is at most
+// `most`.
 fn read_up_to(most: u64, word: &[u8]) -> Option<u64>
     ensures number { result ≡ number_up_to most word.now }
     ensures small { IfSome result (λ n. n ≤ most) }

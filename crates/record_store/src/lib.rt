@@ -1,4 +1,4 @@
-//! Stores of recorded exchanges: requests, each with its response and the port that it was recorded from.
+//! Stores of recorded exchanges. A record is a request, its response, and the port that it was recorded from.
 #![tactic(auto)]
 
 mod cutting;

@@ -1,4 +1,4 @@
-// Pairing a client's requests with a server's responses.
+// Pairs a client's requests with a server's responses.
 ghost use Rattle.std.specs.Prelude.{◌≡◌, ◌≢◌, ◌≤◌, List, [], length, drop, Result, Err, IfOk, IfErr};
 ghost use Rattle.record_store.specs.declared.errors.PairError.{PairError as ErrorValue};
 ghost use Rattle.record_store.specs.declared.errors.PairError.TheVariants as errors;
@@ -12,7 +12,7 @@ use crate::server::{answer_at, from_place};
 use http_frame::{Request, first_request};
 use std::alloc::Global;
 
-/// The requests that the bytes are made of.
+/// Returns the requests that the bytes are, or `BadRequest` for the first that is refused or cut off.
 fn requests_of(alloc: Global, client: &[u8]) -> Result<Vec<Request>, PairError>
     ensures ok { IfOk result (λ requests. AreRequests client.now requests.items []) }
     ensures err { IfErr result (RefusesRequests client.now) }
@@ -35,8 +35,11 @@ fn requests_of(alloc: Global, client: &[u8]) -> Result<Vec<Request>, PairError>
     Ok(requests)
 }
 
-/// The store of a client's requests with a server's responses, each recorded from that port: the
-/// requests in order, each with the first response that is no interim one. Two streams have one answer.
+/// Returns the store of a client's requests, in their order, each with the first of the server's responses that isn't
+/// interim. Each record has the port `port`.
+///
+/// Returns the first refusal: of a request, then for each request of its response, and then of bytes that are left. Two
+/// streams always have the same result, but for `OutOfMemory`, which is returned where an allocation fails.
 pub fn pair(alloc: Global, client: &[u8], server: &[u8], port: u16) -> Result<Store, PairError>
     ensures pairs { Pairs client.now server.now port result }
     ensures exact { (other : Result (List RecordValue) ErrorValue) → Pairs client.now server.now port other
@@ -45,6 +48,7 @@ pub fn pair(alloc: Global, client: &[u8], server: &[u8], port: u16) -> Result<St
     pair_streams(alloc, client, server, port)
 }
 
+// Pairs the streams.
 fn pair_streams(alloc: Global, client: &[u8], server: &[u8], port: u16) -> Result<Store, PairError>
     ensures { Pairs client.now server.now port result }
 {

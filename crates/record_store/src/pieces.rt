@@ -1,4 +1,4 @@
-// A store's text, piece by piece.
+// Writes a store's text piece by piece, so that it is never in memory as a whole.
 ghost use Rattle.std.specs.Prelude.{◌≡◌, ◌<◌, ◌++◌, [], IsTrue, IfOk, OnErr, length};
 ghost use Rattle.record_store.specs.declared.header.Form.TheVariants as forms;
 ghost use Rattle.record_store.specs.StoreText.{records_text, store_text};
@@ -9,20 +9,20 @@ use std::alloc::Global;
 use std::marker::Model;
 use text_base::{Bytes, OutOfMemory};
 
-// A piece ends after the record that brings it to so many bytes.
+// A piece ends after the record that brings it to this number of bytes.
 const FULL: usize = 65536;
 
-/// A store's text in form 2 in pieces of whole records, some 64 KiB or one record each, so that it never stands whole.
-/// Contracts see the piece in hand, and the text that is still to come.
+/// The text of a store in form 2, in pieces of whole records. A piece ends once it has 65,536 bytes or more. Contracts
+/// see the piece in hand, and the text that is still to come.
 #[derive(Drop)]
 pub struct StorePieces<'a> {
     records: &'a [Record],
-    /// The text's first line was given.
+    /// Whether the text's first line was given.
     begun: bool,
     piece: Bytes,
 }
 
-// Writes records until the piece is full, and gives those that are left.
+// Writes records until the piece is full, and returns those that are left.
 fn fill<'a>(piece: &mut Bytes, records: &'a [Record]) -> Result<&'a [Record], OutOfMemory>
     ensures same { IfOk result (λ left. piece.old ++ records_text forms.Two records.now ≡ piece.new
         ++ records_text forms.Two left.now) }
@@ -51,7 +51,7 @@ impl<'a> Model for StorePieces<'a> {
 }
 
 impl<'a> StorePieces<'a> {
-    /// The pieces of a store's text, none of them in hand.
+    /// The pieces of a store's text, before the first.
     pub fn new(alloc: Global, store: &'a Store) -> Self
         ensures { result ≡ record { piece = []; rest = store_text forms.Two store.now } }
     {
@@ -62,9 +62,10 @@ impl<'a> StorePieces<'a> {
         }
     }
 
-    /// Goes on to the next piece, which isn't empty. False: there is no more, and no piece in hand. After
-    /// `OutOfMemory`, which is want of memory and comes only where there is more, no piece is in hand, and the next
-    /// one goes on from there.
+    /// Goes on to the next piece, and returns whether there is one. A piece isn't empty.
+    ///
+    /// Where an allocation fails it returns `OutOfMemory`, which comes only where text is left. Then no piece is in
+    /// hand, and the next call begins at the same place.
     pub fn next(&mut self) -> Result<bool, OutOfMemory>
         ensures same { self.old.rest ≡ self.new.piece ++ self.new.rest }
         ensures some { IfOk result (λ more. IsTrue more → 0 < length self.new.piece) }
@@ -88,7 +89,7 @@ impl<'a> StorePieces<'a> {
         }
     }
 
-    /// The piece in hand.
+    /// Returns the piece in hand, or no bytes where there is none.
     pub fn piece(&self) -> &[u8]
         ensures { result.now ≡ self.now.piece }
     {

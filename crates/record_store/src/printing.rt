@@ -1,4 +1,4 @@
-// Stores written as text.
+// Writes stores as text.
 ghost use Rattle.std.specs.Prelude.{◌≡◌, ◌++◌, ◌∷◌, [], IfOk, OnOk, decimal};
 ghost use Rattle.record_store.specs.declared.header.Form.TheVariants as forms;
 ghost use Rattle.record_store.specs.Words.{spaced};
@@ -9,8 +9,9 @@ use crate::record::{Record, Store};
 use std::alloc::Global;
 use text_base::{Bytes, OutOfMemory, write_decimal};
 
-/// The text of a store, in form 2: `MMSTORE 2`, then for each record its header line `record http PORT REQLEN RESLEN`,
-/// the request's bytes, the response's bytes and a line feed.
+/// Returns the text of a store in form 2: `MMSTORE 2`, then for each record its header line
+/// `record http PORT REQLEN RESLEN`, the request's bytes, the response's bytes and a line feed. Returns `OutOfMemory`
+/// where an allocation fails.
 pub fn print_store(alloc: Global, store: &Store) -> Result<Bytes, OutOfMemory>
     ensures { IfOk result (λ text. text ≡ store_text forms.Two store.now) }
 {
@@ -22,6 +23,7 @@ pub fn print_store(alloc: Global, store: &Store) -> Result<Bytes, OutOfMemory>
     Ok(out)
 }
 
+// Writes a record.
 pub(crate) fn write_record(out: &mut Bytes, exchange: &Record) -> Result<(), OutOfMemory>
     ensures { OnOk result (out.new ≡ out.old ++ record_text forms.Two exchange.now) }
 {
@@ -34,6 +36,7 @@ pub(crate) fn write_record(out: &mut Bytes, exchange: &Record) -> Result<(), Out
     out.push(b'\n')
 }
 
+// Writes a header line without its line feed.
 fn write_header(
     out: &mut Bytes,
     port: u16,
@@ -48,6 +51,7 @@ fn write_header(
     write_lengths(out, request, response)
 }
 
+// Writes the two lengths of a header line.
 fn write_lengths(out: &mut Bytes, request: usize, response: usize) -> Result<(), OutOfMemory>
     ensures { OnOk result (out.new ≡ out.old ++ spaced (decimal request ∷ decimal response ∷ [])) }
 {
@@ -56,7 +60,7 @@ fn write_lengths(out: &mut Bytes, request: usize, response: usize) -> Result<(),
     write_decimal(out, response as u64)
 }
 
-// How many bytes the text has, with room for the longest header lines.
+// Returns how many bytes the text has at most.
 fn length_of(records: &[Record]) -> usize {
     let mut length = 10usize;
     for record in records {

@@ -1,4 +1,4 @@
-// Stores read from their text.
+// Reads stores from their text.
 ghost use Rattle.std.specs.Prelude.{◌≡◌, ◌≢◌, List, Result, Some, Err, MatchResult, All};
 ghost use Rattle.record_store.specs.declared.store_error.StoreError.{StoreError as ErrorValue};
 ghost use Rattle.record_store.specs.declared.store_error.StoreError.TheVariants as errors;
@@ -15,8 +15,10 @@ use crate::server::from_place;
 use crate::store_error::StoreError;
 use std::alloc::Global;
 
-/// The store of which this is the text, in form 2 or in form 1, whose records have port 0. The first refusal wins, in
-/// the order of the records.
+/// Returns the store of a text in form 2, or in form 1, whose records have port 0.
+///
+/// Returns the first refusal in the order of the records, or `OutOfMemory` where an allocation fails. The text that
+/// `print_store` makes of a store is never refused.
 pub fn read_store(alloc: Global, text: &[u8]) -> Result<Store, StoreError>
     ensures says { StoreSays text.now result }
     ensures exact { (other : Result (List RecordValue) ErrorValue) → StoreSays text.now other
@@ -27,6 +29,7 @@ pub fn read_store(alloc: Global, text: &[u8]) -> Result<Store, StoreError>
     read_text(alloc, text)
 }
 
+// Reads a text.
 fn read_text(alloc: Global, text: &[u8]) -> Result<Store, StoreError>
     ensures { StoreSays text.now result }
 {
@@ -36,7 +39,7 @@ fn read_text(alloc: Global, text: &[u8]) -> Result<Store, StoreError>
     }
 }
 
-// The records of a text of that form.
+// Reads the records of a text of the form.
 fn read_records(alloc: Global, form: Form, text: &[u8]) -> Result<Store, StoreError>
     requires { form_of text.now ≡ Some form }
     ensures { StoreSays text.now result }
@@ -61,7 +64,7 @@ fn read_records(alloc: Global, form: Form, text: &[u8]) -> Result<Store, StoreEr
     Ok(store)
 }
 
-// The form that the first 10 bytes say.
+// Returns the form that the first 10 bytes state, or `None` where they state none.
 fn read_form(text: &[u8]) -> Option<Form>
     ensures { result ≡ form_of text.now }
 {

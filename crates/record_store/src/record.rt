@@ -11,14 +11,16 @@ use text_base::OutOfMemory;
 /// A recorded exchange.
 #[derive(Drop)]
 pub struct Record {
-    /// The port that it was recorded from; 0 where any port agrees.
+    /// The port that it was recorded from, or 0 where it may answer at any port.
     pub port: u16,
+    /// The whole request.
     pub request: Request,
+    /// The whole response, with a status of 200 or more.
     pub response: Response,
 }
 
-/// Records in order. Each has one whole request and one whole response to it of status 200 or more,
-/// with the heads of their bytes.
+/// Records in order. Each is a whole request and a whole response to it with a status of 200 or more, with what their
+/// heads say. Contracts see the list of records.
 #[derive(Drop)]
 pub struct Store {
     records: Vec<Record>,
@@ -33,7 +35,7 @@ impl Model for Store {
 }
 
 impl Store {
-    /// A store without records.
+    /// Makes a store without records. It takes no memory.
     pub fn new(alloc: Global) -> Self
         ensures { result ≡ [] }
     {
@@ -42,7 +44,7 @@ impl Store {
         }
     }
 
-    /// Adds a record at the end.
+    /// Adds a record at the end. Where an allocation fails it returns `OutOfMemory`, and the store is as it was.
     pub fn add(&mut self, exchange: Record) -> Result<(), OutOfMemory>
         requires { IsRecord exchange }
         ensures ok { OnOk result (self.new ≡ self.old ++ exchange ∷ []) }
@@ -52,7 +54,16 @@ impl Store {
         Ok(())
     }
 
-    /// The records in order.
+    /// Adds the records of another store at the end.
+    pub fn append(&mut self, other: Store) -> Result<(), OutOfMemory>
+        ensures { OnOk result (self.new ≡ self.old ++ other) }
+    {
+        let mut other = other;
+        self.records.append(&mut other.records)?;
+        Ok(())
+    }
+
+    /// Returns the records in order.
     pub fn records(&self) -> &[Record]
         ensures same { result.now ≡ self.now }
         ensures kept { All IsRecord result.now }

@@ -1,4 +1,4 @@
-// The answer to one request in a server's bytes.
+// Finds the answer to one request in a server's bytes.
 ghost use Rattle.std.specs.Prelude.{◌≡◌, ◌≤◌, length, drop};
 ghost use Rattle.record_store.specs.inside.Pairs.{AnswerSays};
 
@@ -6,14 +6,14 @@ use crate::errors::PairError;
 use http_frame::{Response, first_response};
 use std::alloc::Global;
 
-/// The response to a request, and where its bytes end, those of interim responses before it counted too.
+/// The response to a request, and where it ends in the server's bytes, interim responses before it included.
 #[derive(Drop)]
 pub struct Answer {
     pub response: Response,
     pub end: usize,
 }
 
-/// The bytes from a place on.
+/// Returns the bytes from `place` on.
 pub(crate) fn from_place(bytes: &[u8], place: usize) -> &[u8]
     requires { place ≤ length bytes.now }
     ensures { result.now ≡ drop place bytes.now }
@@ -21,7 +21,10 @@ pub(crate) fn from_place(bytes: &[u8], place: usize) -> &[u8]
     bytes.split_at(place).1
 }
 
-/// The first response at the front that is no interim one (RFC 9110, section 15.2), to request `n`.
+/// Returns the first response at the front that isn't interim (RFC 9110, section 15.2), which answers request `n`.
+///
+/// Returns `Unanswered` where the bytes end before it, `BadResponse` where something stands in its place that is
+/// refused or cut off, and `OutOfMemory` where an allocation fails.
 pub fn answer_at(alloc: Global, n: u64, to_head: bool, bytes: &[u8]) -> Result<Answer, PairError>
     ensures { AnswerSays n to_head bytes.now result }
 {

@@ -4,28 +4,30 @@ ghost use Rattle.record_store.specs.declared.store_error.StoreError.TheVariants 
 
 use text_base::OutOfMemory;
 
-/// Why a text is no store. The first refusal wins; places count bytes from 0, records from 1.
+/// Why a text is no store. The first refusal counts. Places count bytes of the text from 0, and records are counted
+/// from 1.
 #[derive(Clone, Copy, Debug, PartialEq, Eq)]
 pub enum StoreError {
     /// 1: the first 10 bytes are neither `MMSTORE 2` nor `MMSTORE 1` with a line feed.
     BadMagic,
-    /// 2: the line at the place isn't a record's header, or the byte there isn't the line feed that ends a record.
+    /// 2: the line at `place` is no header of a record, or the byte there isn't the line feed that ends a record.
     BadHeader { place: u64 },
-    /// 3: the record at the place has no line feed after its header, or fewer bytes than its lengths and its line
-    /// feed.
+    /// 3: the text ends within the record at `place`: before the end of its header line, or before the line feed after
+    /// the bytes that its lengths state.
     Truncated { place: u64 },
-    /// 4: the record's bytes aren't one whole request and one whole response to it of status 200 or more.
+    /// 4: the bytes of record `number` aren't one whole request and one whole response to it with a status of 200 or
+    /// more.
     BadMessage { number: u64 },
-    /// 5: the line at the place would be a header, were its scheme `http`; it is another word of lower-case letters.
+    /// 5: the line at `place` would be a header if its scheme, another word of lower-case letters, were `http`.
     BadScheme { place: u64 },
-    /// Memory was wanting. The text wasn't refused.
+    /// Out of memory. The text wasn't refused.
     OutOfMemory,
 }
 
 impl StoreError {
     ghost use Rattle.record_store.specs.Refusals.{number_of, place_named};
 
-    /// The number of the refusal, 1 to 5, or 0 for want of memory.
+    /// Returns the number of the refusal, 1 to 5, or 0 for out of memory.
     pub fn number(self) -> u32
         ensures { result ≡ number_of self }
     {
@@ -39,7 +41,7 @@ impl StoreError {
         }
     }
 
-    /// The place, or the number of the record, that the refusal names, or 0 where it names none.
+    /// Returns the place or the number of the record that the refusal names, or 0 where it names none.
     pub fn place(self) -> u64
         ensures { result ≡ place_named self }
     {

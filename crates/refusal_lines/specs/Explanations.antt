@@ -42,7 +42,7 @@ refusal_parts (refusals.Limit limit) digits words = limit_parts limit
 
 abbrev pub cause_parts : Cause → Text → List Text → List Text
 cause_parts (Refused refusal) digits words = refusal_parts refusal digits words
-cause_parts (ReadFault name) digits words = three name (codes ": it can't be read as a regular file") []
+cause_parts (ReadFault name) digits words = three name (codes ": it can't be read") []
 cause_parts (WriteFault name) digits words = three name (codes ": it can't be written") []
 cause_parts OutFault digits words = three (codes "writing on the standard output failed") [] []
 cause_parts NetFault digits words = net_parts words

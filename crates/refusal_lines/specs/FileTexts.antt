@@ -43,10 +43,13 @@ abbrev pub input_by : Role → Text → ℕ → ℕ → Text → List Text
 input_by role name number place digits = if place == 0 then three name (codes ": ") (rule_of role number)
     else five name (place_text role number) digits (codes ": ") (rule_of role number)
 
+-- what the file of this name is that is refused by this number at this place
+abbrev pub role_at : Text → ℕ → ℕ → List Text → Role
+role_at name number place words = real_role (role_of name words) (gives (codes "--request") name words) number place
+
 -- an input doesn't meet its grammar
 abbrev pub input_parts : Text → ℕ → ℕ → Text → List Text → List Text
-input_parts name number place digits words = input_by
-    (real_role (role_of name words) (gives (codes "--request") name words) number place) name number place digits
+input_parts name number place digits words = input_by (role_at name number place words) name number place digits
 
 -- a limit is passed
 abbrev pub limit_parts : Limit → List Text

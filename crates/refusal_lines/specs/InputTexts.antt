@@ -10,7 +10,7 @@ abbrev pub trace_rule : ℕ → Text
 trace_rule number =
     if number == 1 then codes "a trace has at least one line"
     else if number == 2 then
-    codes "want a whole number of milliseconds alone ('# mm-trace 2': MS BYTES), no carriage return (tr -d '\\r')"
+    codes "want one whole number of milliseconds and nothing else (below '# mm-trace 2': MS BYTES)"
     else if number == 3 then codes "this moment is before that of the line above"
     else if number == 4 then codes "the last moment is 0, so the trace has no length"
     else codes "the bytes of an opportunity are 1 to 1000000"

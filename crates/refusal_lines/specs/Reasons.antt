@@ -34,8 +34,9 @@ code_of IsInput = 0
 code_of NotRegular = 0
 code_of (System code) = code
 
-abbrev pub reason_parts : Reason → Text → List Text
-reason_parts IsInput digits = three (codes "it would overwrite an input, which it is by another name") [] []
-reason_parts NotRegular digits = three (codes "it is no regular file, or says that it is empty and isn't") [] []
-reason_parts (System code) digits = five (codes "the system says: ") (system_text code) (codes " (error ") digits
+-- `input` is the name of the input that would be overwritten
+abbrev pub reason_parts : Reason → Text → Text → List Text
+reason_parts IsInput input digits = three (codes "it would overwrite the input ") input []
+reason_parts NotRegular input digits = three (codes "it is no regular file, or says that it is empty and isn't") [] []
+reason_parts (System code) input digits = five (codes "the system says: ") (system_text code) (codes " (error ") digits
     (codes ")")

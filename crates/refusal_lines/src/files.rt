@@ -1,7 +1,7 @@
 // The texts of causes that name a file, a limit or a port.
 ghost use Rattle.std.specs.Prelude.{◌≡◌, map, string_bytes};
 ghost use Rattle.refusal_lines.specs.FileTexts.{absent_parts, input_by, input_parts, limit_parts, listen_port};
-ghost use Rattle.refusal_lines.specs.FileTexts.{net_parts};
+ghost use Rattle.refusal_lines.specs.FileTexts.{net_parts, role_at};
 ghost use Rattle.refusal_lines.specs.FileTexts.{real_role, taken_parts};
 
 use crate::input_texts::{place_text, rule_of};
@@ -60,6 +60,14 @@ fn real_role(role: Role, asked: bool, number: u32, place: u64) -> Role
     }
 }
 
+/// What the file of this name is that is refused by this number at this place.
+pub(crate) fn role_at(name: &str, number: u32, place: u64, words: &[String]) -> Role
+    ensures { result ≡ role_at name.now number place (map string_bytes words.now) }
+{
+    let asked = gives("--request", name, words);
+    real_role(role_of(name, words), asked, number, place)
+}
+
 fn input_by<'a>(role: Role, name: &'a str, number: u32, place: u64, digits: &'a str) -> [&'a str; 7]
     ensures { map (λ s. s.now) result ≡ input_by role name.now number place digits.now }
 {
@@ -80,8 +88,7 @@ pub(crate) fn input_parts<'a>(
 ) -> [&'a str; 7]
     ensures { map (λ s. s.now) result ≡ input_parts name.now number place digits.now (map string_bytes words.now) }
 {
-    let asked = gives("--request", name, words);
-    let role = real_role(role_of(name, words), asked, number, place);
+    let role = role_at(name, number, place, words);
     input_by(role, name, number, place, digits)
 }
 

@@ -13,7 +13,7 @@ fn trace_rule<'a>(number: u32) -> &'a str
     match number {
         1 => "a trace has at least one line",
         2 =>
-            "want a whole number of milliseconds alone ('# mm-trace 2': MS BYTES), no carriage return (tr -d '\\r')",
+            "want one whole number of milliseconds and nothing else (below '# mm-trace 2': MS BYTES)",
         3 => "this moment is before that of the line above",
         4 => "the last moment is 0, so the trace has no length",
         _ => "the bytes of an opportunity are 1 to 1000000",

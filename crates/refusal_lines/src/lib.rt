@@ -2,14 +2,18 @@
 //! and where. The line on the standard output stays as it is; this one is for a person.
 #![tactic(auto)]
 
+mod commit;
 mod ending;
 mod files;
 mod input_texts;
 mod lines;
+mod quotes;
 mod reasons;
 mod roles;
 mod telling;
 
+pub use commit::tell_commit;
 pub use ending::Ending;
+pub use quotes::show_line;
 pub use reasons::{Reason, reason_of, system_reason, tell_reason};
 pub use telling::tell;

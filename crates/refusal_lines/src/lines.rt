@@ -62,7 +62,7 @@ fn cause_parts<'a>(cause: &'a Cause, digits: &'a str, words: &'a [String]) -> [&
 {
     match cause {
         Cause::Refused(refusal) => refusal_parts(refusal, digits, words),
-        Cause::ReadFault(name) => three(name.as_str(), ": it can't be read as a regular file", ""),
+        Cause::ReadFault(name) => three(name.as_str(), ": it can't be read", ""),
         Cause::WriteFault(name) => three(name.as_str(), ": it can't be written", ""),
         Cause::OutFault => three("writing on the standard output failed", "", ""),
         Cause::NetFault => net_parts(words),

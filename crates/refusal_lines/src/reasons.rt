@@ -1,5 +1,5 @@
 // Why the outside refused a call, for a person.
-ghost use Rattle.std.specs.Prelude.{◌≡◌, ℕ, Some, decimal, map, pos};
+ghost use Rattle.std.specs.Prelude.{◌≡◌, ℕ, None, Some, decimal, map, negsuc, pos};
 ghost use Rattle.std.specs.List.{flat_map};
 ghost use Rattle.mm_base.specs.declared.file_fault.FileFault.TheVariants as faults;
 ghost use Rattle.refusal_lines.specs.Explanations.{IsTold};
@@ -27,6 +27,8 @@ pub fn reason_of(fault: FileFault) -> Option<Reason>
     ensures input { fault ≡ faults.IsInput → result ≡ Some Reason.IsInput }
     ensures regular { fault ≡ faults.NotRegular → result ≡ Some Reason.NotRegular }
     ensures system { (n : ℕ) → fault ≡ faults.System (pos n) → result ≡ Some (Reason.System n) }
+    ensures negative { (n : ℕ) → fault ≡ faults.System (negsuc n) → result ≡ None }
+    ensures other { fault ≡ faults.Other → result ≡ None }
 {
     match fault {
         FileFault::IsInput => Some(Reason::IsInput),
@@ -38,7 +40,8 @@ pub fn reason_of(fault: FileFault) -> Option<Reason>
 
 /// The reason that the system's error of this number is, if it is one.
 pub fn system_reason(code: i32) -> Option<Reason>
-    ensures { (n : ℕ) → code ≡ pos n → result ≡ Some (Reason.System n) }
+    ensures system { (n : ℕ) → code ≡ pos n → result ≡ Some (Reason.System n) }
+    ensures negative { (n : ℕ) → code ≡ negsuc n → result ≡ None }
 {
     if code < 0 {
         return None;
@@ -83,15 +86,11 @@ fn code_of(reason: Reason) -> u32
     }
 }
 
-fn reason_parts<'a>(reason: Reason, digits: &'a str) -> [&'a str; 7]
-    ensures { map (λ s. s.now) result ≡ reason_parts reason digits.now }
+fn reason_parts<'a>(reason: Reason, input: &'a str, digits: &'a str) -> [&'a str; 7]
+    ensures { map (λ s. s.now) result ≡ reason_parts reason input.now digits.now }
 {
     match reason {
-        Reason::IsInput => three(
-            "it would overwrite an input, which it is by another name",
-            "",
-            "",
-        ),
+        Reason::IsInput => three("it would overwrite the input ", input, ""),
         Reason::NotRegular => three(
             "it is no regular file, or says that it is empty and isn't",
             "",
@@ -107,16 +106,22 @@ fn reason_parts<'a>(reason: Reason, digits: &'a str) -> [&'a str; 7]
     }
 }
 
-/// Says on `told`, which is the standard error, why the outside refused a call.
+/// Says on `told`, which is the standard error, why the outside refused a call; `input` is the name of the input that
+/// would be overwritten, where that is the reason.
 ///
 /// After a refusal a front of the text was written, which isn't all. `Failed` comes only where a fault of `told` was
 /// counted.
-pub fn tell_reason<O: Sink>(program: Program, reason: Reason, told: &mut O) -> Result<(), EndError>
-    ensures { IsTold (flat_map (λ piece. piece) (line program (reason_parts reason (decimal (code_of reason)))))
+pub fn tell_reason<O: Sink>(
+    program: Program,
+    reason: Reason,
+    input: &str,
+    told: &mut O,
+) -> Result<(), EndError>
+    ensures { IsTold (flat_map (λ piece. piece) (line program (reason_parts reason input.now (decimal (code_of reason)))))
         (O.view told.old) (O.view told.new) result }
 {
     let mut digits = Buffer::new();
     let digits = digits.format(code_of(reason));
-    let pieces = line(program, reason_parts(reason, digits));
+    let pieces = line(program, reason_parts(reason, input, digits));
     send_pieces(told, &pieces)
 }

@@ -31,8 +31,8 @@ known_text Make = codes "make has --number and --packets"
 known_text Record = codes "record has --client, --server, --out and --port"
 known_text Match = codes "match has --store, --request and --port"
 known_text Migrate = codes "migrate has --store and --out"
-known_text Replay = codes "replay has --store, --port, --connections and --site-port"
-known_text Proxy = codes "it has --port, --to, --connections and --out"
+known_text Replay = codes "replay has --store, --port, --connections, --site-port and --until-ended"
+known_text Proxy = codes "it has --port, --to, --connections, --out and --until-ended"
 known_text Relay = codes "it has --until, --listen, --to, --turns, --out and --seed"
 
 abbrev pub unknown_by : Command → Text → Option KnownOption → List Text

@@ -27,7 +27,7 @@ all = joined (
     ∷ codes "  migrate  writes a store in its newest form"
     ∷ codes "             --store FILE --out FILE"
     ∷ codes "  replay   serves the responses of a store"
-    ∷ codes "             --store FILE --port N --connections N [--site-port N]"
+    ∷ codes "             --store FILE --port N --connections N [--site-port N] [--until-ended]"
     ∷ codes ""
     ∷ codes "  SHELLS   one to eight of:"
     ∷ codes "             mm-delay MS                      0 to 3600000 ms each way"
@@ -198,18 +198,20 @@ migrate = joined (
 -- the usage of `replay`
 abbrev pub replay : Text
 replay = joined (
-    codes "usage: mm replay --store FILE --port N --connections N [--site-port N]"
+    codes "usage: mm replay --store FILE --port N --connections N [--site-port N] [--until-ended]"
     ∷ codes ""
     ∷ codes "Serves the responses of a store at a port of 127.0.0.1, and prints how the connections ended."
     ∷ codes ""
     ∷ codes "  --store FILE     a store that mm record or mm-record wrote"
     ∷ codes "  --port N         the port that it listens at, 1 to 65535"
-    ∷ codes "  --connections N  how many connections it serves, 1 to 64"
+    ∷ codes "  --connections N  how many connections it serves, 1 to 64; with --until-ended at a time"
     ∷ codes "  --site-port N    the port that is asked for, 1 to 65535; that of --port where none is given"
+    ∷ codes "  --until-ended    serves until Ctrl-C or SIGTERM, without a limit in all"
     ∷ codes ""
     ∷ codes "examples:"
     ∷ codes "  mm replay --store store --port 8080 --connections 1"
     ∷ codes "  mm replay --store store --port 8080 --connections 20 --site-port 80"
+    ∷ codes "  mm replay --store store --port 8080 --connections 64 --until-ended"
     ∷ codes "  curl -H 'Host: example.org' http://127.0.0.1:8080/"
     ∷ codes ""
     ∷ codes "manual: man mm"
@@ -218,19 +220,20 @@ replay = joined (
 -- the usage of `mm-record`
 abbrev pub proxy : Text
 proxy = joined (
-    codes "usage: mm-record --port N --to N --connections N --out FILE"
+    codes "usage: mm-record --port N --to N --connections N --out FILE [--until-ended]"
     ∷ codes ""
     ∷ codes "Stands between clients and a site on this machine, and stores what passes."
     ∷ codes ""
     ∷ codes "  --port N         the port of 127.0.0.1 that it listens at, 1 to 65535"
     ∷ codes "  --to N           the port of 127.0.0.1 that it dials for each client, 1 to 65535"
-    ∷ codes "  --connections N  how many connections it serves, 0 to 64"
+    ∷ codes "  --connections N  how many connections it serves, 0 to 64; with --until-ended at a time, 1 to 64"
     ∷ codes "  --out FILE       where the store is written"
+    ∷ codes "  --until-ended    records until Ctrl-C or SIGTERM, without a limit in all"
     ∷ codes ""
     ∷ codes "examples:"
     ∷ codes "  mm-record --port 8080 --to 8000 --connections 1 --out store"
     ∷ codes "  mm-record --port 8080 --to 8000 --connections 20 --out store"
-    ∷ codes "  mm-record --port 8080 --to 80 --connections 64 --out store"
+    ∷ codes "  mm-record --port 8080 --to 80 --connections 64 --out store --until-ended"
     ∷ codes ""
     ∷ codes "manual: man mm-record"
     ∷ [])
@@ -268,12 +271,12 @@ relay = joined (
 
 -- the version of `mm`, and the kit that it is proved with
 abbrev pub mm_version : Text
-mm_version = codes "mm 0.1.0 (rattle-kit-13f)\n"
+mm_version = codes "mm 0.1.0 (rattle-kit-13b)\n"
 
 -- the version of `mm-record`
 abbrev pub record_version : Text
-record_version = codes "mm-record 0.1.0 (rattle-kit-13f)\n"
+record_version = codes "mm-record 0.1.0 (rattle-kit-13b)\n"
 
 -- the version of `mm-relay`
 abbrev pub relay_version : Text
-relay_version = codes "mm-relay 0.1.0 (rattle-kit-13f)\n"
+relay_version = codes "mm-relay 0.1.0 (rattle-kit-13b)\n"

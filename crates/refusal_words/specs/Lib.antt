@@ -1,5 +1,6 @@
 pub mod Commands
 pub mod Options
+pub mod Tables
 pub mod Slips
 pub mod Parts
 pub mod Faults

@@ -1,6 +1,7 @@
 -- The options that the commands know, and what their values are to be.
-use Rattle.std.specs.Prelude.{ℕ, Bool, true, false, not, ◌==◌, ◌&&◌, nat_le, List, [], ◌∷◌, Option, Some, None, codes}
-use Rattle.text_base.specs.Numbers.{decimal_of}
+use Rattle.std.specs.Prelude.{ℕ, Bool, true, false, ◌&&◌, List, [], ◌∷◌, codes, is_some}
+use Rattle.option_words.specs.Numbers.{number_within}
+use Rattle.option_words.specs.Options.{is_value}
 use Rattle.refusal_words.specs.Commands.{Text}
 use Rattle.refusal_words.specs.declared.command.Command.{Command}
 use Rattle.refusal_words.specs.declared.command.Command.TheVariants as commands
@@ -9,21 +10,21 @@ use Rattle.refusal_words.specs.declared.known.KnownOption.TheVariants.{Until, Sc
 use Rattle.refusal_words.specs.declared.known.KnownOption.TheVariants.{Order}
 use Rattle.refusal_words.specs.declared.known.KnownOption.TheVariants.{Log, Number, Packets, Client, Server, Store}
 use Rattle.refusal_words.specs.declared.known.KnownOption.TheVariants.{Request, Port, AtPort, SitePort, To, Listen}
-use Rattle.refusal_words.specs.declared.known.KnownOption.TheVariants.{Connections, Clients, Turns}
+use Rattle.refusal_words.specs.declared.known.KnownOption.TheVariants.{Connections, Clients, UntilEnded, Turns}
 use Rattle.refusal_words.specs.declared.known.Range.{Range}
 use Rattle.refusal_words.specs.declared.known.Range.TheVariants as ranges
 
 -- the options of a command
 abbrev pub options_of : Command → List KnownOption
-options_of commands.Run = Until ∷ Schedule ∷ Out ∷ Seed ∷ Plain ∷ Order ∷ []
+options_of commands.Run = Until ∷ Schedule ∷ Out ∷ Seed ∷ Order ∷ Plain ∷ []
 options_of commands.Merge = Until ∷ Senders ∷ Out ∷ Seed ∷ []
 options_of commands.Report = Log ∷ []
 options_of commands.Make = Number ∷ Packets ∷ []
 options_of commands.Record = Client ∷ Server ∷ Out ∷ AtPort ∷ []
 options_of commands.Match = Store ∷ Request ∷ AtPort ∷ []
 options_of commands.Migrate = Store ∷ Out ∷ []
-options_of commands.Replay = Store ∷ Port ∷ Connections ∷ SitePort ∷ []
-options_of commands.Proxy = Port ∷ To ∷ Clients ∷ Out ∷ []
+options_of commands.Replay = Store ∷ Port ∷ Connections ∷ SitePort ∷ UntilEnded ∷ []
+options_of commands.Proxy = Port ∷ To ∷ Clients ∷ Out ∷ UntilEnded ∷ []
 options_of commands.Relay = Until ∷ Listen ∷ To ∷ Turns ∷ Out ∷ Seed ∷ []
 
 -- an option as it is typed
@@ -49,6 +50,7 @@ option_text To = codes "--to"
 option_text Listen = codes "--listen"
 option_text Connections = codes "--connections"
 option_text Clients = codes "--connections"
+option_text UntilEnded = codes "--until-ended"
 option_text Turns = codes "--turns"
 
 abbrev pub port : Range
@@ -80,6 +82,7 @@ range_of To = port
 range_of Listen = port
 range_of Connections = ranges.Number 1 64
 range_of Clients = ranges.Number 0 64
+range_of UntilEnded = ranges.Flag
 range_of Turns = ranges.Number 1 1000000
 
 abbrev pub has_value : Range → Bool
@@ -97,6 +100,7 @@ is_needed Plain = false
 is_needed Order = false
 is_needed AtPort = false
 is_needed SitePort = false
+is_needed UntilEnded = false
 is_needed _ = true
 
 -- the sort of a value, as the usage names it
@@ -124,23 +128,14 @@ want Connections = codes "a number of connections, 1 to 64"
 want Clients = codes "a number of connections, 0 to 64"
 want option = want_in (range_of option)
 
--- a value isn't empty and doesn't begin with a hyphen
-abbrev pub is_value : Text → Bool
-is_value [] = false
-is_value (byte ∷ bytes) = not (byte == 45)
-
-abbrev pub is_between : ℕ → ℕ → Option ℕ → Bool
-is_between least most None = false
-is_between least most (Some number) = nat_le least number && nat_le number most
-
--- it is a decimal within these
+-- it stands for a number that is within these
 abbrev pub is_within : ℕ → ℕ → Text → Bool
-is_within least most text = is_between least most (decimal_of text)
+is_within least most text = is_some (number_within least most text)
 
 abbrev pub is_in : Range → Text → Bool
 is_in (ranges.Number least most) text = is_within least most text
 is_in _ text = true
 
--- a text can be an option's value
+-- a text can be the value of an option, as that is read
 abbrev pub fits : KnownOption → Text → Bool
 fits option text = is_value text && is_in (range_of option) text

@@ -41,8 +41,10 @@ fn known_text<'a>(command: Command) -> &'a str
         Command::Record => "record has --client, --server, --out and --port",
         Command::Match => "match has --store, --request and --port",
         Command::Migrate => "migrate has --store and --out",
-        Command::Replay => "replay has --store, --port, --connections and --site-port",
-        Command::Proxy => "it has --port, --to, --connections and --out",
+        Command::Replay => {
+            "replay has --store, --port, --connections, --site-port and --until-ended"
+        }
+        Command::Proxy => "it has --port, --to, --connections, --out and --until-ended",
         Command::Relay => "it has --until, --listen, --to, --turns, --out and --seed",
     }
 }

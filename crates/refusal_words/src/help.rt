@@ -20,7 +20,7 @@ const ALL: &str = "usage: mm COMMAND OPTIONS
   migrate  writes a store in its newest form
              --store FILE --out FILE
   replay   serves the responses of a store
-             --store FILE --port N --connections N [--site-port N]
+             --store FILE --port N --connections N [--site-port N] [--until-ended]
 
   SHELLS   one to eight of:
              mm-delay MS                      0 to 3600000 ms each way
@@ -224,18 +224,21 @@ pub(crate) fn migrate<'a>() -> &'a str
     MIGRATE
 }
 
-const REPLAY: &str = "usage: mm replay --store FILE --port N --connections N [--site-port N]
+const REPLAY: &str =
+    "usage: mm replay --store FILE --port N --connections N [--site-port N] [--until-ended]
 
 Serves the responses of a store at a port of 127.0.0.1, and prints how the connections ended.
 
   --store FILE     a store that mm record or mm-record wrote
   --port N         the port that it listens at, 1 to 65535
-  --connections N  how many connections it serves, 1 to 64
+  --connections N  how many connections it serves, 1 to 64; with --until-ended at a time
   --site-port N    the port that is asked for, 1 to 65535; that of --port where none is given
+  --until-ended    serves until Ctrl-C or SIGTERM, without a limit in all
 
 examples:
   mm replay --store store --port 8080 --connections 1
   mm replay --store store --port 8080 --connections 20 --site-port 80
+  mm replay --store store --port 8080 --connections 64 --until-ended
   curl -H 'Host: example.org' http://127.0.0.1:8080/
 
 manual: man mm
@@ -248,19 +251,20 @@ pub(crate) fn replay<'a>() -> &'a str
     REPLAY
 }
 
-const PROXY: &str = "usage: mm-record --port N --to N --connections N --out FILE
+const PROXY: &str = "usage: mm-record --port N --to N --connections N --out FILE [--until-ended]
 
 Stands between clients and a site on this machine, and stores what passes.
 
   --port N         the port of 127.0.0.1 that it listens at, 1 to 65535
   --to N           the port of 127.0.0.1 that it dials for each client, 1 to 65535
-  --connections N  how many connections it serves, 0 to 64
+  --connections N  how many connections it serves, 0 to 64; with --until-ended at a time, 1 to 64
   --out FILE       where the store is written
+  --until-ended    records until Ctrl-C or SIGTERM, without a limit in all
 
 examples:
   mm-record --port 8080 --to 8000 --connections 1 --out store
   mm-record --port 8080 --to 8000 --connections 20 --out store
-  mm-record --port 8080 --to 80 --connections 64 --out store
+  mm-record --port 8080 --to 80 --connections 64 --out store --until-ended
 
 manual: man mm-record
 ";
@@ -308,7 +312,7 @@ pub(crate) fn relay<'a>() -> &'a str
     RELAY
 }
 
-const MM_VERSION: &str = "mm 0.1.0 (rattle-kit-13f)
+const MM_VERSION: &str = "mm 0.1.0 (rattle-kit-13b)
 ";
 
 /// The version of `mm`, and the kit that it is proved with.
@@ -318,7 +322,7 @@ pub(crate) fn mm_version<'a>() -> &'a str
     MM_VERSION
 }
 
-const RECORD_VERSION: &str = "mm-record 0.1.0 (rattle-kit-13f)
+const RECORD_VERSION: &str = "mm-record 0.1.0 (rattle-kit-13b)
 ";
 
 /// The version of `mm-record`.
@@ -328,7 +332,7 @@ pub(crate) fn record_version<'a>() -> &'a str
     RECORD_VERSION
 }
 
-const RELAY_VERSION: &str = "mm-relay 0.1.0 (rattle-kit-13f)
+const RELAY_VERSION: &str = "mm-relay 0.1.0 (rattle-kit-13b)
 ";
 
 /// The version of `mm-relay`.

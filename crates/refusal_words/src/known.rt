@@ -1,10 +1,12 @@
 // The options that the commands know.
-ghost use Rattle.std.specs.Prelude.{◌≡◌};
-ghost use Rattle.refusal_words.specs.Options.{fits, is_needed, is_value, is_within, option_text, options_of};
+ghost use Rattle.std.specs.Prelude.{◌≡◌, map};
+ghost use Rattle.refusal_words.specs.Options.{fits, is_needed, is_within, option_text, options_of};
+ghost use Rattle.option_words.specs.Options.{is_value};
+ghost use Rattle.refusal_words.specs.Tables.{option_in, table_of};
 ghost use Rattle.refusal_words.specs.Options.{range_of, sort_text, takes_value, want};
 
 use crate::Command;
-use text_base::read_decimal;
+use option_words::read_within;
 
 /// An option of some command. Options of one name that take other values, or that need not be there, are several.
 #[derive(Clone, Copy, PartialEq, Eq)]
@@ -33,6 +35,8 @@ pub enum KnownOption {
     Connections,
     /// 0 to 64 connections.
     Clients,
+    /// Connections are served until the user ends, `--connections` of them at a time.
+    UntilEnded,
     Turns,
 }
 
@@ -41,8 +45,8 @@ const RUN: &[KnownOption] = &[
     KnownOption::Schedule,
     KnownOption::Out,
     KnownOption::Seed,
-    KnownOption::Plain,
     KnownOption::Order,
+    KnownOption::Plain,
 ];
 
 const MERGE: &[KnownOption] = &[
@@ -76,6 +80,7 @@ const REPLAY: &[KnownOption] = &[
     KnownOption::Port,
     KnownOption::Connections,
     KnownOption::SitePort,
+    KnownOption::UntilEnded,
 ];
 
 const PROXY: &[KnownOption] = &[
@@ -83,6 +88,7 @@ const PROXY: &[KnownOption] = &[
     KnownOption::To,
     KnownOption::Clients,
     KnownOption::Out,
+    KnownOption::UntilEnded,
 ];
 
 const RELAY: &[KnownOption] = &[
@@ -94,9 +100,10 @@ const RELAY: &[KnownOption] = &[
     KnownOption::Seed,
 ];
 
-/// The options of a command.
+/// The options of a command: those of the table by which its words are read.
 pub(crate) fn options_of(command: Command) -> &'static [KnownOption]
-    ensures { result.now ≡ options_of command }
+    ensures options { result.now ≡ options_of command }
+    ensures table { map option_in result.now ≡ table_of command }
 {
     match command {
         Command::Run => RUN,
@@ -162,6 +169,7 @@ impl KnownOption {
             KnownOption::To => "--to",
             KnownOption::Listen => "--listen",
             KnownOption::Connections | KnownOption::Clients => "--connections",
+            KnownOption::UntilEnded => "--until-ended",
             KnownOption::Turns => "--turns",
         }
     }
@@ -171,7 +179,7 @@ impl KnownOption {
         ensures { result ≡ range_of self }
     {
         match self {
-            KnownOption::Plain => Range::Flag,
+            KnownOption::Plain | KnownOption::UntilEnded => Range::Flag,
             KnownOption::Until | KnownOption::Seed | KnownOption::Number => {
                 number(0, MOST_DECIMAL)
             }
@@ -192,7 +200,7 @@ impl KnownOption {
         ensures { result ≡ takes_value self }
     {
         match self {
-            KnownOption::Plain => false,
+            KnownOption::Plain | KnownOption::UntilEnded => false,
             _ => true,
         }
     }
@@ -206,7 +214,8 @@ impl KnownOption {
             | KnownOption::Plain
             | KnownOption::Order
             | KnownOption::AtPort
-            | KnownOption::SitePort => false,
+            | KnownOption::SitePort
+            | KnownOption::UntilEnded => false,
             _ => true,
         }
     }
@@ -217,7 +226,7 @@ impl KnownOption {
     {
         match self {
             KnownOption::Until => " MS",
-            KnownOption::Plain => "",
+            KnownOption::Plain | KnownOption::UntilEnded => "",
             _ => match self.range() {
                 Range::Number { .. } => " N",
                 _ => " FILE",
@@ -254,14 +263,11 @@ fn is_value(text: &str) -> bool
     }
 }
 
-// Whether it is a decimal within these.
+// Whether it stands for a number within these.
 fn is_within(text: &str, least: u64, most: u64) -> bool
     ensures { result ≡ is_within least most text.now }
 {
-    match read_decimal(text.as_bytes()) {
-        Some(number) => least <= number && number <= most,
-        None => false,
-    }
+    read_within(text, least, most).is_some()
 }
 
 /// Whether a text can be an option's value.

@@ -71,7 +71,6 @@ pub(crate) fn after_shell(words: &[String]) -> &[String]
 }
 
 /// The words of the first shell alone.
-#[tactic(auto, using(crate::proofs::ShellLemmas::own_words_map))]
 pub(crate) fn own_words(words: &[String]) -> &[String]
     ensures { map string_bytes result.now ≡ own_words (map string_bytes words.now) }
 {

@@ -136,7 +136,6 @@ fn end_of(words: &[String]) -> usize
 }
 
 // The words before the first `--`.
-#[tactic(auto, using(crate::proofs::UsageLemmas::before_end_map))]
 fn before_end(words: &[String]) -> &[String]
     ensures { map string_bytes result.now ≡ before_end (map string_bytes words.now) }
 {

@@ -46,3 +46,27 @@ fn pass(rt: &impl Abort, alloc: Global) -> Result<(), OutOfMemory> {
 fn a_packet_passes_a_delay_and_a_link(rt: HostRuntime) {
     pass(&rt, rt.alloc()).expect(&rt, "memory");
 }
+
+// Whether a shell of a line, counted from 0, has lost the packet and no other.
+fn has_lost(line: &Line, shell: usize) -> bool {
+    match line.lost(shell) {
+        [packet] => packet.moment == 3 && packet.packet.id == 1,
+        _ => false,
+    }
+}
+
+// A packet down a delay of 2 ms and a loss of all, to which it comes at 3.
+fn lose(rt: &impl Abort, alloc: Global) -> Result<(), OutOfMemory> {
+    let nest = nest_of(rt, alloc, "mm-delay 2 mm-loss downlink 1", 20);
+    assert!(rt; nest.horizon() == 20);
+    let line = fed_line(rt, alloc, &nest)?;
+    assert!(rt; line.departed().is_empty());
+    assert!(rt; has_lost(&line, 1));
+    assert!(rt; line.lost(0).is_empty() && line.lost(2).is_empty());
+    Ok(())
+}
+
+#[test]
+fn a_packet_is_lost_in_one_shell(rt: HostRuntime) {
+    lose(&rt, rt.alloc()).expect(&rt, "memory");
+}

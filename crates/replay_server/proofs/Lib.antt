@@ -6,3 +6,4 @@ pub mod StandLemmas
 pub mod StepLemmas
 pub mod FrameSteps
 pub mod ServingLemmas
+pub mod PoolLemmas

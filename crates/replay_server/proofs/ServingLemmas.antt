@@ -8,6 +8,7 @@ use Rattle.std.proofs.lemmas.Bool.{cases_lt}
 use Rattle.std.proofs.lemmas.List.Elements.{All-nil, All-cons}
 use Rattle.mm_base.specs.Counts.{Rose}
 use Rattle.mm_base.specs.Link.{LinkBytes, LinkView, IsFresh}
+use Rattle.mm_base.specs.Listened.{listened_at}
 use Rattle.mm_base.specs.Port.{PortView, KeepsPort, after_finish}
 use Rattle.mm_base.specs.declared.errors.EndError.{EndError}
 use Rattle.mm_base.specs.declared.errors.EndError.TheVariants as refusals
@@ -90,14 +91,14 @@ keeps_same {C} p = record {
   stays = λ h. h;
 }
 
-keeps_then : {C : Type 0} {x y z : PortView C} → KeepsPort x y → KeepsPort y z → KeepsPort x z
+pub keeps_then : {C : Type 0} {x y z : PortView C} → KeepsPort x y → KeepsPort y z → KeepsPort x z
 keeps_then a b = record { counts = CountsFaults-then a.counts b.counts; stays = λ h. b.stays (a.stays h) }
 
-map_same : {C : Type 0} (told : Option (List C)) → told ≡ option_map (finished_with {C = C} []) told
+pub map_same : {C : Type 0} (told : Option (List C)) → told ≡ option_map (finished_with {C = C} []) told
 map_same None = refl
 map_same (Some l) = refl
 
-map_more : {C : Type 0} (conn : C) (end : ConnEnd) (served : List (C × ConnEnd)) (told : Option (List C))
+pub map_more : {C : Type 0} (conn : C) (end : ConnEnd) (served : List (C × ConnEnd)) (told : Option (List C))
     → option_map (λ conns. conns ++ conn ∷ []) (option_map (finished_with served) told) ≡ option_map
     (finished_with ((conn, end) ∷ served)) told
 map_more conn end served None = refl
@@ -105,22 +106,22 @@ map_more conn end served (Some l) = refl
 
 -- ---- ends that are counted
 
-abbrev is_memory : ConnEnd → Bool
+abbrev pub is_memory : ConnEnd → Bool
 is_memory Closed = false
 is_memory BadRequest = false
 is_memory LinkFault = false
 is_memory Full = false
 is_memory OutOfMemory = true
 
-other_end : (end : ConnEnd) → is_memory end ≡ false → end ≢ OutOfMemory
+pub other_end : (end : ConnEnd) → is_memory end ≡ false → end ≢ OutOfMemory
 other_end end other is = true≢false (sym (ap is_memory is) ∙ other)
 
 -- the answer of those behind it, with an end that is counted
-abbrev joined : ConnEnd → Result Served ServeError → Result Served ServeError
+abbrev pub joined : ConnEnd → Result Served ServeError → Result Served ServeError
 joined end (Ok n) = Ok (with_end end n)
 joined end (Err e) = Err e
 
-ended_other : (end : ConnEnd) (rest : Result Served ServeError) → is_memory end ≡ false
+pub ended_other : (end : ConnEnd) (rest : Result Served ServeError) → is_memory end ≡ false
     → ended end rest ≡ joined end rest
 ended_other Closed (Ok n) is = refl
 ended_other Closed (Err e) is = refl
@@ -132,7 +133,7 @@ ended_other Full (Ok n) is = refl
 ended_other Full (Err e) is = refl
 ended_other OutOfMemory rest is = absurd (true≢false is)
 
-ended_memory : (end : ConnEnd) (rest : Result Served ServeError) → is_memory end ≡ true
+pub ended_memory : (end : ConnEnd) (rest : Result Served ServeError) → is_memory end ≡ true
     → ended end rest ≡ Err errors.OutOfMemory
 ended_memory Closed rest is = absurd (true≢false (sym is))
 ended_memory BadRequest rest is = absurd (true≢false (sym is))
@@ -141,8 +142,8 @@ ended_memory Full rest is = absurd (true≢false (sym is))
 ended_memory OutOfMemory rest is = refl
 
 module _ {C : Type 0} (store : List Record) (site : Option ℕ) (view : C → LinkView) where
-  none_each : All (λ (c : C × ConnEnd). IsConnServed store site (view c.0) c.1) []
-  none_each = All-nil (λ (c : C × ConnEnd). IsConnServed store site (view c.0) c.1)
+  none_each : All (λ (c : C × ConnEnd). ∥ IsConnServed store site (view c.0) c.1 ∥₁) []
+  none_each = All-nil (λ (c : C × ConnEnd). ∥ IsConnServed store site (view c.0) c.1 ∥₁)
 
   pub serving_none : (most : ℕ) (old new : PortView C) (n : Served) → KeepsPort old new → new.finished ≡ old.finished
       → new.accepted ≡ old.accepted → n ≡ no_ends
@@ -182,13 +183,13 @@ module _ {C : Type 0} (store : List Record) (site : Option ℕ) (view : C → Li
     says = tt;
   }
 
-  -- the number at which it listened stays
-  pub listens_on : (old new : PortView C) (number most : ℕ) (answer : Result Served ServeError) → IsTally most answer
-      → new.listened ≡ Some number → ListensAt number old new answer
-  listens_on old new number most (Ok n) tally is = is
-  listens_on old new number most (Err errors.Listen) tally is = absurd tally
-  listens_on old new number most (Err errors.Accept) tally is = is
-  listens_on old new number most (Err errors.OutOfMemory) tally is = inr is
+  -- it listens, and what is answered isn't that it couldn't
+  pub listens_once : (old new : PortView C) (number most : ℕ) (answer : Result Served ServeError) → IsTally most answer
+      → new.listened ≡ listened_at number old.listened → ListensAt number old new answer
+  listens_once old new number most (Ok n) tally is = is
+  listens_once old new number most (Err errors.Listen) tally is = absurd tally
+  listens_once old new number most (Err errors.Accept) tally is = is
+  listens_once old new number most (Err errors.OutOfMemory) tally is = inr (inl is)
 
   -- the port can't be listened at
   pub serving_unheard : (most : ℕ) (old new : PortView C) → KeepsPort old new → new.finished ≡ old.finished
@@ -245,7 +246,8 @@ module _ {C : Type 0} (store : List Record) (site : Option ℕ) (view : C → Li
             → IsServing store site view most p₀ p₃ answer
         finishes answer says = record {
           served = with_one;
-          each = All-cons (λ (c : C × ConnEnd). IsConnServed store site (view c.0) c.1) (conn, end) s.served one s.each;
+          each = All-cons (λ (c : C × ConnEnd). ∥ IsConnServed store site (view c.0) c.1 ∥₁) (conn, end) s.served
+              (∣ one ∣₁) s.each;
           finished_is = finished ∙ ap (option_map (λ conns. conns ++ conn ∷ [])) s.finished_is
               ∙ map_more conn end s.served p₁.finished
               ∙ ap (option_map (finished_with with_one)) first;

@@ -1,9 +1,10 @@
 -- What a serving does to its port.
-use Rattle.std.specs.Prelude.{◌≡◌, ◌≢◌, ◌⊎◌, ◌<◌, ◌≤◌, ℕ, ◌+◌, ◌-◌, ◌^◌, ◌++◌, true, List, [], ◌∷◌, length, All, Option, Some}
-use Rattle.std.specs.Prelude.{Result, Ok, Err, IfSome}
+use Rattle.std.specs.Prelude.{◌≡◌, ◌≢◌, ◌⊎◌, ◌<◌, ◌≤◌, ℕ, ◌+◌, ◌-◌, ◌^◌, ◌++◌, true, List, [], ◌∷◌, length, All}
+use Rattle.std.specs.Prelude.{Option, Result, Ok, Err, IfSome}
 use Rattle.std.specs.Option.{option_map}
 use Rattle.mm_base.specs.Counts.{Rose}
 use Rattle.mm_base.specs.Link.{LinkView}
+use Rattle.mm_base.specs.Listened.{listened_at, refused_at}
 use Rattle.mm_base.specs.Port.{PortView, KeepsPort}
 use Rattle.record_store.specs.declared.record.Record.{Record}
 use Rattle.replay_server.specs.Sessions.{Session, most as most_bytes}
@@ -22,6 +23,10 @@ pub record IsConnServed (store : List Record) (site : Option ℕ) (link : LinkVi
   pub prompt : IfSome link.told (λ l. All (IsPrompt store site l.taken l.given) l.reads)
   pub fault : end ≡ LinkFault → 0 < link.faults
 
+-- how many connections a serving without a limit of its own accepts at most
+abbrev pub most_served : ℕ
+most_served = 4294967295
+
 abbrev pub no_ends : Served
 no_ends = record { closed = 0; bad = 0; broken = 0; full = 0 }
 
@@ -38,12 +43,15 @@ abbrev pub ends_of : {C : Type 0} → List (C × ConnEnd) → Served
 ends_of [] = no_ends
 ends_of (c ∷ served) = with_end c.1 (ends_of served)
 
--- A serving listened at this number, unless that was refused, or memory was wanting before.
+-- A serving asked its port once to listen, at this number: it listens there, unless that was refused. It may not have
+-- asked where it is out of memory.
 abbrev pub ListensAt : {C : Type 0} → ℕ → PortView C → PortView C → Result Served ServeError → Type 0
-ListensAt number old new (Ok n) = new.listened ≡ Some number
-ListensAt number old new (Err errors.Listen) = new.listened ≡ old.listened
-ListensAt number old new (Err errors.Accept) = new.listened ≡ Some number
-ListensAt number old new (Err errors.OutOfMemory) = (new.listened ≡ old.listened) ⊎ (new.listened ≡ Some number)
+ListensAt number old new (Ok n) = new.listened ≡ listened_at number old.listened
+ListensAt number old new (Err errors.Listen) = new.listened ≡ refused_at number old.listened
+ListensAt number old new (Err errors.Accept) = new.listened ≡ listened_at number old.listened
+ListensAt number old new (Err errors.OutOfMemory) =
+    (new.listened ≡ old.listened)
+    ⊎ ((new.listened ≡ listened_at number old.listened) ⊎ (new.listened ≡ refused_at number old.listened))
 
 -- these connections are finished, the last of them first
 abbrev pub finished_with : {C : Type 0} → List (C × ConnEnd) → List C → List C
@@ -64,13 +72,13 @@ module _ {C : Type 0} (store : List Record) (site : Option ℕ) (view : C → Li
       × (new.faults < 2 ^ 64 - 1 → new.accepted + old.faults ≤ old.accepted + length served + new.faults)
   ServingSays most old new served (Err errors.OutOfMemory) = Unit {0}
 
-  -- What a serving of at most so many connections did: it served these, in the order in which they were accepted, and
-  -- finished them in the other. At Ok these are all that it accepted: as many as it should, or the port is drained. At
-  -- Accept those that it accepted and didn't finish are no more than the faults that the port counted. Neither is
-  -- answered where one that was finished ended for want of memory.
+  -- What a serving of at most so many connections did: it served these, and finished the last of them first. At Ok
+  -- these are all that it accepted: as many as it should, or the port is drained. At Accept those that it accepted and
+  -- didn't finish are no more than the faults that the port counted. Neither is answered where one that was finished
+  -- ended for want of memory.
   pub record IsServing (most : ℕ) (old new : PortView C) (result : Result Served ServeError) : Type 0 where
     pub served : List (C × ConnEnd)
-    pub each : All (λ (c : C × ConnEnd). IsConnServed store site (view c.0) c.1) served
+    pub each : All (λ (c : C × ConnEnd). ∥ IsConnServed store site (view c.0) c.1 ∥₁) served
     pub finished_is : new.finished ≡ option_map (finished_with served) old.finished
     pub keeps : KeepsPort old new
     pub says : ServingSays most old new served result

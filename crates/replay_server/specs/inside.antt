@@ -1,4 +1,5 @@
 -- What proofs and the clauses of inner functions cite, and no caller needs.
 pub mod Giving
+pub mod Pools
 pub mod Progress
 pub mod Tallies

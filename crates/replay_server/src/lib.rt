@@ -4,12 +4,16 @@
 mod answers;
 mod ends;
 mod gathered;
+mod messages;
+mod pool;
 mod serving;
 mod session;
 mod source;
+mod standing;
 mod steps;
 mod talk;
 
 pub use ends::{ConnEnd, ServeError, Served};
+pub use pool::serve_pool;
 pub use serving::serve;
 pub use session::serve_conn;

@@ -4,7 +4,7 @@ ghost use Rattle.std.specs.Thread.{IsSync};
 ghost use Rattle.mm_base.specs.Counts.{Rose};
 ghost use Rattle.mm_base.specs.Link.{IsFresh};
 ghost use Rattle.mm_base.specs.Port.{KeepsPort, after_finish};
-ghost use Rattle.replay_server.specs.Servings.{IsConnServed, IsServing, ListensAt, no_ends, with_end};
+ghost use Rattle.replay_server.specs.Servings.{IsConnServed, IsServing, ListensAt, most_served, no_ends, with_end};
 ghost use Rattle.replay_server.specs.inside.Tallies.{IsTally, total, refusal_of, ended, tallied};
 
 use crate::ends::{ConnEnd, ServeError, Served};
@@ -18,7 +18,7 @@ use std::sync::Wait;
 use std::thread::{Threads, join_mut};
 
 /// No connection.
-fn nothing() -> Served
+pub(crate) fn nothing() -> Served
     ensures { result ≡ no_ends }
 {
     Served {
@@ -41,7 +41,7 @@ fn refused(error: EndError) -> ServeError
 
 /// One end more.
 fn with_end(end: ConnEnd, n: Served) -> Served
-    requires { total n < 64 }
+    requires { total n < most_served }
     ensures one { result ≡ with_end end n }
     ensures within { total result ≤ total n + 1 }
 {
@@ -57,12 +57,12 @@ fn with_end(end: ConnEnd, n: Served) -> Served
 }
 
 /// Counts how a connection ended, beside those that were accepted after it.
-fn count_end(
+pub(crate) fn count_end(
     end: ConnEnd,
     rest: Result<Served, ServeError>,
     most: u32,
 ) -> Result<Served, ServeError>
-    requires most { most < 64 }
+    requires most { most < most_served }
     requires within { IsTally most rest }
     ensures ended { result ≡ ended end rest }
     ensures within { IsTally (most + 1) result }
@@ -77,7 +77,10 @@ fn count_end(
 }
 
 /// What a serving answers where a connection was finished so.
-fn tally(done: Result<(), EndError>, rest: Result<Served, ServeError>) -> Result<Served, ServeError>
+pub(crate) fn tally(
+    done: Result<(), EndError>,
+    rest: Result<Served, ServeError>,
+) -> Result<Served, ServeError>
     ensures { result ≡ tallied done rest }
 {
     match done {
@@ -91,7 +94,7 @@ fn tally(done: Result<(), EndError>, rest: Result<Served, ServeError>) -> Result
 }
 
 /// Finishes a connection that was served.
-fn finish<P: Port>(port: &mut P, conn: P::Conn) -> Result<(), EndError>
+pub(crate) fn finish<P: Port>(port: &mut P, conn: P::Conn) -> Result<(), EndError>
     ensures listened { (P.view port.new).listened ≡ (P.view port.old).listened }
     ensures finished { (P.view port.new).finished ≡ after_finish conn result (P.view port.old).finished }
     ensures accepted { (P.view port.new).accepted ≡ (P.view port.old).accepted }
@@ -102,7 +105,7 @@ fn finish<P: Port>(port: &mut P, conn: P::Conn) -> Result<(), EndError>
 }
 
 /// Serves a connection of which nothing was taken.
-fn serve_fresh<C: Link, Q: Pace, R: Wait>(
+pub(crate) fn serve_fresh<C: Link, Q: Pace, R: Wait>(
     rt: &R,
     alloc: Global,
     source: &Source<'_>,

@@ -1,4 +1,4 @@
-// Records by what must agree with a request.
+// An index of a store's records by what must agree with a request.
 ghost use Rattle.std.specs.Prelude.{◌≡◌, ◌<◌, ◌≤◌, ℕ, List, Option, IfOk, All, length, slice_index_or};
 ghost use Rattle.request_match.specs.Match.{BestCause};
 ghost use Rattle.request_match.specs.inside.Index.{Entry, IsIndex as IsIndexOf};
@@ -13,15 +13,16 @@ use std::alloc::Global;
 use std::marker::Model;
 use text_base::OutOfMemory;
 
-/// The records of a store that may answer requests at a port, or at none, by what must agree, so that the best one is
-/// found without a walk over the store. Contracts see the records and the port.
+/// The records of a store that may answer requests at a port, or at none, ordered by what must agree, so that the best
+/// one is found without going through the whole store. Contracts see the records and the port.
 #[derive(Drop)]
 pub struct Index<'a> {
     records: &'a [Record],
     port: Option<u16>,
-    /// The key and the place of each record that fits the port, in the order of keys and lines.
+    /// The key and the place of each record that fits the port, in the order of keys, and of one key in that of the
+    /// lines.
     entries: Vec<(u64, usize)>,
-    /// What the record of each entry shares with that of the entry before.
+    /// What the record of each entry shares with that of the entry before it.
     fronts: Vec<Option<usize>>,
 }
 
@@ -36,7 +37,7 @@ impl<'a> Model for Index<'a> {
     ghost invariant = { λ s. IsIndex s.records.now s.port s.entries.items s.fronts.items };
 }
 
-/// The place of the first entry whose key isn't below that one.
+/// Returns the place of the first entry whose key is at least `key`.
 fn first_from(entries: &[(u64, usize)], key: u64) -> usize
     requires { (i j : ℕ) (d : Entry) → i ≤ j → j < length entries.now
         → (slice_index_or entries.now i d).0 ≤ (slice_index_or entries.now j d).0 }
@@ -58,7 +59,7 @@ fn first_from(entries: &[(u64, usize)], key: u64) -> usize
     low
 }
 
-/// The place of the best record, by the entries of those that fit the port.
+/// Returns the place of the best record, found by the entries of the records that fit the port.
 fn best_of(
     entries: &[(u64, usize)],
     fronts: &[Option<usize>],
@@ -86,7 +87,7 @@ fn best_of(
 }
 
 impl<'a> Index<'a> {
-    /// The index of a store for a port, or for none.
+    /// Makes the index of a store for requests at a port, or at none. Returns `OutOfMemory` where an allocation fails.
     pub fn new(alloc: Global, store: &'a Store, port: Option<u16>) -> Result<Index<'a>, OutOfMemory>
         ensures { IfOk result (λ index. index ≡ record { records = store.now; port = port }) }
     {
@@ -101,7 +102,7 @@ impl<'a> Index<'a> {
         })
     }
 
-    /// What `best` answers for the store and the port that the index was made for. It takes no memory.
+    /// Returns what `best` returns for the store and the port that the index was made for. It takes no memory.
     pub fn best(&self, request: &RequestHead) -> Option<usize>
         ensures { BestCause request.now self.now.port self.now.records result }
     {

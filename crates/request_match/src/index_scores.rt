@@ -1,4 +1,4 @@
-// The score of an entry's record, by that of the entry before.
+// The score of an entry's record, by that of the entry before it.
 ghost use Rattle.std.specs.Prelude.{◌≡◌, ◌<◌, ℕ, List, Option, None, Some, drop};
 ghost use Rattle.record_store.specs.declared.record.Record.{Record as RecordValue};
 ghost use Rattle.request_match.specs.inside.Index.{IsShared, HasScore, offered};
@@ -8,7 +8,7 @@ use crate::matching::{agrees, common_front};
 use http_frame::RequestHead;
 use record_store::Record;
 
-/// The bytes from a place on.
+/// Returns the bytes from `start` on.
 fn tail(bytes: &[u8], start: usize) -> &[u8]
     ensures { result.now ≡ drop start bytes.now }
 {
@@ -19,8 +19,8 @@ fn tail(bytes: &[u8], start: usize) -> &[u8]
     }
 }
 
-/// How much a line has in common with the one that is asked for, by how much it shares with a line before, and how much
-/// that one has: bytes that are known aren't compared again.
+/// Returns how many bytes `line` has in common with `asked`. It shares `front` bytes with an earlier line, which has
+/// `score` bytes in common with `asked`, so bytes that are known aren't compared again.
 fn carried(front: usize, score: usize, line: &[u8], asked: &[u8]) -> usize
     ensures { (before : List ℕ) → front ≡ common before line.now → score ≡ common before asked.now
         → result ≡ common line.now asked.now }
@@ -34,7 +34,7 @@ fn carried(front: usize, score: usize, line: &[u8], asked: &[u8]) -> usize
     front + common_front(tail(line, front), tail(asked, front))
 }
 
-/// The score of a record, if it agrees.
+/// Returns the score of a record, or `None` where it doesn't agree.
 fn own_score(exchange: &Record, request: &RequestHead, port: Option<u16>) -> Option<usize>
     ensures { HasScore request.now port exchange.now result }
 {
@@ -47,7 +47,8 @@ fn own_score(exchange: &Record, request: &RequestHead, port: Option<u16>) -> Opt
     ))
 }
 
-/// The score of an entry's record, if it agrees, by that of the entry before and by what both share.
+/// Returns the score of an entry's record, or `None` where it doesn't agree. `before` is the score of the entry before
+/// it, and `front` what both share.
 pub(crate) fn next_score(
     front: Option<usize>,
     before: Option<usize>,
@@ -74,8 +75,8 @@ pub(crate) fn next_score(
     }
 }
 
-/// The better one of what was found before and a record at a place, where it has a score: the one of greater score, and
-/// of equal ones the first in the store.
+/// Returns the better one of what was found before and the record at `place`, if that has a score. The greater score is
+/// better, and of equal scores the earlier place.
 pub(crate) fn better_place(
     found: Option<(usize, usize)>,
     place: usize,

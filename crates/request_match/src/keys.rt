@@ -1,4 +1,4 @@
-// A number of what a record and a request must agree in.
+// Hashes of what a record and a request must agree in.
 ghost use Rattle.std.specs.Prelude.{◌≡◌, [], unwrap_or};
 ghost use Rattle.request_match.specs.inside.Index.{hash_of_bytes, key_of};
 
@@ -6,9 +6,10 @@ use crate::matching::without_query;
 use http_frame::RequestHead;
 use text_base::Bytes;
 
+// The factor of the hash.
 const FACTOR: u64 = 1_099_511_628_211;
 
-/// Goes on with a hash over more bytes.
+/// Returns the hash after more bytes.
 fn hash_of(hash: u64, bytes: &[u8]) -> u64
     ensures { result ≡ hash_of_bytes hash bytes.now }
 {
@@ -17,7 +18,7 @@ fn hash_of(hash: u64, bytes: &[u8]) -> u64
     })
 }
 
-/// The bytes of a value, none where it isn't there.
+/// Returns the bytes of a value, or no bytes where there is none.
 fn value_of(value: &Option<Bytes>) -> &[u8]
     ensures { result.now ≡ unwrap_or value.now [] }
 {
@@ -27,7 +28,7 @@ fn value_of(value: &Option<Bytes>) -> &[u8]
     }
 }
 
-/// The number of a head: equal heads in what must agree have equal numbers.
+/// Returns the key of a head. Heads that are equal in what must agree have equal keys.
 pub(crate) fn key(head: &RequestHead) -> u64
     ensures { result ≡ key_of head.now }
 {

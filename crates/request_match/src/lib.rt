@@ -1,4 +1,4 @@
-//! The recorded response that a request is answered with.
+//! Finds the recorded exchange whose response answers a request.
 #![tactic(auto)]
 
 mod index;

@@ -1,4 +1,4 @@
-// The first agreeing record of greatest score.
+// Finds the best record of a store for a request.
 ghost use Rattle.std.specs.Prelude.{◌≡◌, ◌==◌, ◌≤◌, ◌+◌, List, ℕ, Option, Decides, false, length, drop, option_map};
 ghost use Rattle.std.specs.List.{before_first};
 ghost use Rattle.request_match.specs.inside.Compared.{FitsFields, IsAtMost};
@@ -10,7 +10,7 @@ use http_frame::RequestHead;
 use record_store::{Record, Store};
 use text_base::Bytes;
 
-/// The bytes before the first `?`, or all.
+/// Returns the bytes before the first `?`, or all of them.
 pub(crate) fn without_query(line: &[u8]) -> &[u8]
     ensures { result.now ≡ stripped line.now }
 {
@@ -22,10 +22,10 @@ pub(crate) fn without_query(line: &[u8]) -> &[u8]
     line
 }
 
-// So many bytes are compared at once.
+// How many bytes are compared at once.
 const BLOCK: usize = 32;
 
-// How many bytes the blocks have that two texts have in common at their front.
+// Returns how many bytes two texts have in common at their front, counted in whole blocks.
 fn common_blocks(a: &[u8], b: &[u8]) -> usize
     ensures left { result ≤ length a.now }
     ensures right { result ≤ length b.now }
@@ -39,7 +39,7 @@ fn common_blocks(a: &[u8], b: &[u8]) -> usize
     i
 }
 
-/// How many bytes two texts have in common at their front.
+/// Returns how many bytes two texts have in common at their front.
 pub(crate) fn common_front(a: &[u8], b: &[u8]) -> usize
     ensures { result ≡ common a.now b.now }
 {
@@ -50,7 +50,7 @@ pub(crate) fn common_front(a: &[u8], b: &[u8]) -> usize
     i
 }
 
-/// Whether both are there and equal, or neither is there.
+/// Returns whether both values are there and equal, or neither is there.
 fn same_value(a: &Option<Bytes>, b: &Option<Bytes>) -> bool
     ensures { Decides result (a.now ≡ b.now) }
 {
@@ -62,7 +62,7 @@ fn same_value(a: &Option<Bytes>, b: &Option<Bytes>) -> bool
     }
 }
 
-/// Whether a record of that port may answer.
+/// Returns whether a record of the port `recorded` may answer a request that is asked at a port, or at none.
 pub(crate) fn fits_port(recorded: u16, asked: Option<u16>) -> bool
     ensures { Decides result (FitsPort recorded asked) }
 {
@@ -72,7 +72,7 @@ pub(crate) fn fits_port(recorded: u16, asked: Option<u16>) -> bool
     }
 }
 
-// Whether the record agrees with the request in all but its line.
+// Returns whether the record agrees with the request in all but its line.
 fn fits_fields(exchange: &Record, request: &RequestHead, port: Option<u16>) -> bool
     ensures { Decides result (FitsFields request.now port exchange.now) }
 {
@@ -86,7 +86,7 @@ fn fits_fields(exchange: &Record, request: &RequestHead, port: Option<u16>) -> b
     same_value(&head.agent, &request.agent)
 }
 
-/// Whether the record agrees with the request, its cheap parts first.
+/// Returns whether the record agrees with the request. Cheap parts are compared first.
 pub(crate) fn agrees(exchange: &Record, request: &RequestHead, port: Option<u16>) -> bool
     ensures { Decides result (Agrees request.now port exchange.now) }
 {
@@ -96,7 +96,7 @@ pub(crate) fn agrees(exchange: &Record, request: &RequestHead, port: Option<u16>
     without_query(exchange.request.head.line.as_slice()) == without_query(request.line.as_slice())
 }
 
-/// The better one of what was found before and a record at a place that agrees.
+/// Returns the better one of what was found before and the record at `place`, which agrees and has the score `most`.
 pub(crate) fn better(
     found: Option<(usize, usize)>,
     place: usize,
@@ -116,7 +116,7 @@ pub(crate) fn better(
     }
 }
 
-/// The place of what was found.
+/// Returns the place of what was found, if a record was.
 pub(crate) fn place_of(found: Option<(usize, usize)>) -> Option<usize>
     ensures { result ≡ option_map (λ (f : ℕ × ℕ). f.0) found }
 {
@@ -126,7 +126,7 @@ pub(crate) fn place_of(found: Option<(usize, usize)>) -> Option<usize>
     }
 }
 
-/// A request as records are compared with it: how many bytes of its line stand before its query is found once.
+/// A request as records are compared with it. How many bytes of its line are before its query is counted only once.
 #[derive(Drop)]
 pub(crate) struct Asked<'a> {
     request: &'a RequestHead,
@@ -136,7 +136,7 @@ pub(crate) struct Asked<'a> {
 }
 
 impl<'a> Asked<'a> {
-    /// This request, at a port or at none.
+    /// The request, at a port or at none.
     pub(crate) fn new(request: &'a RequestHead, port: Option<u16>) -> Self
         ensures request { result.request.now ≡ request.now }
         ensures port { result.port ≡ port }
@@ -150,8 +150,8 @@ impl<'a> Asked<'a> {
     }
 }
 
-// Whether a line's first bytes are those before the asked line's query, and its own query or its end follows. So many
-// bytes are common to both.
+// Returns whether `line` and `asked` are equal up to their first `?`. They have `shared` bytes in common, and `bare`
+// bytes of `asked` are before its query.
 fn has_path(line: &[u8], asked: &[u8], bare: usize, shared: usize) -> bool
     requires bare { bare ≡ length (stripped asked.now) }
     requires shared { shared ≡ common line.now asked.now }
@@ -166,7 +166,7 @@ fn has_path(line: &[u8], asked: &[u8], bare: usize, shared: usize) -> bool
     line[bare] == b'?'
 }
 
-// Whether two lines have the byte of this place in common.
+// Returns whether two lines have the byte at `place` in common.
 fn shares(line: &[u8], asked: &[u8], place: usize) -> bool
     ensures { result ≡ false → common line.now asked.now ≤ place }
 {
@@ -179,7 +179,7 @@ fn shares(line: &[u8], asked: &[u8], place: usize) -> bool
     line[place] == asked[place]
 }
 
-// Whether a line may have more bytes in common with the asked one than what was found.
+// Returns whether `line` may have more bytes in common with `asked` than the record that was found.
 fn may_beat(found: Option<(usize, usize)>, line: &[u8], asked: &[u8]) -> bool
     ensures { result ≡ false → IsAtMost found (common line.now asked.now) }
 {
@@ -189,8 +189,8 @@ fn may_beat(found: Option<(usize, usize)>, line: &[u8], asked: &[u8]) -> bool
     }
 }
 
-/// The better one of what was found before and the record at a place. A record that can't beat what was found is left
-/// at once.
+/// Returns the better one of what was found before and the record at `place`. A record that can't beat what was found
+/// isn't looked at further.
 pub(crate) fn with_record(
     found: Option<(usize, usize)>,
     place: usize,
@@ -214,10 +214,13 @@ pub(crate) fn with_record(
     better(found, place, shared)
 }
 
-/// The index of the first agreeing record of greatest score, at the port that the request is asked
-/// at, or at none: Host, User-Agent and the request line up to its first `?` are equal, and the
-/// score is the length of the longest common front of the whole request lines (mm-webreplay; in
-/// which fields it agrees is this project's profile). `None` exactly where no record agrees.
+/// Returns the place of the best record, or `None` exactly where no record agrees. It is the first of the agreeing
+/// records with the greatest score.
+///
+/// A record agrees where its port fits that at which the request is asked, if it is asked at one, and Host, User-Agent
+/// and the request line up to its first `?` are equal. Its score is the length of the longest common front of both
+/// whole request lines. (This is the rule of mm-webreplay; in which fields a record must agree is this project's own
+/// choice.)
 pub fn best(store: &Store, request: &RequestHead, port: Option<u16>) -> Option<usize>
     ensures { BestCause request.now port store.now result }
 {

@@ -5,5 +5,5 @@
 mod sourcing;
 mod streaming;
 
-pub use sourcing::source;
+pub use sourcing::{Sent, end_both, source, source_row};
 pub use streaming::stream_source;

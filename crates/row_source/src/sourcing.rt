@@ -1,5 +1,5 @@
 // The source whose rows are in memory, and what every source sends row by row.
-ghost use Rattle.std.specs.Prelude.{◌≡◌, ◌≤◌, ◌++◌, ◌∷◌, List, [], option_to_list};
+ghost use Rattle.std.specs.Prelude.{◌≡◌, ◌≤◌, ◌+◌, ◌++◌, ◌∷◌, List, [], min, option_to_list};
 ghost use Rattle.packet_record.specs.declared.item.FlowEnd.TheVariants.{Open, Ended as IsOver};
 ghost use Rattle.packet_record.specs.declared.item.Item.{Item as ItemValue};
 ghost use Rattle.packet_record.specs.declared.packet.Direction.TheVariants.{Up, Down};
@@ -15,19 +15,21 @@ use mm_base::{Pace, Role};
 use packet_record::{Direction, Item, Row, source_item};
 use std::sync::Wait;
 
-// What a source has sent: how many rows, and the greatest moment in each direction, in milliseconds (0 before the
-// first).
+/// What a source has sent so far.
 #[derive(Clone, Copy)]
-pub(crate) struct Sent {
+pub struct Sent {
+    /// How many rows.
     pub rows: u64,
+    /// The greatest moment sent up, in milliseconds; 0 before the first.
     pub up: u64,
+    /// The greatest moment sent down, in milliseconds; 0 before the first.
     pub down: u64,
 }
 
 impl Sent {
-    // Returns what a source has sent before its first row.
-    pub(crate) fn new() -> Self
-        ensures { (result.up ≡ 0) × (result.down ≡ 0) }
+    /// What a source has sent before its first row.
+    pub fn new() -> Self
+        ensures { (result.up ≡ 0) × (result.down ≡ 0) × (result.rows ≡ 0) }
     {
         Sent {
             rows: 0,
@@ -63,8 +65,8 @@ pub fn source<Q: Pace, R: Wait>(
     end_both(rt, up, down);
 }
 
-// Sends the end in both directions.
-pub(crate) fn end_both<R: Wait>(rt: &R, up: &mut Sender, down: &mut Sender)
+/// Sends the end in both directions.
+pub fn end_both<R: Wait>(rt: &R, up: &mut Sender, down: &mut Sender)
     requires open { (up.old.flow.end ≡ Open) × (down.old.flow.end ≡ Open) }
     ensures items { (up.new.items ≡ up.old.items ++ Item.End ∷ [])
         × (down.new.items ≡ down.old.items ++ Item.End ∷ []) }
@@ -101,27 +103,29 @@ pub(crate) fn send_rows<Q: Pace, R: Wait>(
 {
     let mut sent = sent;
     for row in rows {
-        let count = sent.rows.saturating_add(1);
-        pace.turn(rt, Role::Source, count);
-        sent = send_both(rt, horizon, sent, row, up, down);
-        sent.rows = count;
+        sent = source_row(rt, row, horizon, sent, up, down, pace);
     }
     sent
 }
 
-// Sends what a row gives in both directions, first in its own, and returns the greatest moments sent then.
-pub(crate) fn send_both<R: Wait>(
+/// Sends what the next row gives in both directions, as `source` does, and returns what was sent then. Whoever has its
+/// rows in no list sends them so one by one, from `Sent::new()` on, and then the end by `end_both`.
+///
+/// The pace is asked before, with the row's place counted from 1. It takes no memory.
+pub fn source_row<Q: Pace, R: Wait>(
     rt: &R,
+    row: &Row,
     horizon: u64,
     sent: Sent,
-    row: &Row,
     up: &mut Sender,
     down: &mut Sender,
+    pace: &Q,
 ) -> Sent
     requires open { (up.old.flow.end ≡ Open) × (down.old.flow.end ≡ Open) }
     requires sent { (up.old.flow.bound ≡ sent.up) × (down.old.flow.bound ≡ sent.down) }
     requires horizon { (up.old.horizon ≡ horizon) × (down.old.horizon ≡ horizon) }
     requires rises { (sent.up ≤ row.now.timed.moment) × (sent.down ≤ row.now.timed.moment) }
+    ensures rows { result.rows ≡ min (sent.rows + 1) 18446744073709551615 }
     ensures sent { (up.new.flow.bound ≡ result.up) × (down.new.flow.bound ≡ result.down) }
     ensures after { (result.up ≡ sent_after sent.up row.now (source_item Up horizon sent.up row.now))
         × (result.down ≡ sent_after sent.down row.now (source_item Down horizon sent.down row.now)) }
@@ -133,7 +137,8 @@ pub(crate) fn send_both<R: Wait>(
     ensures open { (up.new.flow.end ≡ Open) × (down.new.flow.end ≡ Open) }
     ensures same { IsSameEnd up.old up.new × IsSameEnd down.old down.new }
 {
-    let rows = sent.rows;
+    let rows = sent.rows.saturating_add(1);
+    pace.turn(rt, Role::Source, rows);
     match row.direction {
         Direction::Up => {
             let up = send_row(rt, Direction::Up, horizon, sent.up, row, up);

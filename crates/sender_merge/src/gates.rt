@@ -6,7 +6,7 @@ ghost use Rattle.sender_merge.specs.inside.Gates.{AllEnds, AllFresh, AreEnds, Ar
 ghost use Rattle.sender_merge.specs.inside.Inlets.{AllClosed};
 
 use crate::inlet::Inlet;
-use crate::outlet::{Outlet, Way};
+use crate::outlet::Outlet;
 use mark_channel::{Begun, settle};
 use std::alloc::Global;
 use text_base::OutOfMemory;
@@ -90,8 +90,8 @@ fn open_one(alloc: Global, horizon: u64) -> Result<(Outlet, Inlet, Inlet), OutOf
     let (up_to, up_from) = mark_channel::open(alloc, CAPACITY, horizon)?;
     let (down_to, down_from) = mark_channel::open(alloc, CAPACITY, horizon)?;
     let outlet = Outlet {
-        up: Way::new(up_to),
-        down: Way::new(down_to),
+        up: up_to,
+        down: down_to,
     };
     Ok((outlet, Inlet::new(up_from), Inlet::new(down_from)))
 }
@@ -103,9 +103,9 @@ fn settle_one(outlet: Outlet, up: Inlet, down: Inlet)
     ensures { IsSettled outlet up down }
 {
     let Outlet {
-        up: up_way,
-        down: down_way,
+        up: up_to,
+        down: down_to,
     } = outlet;
-    settle(up_way.to, up.from);
-    settle(down_way.to, down.from);
+    settle(up_to, up.from);
+    settle(down_to, down.from);
 }

@@ -12,6 +12,9 @@ use mm_base::{Link, MemLink, Port};
 use record_proxy::{Dialer, ProxyEnd, proxy_conn, proxy_main};
 use record_store::Store;
 use std::alloc::Global;
+use std::marker::{Send, Sync};
+use std::sync::Wait;
+use std::thread::Threads;
 use test_outside::{TestOutside, words_of};
 use text_base::OutOfMemory;
 
@@ -29,7 +32,8 @@ pub(crate) fn end_of<C: Link, S: Link>(
 }
 
 // The status of a program, without what the contract of `proxy_main` says of it.
-pub(crate) fn status_of<P: Port, X: Dialer>(
+pub(crate) fn status_of<P: Port + Send, X: Dialer + Send, R: Threads + Wait + Sync>(
+    rt: &R,
     alloc: Global,
     words: &str,
     outside: &mut TestOutside,
@@ -38,6 +42,7 @@ pub(crate) fn status_of<P: Port, X: Dialer>(
 ) -> Result<u8, OutOfMemory> {
     let words = words_of(alloc, words)?;
     Ok(proxy_main(
+        rt,
         alloc,
         &words,
         &mut outside.disk,

@@ -3,6 +3,7 @@ ghost use Rattle.std.specs.Prelude.{◌≤◌};
 
 mod leaving;
 mod order;
+mod pool;
 mod ports;
 mod watched;
 

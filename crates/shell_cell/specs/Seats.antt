@@ -1,4 +1,4 @@
--- What callers see of a cell and its seats, and what a call does to a seat.
+-- A cell and its seats as contracts see them, and what each call does to a seat.
 use Rattle.std.specs.Prelude.{◌≡◌, ◌⊎◌, ℕ, ◌<◌, List, [], ◌∷◌, ◌++◌, Bool, true, false, All}
 use Rattle.atomic_table.specs.Seated.{TableId}
 use Rattle.packet_record.specs.declared.item.Item.{Item}
@@ -15,13 +15,13 @@ use Rattle.shell_cell.specs.declared.view.DrainTurn.{DrainTurn}
 use Rattle.shell_cell.specs.declared.view.DrainCall.{DrainCall}
 use Rattle.shell_cell.specs.History.{IsPast}
 
--- which cell it is, and the state that it was opened with
+-- Which cell it is, and the state that it was opened with.
 pub record Cell : Type 0 where
   pub table : TableId
   pub opening : State
 
--- a seat: the turns that it has spent, the flow of its items, whether it has found the state broken, the horizon and
--- its cell
+-- The turns that the seat has spent, the stream of its items, whether it has found the state broken, the horizon, and
+-- its cell.
 pub record Seat (Turn : Type 0) : Type 0 where
   pub turns : List Turn
   pub flow : Stream
@@ -29,48 +29,50 @@ pub record Seat (Turn : Type 0) : Type 0 where
   pub horizon : ℕ
   pub cell : Cell
 
+-- The seat that feeds.
 abbrev pub FeedView : Type 0
 FeedView = Seat FeedTurn
 
+-- The seat that takes.
 abbrev pub DrainView : Type 0
 DrainView = Seat DrainTurn
 
--- a seat keeps its horizon and its cell
+-- The seat has the same horizon and cell.
 abbrev pub IsSameSeat : {Turn : Type 0} → Seat Turn → Seat Turn → Type 0
 IsSameSeat old new = (new.horizon ≡ old.horizon) × (new.cell ≡ old.cell)
 
--- no turn was spent, and the flow is as it was
+-- No turn was spent, and the stream is as it was.
 abbrev pub IsUnspent : {Turn : Type 0} → Seat Turn → Seat Turn → Type 0
 IsUnspent old new = (new.turns ≡ old.turns) × (new.flow ≡ old.flow)
 
--- the item may be fed by this seat
+-- The seat may feed the item. Once it has found the state broken, it may feed any.
 abbrev pub MayFeedAt : FeedView → Item → Type 0
 MayFeedAt s item = MayFollow s.flow item ⊎ (s.broken ≡ true)
 
--- a feed spent a turn with a number above those that the seat had
+-- A feed spent a turn, whose number is above those of the seat's earlier turns.
 pub record SpendsFeed (old : FeedView) (item : Item) (new : FeedView) : Type 0 where
   pub number : ℕ
   pub turns : new.turns ≡ old.turns ++ record { number = number; item = item } ∷ []
   pub above : All (λ (t : FeedTurn). t.number < number) old.turns
   pub breaks_it : new.broken ≡ breaks item
 
--- a feed found the state broken and spent none
+-- A feed found the state broken, and spent no turn.
 abbrev pub FindsBroken : FeedView → FeedView → Type 0
 FindsBroken old new = (new.broken ≡ true) × IsUnspent old new
 
--- the item was added to the flow, or the state was found broken
+-- The item was added to the stream, or the state was found broken.
 abbrev pub Fed : FeedView → Item → FeedView → Type 0
 Fed old item new = ((old.broken ≡ false) × (new.flow ≡ after old.flow item))
     ⊎ ((new.broken ≡ true) × (new.flow ≡ old.flow))
 
--- a call of the drain spent a turn with a number above those that the seat had
+-- A call of the drain spent a turn, whose number is above those of the seat's earlier turns.
 pub record SpendsDrain (old : DrainView) (call : DrainCall) (new : DrainView) : Type 0 where
   pub number : ℕ
   pub turns : new.turns ≡ old.turns ++ record { number = number; call = call } ∷ []
   pub above : All (λ (t : DrainTurn). t.number < number) old.turns
 
--- the answer is that of the state which the turn found, with its causes; that state stands, and its taken flow was
--- the seat's
+-- The answer of a take is that of the state which the turn found, with its causes. That state is sound, and what was
+-- taken from it is the seat's stream.
 pub record Found (old : DrainView) (most : ℕ) (answer : Taken) (new : DrainView) : Type 0 where
   pub state : State
   pub stands : Stands state
@@ -81,13 +83,13 @@ pub record Found (old : DrainView) (most : ℕ) (answer : Taken) (new : DrainVie
   pub spec : state.spec ≡ old.cell.opening.spec
   pub broken : new.broken ≡ state.broken
 
--- what a take did to the flow
+-- The stream after a take: an item that was taken is added to it.
 abbrev pub Took : DrainView → Taken → DrainView → Type 0
 Took old (Gives item) new = (new.flow ≡ after old.flow item) × MayFollow old.flow item × IsUpTo old.horizon item
 Took old (Again burnt) new = new.flow ≡ old.flow
 Took old (NotYet bound) new = new.flow ≡ old.flow
 
--- the numbers of both seats are together 1 to n, each once, and the calls in their order are legal from the first
--- state and leave the second
+-- The turns of both seats are together numbered 1 to some `n`, each once. Made in the order of their numbers the calls
+-- are legal from the state `x` on, and leave `y`.
 abbrev pub HasHistory : State → List FeedTurn → List DrainTurn → State → Type 0
 HasHistory x fed drained y = (n : ℕ) × IsPast x fed drained n y

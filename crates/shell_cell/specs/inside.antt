@@ -1,4 +1,4 @@
--- What proofs and the clauses of inner functions cite, and no caller needs.
+-- What only proofs and the clauses of private functions cite.
 pub mod Rule
 pub mod Seats
 pub mod Sides

@@ -1,4 +1,4 @@
-//! The cell, and what each seat may do at it.
+//! A cell: the lock around a shell's state, and the calls that each seat may make.
 ghost use Rattle.std.specs.Prelude.{◌≡◌, ℕ, [], false, IfOk};
 ghost use Rattle.packet_record.specs.Streams.{no_items};
 ghost use Rattle.shell_state.specs.declared.taken.Taken.TheVariants.{NotYet};
@@ -17,7 +17,7 @@ use std::sync::Wait;
 use text_base::OutOfMemory;
 use wake_bell::{Bell, Ringer};
 
-// After how many feeds a drain is woken that waits for some.
+// After this number of feeds a waiting drain is woken.
 const BATCH: u32 = 128;
 
 /// A shell's state under a lock. Contracts see which cell it is, and the state that it was opened with.
@@ -36,9 +36,10 @@ impl Model for ShellCell {
     ghost view = { cell_view };
 }
 
-/// Opens a cell over a state of which nothing was fed or taken, and gives its two seats, which have spent
-/// no turn and know of no broken state. All the memory of the lock is taken here. On `OutOfMemory` the
-/// state is given up.
+/// Opens a cell over a state that nothing was fed to or taken from. Returns the cell with its two seats, which have
+/// spent no turn and know of no broken state.
+///
+/// All memory of the lock is taken here. Where an allocation fails it returns `OutOfMemory`, and the state is lost.
 pub fn open(
     alloc: Global,
     state: ShellState,
@@ -73,7 +74,7 @@ pub fn open(
     Ok((cell, feeding, taking))
 }
 
-// The turn word that a seat keeps, which kept `seen`: this one where there was nothing to take.
+// Returns the turn word that a seat keeps, which kept `seen`: `word`, where there was nothing to take.
 fn seen_after(answer: Taken, seen: u64, word: u64) -> u64
     ensures waits { (bound : ℕ) → answer ≡ NotYet bound → result ≡ word }
 {
@@ -83,7 +84,7 @@ fn seen_after(answer: Taken, seen: u64, word: u64) -> u64
     }
 }
 
-// An item was fed: rings for it, after a last one at once.
+// Rings after `item` was fed, at once if it is the last.
 fn ring_for(ringer: &mut Ringer, fed: &Bell, item: &Item) {
     match item {
         Item::Packet(_) | Item::Mark(_) => ringer.add(fed),
@@ -103,11 +104,14 @@ impl ShellCell {
     ghost use Rattle.shell_cell.specs.Seats.{MayFeedAt, SpendsFeed, FindsBroken, Fed, SpendsDrain, Found, Took};
     ghost use Rattle.shell_cell.specs.Seats.{IsUnspent, IsSameSeat, HasHistory};
 
-    /// Waits for the turn and feeds the item, which spends the turn. The item may follow what the seat has
-    /// fed, unless the seat has found the state broken, and is within the horizon: a packet up to it, a
-    /// mark up to one millisecond past it. On a broken state it answers Ok, spends no turn, and changes
-    /// nothing but that the seat has then found it broken. `OutOfMemory` comes only for a packet, never
-    /// once the seat has found the state broken, and changes neither the state nor the seat.
+    /// Waits for the turn and feeds the item, which spends the turn.
+    ///
+    /// The item may follow what the seat has fed, unless the seat has found the state broken, and is within the
+    /// horizon: a packet up to it, a mark up to one millisecond past it. On a broken state it returns Ok and spends no
+    /// turn, and nothing changes but that the seat has now found the state broken.
+    ///
+    /// `OutOfMemory` is returned only for a packet, and never once the seat has found the state broken. The state and
+    /// the seat are then as they were.
     pub fn feed<R: Wait>(&self, rt: &R, seat: &mut FeedSeat, item: Item) -> Result<(), OutOfMemory>
         requires own { seat.old.cell ≡ self.now }
         requires follows { MayFeedAt seat.old item }
@@ -140,10 +144,12 @@ impl ShellCell {
         }
     }
 
-    /// Waits for the turn and takes what the state has to give, burning at most `most` opportunities, at
-    /// least 1; this spends the turn. Nothing is taken after `End` or `Broken`. A seat that has found the
-    /// state broken gets `Broken`. `OutOfMemory` changes neither the state nor the seat, and never comes
-    /// once the seat has found the state broken.
+    /// Waits for the turn and takes what the state has to give, which spends the turn. It burns at most `most`
+    /// opportunities, at least 1.
+    ///
+    /// Nothing is taken after `End` or `Broken`. A seat that has found the state broken gets `Broken`. Where an
+    /// allocation fails it returns `OutOfMemory`, and the state and the seat are as they were; that never happens once
+    /// the seat has found the state broken.
     pub fn take<R: Wait>(
         &self,
         rt: &R,
@@ -163,7 +169,7 @@ impl ShellCell {
     {
         let word = self.turns.claim(rt, &mut seat.seat);
         let state = seat.seat.slot_mut(&self.turns.table.shared, 0);
-        state.stands();
+        state.stands(); // fact: the state is sound, so that a take has its causes
         match state.take(most) {
             Ok(answer) => {
                 let call = Call::Drains(DrainCall::Takes(most, answer));
@@ -193,8 +199,8 @@ impl ShellCell {
             .spend::<Brand>(&mut seat.seat, word, Call::Drains(DrainCall::Breaks));
     }
 
-    /// Waits until a feed was released since the seat's last take, where that answered `NotYet`. It may return
-    /// early, and takes no memory.
+    /// Waits until a feed has ended since the seat's last take, if that take returned `NotYet`. It may return early,
+    /// and takes no memory.
     pub fn wait<R: Wait>(&self, rt: &R, seat: &mut DrainSeat)
         requires own { seat.old.cell ≡ self.now }
         ensures same { seat.new ≡ seat.old }
@@ -202,8 +208,8 @@ impl ShellCell {
         self.turns.wait_past(rt, seat.seen);
     }
 
-    /// Gives the state back, once both seats are here again: what the history of their turns leaves of the
-    /// state that the cell was opened with. Its flows are the seats' flows. It takes no memory.
+    /// Returns the state, given both seats. It is what the history of their turns leaves of the state that the cell was
+    /// opened with, and its streams are those of the seats. It takes no memory.
     pub fn close(self, feed: FeedSeat, drain: DrainSeat) -> ShellState
         requires own { (feed.cell ≡ self) × (drain.cell ≡ self) }
         ensures history { HasHistory self.opening feed.turns drain.turns result }
@@ -229,7 +235,7 @@ impl ShellCell {
         let mut closed = table.close_with(whole);
         let state = closed.take(0);
         closed.free();
-        state.stands();
+        state.stands(); // fact: the state is sound
         state
     }
 }

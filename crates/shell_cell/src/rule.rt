@@ -1,16 +1,17 @@
-//! The rule of the table, and what its steps tell. These types are for the proofs alone.
+//! The rule of the table, and what its steps tell. These types are for proofs alone.
 use crate::view::View;
 use atomic_table::{Join, Play, Split, TableRule};
 use shell_state::ShellState;
 use std::marker::{Brand, PhantomData};
 use std::snapshot::Snapshot;
 
-/// The slot is the shell's state. The seat that has the turn works on it where it is.
+/// The slot holds the shell's state. The seat that has the turn works on it where it is.
 pub type Slot = ShellState;
 
 /// The key is the state that the cell was opened with.
 pub type Opening = Snapshot<ShellState>;
 
+/// The rule: only the seat that has the turn works on the state.
 pub struct Turns;
 
 impl TableRule<Slot, View, Opening> for Turns {
@@ -23,7 +24,7 @@ impl TableRule<Slot, View, Opening> for Turns {
     ghost first = { λ key. view Whole key.value [] [] false None };
 }
 
-/// The seat asks for the turn.
+/// A seat asks for the turn.
 pub struct Claim;
 
 impl Play<Slot, View> for Claim {
@@ -32,7 +33,7 @@ impl Play<Slot, View> for Claim {
     ghost then = { claims };
 }
 
-/// The seat gives the turn back and has not spent it.
+/// A seat gives the turn back without spending it.
 pub struct GiveUp;
 
 impl Play<Slot, View> for GiveUp {
@@ -41,7 +42,7 @@ impl Play<Slot, View> for GiveUp {
     ghost then = { gives_up };
 }
 
-/// Names the call that a turn is spent on. Each release picks it.
+/// Names the call that a turn is spent on. Each step that gives a turn back picks it.
 pub trait Spending {
     ghost use Rattle.shell_cell.specs.declared.view.Call.{Call};
 
@@ -55,7 +56,7 @@ impl Spending for Brand {
     ghost call = { Drains Breaks };
 }
 
-/// The seat gives the turn back and has spent it.
+/// A seat gives the turn back, spent on a call.
 pub struct Spend<J> {
     call: PhantomData<J>,
 }
@@ -66,6 +67,7 @@ impl<J: Spending> Play<Slot, View> for Spend<J> {
     ghost then = { spends J.call };
 }
 
+/// One seat becomes two, the feeder's and the drain's, and both become one again.
 pub struct Part;
 
 impl Split<View> for Part {

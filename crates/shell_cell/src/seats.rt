@@ -5,8 +5,8 @@ use atomic_table::Seat;
 use std::marker::Model;
 use wake_bell::Ringer;
 
-/// The seat that feeds. Contracts see the turns that it has spent, the flow of the items that it has fed,
-/// whether it has found the state broken, the horizon and its cell. The program stores none of these.
+/// The seat that feeds. Contracts see the turns that it has spent, the stream of the items that it has fed, whether it
+/// has found the state broken, the horizon and its cell. The program stores none of these.
 #[derive(Drop)]
 pub struct FeedSeat {
     pub(crate) seat: Seat<Slot, View>,
@@ -27,8 +27,8 @@ impl Model for FeedSeat {
     ghost invariant = { IsFeedSeat };
 }
 
-/// The seat that takes. Contracts see the turns that it has spent, the flow of the items that it has
-/// taken, whether it has found the state broken, the horizon and its cell.
+/// The seat that takes. Contracts see the turns that it has spent, the stream of the items that it has taken, whether
+/// it has found the state broken, the horizon and its cell. The program stores none of these.
 #[derive(Drop)]
 pub struct DrainSeat {
     pub(crate) seat: Seat<Slot, View>,

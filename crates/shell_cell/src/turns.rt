@@ -1,4 +1,4 @@
-//! How a turn is taken and given back.
+//! The turn of a cell: how a seat takes it, and gives it back.
 ghost use Rattle.std.specs.Prelude.{◌≡◌, ◌+◌, ◌%◌, ◌<◌, ◌^◌, ◌⊎◌, [], None, IsTrue, IfSome, IfNone};
 ghost use Rattle.shell_cell.specs.declared.view.Role.TheVariants.{Feeder, Drain};
 ghost use Rattle.shell_cell.specs.inside.Rule.{HasTaken, IsDone, IsUndone, IsAbove, number_in, with_turn, without_note};
@@ -12,19 +12,19 @@ use std::sync::Wait;
 use std::sync::atomic::{AtomicU64, Ordering};
 use wake_bell::{Bell, LOOKS};
 
-/// Word 0 is the turn: twice the number of turns that were spent, and one more while a seat holds it.
-/// Slot 0 is the state, which the seat that holds the turn has.
+/// The table of a cell. Word 0 is the turn: twice the number of turns that were spent, plus 1 while a seat has the
+/// turn. Slot 0 is the state, which the seat that has the turn holds.
 #[derive(Drop)]
 pub struct TurnTable {
     pub(crate) table: Table<Slot, View, Opening, Turns, Global>,
-    // How many threads sleep on the word until the turn is given back, or are about to.
+    // How many threads sleep until the turn is given back, or are about to.
     pub(crate) sleepers: AtomicU64,
-    // At it the drain sleeps until something was fed.
+    // The bell at which the drain sleeps until something was fed.
     pub(crate) fed: Bell,
     ghost sized: { (table.shared.table_id.words ≡ 1) × (table.shared.table_id.slots ≡ 1) },
 }
 
-// Whether the turn is free, where the word is this one. The last turn that the word can count is never free.
+// Returns whether the turn is free, by its word. After the last turn that the word can count it is never free.
 fn is_free(word: u64) -> bool
     ensures { IsTrue result → (word % 2 ≡ 0) × (word + 2 < 2 ^ 64) }
 {
@@ -32,7 +32,7 @@ fn is_free(word: u64) -> bool
 }
 
 impl TurnTable {
-    // Nobody sleeps.
+    // The table of a cell at which nobody sleeps.
     pub(crate) fn new(table: Table<Slot, View, Opening, Turns, Global>) -> TurnTable
         requires { (table.shared.table_id.words ≡ 1) × (table.shared.table_id.slots ≡ 1) }
         ensures { result.table ≡ table }
@@ -44,8 +44,8 @@ impl TurnTable {
         }
     }
 
-    // Waits for the turn, and takes it with the state's slot. The word is then odd.
-    // After 2^63 - 1 turns it waits for ever.
+    // Waits for the turn, and takes it with the state's slot. Returns the word, which is then odd. After 2^63 - 1 turns
+    // it waits for ever.
     pub(crate) fn claim<R: Wait>(&self, rt: &R, seat: &mut Seat<Slot, View>) -> u64
         requires own { seat.old.table_id ≡ self.now.table.shared.table_id }
         requires role { (seat.old.me.0.role ≡ Feeder) ⊎ (seat.old.me.0.role ≡ Drain) }
@@ -69,7 +69,7 @@ impl TurnTable {
         unreachable!()
     }
 
-    // Takes the turn where it is free now, with the state's slot. None where it isn't free.
+    // Takes the turn with the state's slot where it is free, and returns the word, or returns `None`.
     fn claim_at_once(&self, seat: &mut Seat<Slot, View>) -> Option<u64>
         requires own { seat.old.table_id ≡ self.now.table.shared.table_id }
         requires role { (seat.old.me.0.role ≡ Feeder) ⊎ (seat.old.me.0.role ≡ Drain) }
@@ -98,8 +98,8 @@ impl TurnTable {
         }
     }
 
-    // Waits until the word isn't this one, nor the next, which a turn has that isn't spent yet. Once it sleeps, it waits
-    // for some feeds, or about a millisecond after one.
+    // Waits until the word is neither `seen` nor `seen + 1`, which is a turn that isn't spent yet. Once it sleeps, it
+    // waits for some feeds, or for about a millisecond after one.
     pub(crate) fn wait_past<R: Wait>(&self, rt: &R, seen: u64) {
         for _ in 0..LOOKS {
             if self.is_past(seen) {
@@ -118,32 +118,32 @@ impl TurnTable {
         unreachable!()
     }
 
-    // Whether the word isn't this one, nor the next.
+    // Returns whether the word is neither `seen` nor `seen + 1`.
     fn is_past(&self, seen: u64) -> bool {
         self.table.shared.peek(0).wrapping_sub(seen) > 1
     }
 
-    // Sleeps while the word is this one, until the turn is given back. It may return early.
+    // Sleeps while the word is `word`, until the turn is given back. It may return early.
     //
     // No wake is lost. The count is raised before the system compares the word, and whoever gives the turn back stores
-    // the word before it reads the count: so it sees this sleeper and wakes it, or the word has changed before the sleep
-    // begins. Each sleeper lowers the count itself, once it is awake. A flag that is cleared with a wake would lose one:
-    // a turn that is taken and given up leaves the word as it was, so a wake between the mark of a sleeper and its sleep
-    // wakes nobody, the sleep begins, and whoever spends the next turn finds the flag cleared.
+    // the word before it reads the count. So it sees this sleeper and wakes it, or the word has changed before the
+    // sleep begins. Each sleeper lowers the count itself, once it is awake. A flag that is cleared with a wake would
+    // lose one: a turn that is taken and given up leaves the word as it was, so a wake between the mark of a sleeper
+    // and its sleep wakes nobody, the sleep begins, and whoever spends the next turn finds the flag cleared.
     fn sleep_at<R: Wait>(&self, rt: &R, word: u64) {
         self.sleepers.fetch_add(1, Ordering::SeqCst);
         self.table.shared.park(rt, 0, (word % (1 << 32)) as u32);
         self.sleepers.fetch_sub(1, Ordering::SeqCst);
     }
 
-    // Wakes who sleeps, if anyone does.
+    // Wakes all who sleep, if anyone does.
     fn wake_sleepers(&self) {
         if self.sleepers.load(Ordering::SeqCst) > 0 {
             self.table.shared.wake_all(0);
         }
     }
 
-    // Gives the turn back, which was spent on the call. The call is for the proof alone.
+    // Gives the turn back, spent on a call. The call is for the proof alone.
     pub(crate) fn spend<J: Spending>(&self, seat: &mut Seat<Slot, View>, word: u64, _call: Call)
         requires own { seat.old.table_id ≡ self.now.table.shared.table_id }
         requires word { word + 1 < 2 ^ 64 }

@@ -1,26 +1,31 @@
-//! What a seat at the table knows, for the proofs. Of these types the program makes a value of `Call` alone.
+//! What a seat at the table knows. Of these types, which are for proofs, the program makes values of `Call` and
+//! `DrainCall` alone.
 use packet_record::Item;
 use shell_state::{ShellState, Taken};
 use std::collections::LinkedList;
 
 /// What the feeder did in a turn: it fed an item.
 pub struct FeedTurn {
+    /// The number of the turn, from 1.
     pub number: u64,
+    /// The item.
     pub item: Item,
 }
 
 /// What the drain does in a turn.
 #[derive(Clone, Copy)]
 pub enum DrainCall {
-    /// A take: the most opportunities that it might burn, and its answer.
+    /// A take: the most opportunities that it may burn, and its answer.
     Takes(u32, Taken),
-    /// The state is broken.
+    /// It breaks the state.
     Breaks,
 }
 
 /// What the drain did in a turn.
 pub struct DrainTurn {
+    /// The number of the turn, from 1.
     pub number: u64,
+    /// The call.
     pub call: DrainCall,
 }
 
@@ -35,7 +40,9 @@ pub enum Call {
 pub enum Role {
     /// Both, before the seats are split.
     Whole,
+    /// The feeder.
     Feeder,
+    /// The drain.
     Drain,
     /// Both, after the seats were joined.
     Joined,
@@ -43,19 +50,26 @@ pub enum Role {
     Spent,
 }
 
-/// The turn, held by a seat: how many turns were spent before it, and the state that they left.
+/// The turn, as the seat that has it knows it.
 pub struct Note {
+    /// How many turns were spent before it.
     pub spent: u64,
+    /// The state that they left.
     pub state: ShellState,
 }
 
 /// What a seat knows.
 pub struct View {
+    /// Who sits at the seat.
     pub role: Role,
+    /// The state that the cell was opened with.
     pub opening: ShellState,
+    /// The turns that the feeder spent, where the seat is the feeder's.
     pub fed: LinkedList<FeedTurn>,
+    /// The turns that the drain spent, where the seat is the drain's.
     pub drained: LinkedList<DrainTurn>,
-    /// The seat has found the state broken.
+    /// Whether the seat has found the state broken.
     pub broken: bool,
+    /// The turn, if the seat has it.
     pub note: Option<Note>,
 }

@@ -1,9 +1,9 @@
-// One direction of a shell of any kind.
+// One direction of a shell of any kind, packet by packet: the core of its kind behind one type.
 ghost use Rattle.std.specs.Prelude.{◌≡◌, ◌≤◌, ◌<◌, ◌+◌, ◌++◌, ◌∷◌, [], length, nat_le, map, OnOk, OnErr, IfOk};
-ghost use Rattle.packet_record.specs.Moments.{AreUpTo, Rise};
+ghost use Rattle.packet_record.specs.Moments.{AreUpTo};
 ghost use Rattle.link_core.specs.Promises.{count_to};
 ghost use Rattle.link_core.specs.View.{opps_of};
-ghost use Rattle.shell_core.specs.Shells.{IsInRange, IsBuilt, opportunities, out, lost, inside, whole_log, floor};
+ghost use Rattle.shell_core.specs.Shells.{IsInRange, IsBuilt, opportunities, out, lost, inside, shell_log, floor};
 ghost use Rattle.shell_core.specs.Wholes.{if_link};
 ghost use Rattle.shell_core.specs.CoreParts.{CorePart, with_arrival, with_burnt, is_spent, burns, new_part};
 
@@ -33,8 +33,8 @@ pub(crate) enum Inner {
 
 /// One direction of a shell of any kind.
 ///
-/// Contracts see what the direction does, its horizon, the packets that arrived, and how many
-/// opportunities are burnt. Everything else that it answers is a function of these.
+/// Contracts see what the direction does, its horizon, the packets that arrived, and how many opportunities are burnt.
+/// Everything else that it returns is a function of these.
 #[derive(Drop)]
 pub struct Core {
     pub(crate) alloc: Global,
@@ -72,7 +72,7 @@ fn has_none_left(core: &LinkCore) -> bool
 
 #[tactic(auto, unfolding(crate::specs::Shells::opportunities, crate::specs::Shells::out, crate::specs::Shells::lost, crate::specs::Shells::inside, crate::specs::Shells::shell_log, crate::specs::Shells::floor))]
 impl Core {
-    /// The direction before any arrival.
+    /// The direction before any arrival, with horizon in milliseconds, or out of memory.
     pub fn new(alloc: Global, spec: DirSpec, horizon: u64) -> Result<Core, OutOfMemory>
         requires range { IsInRange spec }
         requires horizon { horizon ≤ 3600000 }
@@ -103,7 +103,8 @@ impl Core {
         })
     }
 
-    /// Burns every opportunity up to the packet's moment, and then lets the packet in.
+    /// Burns every opportunity up to the packet's moment, and then lets the packet in. Where it runs out of memory the
+    /// direction is as it was.
     pub fn arrive(&mut self, t: Timed) -> Result<(), OutOfMemory>
         requires until { t.moment ≤ self.old.horizon }
         requires order { AreUpTo t.moment self.old.arrivals }
@@ -123,8 +124,8 @@ impl Core {
         }
     }
 
-    /// Burns the next opportunities up to this moment, at most so many, and answers how many. Where there is none it
-    /// needs no memory.
+    /// Burns the next opportunities up to the moment `bound`, at most `most` of them, and returns how many. Where there
+    /// is none it needs no memory. Where it runs out of memory the direction is as it was.
     pub fn burn(&mut self, bound: u64, most: u32) -> Result<u32, OutOfMemory>
         ensures count { IfOk result (λ n. n ≡ burns self.old bound most) }
         ensures burnt { IfOk result (λ n. self.new ≡ with_burnt self.old n) }
@@ -172,13 +173,11 @@ impl Core {
         }
     }
 
-    /// The log of a link over all that arrived, with every opportunity up to the horizon; None for the other kinds. It
-    /// isn't written out: it keeps a copy of the arrivals. `OutOfMemory` is want of memory for these.
+    /// The log of a link, of all that arrived and of the opportunities that are burnt; `None` for the other kinds. It
+    /// isn't written out: it keeps a copy of the arrivals, for which memory may run out.
     pub fn log(&self) -> Result<Option<LinkLog>, OutOfMemory>
-        requires rises { Rise self.now.arrivals }
-        requires within { AreUpTo self.now.horizon self.now.arrivals }
         ensures { IfOk result (λ log. log ≡ if_link self.now.spec
-            (whole_log self.now.spec self.now.horizon self.now.arrivals)) }
+            (shell_log self.now.spec self.now.horizon self.now.burnt self.now.arrivals)) }
     {
         match &self.inner {
             Inner::Pass(_) | Inner::Delay { .. } | Inner::Loss { .. } => Ok(None),
@@ -186,8 +185,8 @@ impl Core {
         }
     }
 
-    /// The numbers of the packets that neither departed nor were dropped, in order; in a link the
-    /// one in transit is the first.
+    /// The numbers of the packets that neither departed nor were dropped, in order, or out of memory. In a link the
+    /// packet in transit is the first.
     pub fn inside(&self) -> Result<Vec<u32>, OutOfMemory>
         ensures { IfOk result (λ ids. ids.items ≡ map (λ t. t.packet.id)
             (inside self.now.spec self.now.horizon self.now.burnt self.now.arrivals)) }
@@ -199,8 +198,8 @@ impl Core {
         }
     }
 
-    /// No packet that is still to depart does so before this moment, where none that is still to arrive is before the
-    /// bound. One that has departed may be before it.
+    /// The floor, in milliseconds: no packet that is still to depart does so before it, where none that is still to
+    /// arrive is before `bound`. One that has departed may be before it.
     pub fn floor(&self, bound: u64) -> u64
         requires { bound ≤ self.now.horizon + 1 }
         ensures { result ≡ floor self.now.spec self.now.horizon self.now.burnt bound }
@@ -212,7 +211,7 @@ impl Core {
         }
     }
 
-    /// No opportunity up to the horizon is unburnt.
+    /// Whether every opportunity up to the horizon is burnt.
     pub fn is_spent(&self) -> bool
         ensures { result ≡ is_spent self.now }
     {

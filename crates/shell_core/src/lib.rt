@@ -1,4 +1,5 @@
-//! One direction of a shell of any kind, over the list of its arrivals.
+//! One direction of a shell of any kind, packet by packet and over the whole list of its arrivals, and the laws that
+//! all kinds have.
 #![tactic(auto)]
 
 mod kinds;

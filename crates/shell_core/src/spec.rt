@@ -8,7 +8,7 @@ use trace_reader::Trace;
 pub enum DirSpec {
     /// Each packet passes at once, as in the direction that an mm-loss doesn't name.
     Pass,
-    /// Each packet departs so many milliseconds later, at most 3,600,000 (mm-delay).
+    /// Each packet departs `ms` milliseconds later, at most 3,600,000 (mm-delay).
     Delay {
         ms: u64,
     },

@@ -1,11 +1,11 @@
-// A direction over the whole list of its arrivals.
+// A direction over the whole list of its arrivals, and the lists that a direction leaves.
 ghost use Rattle.std.specs.Prelude.{◌≡◌, ◌≤◌, Some, None, [], length, map, IfOk, OnOk};
 ghost use Rattle.packet_record.specs.Moments.{AreUpTo, Rise};
 ghost use Rattle.trace_reader.specs.Opps.{opps};
 ghost use Rattle.trace_reader.specs.Traces.{IsTrace};
 ghost use Rattle.shell_core.specs.Wholes.{if_link};
 ghost use Rattle.shell_core.specs.Shells.{IsInRange, IsBuilt, opportunities, out, lost, inside, whole_out, whole_lost};
-ghost use Rattle.shell_core.specs.Shells.{whole_log};
+ghost use Rattle.shell_core.specs.Shells.{shell_log, whole_log};
 
 use crate::kinds::{Core, Inner};
 use crate::spec::DirSpec;
@@ -18,7 +18,7 @@ use std::alloc::Global;
 use text_base::OutOfMemory;
 use trace_reader::Trace;
 
-// What departs, and what is lost. No packet stays inside.
+// The lists of a direction in which no packet stays inside.
 fn passage(alloc: Global, departed: Vec<Timed>, lost: Vec<Timed>) -> Passage
     ensures departed { result.departed.items ≡ departed.items }
     ensures lost { result.lost.items ≡ lost.items }
@@ -33,7 +33,7 @@ fn passage(alloc: Global, departed: Vec<Timed>, lost: Vec<Timed>) -> Passage
     }
 }
 
-// What departs, and what stays inside. No packet is lost.
+// The lists of a direction in which no packet is lost.
 fn late_passage(alloc: Global, departed: Vec<Timed>, held: Vec<u32>) -> Passage
     ensures departed { result.departed.items ≡ departed.items }
     ensures lost { result.lost.items ≡ [] }
@@ -48,7 +48,7 @@ fn late_passage(alloc: Global, departed: Vec<Timed>, held: Vec<u32>) -> Passage
     }
 }
 
-// A link keeps its arrivals and its trace for the log.
+// Runs a link over all packets. It keeps its arrivals and its trace for the log.
 #[tactic(auto, using(crate::proofs::WholeLemmas::all_taken), unfolding(crate::specs::Shells::opportunities, crate::specs::Shells::out, crate::specs::Shells::lost, crate::specs::Shells::inside, crate::specs::Shells::shell_log))]
 fn link(
     alloc: Global,
@@ -75,8 +75,8 @@ fn link(
     run_link(alloc, trace, once, queue, horizon, packets)
 }
 
-/// Runs the direction over all packets up to the horizon. A link's log isn't written out: it keeps the packets from
-/// which it is made. `OutOfMemory` is want of memory.
+/// Runs the direction over all packets up to the horizon, or runs out of memory. A link's log isn't written out: it
+/// keeps the packets from which it is made.
 #[tactic(auto, unfolding(crate::specs::Shells::opportunities, crate::specs::Shells::out, crate::specs::Shells::lost, crate::specs::Shells::inside, crate::specs::Shells::shell_log))]
 pub fn run_whole(
     alloc: Global,
@@ -115,16 +115,14 @@ pub fn run_whole(
 #[tactic(auto, unfolding(crate::specs::Shells::opportunities, crate::specs::Shells::out, crate::specs::Shells::lost, crate::specs::Shells::inside, crate::specs::Shells::shell_log))]
 impl Core {
     /// Gives the direction up for its lists, none of which is copied. A link's log isn't written out: it keeps the
-    /// packets from which it is made, and is that of all of them with every opportunity. `OutOfMemory` is want of
-    /// memory for the numbers of the packets inside.
+    /// packets from which it is made. Memory may run out for the numbers of the packets inside.
     pub fn into_passage(self) -> Result<Passage, OutOfMemory>
-        requires rises { Rise self.arrivals }
-        requires within { AreUpTo self.horizon self.arrivals }
         ensures departed { IfOk result (λ p. p.departed.items ≡ out self.spec self.horizon self.burnt self.arrivals) }
         ensures lost { IfOk result (λ p. p.lost.items ≡ lost self.spec self.horizon self.burnt self.arrivals) }
         ensures held { IfOk result (λ p. p.held.items ≡ map (λ t. t.packet.id)
             (inside self.spec self.horizon self.burnt self.arrivals)) }
-        ensures log { IfOk result (λ p. p.log ≡ if_link self.spec (whole_log self.spec self.horizon self.arrivals)) }
+        ensures log { IfOk result (λ p. p.log ≡ if_link self.spec
+            (shell_log self.spec self.horizon self.burnt self.arrivals)) }
     {
         let Core {
             alloc,

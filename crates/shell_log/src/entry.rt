@@ -15,13 +15,13 @@ pub enum Entry {
         moment: u64,
         bytes: u32,
     },
-    /// A packet left, so many milliseconds after it came in.
+    /// A packet left, `delay` milliseconds after it came in.
     Departure {
         moment: u64,
         size: u16,
         delay: u64,
     },
-    /// The queue dropped so many packets, of so many bytes in all.
+    /// The queue dropped `packets` packets, of `bytes` bytes in all.
     Drop {
         moment: u64,
         packets: u64,

@@ -1,4 +1,4 @@
-// One line of a log, read.
+// How one line of a log is read.
 ghost use Rattle.std.specs.Prelude.{◌≡◌, ◌∷◌, ◌++◌, true, MatchOption};
 ghost use Rattle.text_base.specs.inside.Lines.{is_one_line};
 ghost use Rattle.shell_log.specs.Reading.{arrival_of, opportunity_of, departure_of, drop_of, entry_of};
@@ -7,7 +7,8 @@ use crate::Entry;
 use memchr::memchr;
 use text_base::{read_canonical, split_word};
 
-// What stands before the first line feed, and what follows it. None where there is no line feed.
+// Cuts a text at its first line feed: returns what stands before it, and what follows it. Returns `None` where there is
+// none.
 pub(crate) fn cut_line(text: &[u8]) -> Option<(&[u8], &[u8])>
     ensures { MatchOption result (is_one_line text.now ≡ true)
         (λ cut. (text.now ≡ cut.0.now ++ 10 ∷ cut.1.now) × (is_one_line cut.0.now ≡ true)) }

@@ -38,7 +38,7 @@ impl Log {
         }
     }
 
-    /// Makes room for at least this many entries.
+    /// Makes room for at least `n` more entries, or runs out of memory.
     pub fn reserve(&mut self, n: usize) -> Result<(), OutOfMemory>
         ensures same { self.new.entries ≡ self.old.entries }
         ensures ok { OnOk result (n ≤ self.new.spare) }

@@ -1,4 +1,4 @@
-// Logs read from their text.
+// How a log is read from its whole text.
 ghost use Rattle.std.specs.Prelude.{◌≡◌, ◌≢◌, ◌≤◌, ◌+◌, List, Option, Some, None, MatchResult, IfOk, length};
 ghost use Rattle.shell_log.specs.declared.reading.LogError.TheVariants as errors;
 ghost use Rattle.shell_log.specs.declared.entry.Entry.{Entry as EntryValue};
@@ -19,14 +19,14 @@ pub enum LogError {
     BadLine { line: u64 },
     /// The moment is below that of the line before.
     Backwards { line: u64 },
-    /// Memory was wanting. The text wasn't refused.
+    /// Memory ran out. The text wasn't refused.
     OutOfMemory,
 }
 
 impl LogError {
     ghost use Rattle.shell_log.specs.Reading.{number_of, line_named};
 
-    /// The number of the refusal, 1 to 3 in the order of the variants, or 0 for want of memory.
+    /// The number of the refusal, 1 to 3 in the order of the variants, or 0 for out of memory.
     pub fn number(self) -> u32
         ensures { result ≡ number_of self }
     {
@@ -57,7 +57,7 @@ impl From<OutOfMemory> for LogError {
     }
 }
 
-/// The log of which this is the text. It is refused by the first refusal of its lines, or where memory is wanting.
+/// The log of which `text` is the text. Returns the first refusal of its lines, or `OutOfMemory` where memory runs out.
 pub fn read_log(alloc: Global, text: &[u8]) -> Result<Log, LogError>
     ensures found { IfOk result (λ log. text.now ≡ log_text log.entries) }
     ensures every { (list : List EntryValue) → IsLog list → text.now ≡ log_text list

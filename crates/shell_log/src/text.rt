@@ -19,7 +19,7 @@ use text_base::Bytes;
 // The longest line that says something: a drop with three numbers of ten digits.
 const MOST_KEPT: usize = 34;
 
-// So many entries are never read. More would count as want of memory.
+// More entries are never read. Of more it would be said that memory ran out.
 const MOST_ENTRIES: u64 = 1 << 63;
 
 /// A log that is read from its text piece by piece, wherever the text is cut. It hands each entry on, and keeps no
@@ -63,8 +63,8 @@ impl LogText {
         }
     }
 
-    /// Reads a piece of the text up to its next entry, and answers that and what of the piece follows it. None where
-    /// no entry ends in the piece, or a line is refused: then the piece is read.
+    /// Reads a piece of the text up to its next entry. Returns that, and what of the piece follows it. Returns `None`
+    /// where no entry ends in the piece, or a line is refused: the piece is read then.
     #[inline]
     pub fn next<'a>(&mut self, piece: &'a [u8]) -> Option<(Entry, &'a [u8])>
         ensures some { IfSome result (λ r. (whole rest : List ℕ) (es : List EntryValue)
@@ -84,7 +84,7 @@ impl LogText {
         self.next_entry(rest)
     }
 
-    // Reads the first line, if it isn't read yet, and answers what of the piece follows it.
+    // Reads the first line, if it isn't read yet, and returns what of the piece follows it.
     #[inline]
     fn pass_header<'a>(&mut self, piece: &'a [u8]) -> Option<&'a [u8]>
         requires { self.old.refused ≡ None }
@@ -209,8 +209,8 @@ impl LogText {
         Ok(entry)
     }
 
-    // Keeps a piece up to its first line feed, and answers what follows that. None where it has no line feed, or the
-    // line is refused.
+    // Keeps a piece up to its first line feed, and returns what follows that. Returns `None` where it has no line feed,
+    // or the line is refused.
     fn keep_line<'a>(&mut self, piece: &'a [u8]) -> Option<&'a [u8]>
         requires { self.old.refused ≡ None }
         ensures some { IfSome result (λ after. KeepsLine piece.now after.now self.old self.new) }
@@ -263,14 +263,15 @@ impl LogText {
         }
     }
 
-    /// Memory is wanting.
+    /// Takes note that memory ran out.
     pub fn want_memory(&mut self)
         ensures { self.new ≡ refusing LogError.OutOfMemory self.old }
     {
         self.refused = Some(LogError::OutOfMemory);
     }
 
-    /// Whether the text that was read is the text of a log, or its first refusal, as `read_log` answers for the text.
+    /// Whether the text that was read is the text of a log, or its first refusal, as `read_log` returns it for the
+    /// text.
     pub fn finish(&self) -> Result<(), LogError>
         ensures found { (whole : List ℕ) (es : List EntryValue) → IsLeft whole [] es self.now → IfOk result
             (λ _. (whole ≡ log_text es) × IsLog es) }

@@ -7,7 +7,8 @@ ghost use Rattle.shell_log.specs.LogText.{line_of};
 use crate::Entry;
 use text_base::split_decimal;
 
-// The entry of the line at the front of a text, and what follows its line feed. None says nothing of the text.
+// Returns the entry of the line at the front of a text, and what follows its line feed. It may return `None` for any
+// text.
 #[inline]
 pub(crate) fn split_entry(text: &[u8]) -> Option<(Entry, &[u8])>
     ensures { IfSome result (λ r. (text.now ≡ line_of r.0 ++ 10 ∷ r.1.now) × IsEntry r.0) }

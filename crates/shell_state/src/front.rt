@@ -1,11 +1,11 @@
-// What was taken of the departures.
+// What was taken of a state: how many of its departures, and how far its stream has come.
 ghost use Rattle.std.specs.Prelude.{◌≡◌};
 ghost use Rattle.packet_record.specs.Reaches.{IsNext};
 ghost use Rattle.shell_state.specs.inside.Fronts.{no_front, front_after, CanCount};
 
 use packet_record::{Item, Reach};
 
-// So many of the departures, from the first on, and how far the stream of what was taken has come.
+// The first `count` departures, and how far the stream of what was taken has come.
 #[derive(Clone, Copy)]
 pub(crate) struct Front {
     pub(crate) count: usize,

@@ -1,4 +1,4 @@
-//! One direction of a shell, which is fed items and from which items are taken.
+//! One direction of a shell, which is fed items and from which items are taken, in any order of the two.
 #![tactic(auto)]
 
 mod front;

@@ -55,8 +55,8 @@ fn has_ready(core: &Core, taken: Front) -> bool
     taken.count < core.departed().len()
 }
 
-// Where nothing is ready, burns the next opportunities that may be burnt, at most so many. Where there is none it needs
-// no memory.
+// Where nothing is ready, burns the next opportunities that may be burnt, at most `most` of them, and returns how many.
+// Where there is none it needs no memory.
 pub(crate) fn burn(core: &mut Core, fed: Reach, taken: Front, most: u32) -> Result<u32, OutOfMemory>
     requires { 1 ≤ most }
     ensures count { IfOk result (λ n. n ≡ burns (state_of core.old fed taken false) most) }
@@ -80,7 +80,7 @@ fn is_over(core: &Core, fed: Reach) -> bool
     }
 }
 
-// The answer of a take that has just burnt so many.
+// What a take returns that has just burnt `burnt` opportunities.
 pub(crate) fn answer(core: &Core, fed: Reach, taken: Front, burnt: u32, most: u32) -> Taken
     requires bound { fed.bound ≤ core.now.horizon + 1 }
     ensures is { result ≡ answer_after (state_of core.now fed taken false) burnt most }
@@ -102,7 +102,7 @@ pub(crate) fn answer(core: &Core, fed: Reach, taken: Front, burnt: u32, most: u3
     Taken::NotYet { bound: fed.bound }
 }
 
-// What is answered as an item is taken.
+// Adds what a take returns to what was taken, where it is an item.
 pub(crate) fn put(taken: &mut Front, answer: Taken)
     requires open { taken.old.reach.end ≡ FlowEnd.Open }
     requires follows { AnswerFollows taken.old.reach.bound answer }

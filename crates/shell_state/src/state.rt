@@ -4,7 +4,7 @@ ghost use Rattle.packet_record.specs.Streams.{MayFollow, IsUpTo};
 ghost use Rattle.packet_record.specs.declared.item.FlowEnd.TheVariants.{Open, Ended};
 ghost use Rattle.packet_record.specs.Takes.{IsPacket};
 ghost use Rattle.shell_core.specs.Shells.{IsInRange, opportunities, lost, inside, whole_out, whole_lost};
-ghost use Rattle.shell_core.specs.Shells.{whole_inside, whole_log};
+ghost use Rattle.shell_core.specs.Shells.{shell_log, whole_inside, whole_log};
 ghost use Rattle.shell_core.specs.Wholes.{if_link};
 ghost use Rattle.shell_state.specs.States.{new_state};
 ghost use Rattle.shell_state.specs.Steps.{after_feed, after_take, after_break, answer_of, burns};
@@ -24,10 +24,11 @@ use text_base::OutOfMemory;
 
 /// One direction of a shell that is fed items and from which items are taken, in any order of the two.
 ///
-/// What is taken is always a front of what the whole shell would let out, whatever is fed later, and
-/// a mark that is taken is at or before every departure still to come.
-/// Contracts see what the direction does, its horizon, the two streams, how many opportunities were
-/// burnt, and whether it is broken. Everything else that it answers is a function of these.
+/// What is taken is always a front of what the whole shell would let out, whatever is fed later. A mark that is taken
+/// is at or before every departure still to come.
+///
+/// Contracts see what the direction does, its horizon, the two streams, how many opportunities were burnt, and whether
+/// it is broken. Everything else that it returns is a function of these.
 #[derive(Drop)]
 pub struct ShellState {
     core: Core,
@@ -53,7 +54,7 @@ impl Model for ShellState {
 
 #[tactic(auto, unfolding(crate::specs::Steps::after_feed, crate::specs::Steps::after_take, crate::specs::Steps::after_break, crate::specs::Steps::answer_of))]
 impl ShellState {
-    /// The direction before anything was fed or taken. A delay is at most 3,600,000 milliseconds, the
+    /// The direction before anything was fed or taken, or out of memory. A delay is at most 3,600,000 milliseconds, the
     /// horizon too, and a link has at most 16,000,000 opportunities up to it.
     pub fn new(alloc: Global, spec: DirSpec, horizon: u64) -> Result<ShellState, OutOfMemory>
         requires range { IsInRange spec }
@@ -70,9 +71,9 @@ impl ShellState {
         })
     }
 
-    /// Adds the item to what was fed. A packet arrives at the shell: every opportunity up to its
-    /// moment is burnt, and then it enters. `Broken` breaks the state. A broken state stays as it is.
-    /// Only a packet can find no memory, and the state is then as it was.
+    /// Adds the item to what was fed. A packet arrives at the shell: every opportunity up to its moment is burnt, and
+    /// then it enters. `Broken` breaks the state. A broken state stays as it is. Only with a packet can it run out of
+    /// memory, and the state is then as it was.
     pub fn feed(&mut self, item: Item) -> Result<(), OutOfMemory>
         requires follows { MayFollow self.old.fed item ⊎ (self.old.broken ≡ true) }
         requires within { IsUpTo self.old.horizon item }
@@ -89,17 +90,17 @@ impl ShellState {
 
     /// Takes what comes next.
     ///
-    /// 1. A broken state answers `Item(Broken)`.
-    /// 2. Where nothing is ready, the next licensed opportunities are burnt, at most `most` of them:
-    ///    those at or before the bound of what was fed, or all where that has ended.
-    /// 3. Where a departure is ready, it is the answer.
+    /// 1. A broken state returns `Item(Broken)`.
+    /// 2. Where nothing is ready, the next licensed opportunities are burnt, at most `most` of them: those at or before
+    ///    the bound of what was fed, or all where that has ended.
+    /// 3. Where a departure is ready, it returns that.
     /// 4. Where what was fed has ended and no opportunity is left, `Item(End)`.
-    /// 5. Where the floor, before which nothing departs that hasn't departed yet, is above the bound of
-    ///    what was taken, `Item(Mark(floor))`.
+    /// 5. Where the floor, before which nothing departs that hasn't departed yet, is above the bound of what was taken,
+    ///    `Item(Mark(floor))`.
     /// 6. Where this call burnt `most` opportunities, `Again` with that number.
     /// 7. Else `NotYet` with the bound of what was fed, and nothing has changed.
     ///
-    /// Where it finds no memory the state is as it was. It wants none where there is nothing to burn.
+    /// Where it runs out of memory the state is as it was. It needs none where there is nothing to burn.
     pub fn take(&mut self, most: u32) -> Result<Taken, OutOfMemory>
         requires most { 1 ≤ most }
         requires open { self.old.taken.end ≡ Open }
@@ -118,7 +119,7 @@ impl ShellState {
         Ok(answer)
     }
 
-    /// Breaks the state: from then on every `feed` changes nothing and every `take` answers `Item(Broken)`.
+    /// Breaks the state: from then on every `feed` changes nothing and every `take` returns `Item(Broken)`.
     pub fn break_off(&mut self)
         ensures { self.new ≡ after_break self.old }
     {
@@ -147,12 +148,14 @@ impl ShellState {
         StreamView::new(&departed[..self.taken.count], self.taken.reach)
     }
 
-    /// The log of a link whose state was taken to its end; None for shells that aren't links. No log is kept while
-    /// packets pass: it is made of the packets that were fed, of which it keeps a copy, and isn't written out.
-    /// `OutOfMemory` is want of memory for these.
+    /// The log of a link so far, of what was fed and of the opportunities that are burnt; `None` for shells that aren't
+    /// links. Of a state that was taken to its end it is the log of the whole shell. No log is kept while packets pass:
+    /// it is made of the packets that were fed, of which it keeps a copy, and isn't written out. Memory may run out for
+    /// that copy.
     pub fn log(&self) -> Result<Option<LinkLog>, OutOfMemory>
-        requires { self.now.taken.end ≡ Ended }
-        ensures { IfOk result (λ log. log ≡ if_link self.now.spec
+        ensures log { IfOk result (λ log. log ≡ if_link self.now.spec
+            (shell_log self.now.spec self.now.horizon self.now.burnt self.now.fed.packets)) }
+        ensures whole { self.now.taken.end ≡ Ended → IfOk result (λ log. log ≡ if_link self.now.spec
             (whole_log self.now.spec self.now.horizon self.now.fed.packets)) }
     {
         self.core.log()
@@ -165,8 +168,8 @@ impl ShellState {
         self.core.lost()
     }
 
-    /// The numbers of the packets that neither departed nor were dropped, in order; in a link the
-    /// one in transit is the first.
+    /// The numbers of the packets that neither departed nor were dropped, in order, or out of memory. In a link the
+    /// packet in transit is the first.
     pub fn inside(&self) -> Result<Vec<u32>, OutOfMemory>
         ensures { IfOk result (λ ids. ids.items ≡ map (λ t. t.packet.id)
             (inside self.now.spec self.now.horizon self.now.burnt self.now.fed.packets)) }
@@ -174,8 +177,8 @@ impl ShellState {
         self.core.inside()
     }
 
-    /// What is true of every state, for its callers: its parts fit each other, and what was taken
-    /// stands for whatever may still be fed. It does nothing.
+    /// What is true of every state, for its callers: its parts fit each other, and what was taken stands for whatever
+    /// may still be fed. It does nothing.
     pub fn stands(&self)
         ensures stands { Stands self.now }
         ensures foretells { ForetellsAll self.now }
@@ -184,7 +187,7 @@ impl ShellState {
     }
 
     /// What every state promises of what is still to come, for its callers. The floor keeps up with what was fed.
-    /// What was taken stands for whatever packets may still be fed. Each feed, and each take that doesn't answer
+    /// What was taken stands for whatever packets may still be fed. Each feed, and each take that doesn't return
     /// `NotYet`, leaves less to be done. A state that was taken to its end has the lists of the whole shell. It does
     /// nothing.
     pub fn promises(&self)
@@ -197,8 +200,8 @@ impl ShellState {
     }
 
     /// Gives up a state that was taken to its end for the lists of its shell, none of which is copied. A link's log
-    /// isn't written out: it keeps the packets from which it is made. `OutOfMemory` is want of memory for the numbers
-    /// of the packets inside.
+    /// isn't written out: it keeps the packets from which it is made. Memory may run out for the numbers of the packets
+    /// inside.
     pub fn into_passage(self) -> Result<Passage, OutOfMemory>
         requires { self.taken.end ≡ Ended }
         ensures departed { IfOk result (λ p. p.departed.items ≡ whole_out self.spec self.horizon self.fed.packets) }

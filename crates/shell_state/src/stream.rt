@@ -6,7 +6,8 @@ ghost use Rattle.packet_record.specs.views.Flow.{stream_to};
 use packet_record::{FlowEnd, Item, Reach, Timed};
 use std::marker::Model;
 
-/// What a stream of items was, over the list of its packets that a state keeps. Contracts see it as a `Stream`.
+/// A stream of items by the list of its packets, which a state keeps, and how far it has come. Contracts see it as a
+/// `Stream`.
 #[derive(Drop)]
 pub struct StreamView<'a> {
     packets: &'a [Timed],

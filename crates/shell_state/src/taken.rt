@@ -1,7 +1,7 @@
-// What a take answers.
+// What a take of a state returns.
 use packet_record::Item;
 
-/// What a take answers.
+/// What a take returns.
 #[derive(Clone, Copy, PartialEq, Eq)]
 pub enum Taken {
     /// The next item of the stream of what leaves.

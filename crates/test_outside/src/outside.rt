@@ -61,6 +61,6 @@ impl TestOutside {
         printed: &str,
         files: &[(&str, &str)],
     ) -> bool {
-        conclude(answer, &mut self.out) == status && self.is_left(printed, files)
+        conclude(&answer, &mut self.out) == status && self.is_left(printed, files)
     }
 }

@@ -1,5 +1,5 @@
-//! Texts: bytes that grow, numbers, words, lines, and what is printed as a line; the limits that several crates share; and
-//! want of memory, the error of whatever takes some.
+//! Texts: bytes that grow, numbers, words, lines, and what is printed as a line; the limits that several crates share;
+//! and `OutOfMemory`, the error of whatever takes memory.
 #![tactic(auto)]
 
 mod bytes;

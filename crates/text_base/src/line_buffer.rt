@@ -37,7 +37,7 @@ impl LineBuffer {
         })
     }
 
-    /// Leaves none of the bytes.
+    /// Lets go of all bytes.
     pub fn clear(&mut self)
         ensures { self.new ≡ [] }
     {
@@ -54,7 +54,7 @@ impl LineBuffer {
         self.bytes[self.start] = byte;
     }
 
-    /// Puts these bytes in front.
+    /// Puts the bytes of `piece` in front.
     pub fn put(&mut self, piece: &[u8])
         requires { length piece.now + length self.old ≤ BUFFER_BYTES }
         ensures bytes { self.new ≡ piece.now ++ self.old }

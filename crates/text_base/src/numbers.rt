@@ -36,8 +36,8 @@ fn is_digit(byte: u8) -> bool
     48 <= byte && byte <= 57
 }
 
-/// The number that a text stands for. None exactly where the text isn't 1 to 10 ASCII digits. Leading zeros are
-/// accepted.
+/// The number that a text stands for. Returns `None` exactly where the text isn't 1 to 10 ASCII digits. Leading zeros
+/// are accepted.
 pub fn read_decimal(text: &[u8]) -> Option<u64>
     ensures { result ≡ decimal_of text.now }
 {
@@ -45,8 +45,8 @@ pub fn read_decimal(text: &[u8]) -> Option<u64>
     rest.is_empty().then_some(value)
 }
 
-/// The number that a text stands for, in the one way in which it is written. None exactly where `read_decimal`
-/// answers None, or more than one digit begins with a zero.
+/// The number that a text stands for, in the one way in which it is written. Returns `None` exactly where
+/// `read_decimal` does, or where more than one digit begins with a zero.
 pub fn read_canonical(text: &[u8]) -> Option<u64>
     ensures { result ≡ canonical_of text.now }
 {

@@ -1,7 +1,7 @@
-// Want of memory.
+// The error of whatever takes memory.
 use std::alloc::{AllocError, AllocFailed};
 
-/// Memory was wanting.
+/// Memory ran out.
 #[derive(Clone, Copy, Debug, PartialEq, Eq)]
 pub struct OutOfMemory;
 

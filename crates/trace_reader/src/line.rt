@@ -1,4 +1,4 @@
-// One line of a trace's text, read.
+// How one line of a trace's text is read.
 ghost use Rattle.std.specs.Prelude.{◌≡◌};
 ghost use Rattle.trace_reader.specs.TraceText.{said_of};
 

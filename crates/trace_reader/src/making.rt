@@ -10,8 +10,9 @@ use packet_record::Draws;
 use std::alloc::Global;
 use text_base::OutOfMemory;
 
-/// The trace that the generator makes of a number: 100 opportunities of 1504 bytes, each 1 to 3 milliseconds after the
-/// one before, the first after moment 0. Each takes one draw, which modulo 3 plus 1 is the milliseconds.
+/// The trace that the generator makes of `number`, or out of memory: 100 opportunities of 1504 bytes, each 1 to 3
+/// milliseconds after the one before, the first after moment 0. Each takes one draw, which modulo 3 plus 1 is the
+/// milliseconds.
 pub fn make_trace(alloc: Global, number: u64) -> Result<Trace, OutOfMemory>
     ensures form { IfOk result (λ trace. trace.form ≡ forms.Moments) }
     ensures moments { IfOk result (λ trace. map (λ o. o.moment) trace.opportunities ≡ made_moments number) }

@@ -1,4 +1,4 @@
-// Traces written as text.
+// How a trace is written as text.
 ghost use Rattle.std.specs.Prelude.{◌≡◌, ◌≤◌, ◌++◌, ◌∷◌, [], IfOk, OnOk, decimal};
 ghost use Rattle.trace_reader.specs.TraceText.{line_of, header_text, trace_text, IsTraceText};
 
@@ -42,7 +42,7 @@ fn write_line(out: &mut Bytes, form: Form, o: Opportunity) -> Result<(), OutOfMe
     out.push(b'\n')
 }
 
-// No fewer bytes than the text has.
+// An upper bound of how many bytes the text has.
 fn length_of(list: &[PackedOpportunity]) -> usize {
     let mut length = 13usize;
     for packed in list {

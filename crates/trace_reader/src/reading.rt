@@ -1,4 +1,4 @@
-// Traces read from their text.
+// How a trace is read from its text.
 ghost use Rattle.std.specs.Prelude.{◌≡◌, ◌≢◌, ◌≤◌, ◌<◌, ◌+◌, ◌/◌, ◌∷◌, ℕ, List, Option, Some, None, MatchResult, IfOk};
 ghost use Rattle.std.specs.Prelude.{OnOk, length};
 ghost use Rattle.trace_reader.specs.declared.reading.TraceError.TheVariants as errors;
@@ -31,14 +31,14 @@ pub enum TraceError {
     TooManyLines,
     /// The bytes are below 1 or above 1,000,000.
     BadBytes { line: u32 },
-    /// Memory was wanting. The text wasn't refused.
+    /// Memory ran out. The text wasn't refused.
     OutOfMemory,
 }
 
 impl TraceError {
     ghost use Rattle.trace_reader.specs.Reading.{number_of, place_of};
 
-    /// The number of the refusal, 1 to 6 in the order of the variants, or 0 for want of memory.
+    /// The number of the refusal, 1 to 6 in the order of the variants, or 0 for out of memory.
     pub fn number(self) -> u32
         ensures { result ≡ number_of self }
     {
@@ -94,8 +94,8 @@ impl<T: Drop> From<AllocFailed<T>> for TraceError {
 }
 
 /// The trace of which this is a text. A text whose first line is `# mm-trace 2` states the bytes of each opportunity;
-/// in any other each line is a moment alone. It is refused by the first refusal of its lines, or where memory is
-/// wanting.
+/// in any other each line is a moment alone. Returns the first refusal of its lines, or `OutOfMemory` where memory
+/// runs out.
 pub fn read_trace(alloc: Global, text: &[u8]) -> Result<Trace, TraceError>
     ensures found { IfOk result (λ trace. IsTraceText text.now trace) }
     ensures every { (t : TraceView) → IsTraceText text.now t
@@ -130,7 +130,7 @@ fn read_text(alloc: Global, text: &[u8]) -> Result<Trace, TraceError>
     Ok(Trace::from_list(form, list)?)
 }
 
-// How many opportunities the trace of a text of so many bytes has at most: a line has no fewer than a byte and its line
+// How many opportunities the trace of a text of `bytes` bytes has at most: a line has no fewer than a byte and its line
 // feed.
 #[tactic(auto, using(crate::proofs::RoomLemmas::opportunities_fit))]
 fn most_lines(bytes: usize) -> usize
@@ -153,7 +153,7 @@ fn open(text: &[u8]) -> (Form, Lines<'_>)
     }
 }
 
-// The opportunity of a line, after so many, of which the last is at this moment.
+// The opportunity of a line, behind `count` opportunities, the last of them at the moment `low`.
 fn next_opportunity(
     form: Form,
     count: usize,

@@ -104,7 +104,7 @@ impl Trace {
         })
     }
 
-    /// How many opportunities have moments up to `h`, by whole laps and a search in one lap.
+    /// How many opportunities are at the moment `h` or earlier, by whole laps and a search in one lap.
     #[tactic(auto, using(crate::proofs::Counts::count_once, crate::proofs::Counts::count_laps, crate::proofs::Counts::count_fits))]
     pub fn count_to(&self, h: u64, once: bool) -> u64
         requires { h ≤ 10000000000 }
@@ -121,8 +121,8 @@ impl Trace {
         h / lap * list.len() as u64 + count_up_to(list, h % lap)
     }
 
-    /// The same trace, which shares its list and copies none of it. `OutOfMemory` comes only beyond the greatest number
-    /// of owners that a list can count.
+    /// The same trace, which shares its list and copies none of it. It runs out of memory only beyond the greatest
+    /// number of owners that a list can count.
     pub fn copy(&self) -> Result<Trace, OutOfMemory>
         ensures { IfOk result (λ t. t ≡ self.now) }
     {

@@ -1,32 +1,35 @@
-// A bell, at which one thread sleeps until another one rings.
+// A bell: a thread sleeps at it until another one rings.
 use std::sync::Wait;
 use std::sync::atomic::{AtomicU64, Ordering};
 use std::time::Duration;
 
-/// How often one who waits looks, with a hint of spinning after each look, before it sleeps: about a microsecond.
+/// How often one who waits looks before it sleeps. It hints that it spins after each look, and all looks take about a
+/// microsecond.
 pub const LOOKS: u32 = 20;
 
-// A sleep ends by itself after a millisecond, and after twice as long as the one before where nobody rang meanwhile, up
-// to 2^6 milliseconds. So what is less than a batch comes a little late where the thread that did it waits elsewhere.
+// A sleep ends by itself after a millisecond, and each sleep is twice as long as the one before, up to 2^6
+// milliseconds, until a sleeper finds what it looked for. So what is less than a batch comes a little late where the
+// thread that did it waits elsewhere.
 const DOUBLINGS: u64 = 6;
 
-/// Where a thread sleeps until another one has enough for it. To sleep it calls `listen`, then looks whether it has to
-/// wait, and then calls `sleep`, or `leave` where it needn't.
+/// A bell at which a thread sleeps until another one has enough for it. To sleep, a thread calls `listen`, then looks
+/// whether it must wait, and then calls `sleep`, or `leave` where it needn't.
 ///
-/// No wake is lost. A sleeper is counted before it looks, and what it looks for is done before it is asked whether
-/// somebody sleeps: so the sleeper finds it, or it is seen. A ring between its look and its sleep has raised the count
-/// of rings, which the system compares before it lets the sleeper sleep. Sleepers are counted and not marked by a flag
-/// that a ring clears: each takes itself off once it is awake, so one who was rung for and sleeps on is still seen.
+/// No wake is lost. A sleeper is counted before it looks, and whoever rings has done what the sleeper looks for before
+/// it asks whether anyone sleeps. So either the sleeper finds it, or the sleeper is seen. A ring between a look and the
+/// sleep has raised the count of rings, which the system compares before it lets the sleeper sleep. Sleepers are
+/// counted, and not marked by a flag that a ring clears. Each takes itself off once it is awake, so one who was rung
+/// for and sleeps on is still seen.
 #[derive(Drop)]
 pub struct Bell {
     rings: AtomicU64,
     sleepers: AtomicU64,
-    // How many sleeps began since somebody rang, or found what he looked for.
+    // How many sleeps began since the last one who listened found what it looked for.
     naps: AtomicU64,
 }
 
 impl Bell {
-    /// A bell that wasn't rung, at which nobody sleeps.
+    /// A bell at which nobody sleeps, and which wasn't rung.
     pub fn new() -> Bell {
         Bell {
             rings: AtomicU64::new(0),
@@ -35,14 +38,14 @@ impl Bell {
         }
     }
 
-    /// Counts the caller as a sleeper, and answers the rings so far, which `sleep` is given.
+    /// Counts the caller as a sleeper, and returns the number of rings so far, which `sleep` takes.
     pub fn listen(&self) -> u64 {
         self.sleepers.fetch_add(1, Ordering::SeqCst);
         self.rings.load(Ordering::SeqCst)
     }
 
-    /// Sleeps until the bell was rung since the caller listened, or for 1 to 64 milliseconds. It may return early. The
-    /// caller is a sleeper no longer.
+    /// Sleeps until the bell is rung after the caller's `listen`, which returned `heard`, or for 1 to 64 milliseconds.
+    /// It may return early. The caller is no longer counted as a sleeper.
     pub fn sleep<R: Wait>(&self, rt: &R, heard: u64) {
         let naps = self.naps.fetch_add(1, Ordering::SeqCst);
         let nap = Duration::from_millis(1 << naps.min(DOUBLINGS));
@@ -50,18 +53,18 @@ impl Bell {
         self.sleepers.fetch_sub(1, Ordering::SeqCst);
     }
 
-    /// The caller, which listened, has found what it looked for, and is a sleeper no longer.
+    /// The caller, which called `listen`, has found what it looked for. It is no longer counted as a sleeper.
     pub fn leave(&self) {
         self.naps.store(0, Ordering::SeqCst);
         self.sleepers.fetch_sub(1, Ordering::SeqCst);
     }
 
-    // Whether somebody sleeps, or is about to.
+    // Returns whether anyone sleeps, or is about to.
     pub(crate) fn has_sleeper(&self) -> bool {
         self.sleepers.load(Ordering::SeqCst) > 0
     }
 
-    // Wakes whoever sleeps.
+    // Wakes all who sleep.
     pub(crate) fn ring(&self) {
         self.rings.fetch_add(1, Ordering::SeqCst);
         self.rings.wake_all();

@@ -1,21 +1,22 @@
-// One who rings a bell for others.
+// Rings a bell after each batch of things.
 use crate::bell::Bell;
 
-/// One who rings a bell once it has done a batch of things for whoever sleeps there.
+/// Rings a bell once it has done a batch of things for whoever sleeps there.
 #[derive(Drop)]
 pub struct Ringer {
+    // How many things make a batch.
     batch: u32,
-    // How much it has done since it saw a sleeper, and hasn't rung.
+    // How many things it has done for a sleeper since it last rang.
     owed: u32,
 }
 
 impl Ringer {
-    /// Rings once so much was done.
+    /// A ringer whose batch is `batch` things.
     pub fn new(batch: u32) -> Ringer {
         Ringer { batch, owed: 0 }
     }
 
-    /// One thing was done for whoever sleeps. Rings where that makes a batch.
+    /// Counts one thing that was done for whoever sleeps, and rings where that makes a batch.
     pub fn add(&mut self, bell: &Bell) {
         if !bell.has_sleeper() {
             self.owed = 0;
@@ -28,7 +29,7 @@ impl Ringer {
         }
     }
 
-    /// The last thing was done for whoever sleeps. Rings.
+    /// Rings after the last thing was done for whoever sleeps.
     pub fn end(&mut self, bell: &Bell) {
         self.owed = 0;
         if bell.has_sleeper() {

@@ -1,4 +1,4 @@
--- Beside Frames, for proofs alone: the state of a reader of messages, and what its answers say.
+-- For proofs alone: what a reader keeps of a message whose head was read, and what each of its steps says.
 use Rattle.std.specs.Prelude.{◌≡◌, ℕ, ◌+◌, ◌≤◌, length, Bool, List, drop, take, Option, Some, None, Result}
 use Rattle.std.specs.Prelude.{Ok, Err}
 use Rattle.http_frame.specs.Forms.{Form}
@@ -19,10 +19,11 @@ use Rattle.http_frame.specs.declared.pending.Outcome.{Outcome}
 use Rattle.http_frame.specs.declared.pending.Outcome.TheVariants as outcomes
 use Rattle.http_frame.specs.Frames.{Frames, StaysOpen, BeginsMessage, MoreCause, FaultCause, Fails}
 
--- going on with a body
+-- The pending message is kept, and its body will be read on at `place`.
 pub record KeepsPlace {Said : Type 0} (p : Pending Said) (place : ℕ) (q : Option (Pending Said)) : Type 0 where
   pub same : q ≡ Some (record { head = p.head; len = p.len; framing = p.framing; place = place })
 
+-- What each result of reading on with a body says.
 abbrev pub FinishSays : {Said : Type 0} → Bool → List ℕ → Pending Said → Option (Pending Said) → Outcome Said → Type 0
 FinishSays ended bytes p q (outcomes.Message m) =
     (q ≡ None) × (m.head ≡ p.head) × (k : ℕ) × (m.len ≡ p.len + k)
@@ -41,12 +42,13 @@ FinishSays ended bytes p q (outcomes.Fault BodyTooLong) = (q ≡ Some p)
 FinishSays ended bytes p q (outcomes.Fault Refused) = ⊥
 
 module _ {Tree Said Message : Type 0} (form : Form Tree Said Message) where
-  -- the reader knows a head, and how far its body was read
+  -- The pending head is at the front of the unread bytes, and its body may be read on at the kept place.
   abbrev pub IsPending : List ℕ → Option (Pending Said) → Type 0
   IsPending unread None = Unit {0}
   IsPending unread (Some p) = IsHeadRead form unread p.len p.framing p.head
       × MayGoOn p.framing (drop p.len unread) p.place
 
+  -- What each result of reading on with a message says.
   abbrev pub AdvanceSays : Bool → List ℕ → Option (Pending Said) → Result (Outcome Said) OutOfMemory → Type 0
   AdvanceSays ended bytes p (Ok (outcomes.Message m)) = (p ≡ None) × (m.len ≤ length bytes)
       × BeginsMessage form ended bytes m.head (take m.len bytes)
@@ -54,7 +56,7 @@ module _ {Tree Said Message : Type 0} (form : Form Tree Said Message) where
   AdvanceSays ended bytes p (Ok (outcomes.Fault e)) = IsPending bytes p × FaultCause form ended bytes e
   AdvanceSays ended bytes p (Err e) = IsPending bytes p
 
-  -- what is at the front, which stays there
+  -- What each result of finding the first message says. The message stays at the front.
   abbrev pub FindSays : Frames → Result (Step (Found Said)) FrameFault → Frames → Type 0
   FindSays old (Ok (steps.Message m)) new =
       StaysOpen old new × (m.len ≤ length old.unread)

@@ -1,4 +1,4 @@
--- Beside Heads, for proofs alone: when which answer about a head comes.
+-- For proofs alone: what each result of reading a head says.
 use Rattle.std.specs.Prelude.{◌≡◌, ℕ, List, Option, Some, None, Ok, Err}
 use Rattle.http_frame.specs.Forms.{Form}
 use Rattle.http_frame.specs.Window.{IsBelow, HasAllLines, HasAllBytes}
@@ -9,7 +9,7 @@ use Rattle.http_frame.specs.declared.head.HeadStep.{HeadStep}
 use Rattle.http_frame.specs.declared.head.HeadStep.TheVariants as steps
 use Rattle.http_frame.specs.Heads.{IsHeadRead, AwaitsHead, HeadFault}
 
--- the limit that the bytes reach where no head within the limits stands at their front
+-- The limit that the bytes reach, if they reach one.
 abbrev pub LimitCause : List ℕ → Option FrameError → Type 0
 LimitCause bytes (Some BadHead) = ⊥
 LimitCause bytes (Some HeadTooLong) = HasAllBytes 102 bytes
@@ -22,12 +22,13 @@ LimitCause bytes (Some Refused) = ⊥
 LimitCause bytes None = IsBelow 102 bytes
 
 module _ {Tree Said Message : Type 0} (form : Form Tree Said Message) where
-  -- what an answer says, where the bytes begin with that head
+  -- What the result says of the head `h`, of `len` bytes, with which the bytes begin.
   abbrev pub SaysHead : Tree → ℕ → HeadStep Said → Type 0
   SaysHead h len (steps.Head r) = (form.rule h ≡ Ok r.framing) × (r.head ≡ form.said r.framing h) × (r.len ≡ len)
   SaysHead h len steps.More = ⊥
   SaysHead h len (steps.Fault e) = form.rule h ≡ Err e
 
+  -- What each result of reading a head says of the bytes.
   abbrev pub HeadCause : List ℕ → HeadStep Said → Type 0
   HeadCause bytes (steps.Head r) = IsHeadRead form bytes r.len r.framing r.head
   HeadCause bytes steps.More = AwaitsHead form bytes

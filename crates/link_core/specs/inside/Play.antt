@@ -1,10 +1,10 @@
--- For proofs alone: a link that goes over all its arrivals, and what is still to come of its log.
+-- For proofs alone: a link that goes over all its arrivals and the first `last` opportunities.
 use Rattle.std.specs.Prelude.{◌≡◌, ℕ, ◌+◌, ◌-◌, ◌≤◌, ◌++◌, List, [], ◌∷◌, length, take}
 use Rattle.packet_record.specs.declared.packet.Timed.{Timed}
 use Rattle.packet_record.specs.Moments.{AreUpTo, Rise}
 use Rattle.trace_reader.specs.declared.opportunity.Opportunity.{Opportunity}
 use Rattle.link_core.specs.declared.parts.Parts.{Parts}
-use Rattle.link_core.specs.Promises.{count_to}
+use Rattle.link_core.specs.Promises.{count_to, AreCovered}
 use Rattle.link_core.specs.Links.{link_out, link_log}
 use Rattle.link_core.specs.views.Span.{span_opps}
 use Rattle.link_core.specs.inside.Sound.{Gone}
@@ -15,25 +15,29 @@ IsInTime os b [] = Unit {0}
 IsInTime os b (t ∷ ts) = b ≤ count_to os t.moment
 
 -- where b opportunities are burnt, these packets were let in and those are to come
-pub record IsPlayable (os : List Opportunity) (horizon b : ℕ) (come coming : List Timed) : Type 0 where
+pub record IsPlayable (os : List Opportunity) (horizon last b : ℕ) (come coming : List Timed) : Type 0 where
   pub rises : Rise (come ++ coming)
   pub within : AreUpTo horizon (come ++ coming)
   pub in_time : IsInTime os b coming
+  pub covered : AreCovered os last coming
+  pub few : last ≤ length os
+  pub so_far : b ≤ last
 
-abbrev pub CanPlay : Parts → Type 0
-CanPlay c = IsPlayable (span_opps c.opportunities) c.opportunities.horizon c.burnt c.arrived.come c.arrived.coming
+abbrev pub CanPlay : ℕ → Parts → Type 0
+CanPlay last c = IsPlayable (span_opps c.opportunities) c.opportunities.horizon last c.burnt c.arrived.come
+    c.arrived.coming
 
--- all arrivals are in, and all opportunities are burnt
-pub record IsPlayed (c : Parts) : Type 0 where
+-- all arrivals are in, and the first `last` opportunities are burnt
+pub record IsPlayed (last : ℕ) (c : Parts) : Type 0 where
   pub all_in : c.arrived.coming ≡ []
-  pub all_burnt : c.burnt ≡ length (span_opps c.opportunities)
+  pub all_burnt : c.burnt ≡ last
 
 abbrev pub all_arrivals : Parts → List Timed
 all_arrivals c = c.arrived.come ++ c.arrived.coming
 
 -- how many steps there may be
-abbrev pub work : Parts → ℕ
-work c = length c.arrived.coming + (length (span_opps c.opportunities) - c.burnt)
+abbrev pub work : ℕ → Parts → ℕ
+work last c = length c.arrived.coming + (last - c.burnt)
 
 -- all but the last so many
 abbrev pub without_last : {X : Type 0} → List X → List X → List X

@@ -1,18 +1,27 @@
--- The bytes that a relay keeps until their packets leave.
-use Rattle.std.specs.Prelude.{◌≡◌, ◌<◌, ℕ, ◌-◌, List, [], ◌∷◌, length, get_or}
-use Rattle.live_relay.specs.declared.kept.Piece.{Piece}
+-- The bytes that a relay keeps while their packets may still leave.
+use Rattle.std.specs.Prelude.{◌≡◌, ◌<◌, ℕ, ◌-◌, List, [], Bool, Option, Some, length, get_or, nat_eq}
+use Rattle.std.specs.HashMap.{get}
+use Rattle.packet_record.specs.declared.packet.Packet.{Packet}
+use Rattle.live_relay.specs.declared.kept.Kept.{Kept}
 use Rattle.live_relay.specs.declared.stamps.Stamps.{Stamps}
 
--- its bytes are those that were received as the packet of its number
-pub record IsPiece (all : List (List ℕ)) (p : Piece) : Type 0 where
-  pub within : p.number - 1 < length all
-  pub bytes : p.bytes ≡ get_or all (p.number - 1) []
+-- the bytes that are kept of the packet of this number
+abbrev pub kept_at : Kept → ℕ → Option (List ℕ)
+kept_at k n = get nat_eq k.pieces n
 
-abbrev pub Keeps : List (List ℕ) → List Piece → Type 0
-Keeps all [] = Unit {0}
-Keeps all (p ∷ pieces) = IsPiece all p × Keeps all pieces
+-- a packet of this number
+abbrev pub has_number : ℕ → Packet → Bool
+has_number n p = nat_eq p.id n
+
+-- These are the bytes that were received as the packet of this number.
+pub record IsPiece (all : List (List ℕ)) (n : ℕ) (bytes : List ℕ) : Type 0 where
+  pub within : n - 1 < length all
+  pub bytes_are : bytes ≡ get_or all (n - 1) []
+
+abbrev pub Keeps : List (List ℕ) → Kept → Type 0
+Keeps all k = (n : ℕ) (bytes : List ℕ) → kept_at k n ≡ Some bytes → IsPiece all n bytes
 
 -- what is kept in both directions
 pub record KeepsBoth (all : List (List ℕ)) (s : Stamps) : Type 0 where
-  pub up : Keeps all s.up.pieces.items
-  pub down : Keeps all s.down.pieces.items
+  pub up : Keeps all s.up
+  pub down : Keeps all s.down

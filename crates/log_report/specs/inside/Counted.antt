@@ -1,11 +1,11 @@
--- Beside Counted, for proofs alone: what counts of delays stand for.
+-- For proofs alone: counts of delays once the long ones are sorted.
 use Rattle.std.specs.Prelude.{◌≡◌, ℕ, ◌<◌, List, length, slice_index}
 use Rattle.std.specs.Prelude.{IsPermutation, IsSorted}
 use Rattle.std.specs.Ordering.{nat_cmp}
 use Rattle.log_report.specs.declared.delays.DelayCounts.{DelayCounts}
 use Rattle.log_report.specs.Counted.{times, long_ones}
 
--- the same, with the long ones in order
+-- The counts are those of the delays, and the long delays are sorted.
 pub record AreRanked (delays : List ℕ) (c : DelayCounts) : Type 0 where
   pub count : c.count ≡ length delays
   pub short : (d : ℕ) → d < 65536 → slice_index c.short.items d ≡ times delays d

@@ -1,10 +1,10 @@
--- Beside Ends, for proofs alone: what contracts see of an end of a channel.
+-- For proofs alone: an end after one more item.
 use Rattle.std.specs.Prelude.{[], ◌∷◌, ◌++◌}
 use Rattle.packet_record.specs.declared.item.Item.{Item}
 use Rattle.packet_record.specs.Streams.{after, MayFollow, IsUpTo}
 use Rattle.mark_channel.specs.Ends.{End}
 
--- an end through which one more item went
+-- The end after the item `x` went through.
 abbrev pub with_item : End → Item → End
 with_item e x = record {
   flow = after e.flow x;
@@ -13,6 +13,6 @@ with_item e x = record {
   channel = e.channel;
 }
 
--- the item may go through the end next
+-- The item may go through the end next, and is within the horizon.
 abbrev pub MayPass : End → Item → Type 0
 MayPass e x = MayFollow e.flow x × IsUpTo e.horizon x

@@ -1,4 +1,4 @@
--- Beside Stages, for proofs alone: a shell of a world, and what its feeder and its drain do.
+-- For proofs alone: what the feeder of a stage may feed, and when its drain takes.
 use Rattle.std.specs.Prelude.{Bool, true, false, Option, Some, None, IfSome}
 use Rattle.packet_record.specs.Streams.{MayFollow, IsUpTo}
 use Rattle.packet_record.specs.declared.item.Item.{Item}
@@ -10,16 +10,17 @@ use Rattle.shell_state.specs.Steps.{answer_of}
 use Rattle.nest_core.specs.declared.stage.Stage.{Stage}
 use Rattle.nest_core.specs.Stages.{most}
 
--- what the feeder holds may be fed
+-- What the feeder holds may be fed.
 abbrev pub MayFeed : Stage → Type 0
 MayFeed s = IfSome s.feeder (λ item. MayFollow s.state.fed item × IsUpTo s.state.horizon item)
 
--- whether a take gave anything
+-- A take gave an item or burnt opportunities.
 abbrev pub goes_on : Taken → Bool
 goes_on (Gives item) = true
 goes_on (Again burnt) = true
 goes_on (NotYet bound) = false
 
+-- A drain that holds `held` and whose taken stream is at `end` would take something.
 abbrev pub takes_where : Option Item → FlowEnd → Stage → Bool
 takes_where (Some item) end s = false
 takes_where None Open s = goes_on (answer_of s.state most)

@@ -1,4 +1,4 @@
--- How the streams of a world meet.
+-- For proofs alone: how the streams of a world fit each other.
 use Rattle.std.specs.Prelude.{◌≡◌, ◌≤◌, ℕ, false, List, [], ◌∷◌, ◌++◌, length, option_to_list}
 use Rattle.packet_record.specs.declared.item.Item.{Item}
 use Rattle.packet_record.specs.declared.item.Stream.{Stream}
@@ -12,18 +12,19 @@ use Rattle.nest_core.specs.Channels.{ChannelParts}
 use Rattle.nest_core.specs.Worlds.{WorldParts}
 use Rattle.nest_core.specs.Promises.{source_stream}
 
--- what came, and then these items, is the whole stream, and they may follow
+-- `got`, and then `items`, is the stream `whole`, and `items` may follow `got`.
 pub record Arrives (h : ℕ) (whole got : Stream) (items : List Item) : Type 0 where
   pub is : after_all got items ≡ whole
   pub honest : AllFollow h got items
 
+-- The shell's state is sound, has the horizon `h`, and isn't broken.
 pub record StageStands (h : ℕ) (s : Stage) : Type 0 where
   pub stands : Stands s.state
   pub horizon : s.state.horizon ≡ h
   pub unbroken : s.state.broken ≡ false
 
--- The stream of what is or will be sent into this channel, the last of it these items, arrives at the first
--- shell; what was taken of each shell arrives at the next, and of the last at the collector.
+-- The stream `whole` is sent into the channel, the last of it being `rest`, and arrives at the first shell. What is
+-- taken from each shell arrives at the next, and from the last at the collector.
 abbrev pub LineStands : ℕ → Stream → ChannelParts → List Item → List Stage → Stream → Type 0
 LineStands h whole channel rest [] collected =
     Arrives h whole collected (channel.items ++ rest) × (1 ≤ channel.capacity)
@@ -32,12 +33,13 @@ LineStands h whole channel rest (s ∷ stages) collected =
     × StageStands h s
     × LineStands h s.state.taken s.channel (option_to_list s.drain) stages collected
 
+-- What is true of every world: its source's stream ends, its streams fit each other, and it has at most 8 shells.
 pub record WorldStands (w : WorldParts) : Type 0 where
   pub ended : (source_stream w).end ≡ Ended
   pub line : LineStands w.horizon (source_stream w) w.line.channel w.unsent w.line.stages w.line.collected
   pub few : length w.line.stages ≤ 8
 
--- the states of these directions stand before anything reached them
+-- A new state of each shell is sound.
 abbrev pub StandAnew : ℕ → List DirSpec → Type 0
 StandAnew h [] = Unit {0}
 StandAnew h (c ∷ specs) = Stands (new_state c h) × StandAnew h specs

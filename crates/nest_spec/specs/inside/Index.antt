@@ -1,26 +1,26 @@
--- The places of the rows by their numbers.
+-- For proofs alone: where the row of each number stands.
 use Rattle.std.specs.Prelude.{◌≡◌, ◌≢◌, ◌<◌, ◌+◌, ℕ, List, Some, length, get_or, nat_eq}
 use Rattle.std.specs.declared.hash.FoldHasher.{FoldHasher}
 use Rattle.std.specs.declared.hash.BuildHasherDefault.{BuildHasherDefault}
 use Rattle.std.specs.HashMap.{get, HashMap}
 use Rattle.packet_record.specs.declared.packet.Row.{Row}
 
--- the number of each row leads to its place, and no other number leads anywhere
+-- The index leads from the number of each row to the row's place, and from no other number.
 pub record IsIndex (rows : List Row) (index : HashMap ℕ ℕ (BuildHasherDefault FoldHasher)) : Type 0 where
   pub leads : (i : ℕ) (d : Row) → i < length rows → get nat_eq index (get_or rows i d).timed.packet.id ≡ Some i
   pub within : (id i : ℕ) → get nat_eq index id ≡ Some i → i < length rows
   pub only : (id i : ℕ) (d : Row) → get nat_eq index id ≡ Some i → (get_or rows i d).timed.packet.id ≡ id
 
--- no row has this number
+-- No row has the number `id`.
 abbrev pub IsNowhere : List Row → ℕ → Type 0
 IsNowhere rows id = (j : ℕ) (d : Row) → j < length rows → (get_or rows j d).timed.packet.id ≢ id
 
--- the row at this place, and no other, has this number
+-- The row at the place `i` has the number `id`, and no other row has it.
 pub record IsOnlyAt (rows : List Row) (id i : ℕ) : Type 0 where
   pub within : i < length rows
   pub here : (d : Row) → (get_or rows i d).timed.packet.id ≡ id
   pub others : (j : ℕ) (d : Row) → j < length rows → j ≢ i → (get_or rows j d).timed.packet.id ≢ id
 
--- the numbers are 1, 2, 3 and on
+-- The rows are numbered 1, 2, 3 and so on.
 abbrev pub AreFromOne : List Row → Type 0
 AreFromOne rows = (i : ℕ) (d : Row) → i < length rows → (get_or rows i d).timed.packet.id ≡ i + 1

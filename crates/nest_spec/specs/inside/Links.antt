@@ -1,8 +1,9 @@
--- Beside Links, for proofs alone: what holds of the directions of a nest's shells.
+-- For proofs alone: the shells of a direction as they were made.
 use Rattle.std.specs.Prelude.{List, [], ◌∷◌}
 use Rattle.shell_core.specs.declared.spec.DirSpec.{DirSpec}
 use Rattle.shell_core.specs.Shells.{IsBuilt}
 
+-- `IsBuilt` is true of each shell.
 abbrev pub AreBuilt : List DirSpec → Type 0
 AreBuilt [] = Unit {0}
 AreBuilt (c ∷ specs) = IsBuilt c × AreBuilt specs

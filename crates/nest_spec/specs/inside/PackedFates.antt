@@ -1,9 +1,9 @@
--- For proofs alone: fates as they are kept in 12 bytes.
+-- For proofs alone: which fates 12 bytes can hold.
 use Rattle.std.specs.Prelude.{◌≤◌}
 use Rattle.nest_spec.specs.declared.fate.Fate.{Fate}
 use Rattle.nest_spec.specs.declared.fate.Fate.TheVariants as fates
 
--- its moment, if it has one, is one of a run
+-- The moment of the fate, if it has one, is at most an hour.
 abbrev pub IsShort : Fate → Type 0
 IsShort (fates.Departed moment) = moment ≤ 3600000
 IsShort (fates.Dropped shell moment) = moment ≤ 3600000

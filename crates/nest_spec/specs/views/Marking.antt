@@ -1,6 +1,7 @@
--- A marking as its callers see it.
+-- A marking as contracts see it.
 use Rattle.nest_spec.specs.Marks.{Marks, marks}
 use Rattle.nest_spec.specs.declared.marking.Marking.TheInside.{Inside}
 
+-- The rows, and their fates.
 abbrev pub marking_view : Inside → Marks
 marking_view m = marks m.rows.now m.list.items

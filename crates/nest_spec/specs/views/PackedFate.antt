@@ -1,4 +1,4 @@
--- Fates as they are kept in 12 bytes. A fate in 12 bytes as its callers see it.
+-- A fate in 12 bytes as contracts see it: the packet's number, direction and fate.
 use Rattle.std.specs.Prelude.{ℕ, ◌==◌, if◌then◌else◌}
 use Rattle.std.specs.Prelude.{◌/◌, ◌%◌, nat_lt, if◌then◌else◌}
 use Rattle.nest_spec.specs.declared.fate.Fate.{Fate}
@@ -7,13 +7,14 @@ use Rattle.packet_record.specs.declared.packet.Direction.TheVariants.{Up, Down}
 use Rattle.nest_spec.specs.declared.fate.FateRow.{FateRow}
 use Rattle.nest_spec.specs.declared.packed_fate.PackedFate.TheInside.{Inside}
 
--- the fate of a kind, with this shell and this moment where it has them
+-- The fate of a kind (0 departed, 1 dropped, 2 inside, else unsent), with `shell` and `moment` where it has them.
 abbrev pub fate_at : ℕ → ℕ → ℕ → Fate
 fate_at kind shell moment =
     if kind == 0 then fates.Departed moment
     else (if kind == 1 then fates.Dropped shell moment
     else (if kind == 2 then fates.Inside shell else fates.Unsent))
 
+-- `number` holds eight times the moment, 4 for down, and the kind.
 abbrev pub packed_view : Inside → FateRow
 packed_view p = record {
   id = p.id;

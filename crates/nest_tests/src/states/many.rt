@@ -1,4 +1,4 @@
-// Ten thousand packets through a state of each kind, and at once over the whole list.
+// Tests of ten thousand packets that go through a state of each kind of shell, compared with a run over the whole list.
 ghost use Rattle.std.specs.Prelude.{◌≡◌, ◌≤◌};
 
 use super::{feed, is_over, state_of, take_one};
@@ -13,9 +13,10 @@ use std::alloc::Global;
 use std::process::Abort;
 use text_base::OutOfMemory;
 
-// More takes than there is ever something to take.
+// More takes than ever give anything.
 const MOST_TAKES: u32 = 100_000;
 
+// Returns whether there is nothing to take yet.
 fn waits(answer: Taken) -> bool {
     match answer {
         Taken::NotYet { bound: _ } => true,
@@ -23,7 +24,7 @@ fn waits(answer: Taken) -> bool {
     }
 }
 
-// Whether there may be more to take after this answer.
+// Returns whether there may be more to take after `answer`.
 fn goes_on(answer: Option<Taken>) -> bool {
     match answer {
         Some(answer) => !waits(answer),
@@ -31,8 +32,8 @@ fn goes_on(answer: Option<Taken>) -> bool {
     }
 }
 
-// Takes until there is nothing to take yet, or all was taken, and not more often than this. Each take burns at most so
-// many opportunities.
+// Takes until there is nothing to take yet or the end was taken, at most `most` times. Each take burns at most `burn`
+// opportunities.
 fn drain(state: &mut ShellState, most: u32, burn: u32) -> Result<(), OutOfMemory>
     requires horizon { state.old.horizon ≡ 1000 }
     requires some { 1 ≤ burn }
@@ -46,8 +47,8 @@ fn drain(state: &mut ShellState, most: u32, burn: u32) -> Result<(), OutOfMemory
     Ok(())
 }
 
-// Feeds the packets one by one, takes at most so often after each, and all after the end, as much at once as can be
-// where nothing was taken before. False: one was refused.
+// Feeds the packets one by one, takes at most `most` times after each, and takes all after the end. Where `most` is 0 a
+// take burns as many opportunities as it can. Returns false where a packet was refused.
 fn pass(state: &mut ShellState, packets: &[Timed], most: u32) -> Result<bool, OutOfMemory>
     requires { state.old.horizon ≡ 1000 }
 {
@@ -65,7 +66,7 @@ fn pass(state: &mut ShellState, packets: &[Timed], most: u32) -> Result<bool, Ou
     Ok(true)
 }
 
-// Whether all packets pass a state, from which is taken at most so often after each.
+// Returns whether no packet is refused by a state from which at most `most` takes are made after each.
 fn pass_all(rt: &impl Abort, alloc: Global, state: &mut ShellState, most: u32) -> bool
     requires { state.old.horizon ≡ 1000 }
 {
@@ -73,7 +74,7 @@ fn pass_all(rt: &impl Abort, alloc: Global, state: &mut ShellState, most: u32) -
     pass(state, &packets, most).expect(rt, "memory")
 }
 
-// The packets through a state, from which is taken at most so often after each.
+// Returns what becomes of the packets that go through a state, from which at most `most` takes are made after each.
 fn one_by_one(rt: &impl Abort, alloc: Global, kind: Kind, most: u32) -> Passage {
     let mut state = state_of(rt, alloc, kind, 1000);
     check(rt, pass_all(rt, alloc, &mut state, most), "no refusal");
@@ -81,14 +82,14 @@ fn one_by_one(rt: &impl Abort, alloc: Global, kind: Kind, most: u32) -> Passage 
     state.into_passage().expect(rt, "memory")
 }
 
-// The packets over the whole list.
+// Returns what becomes of the packets where the shell runs over the whole list.
 fn at_once(rt: &impl Abort, alloc: Global, kind: Kind) -> Passage {
     let packets = in_order(rt, alloc, 1000, &many_packets(rt, alloc));
     let direction = direction_of(rt, alloc, kind, 1000);
     run_whole(alloc, direction, 1000, packets).expect(rt, "memory")
 }
 
-// Whether the same packets departed, were lost and stay inside, and both or neither have a log.
+// Returns whether the same packets departed, were lost and stay inside, and both passages or neither have a log.
 fn are_same(one: &Passage, other: &Passage) -> bool {
     one.departed.as_slice() == other.departed.as_slice()
         && one.lost.as_slice() == other.lost.as_slice()
@@ -96,7 +97,7 @@ fn are_same(one: &Passage, other: &Passage) -> bool {
         && one.log.is_some() == other.log.is_some()
 }
 
-// The log of a passage, written out. Only links have one: that of another direction is empty.
+// Returns the log of a passage, written out, or an empty one where it has none.
 fn log_of(rt: &impl Abort, alloc: Global, passage: Passage) -> Log {
     let log = passage.log;
     match log {
@@ -105,13 +106,13 @@ fn log_of(rt: &impl Abort, alloc: Global, passage: Passage) -> Log {
     }
 }
 
-// Whether the logs of two passages have the same entries.
+// Returns whether the logs of two passages have the same entries.
 fn have_same_log(rt: &impl Abort, alloc: Global, one: Passage, other: Passage) -> bool {
     let one = log_of(rt, alloc, one);
     one.entries() == log_of(rt, alloc, other).entries()
 }
 
-// How many packets depart, are lost and stay inside.
+// Returns how many packets departed, were lost and stay inside.
 fn counts(passage: &Passage) -> [usize; 3] {
     [
         passage.departed.len(),
@@ -120,7 +121,8 @@ fn counts(passage: &Passage) -> [usize; 3] {
     ]
 }
 
-// How many of the ten thousand packets depart, are lost and stay inside. A state must give the same as the whole list.
+// Returns how many of the ten thousand packets depart, are lost and stay inside. The test ends where a state gives
+// something else than the run over the whole list.
 fn totals(rt: &impl Abort, alloc: Global, kind: Kind, most: u32) -> [usize; 3] {
     let singly = one_by_one(rt, alloc, kind, most);
     let whole = at_once(rt, alloc, kind);
@@ -134,21 +136,21 @@ fn totals(rt: &impl Abort, alloc: Global, kind: Kind, most: u32) -> [usize; 3] {
     counts
 }
 
-// Directions, and what the packets through them come to.
+// Kinds of shells, and how many packets depart, are lost and stay inside.
 static TOTALS: [(Kind, [usize; 3]); 3] = [
     (Kind::Pass, [10_000, 0, 0]),
     (Kind::Delay(100), [9_010, 0, 990]),
     (Kind::Loss("1", 1, 2), [0, 10_000, 0]),
 ];
 
-// The packets through each of these directions come to what is said.
+// Checks the totals of each kind.
 fn go_through(rt: &impl Abort, alloc: Global, most: u32, cases: &[(Kind, [usize; 3])]) {
     for &(kind, counts) in cases {
         check(rt, totals(rt, alloc, kind, most) == counts, "the totals");
     }
 }
 
-// Of ten packets through a loss some seven depart, and the others are lost.
+// Checks a loss of 0.3: some seven of ten packets depart, and the others are lost.
 fn lose_some(rt: &impl Abort, alloc: Global, most: u32) {
     let [departed, lost, inside] = totals(rt, alloc, Kind::Loss("0.3", 1, 2), most);
     let some = departed > 6_500 && lost > 2_500 && inside == 0;
@@ -164,7 +166,7 @@ fn ten_thousand_packets_go_through(rt: HostRuntime) {
     lose_some(&rt, rt.alloc(), 0);
 }
 
-// Links with an opportunity each millisecond.
+// Links with an opportunity each millisecond, and the totals of each.
 static LINKS: [(Kind, [usize; 3]); 3] = [
     (Kind::Link(b"1\n", "infinite", ""), [1_504, 0, 8_496]),
     (

@@ -1,4 +1,4 @@
-// States that go through tables of steps.
+// Tests of states that go through tables of steps.
 ghost use Rattle.std.specs.Prelude.{◌≡◌, ◌≤◌};
 
 use super::{feed, is_open, is_over, state_of, take_one};
@@ -12,14 +12,18 @@ use std::process::Abort;
 use text_base::OutOfMemory;
 use text_base::limits::HOUR;
 
-// An item: a packet's moment and number, or a mark's moment.
+// An item.
 #[derive(Clone, Copy)]
 enum What {
+    // The moment and the number of a packet.
     Packet(u64, u32),
+    // The moment of a mark.
     Mark(u64),
+    // The end.
     End,
 }
 
+// Returns the item.
 fn item_of(what: What) -> Item {
     match what {
         What::Packet(moment, id) => Item::Packet(timed(moment, id)),
@@ -28,17 +32,22 @@ fn item_of(what: What) -> Item {
     }
 }
 
-// What is fed to a state, or what a take must answer: an item, that so many opportunities were burnt, or that nothing
-// is to be taken yet, with this bound.
+// What is fed to a state, what a take must give, or how long its log must be by then.
 #[derive(Clone, Copy)]
 enum Step {
+    // The item is fed.
     Feed(What),
+    // A take gives the item.
     Give(What),
+    // A take gives nothing, but burns this number of opportunities.
     Burn(u32),
+    // There is nothing to take yet; the bound of what was fed is this.
     Wait(u64),
+    // The log has this number of entries.
+    Log(usize),
 }
 
-// Whether a take answers this.
+// Returns whether a take gives `answer`.
 fn gives(state: &mut ShellState, most: u32, answer: Taken) -> Result<bool, OutOfMemory>
     requires { 1 ≤ most }
     ensures { state.new.horizon ≡ state.old.horizon }
@@ -46,7 +55,15 @@ fn gives(state: &mut ShellState, most: u32, answer: Taken) -> Result<bool, OutOf
     Ok(take_one(state, most)? == Some(answer))
 }
 
-// Whether a step can be done, and the state answers so.
+// Returns how many entries the log of a state has so far.
+fn log_lines(state: &ShellState) -> Result<usize, OutOfMemory> {
+    match state.log()? {
+        Some(log) => Ok(log.into_log()?.entries().len()),
+        None => Ok(0),
+    }
+}
+
+// Returns whether a step can be done and gives what it must.
 fn does(state: &mut ShellState, horizon: u64, most: u32, step: Step) -> Result<bool, OutOfMemory>
     requires horizon { state.old.horizon ≡ horizon }
     requires most { 1 ≤ most }
@@ -57,9 +74,11 @@ fn does(state: &mut ShellState, horizon: u64, most: u32, step: Step) -> Result<b
         Step::Give(what) => gives(state, most, Taken::Item(item_of(what))),
         Step::Burn(burnt) => gives(state, most, Taken::Again { burnt }),
         Step::Wait(bound) => gives(state, most, Taken::NotYet { bound }),
+        Step::Log(lines) => Ok(log_lines(state)? == lines),
     }
 }
 
+// Returns whether all steps can be done and give what they must.
 fn play(
     state: &mut ShellState,
     horizon: u64,
@@ -77,38 +96,30 @@ fn play(
     Ok(true)
 }
 
-// A state's kind, its horizon and how much a take burns at most, its steps, and what is left of it after them.
+// A kind of shell, its horizon, how many opportunities a take may burn, the steps, and how the state must be after
+// them.
 struct Case {
     name: &'static str,
     kind: Kind,
     horizon: u64,
     most: u32,
     steps: &'static [Step],
-    // How many packets were fed, taken and lost.
+    // How many packets were fed, were taken and were lost.
     counts: [usize; 3],
     // The numbers of the packets inside.
     inside: &'static [u32],
     // The bound of what was taken.
     bound: u64,
-    // How many lines the log has.
+    // How many entries the log has.
     lines: usize,
 }
 
-// How many lines the log of a state has.
-fn log_lines(rt: &impl Abort, state: &ShellState) -> usize
-    requires { state.now.taken.end ≡ FlowEnd.Ended }
-{
-    match state.log().expect(rt, "memory") {
-        Some(log) => log.into_log().expect(rt, "memory").entries().len(),
-        None => 0,
-    }
-}
-
-// Whether the end was taken, and the log has so many lines.
+// Returns whether the end was taken, and the log has `lines` entries.
 fn has_ended(rt: &impl Abort, state: &ShellState, lines: usize) -> bool {
-    is_over(state.taken().end()) && log_lines(rt, state) == lines
+    is_over(state.taken().end()) && log_lines(state).expect(rt, "memory") == lines
 }
 
+// Returns how many packets were fed, were taken and were lost.
 fn counts(state: &ShellState) -> [usize; 3] {
     [
         state.fed().packets().len(),
@@ -117,12 +128,12 @@ fn counts(state: &ShellState) -> [usize; 3] {
     ]
 }
 
-// Whether these stay inside a state.
+// Returns whether the packets numbered in `inside` stay inside the state.
 fn are_inside(rt: &impl Abort, state: &ShellState, inside: &[u32]) -> bool {
     state.inside().expect(rt, "memory").as_slice() == inside
 }
 
-// Whether a state has this much left, and isn't broken.
+// Returns whether the state is as the case expects after the steps, and isn't broken.
 fn is_left(rt: &impl Abort, state: &ShellState, case: &Case) -> bool {
     counts(state) == case.counts
         && state.taken().bound() == case.bound
@@ -131,7 +142,7 @@ fn is_left(rt: &impl Abort, state: &ShellState, case: &Case) -> bool {
         && has_ended(rt, state, case.lines)
 }
 
-// Whether a state goes through its steps, and that much is left.
+// Returns whether a state goes through the steps of a case, and is then as the case expects.
 fn goes_through(rt: &impl Abort, state: &mut ShellState, case: &Case) -> bool
     requires { state.old.horizon ≡ case.now.horizon }
 {
@@ -140,7 +151,7 @@ fn goes_through(rt: &impl Abort, state: &mut ShellState, case: &Case) -> bool
     played.expect(rt, "memory") && is_left(rt, state, case)
 }
 
-// Whether a state of the case's kind does and leaves what is said.
+// Returns whether a state of the case's kind does and becomes what the case expects.
 fn is_as_said(rt: &impl Abort, alloc: Global, case: &Case) -> bool {
     assert!(rt; case.horizon <= HOUR);
     goes_through(rt, &mut state_of(rt, alloc, case.kind, case.horizon), case)
@@ -187,7 +198,7 @@ static CASES: [Case; 4] = [
         bound: 101,
         lines: 0,
     },
-    // The words of seed 0 and stream 0 begin with 0.679 and 0.563 of all 32-bit words.
+    // The first words of seed 0 and stream 0 are 0.679 and 0.563 of 2^32.
     Case {
         name: "a loss",
         kind: Kind::Loss("0.6", 0, 0),
@@ -217,11 +228,15 @@ static CASES: [Case; 4] = [
         steps: &[
             Step::Give(What::Mark(5)),
             Step::Wait(0),
+            Step::Log(0),
             Step::Feed(What::Mark(7)),
             Step::Burn(1),
+            Step::Log(1),
             Step::Give(What::Mark(9)),
+            Step::Log(2),
             Step::Wait(7),
             Step::Feed(What::Packet(9, 1)),
+            Step::Log(4),
             Step::Give(What::Mark(14)),
             Step::Feed(What::End),
             Step::Give(What::Packet(14, 1)),
@@ -248,7 +263,7 @@ static BEFORE_BREAKING: [Step; 3] = [
     Step::Give(What::Packet(4, 1)),
 ];
 
-// Whether a state that is broken off gives that, and no more.
+// Returns whether a state that is broken off gives `Broken`, and no packet more.
 fn breaks_off(rt: &impl Abort, state: &mut ShellState) -> bool {
     state.break_off();
     state.is_broken()
@@ -258,14 +273,14 @@ fn breaks_off(rt: &impl Abort, state: &mut ShellState) -> bool {
         && state.taken().packets().len() == 1
 }
 
-// Whether a state goes through these steps, and is then broken off.
+// Returns whether a state goes through the steps, and is then broken off.
 fn is_broken_after(rt: &impl Abort, state: &mut ShellState, steps: &[Step]) -> bool
     requires { state.old.horizon ≡ 9 }
 {
     play(state, 9, 4, steps).expect(rt, "memory") && breaks_off(rt, state)
 }
 
-// Whether a state that lets all pass goes through these steps, and is then broken off.
+// Returns whether a state that lets all packets pass goes through the steps, and is then broken off.
 fn breaks_after(rt: &impl Abort, alloc: Global, steps: &[Step]) -> bool {
     is_broken_after(rt, &mut state_of(rt, alloc, Kind::Pass, 9), steps)
 }

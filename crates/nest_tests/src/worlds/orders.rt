@@ -1,4 +1,4 @@
-// Runs by orders, against the fates that the composition of the shells gives.
+// Tests of runs by orders. Their fates must be those that the shells give when each runs over its whole list.
 use crate::checks::check;
 use crate::nests::{Coming, Prepared, Trip, prepare, stepped_run};
 use crate::runs::{Case, is_as_said};
@@ -52,24 +52,24 @@ static CASES: [Case; 4] = [
     },
 ];
 
-// A run by an order.
+// Returns the result of a run by an order.
 fn run_by(rt: &impl Abort, alloc: Global, trip: &Trip, order: &[u8]) -> RunResult {
     stepped_run(rt, alloc, &prepare(rt, alloc, trip), order)
 }
 
-// Whether a run by an order gives what is said.
+// Returns whether a run by an order gives what the case expects.
 fn gives(rt: &impl Abort, alloc: Global, case: &Case, order: &[u8]) -> bool {
     is_as_said(rt, alloc, case, &run_by(rt, alloc, &case.trip, order))
 }
 
-// Each case by an order gives what is said.
+// Checks that each case gives what it expects by an order.
 fn gives_the_composition(rt: &impl Abort, alloc: Global, order: &[u8]) {
     for case in &CASES {
         check(rt, gives(rt, alloc, case, order), case.trip.nest);
     }
 }
 
-// All bytes from 0 to 255.
+// Returns all bytes from 0 to 255.
 fn all_bytes() -> [u8; 256] {
     let mut bytes = [0; 256];
     for byte in 0..=255u8 {
@@ -85,7 +85,7 @@ fn every_order_gives_the_composition(rt: HostRuntime) {
     gives_the_composition(&rt, rt.alloc(), &all_bytes());
 }
 
-// The moment of the first packet that was collected, or 0 where there is none.
+// Returns the moment of the first packet that was collected, or 0 where there is none.
 fn first_moment(world: &World<'_>) -> u64 {
     match world.collected().packets() {
         [first, ..] => first.moment,
@@ -93,7 +93,7 @@ fn first_moment(world: &World<'_>) -> u64 {
     }
 }
 
-// Whether these worlds are finished, of so many numbers, and first collected at these moments.
+// Returns whether the worlds are finished, have `numbers` numbers, and first collected a packet at `up` and at `down`.
 fn are_finished(worlds: &Worlds<'_>, numbers: u32, up: u64, down: u64) -> bool {
     worlds.finished()
         && worlds.numbers() == numbers
@@ -101,7 +101,7 @@ fn are_finished(worlds: &Worlds<'_>, numbers: u32, up: u64, down: u64) -> bool {
         && first_moment(worlds.down()) == down
 }
 
-// The worlds of a run by an order.
+// Returns the worlds of a run by an order.
 fn worlds_of<'a>(
     rt: &impl Abort,
     alloc: Global,
@@ -111,7 +111,7 @@ fn worlds_of<'a>(
     run_worlds(alloc, &prepared.nest, &prepared.schedule, order).expect(rt, "memory")
 }
 
-// Whether two packets go by this order through a delay and a link.
+// Returns whether two packets go through a delay and a link by an order.
 fn go_by(rt: &impl Abort, alloc: Global, prepared: &Prepared, order: &[u8]) -> bool {
     are_finished(&worlds_of(rt, alloc, prepared, order), 20, 14, 12)
 }
@@ -126,7 +126,7 @@ fn the_worlds_of_an_order_are_finished(rt: HostRuntime) {
     );
 }
 
-// Whether these are ten thousand fates, and all packets depart.
+// Returns whether there are ten thousand fates, and all packets departed.
 fn all_depart(fates: &[FateRow]) -> bool {
     for row in fates {
         if !matches!(row.fate, Fate::Departed { .. }) {
@@ -143,7 +143,7 @@ static LONG: Trip = Trip {
     coming: Coming::Load(1, 10_000),
 };
 
-// Whether all packets of a long trip depart.
+// Returns whether all packets of a long trip depart.
 fn depart(rt: &impl Abort, alloc: Global, trip: &Trip, order: &[u8]) -> bool {
     all_depart(run_by(rt, alloc, trip, order).fates())
 }

@@ -1,4 +1,4 @@
-// Worlds by tables of steps.
+// Tests of worlds by tables of steps.
 use super::step;
 use crate::checks::check;
 use crate::nests::{Coming, Prepared, Trip, prepare};
@@ -7,17 +7,18 @@ use packet_record::{Direction, FlowEnd};
 use std::alloc::Global;
 use std::process::Abort;
 
-// The actors of a world of one shell, in turn, and those behind its feeder.
+// All actors of a world of one shell, in turn.
 static ROUND: [u32; 6] = [0, 1, 2, 3, 4, 5];
 
+// The actors behind the feeder.
 static TAKES: [u32; 3] = [3, 4, 5];
 
-// The world upwards, each of whose channels holds one item.
+// Returns the up world of a nest, whose channels hold one item.
 fn world_of<'a>(rt: &impl Abort, alloc: Global, prepared: &'a Prepared) -> World<'a> {
     World::new(alloc, &prepared.nest, Direction::Up, &prepared.schedule, 1).expect(rt, "memory")
 }
 
-// Whether each of these steps changes the world.
+// Returns whether each of the steps changes the world.
 fn play(rt: &impl Abort, world: &mut World<'_>, actors: &[u32]) -> bool {
     for actor in actors {
         if !step(rt, world, *actor) {
@@ -27,7 +28,7 @@ fn play(rt: &impl Abort, world: &mut World<'_>, actors: &[u32]) -> bool {
     true
 }
 
-// The only packet that was collected has this number and this moment.
+// Returns whether one packet was collected, with the number `id` at `moment`.
 fn has_one(world: &World<'_>, id: u32, moment: u64) -> bool {
     match world.collected().packets() {
         [only] => only.packet.id == id && only.moment == moment,
@@ -35,12 +36,12 @@ fn has_one(world: &World<'_>, id: u32, moment: u64) -> bool {
     }
 }
 
-// Whether each of these steps changes the world, and this much is then the bound of what was collected.
+// Returns whether each of the steps changes the world, and what was collected then has the bound `bound`.
 fn carry(rt: &impl Abort, world: &mut World<'_>, actors: &[u32], bound: u64) -> bool {
     play(rt, world, actors) && world.collected().bound() == bound
 }
 
-// Whether a packet passes a delay.
+// Returns whether a packet passes a delay.
 fn passes(rt: &impl Abort, world: &mut World<'_>) -> bool {
     play(rt, world, &ROUND)
         && !step(rt, world, 5)
@@ -49,7 +50,7 @@ fn passes(rt: &impl Abort, world: &mut World<'_>) -> bool {
         && !world.finished()
 }
 
-// Whether a packet of this trip passes a delay.
+// Returns whether the packet of a trip passes a delay.
 fn pass_delay(rt: &impl Abort, alloc: Global, prepared: &Prepared) -> bool {
     passes(rt, &mut world_of(rt, alloc, prepared))
 }
@@ -71,7 +72,7 @@ fn a_packet_passes_a_delay(rt: HostRuntime) {
     );
 }
 
-// Whether a link goes on by the mark of the first row, and then by the packet and the end.
+// Returns whether a link goes on by the mark of the first row, and then by the packet and the end.
 fn goes_on(rt: &impl Abort, world: &mut World<'_>) -> bool {
     carry(rt, world, &TAKES, 5)
         && !step(rt, world, 3)
@@ -81,7 +82,7 @@ fn goes_on(rt: &impl Abort, world: &mut World<'_>) -> bool {
         && carry(rt, world, &ROUND, 14)
 }
 
-// Whether its only packet and the end are collected.
+// Returns whether the link's only packet and the end are collected.
 fn ends(rt: &impl Abort, world: &mut World<'_>) -> bool {
     has_one(world, 2, 14)
         && play(rt, world, &TAKES)
@@ -90,12 +91,12 @@ fn ends(rt: &impl Abort, world: &mut World<'_>) -> bool {
         && world.quiet()
 }
 
-// Whether a link goes on and ends.
+// Returns whether a link goes on and ends.
 fn passes_link(rt: &impl Abort, world: &mut World<'_>) -> bool {
     goes_on(rt, world) && ends(rt, world)
 }
 
-// Whether marks let the link of this trip go on to its end.
+// Returns whether marks let the link of a trip go on to its end.
 fn pass_link(rt: &impl Abort, alloc: Global, prepared: &Prepared) -> bool {
     passes_link(rt, &mut world_of(rt, alloc, prepared))
 }

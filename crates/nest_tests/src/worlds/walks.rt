@@ -1,5 +1,5 @@
-// Worlds that are stepped by drawn numbers, against what leaves the last shell when all packets pass one shell after
-// the other.
+// Tests of worlds by drawn steps. What they collect must be what departs from the last shell when each shell runs over
+// its whole list.
 use super::step;
 use crate::checks::check;
 use crate::nests::{Coming, Prepared, Trip, prepare};
@@ -9,7 +9,7 @@ use packet_record::{Direction, Draws};
 use std::alloc::Global;
 use std::process::Abort;
 
-// A nest with a load of 16 packets, and the ids and moments of what leaves the last shell in each direction.
+// A nest with a load of 16 packets, and the numbers and moments of what departs from the last shell in each direction.
 struct Walk {
     trip: Trip,
     up: &'static [(u32, u64)],
@@ -84,7 +84,7 @@ static WALKS: [Walk; 3] = [
     },
 ];
 
-// Takes some hundred steps of drawn actors, after each of which what was collected are the first of these.
+// Takes 400 drawn steps. After each, what was collected must be the first of `departed`.
 fn wander(rt: &impl Abort, world: &mut World<'_>, number: u64, departed: &[(u32, u64)]) {
     let mut draws = Draws::new(number);
     for _ in 0..400 {
@@ -105,12 +105,12 @@ fn round(rt: &impl Abort, world: &mut World<'_>) {
     }
 }
 
-// Whether a world is finished, and these are collected.
+// Returns whether the world is finished, and has collected `departed`.
 fn has_all(world: &World<'_>, departed: &[(u32, u64)]) -> bool {
     world.finished() && world.quiet() && are(world.collected().packets(), departed)
 }
 
-// Takes rounds of all actors, which are many enough. Then these are collected.
+// Takes enough rounds of all actors. Then `departed` must be collected.
 fn finish(rt: &impl Abort, world: &mut World<'_>, departed: &[(u32, u64)]) {
     for _ in 0..100 {
         round(rt, world);
@@ -118,7 +118,7 @@ fn finish(rt: &impl Abort, world: &mut World<'_>, departed: &[(u32, u64)]) {
     check(rt, has_all(world, departed), "all that departs");
 }
 
-// The world of a direction, each of whose channels holds so many items.
+// Returns the world of a direction, whose channels hold `capacity` items.
 fn world_of<'a>(
     rt: &impl Abort,
     alloc: Global,
@@ -140,7 +140,7 @@ fn world_of<'a>(
 // How many items the channels hold.
 static CAPACITIES: [u32; 3] = [1, 2, 64];
 
-// Whatever the steps and how much its channels hold, a direction collects these.
+// Checks that a direction collects `departed`, whatever the steps and however much the channels hold.
 fn collects(
     rt: &impl Abort,
     alloc: Global,
@@ -155,7 +155,7 @@ fn collects(
     }
 }
 
-// Both directions of a walk collect what leaves the last shell.
+// Checks that both directions of a walk collect what departs from the last shell.
 fn is_walked(rt: &impl Abort, alloc: Global, walk: &Walk) {
     let prepared = prepare(rt, alloc, &walk.trip);
     collects(rt, alloc, &prepared, Direction::Up, walk.up);

@@ -1,5 +1,5 @@
 -- What one client's passage does to the dialer and to the store.
-use Rattle.std.specs.Prelude.{◌≡◌, ◌≤◌, ℕ, ◌+◌, ◌++◌, List, [], ◌∷◌, length, Option, Some, None, Result, Ok, Err}
+use Rattle.std.specs.Prelude.{◌≡◌, ◌≤◌, ℕ, ◌+◌, ◌++◌, false, List, [], ◌∷◌, length, Option, Some, None, Result, Ok, Err}
 use Rattle.mm_base.specs.Link.{LinkView}
 use Rattle.mm_base.specs.Port.{KeepsPort}
 use Rattle.mm_base.specs.declared.errors.EndError.{EndError}
@@ -65,7 +65,7 @@ module _ {C X : Type 0} (site : ℕ) (client_view : C → LinkView) (server_view
   -- A serving that goes on, with so many clients left of so many.
   pub record ServesSoFar (old new : Net C X) (store store' : List Record) (n : Served) (left most : ℕ) : Type 0 where
     pub passages : List (Passage C X)
-    pub serves : Serves site client_view server_view old new store store' passages
+    pub serves : Serves site client_view server_view false old new store store' passages
     pub counts : n ≡ tally passages
     pub few : length passages + left ≡ most
     pub within : total n ≤ length passages

@@ -4,4 +4,10 @@ use Rattle.record_proxy.specs.declared.job.ProxyJob.{ProxyJob}
 
 abbrev pub proxy_values : ProxyJob → proxying.ProxyJob
 proxy_values job =
-    record { port = job.port; site = job.site; connections = job.connections; out = job.out.now }
+    record {
+      port = job.port;
+      site = job.site;
+      connections = job.connections;
+      out = job.out.now;
+      until_ended = job.until_ended;
+    }

@@ -223,24 +223,29 @@ fn is_closed(wire: &mut RealWire<'_>) -> bool {
         && send(wire, Side::Server, b"x") == Err(EndError::Failed)
 }
 
-// Whether a wire can't have the port of a socket.
+// The number of Linux's error that an address is in use.
+const IN_USE: i32 = 98;
+
+// Whether a wire can't have the port of a socket, and says why.
 fn is_refused(rt: &HostRuntime, wire: &mut RealWire<'_>) -> Option<bool> {
     let taken = socket_of(rt).ok()?;
-    Some(wire.open(port_of(&taken)?, 9) == Err(EndError::Failed))
+    let error = wire.open(port_of(&taken)?, 9);
+    Some(error == Err(EndError::Failed) && wire.last_error() == Some(IN_USE))
 }
 
 #[test]
 fn a_wire_that_is_not_open_fails(rt: HostRuntime) {
     let pulse = Pulse::new();
     let mut wire = UdpWire::new(rt.alloc(), rt, &pulse);
+    assert!(rt; wire.last_error().is_none());
     assert!(rt; is_closed(&mut wire));
     assert!(rt; is_refused(&rt, &mut wire) == Some(true));
 }
 
-// What the system prints of its UDP sockets, without some columns in the middle: the one at port 40,001 has dropped
-// 2,226 datagrams.
+// What the system prints of its UDP sockets, without some columns in the middle: the one at port 40,001 of 127.0.0.1
+// has dropped 2,226 datagrams, and one of another address before it 9.
 const SOCKETS: &str =
-    " sl local_address drops\n 119: 0100007F:9C42 00000000:0000 07 7\n 118: 0100007F:9C41 00000000:0000 07 2226\n";
+    " sl local_address drops\n 119: 0100007F:9C42 00000000:0000 07 7\n 117: 0200007F:9C41 00000000:0000 07 9\n 118: 0100007F:9C41 00000000:0000 07 2226\n";
 
 #[test]
 fn the_drops_are_those_of_the_port(rt: HostRuntime) {

@@ -1,8 +1,9 @@
 // The machine's clock: how long it rests beside a wire, what it counts, and what ends it.
 use super::edges::{Ends, ends_by, is_silent, receives, send_from, wire_to};
 use live_relay::{Clock, Pulse, Side, SysClock};
+use std::fs::File;
 use std::io::{Write, pipe};
-use std::os::fd::AsRawFd;
+use std::os::fd::{AsRawFd, RawFd};
 use std::thread;
 use std::time::{Duration, Instant};
 
@@ -57,12 +58,17 @@ fn the_clock_is_not_fast(rt: HostRuntime) {
     assert!(rt; counts_no_more(&rt, &mut clock) == Some(true));
 }
 
-// How many readings of a clock beside an idle wire, each before a receive, fit into so many milliseconds after so long a
-// silence; and the least of them, in microseconds.
-fn readings_after(rt: &HostRuntime, silence: u64, milliseconds: u64) -> Option<(u32, u64)> {
+// How many readings of a clock beside an idle wire, each before a receive, fit into these milliseconds after a silence
+// of milliseconds; and the least of them, in microseconds. The clock watches the descriptor.
+fn readings_after(
+    rt: &HostRuntime,
+    descriptor: Option<RawFd>,
+    silence: u64,
+    milliseconds: u64,
+) -> Option<(u32, u64)> {
     let pulse = Pulse::new();
     let mut wire = wire_to(rt, &pulse, 9)?;
-    let mut clock = SysClock::new(*rt, &pulse, None);
+    let mut clock = SysClock::new(*rt, &pulse, descriptor);
     clock.now();
     thread::sleep(rt, Duration::from_millis(silence));
     clock.now();
@@ -83,7 +89,7 @@ fn readings_after(rt: &HostRuntime, silence: u64, milliseconds: u64) -> Option<(
 // less often.
 #[test]
 fn a_clock_rests_beside_an_idle_wire(rt: HostRuntime) {
-    let (readings, least) = readings_after(&rt, 0, 200).unwrap_or((0, 0));
+    let (readings, least) = readings_after(&rt, None, 0, 200).unwrap_or((0, 0));
     assert!(rt;
         (1..=210).contains(&readings),
         "it was read {readings} times"
@@ -97,7 +103,7 @@ fn a_clock_rests_beside_an_idle_wire(rt: HostRuntime) {
 // After a silent second a reading takes five milliseconds, so some 60 fit into 300.
 #[test]
 fn a_clock_rests_longer_after_a_silent_second(rt: HostRuntime) {
-    let (readings, least) = readings_after(&rt, 1_100, 300).unwrap_or((0, 0));
+    let (readings, least) = readings_after(&rt, None, 1_100, 300).unwrap_or((0, 0));
     assert!(rt;
         (1..=75).contains(&readings),
         "it was read {readings} times"
@@ -212,4 +218,18 @@ fn a_descriptor_that_is_not_there_ends_nothing(rt: HostRuntime) {
     let mut clock = SysClock::new(rt, &pulse, Some(1_000));
     assert!(rt; later(&rt, &mut clock) < 3_600_000 && later(&rt, &mut clock) < 3_600_000);
     assert!(rt; !clock.is_ended());
+}
+
+// How many readings of a clock, as above, where the descriptor always has something to read.
+fn readings_beside_noise(rt: &HostRuntime, silence: u64) -> Option<u32> {
+    let noise = File::open(rt, "/dev/zero").ok()?;
+    let (readings, _) = readings_after(rt, Some(noise.as_raw_fd()), silence, 200)?;
+    Some(readings)
+}
+
+// A descriptor that always has something to read ends no rest.
+#[test]
+fn a_descriptor_that_always_has_something_to_read_costs_no_readings(rt: HostRuntime) {
+    assert!(rt; (1..=210).contains(&readings_beside_noise(&rt, 0).unwrap_or(0)));
+    assert!(rt; (1..=50).contains(&readings_beside_noise(&rt, 1_100).unwrap_or(0)));
 }

@@ -1,4 +1,4 @@
--- What an index keeps of the records that it was made from.
+-- For proofs alone: what an index keeps of its records, and what was found while its entries are gone through.
 use Rattle.std.specs.Prelude.{◌≡◌, ◌⊎◌, ◌||◌, ◌&&◌, ◌==◌, ℕ, ◌+◌, ◌-◌, ◌*◌, ◌%◌, ◌^◌, ◌<◌, ◌≤◌, List, [], fold, length}
 use Rattle.std.specs.Prelude.{slice_get, slice_index_or, Option, None, Some, unwrap_or, All, Contains, nat_lt}
 use Rattle.std.specs.Prelude.{if◌then◌else◌}
@@ -8,87 +8,92 @@ use Rattle.record_store.specs.declared.record.Record.{Record}
 use Rattle.request_match.specs.Match.{stripped, common, FitsPort, Agrees, score}
 use Rattle.request_match.specs.inside.Match.{better_of}
 
--- one byte more of a hash
+-- The hash after one more byte.
 abbrev pub hash_step : ℕ → ℕ → ℕ
 hash_step hash byte = ((hash * 1099511628211) % 2 ^ 64 + byte) % 2 ^ 64
 
+-- The hash after more bytes.
 abbrev pub hash_of_bytes : ℕ → List ℕ → ℕ
 hash_of_bytes hash bytes = fold hash_step hash bytes
 
--- a number of what must agree: the stripped line, Host and User-Agent
+-- The key of a head: a hash of what must agree, which are the stripped line, Host and User-Agent.
 unfoldable pub key_of : RequestHead → ℕ
 key_of head = hash_of_bytes (hash_of_bytes (hash_of_bytes 0 (stripped head.line)) (unwrap_or head.host []))
     (unwrap_or head.agent [])
 
--- a key and a place
+-- The key and the place of a record.
 abbrev pub Entry : Type 0
 Entry = ℕ × ℕ
 
+-- Entry `k`.
 abbrev pub entry_at : List Entry → ℕ → Entry
 entry_at es k = slice_index_or es k (0, 0)
 
--- an entry has the key of the record at its place, which fits the port
+-- The entry has the key of the record at its place, which fits the port.
 pub record IsEntry (rs : List Record) (port : Option ℕ) (e : Entry) : Type 0 where
   pub place : e.1 < length rs
   pub key : (r : Record) → slice_get rs e.1 ≡ Some r → e.0 ≡ key_of r.request.head
   pub fits : (r : Record) → slice_get rs e.1 ≡ Some r → FitsPort r.port port
 
--- each record up to a place that fits the port has its entry
+-- Each record before place `count` that fits the port has its entry.
 abbrev pub HasAllTo : List Record → Option ℕ → ℕ → List Entry → Type 0
 HasAllTo rs port count es = (k : ℕ) (r : Record) → k < count → slice_get rs k ≡ Some r → FitsPort r.port port
     → Contains es (key_of r.request.head, k)
 
--- What a record agrees with the other one does too, but for the port, and their lines have so much in common.
+-- Whatever agrees with the record `before` agrees with `now` too, but for the port. Their lines have `front` bytes in
+-- common.
 pub record IsShared (before now : Record) (front : ℕ) : Type 0 where
   pub same : Agrees before.request.head None now
   pub front_is : front ≡ common before.request.head.line now.request.head.line
 
--- what the record of an entry shares with that of the entry before
+-- What the record of entry `i` shares with that of the entry before, if it is kept.
 abbrev pub HasFront : List Record → List Entry → ℕ → Option ℕ → Type 0
 HasFront rs es i None = Unit {0}
 HasFront rs es i (Some front) = (0 < i) × ((a b : Record) → slice_get rs (entry_at es (i - 1)).1 ≡ Some a
     → slice_get rs (entry_at es i).1 ≡ Some b → IsShared a b front)
 
--- the same of the first entries
+-- `fronts` has what the records of the first `count` entries share with those of the entries before them.
 pub record HasFrontsTo (rs : List Record) (es : List Entry) (count : ℕ) (fronts : List (Option ℕ)) : Type 0 where
   pub as_many : length fronts ≡ count
   pub each : (k : ℕ) (d : Option ℕ) → k < count → HasFront rs es k (slice_index_or fronts k d)
 
--- the entries of the records that fit the port, by their keys, and what neighbours share
+-- The entries are those of the records that fit the port, in the order of their keys, and `shared` is what neighbours
+-- share.
 pub record IsIndex (rs : List Record) (port : Option ℕ) (es : List Entry) (shared : List (Option ℕ)) : Type 0 where
   pub entries : All (IsEntry rs port) es
   pub whole : HasAllTo rs port (length rs) es
   pub ordered : IsNonDecreasingBy (λ (e : Entry). e.0) es
   pub fronts : HasFrontsTo rs es (length es) shared
 
--- what was found, with the record at a place
+-- What was found after one more record, at `place`: the record where it agrees and is better, else what was found
+-- before.
 abbrev pub WithRecord : RequestHead → Option ℕ → Record → ℕ → Option (ℕ × ℕ) → Option (ℕ × ℕ) → Type 0
 WithRecord q asked r place found next = (Agrees q asked r × (next ≡ better_of found place (score q r)))
     ⊎ ((Agrees q asked r → ⊥) × (next ≡ found))
 
--- a record's score, if it agrees
+-- The record's score, if it agrees.
 abbrev pub HasScore : RequestHead → Option ℕ → Record → Option ℕ → Type 0
 HasScore q asked r None = Agrees q asked r → ⊥
 HasScore q asked r (Some n) = Agrees q asked r × (n ≡ score q r)
 
--- the score of the record of the entry before i
+-- `near` is the score of the record of the entry before `i`, if that record agrees.
 abbrev pub HasNear : RequestHead → Option ℕ → List Record → List Entry → ℕ → Option ℕ → Type 0
 HasNear q asked rs es i near = (r : Record) → 0 < i → slice_get rs (entry_at es (i - 1)).1 ≡ Some r
     → HasScore q asked r near
 
--- a place with its score, or a new one where that is greater, or equal and of an earlier place
+-- What was found, or `place` where its score is greater, or equal and the place earlier.
 abbrev pub offered : Option (ℕ × ℕ) → ℕ → Option ℕ → Option (ℕ × ℕ)
 offered found place None = found
 offered None place (Some n) = Some (place, n)
 offered (Some f) place (Some n) =
     if nat_lt f.1 n || (f.1 == n && nat_lt place f.0) then Some (place, n) else Some (f.0, f.1)
 
--- no entry before i has an agreeing record
+-- No entry before `i` has a record that agrees.
 abbrev pub NoneBefore : RequestHead → Option ℕ → List Record → List Entry → ℕ → Type 0
 NoneBefore q asked rs es i = (k : ℕ) (r : Record) → k < i → slice_get rs (entry_at es k).1 ≡ Some r → Agrees q asked r
     → ⊥
 
--- the best record of the entries before i
+-- The record at `place`, with the score `most`, is the best of the entries before `i`.
 pub record BestBefore (q : RequestHead) (asked : Option ℕ) (rs : List Record) (es : List Entry) (i place most : ℕ) :
     Type 0 where
   pub best : Record
@@ -100,6 +105,7 @@ pub record BestBefore (q : RequestHead) (asked : Option ℕ) (rs : List Record) 
   pub first : (k : ℕ) (r : Record) → k < i → slice_get rs (entry_at es k).1 ≡ Some r → Agrees q asked r
       → (entry_at es k).1 < place → score q r < most
 
+-- What was found among the entries before `i`.
 abbrev pub Scanned : RequestHead → Option ℕ → List Record → List Entry → ℕ → Option (ℕ × ℕ) → Type 0
 Scanned q asked rs es i None = NoneBefore q asked rs es i
 Scanned q asked rs es i (Some f) = BestBefore q asked rs es i f.0 f.1

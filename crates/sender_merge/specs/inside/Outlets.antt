@@ -8,12 +8,11 @@ use Rattle.sender_merge.specs.inside.Feeding.{SentOrBroken}
 
 -- Nothing was sent in either direction, and both ends have `horizon`.
 pub record IsEmpty (horizon : ℕ) (o : Outlet) : Type 0 where
-  pub up : o.up.to.flow ≡ no_items
-  pub down : o.down.to.flow ≡ no_items
-  pub none : (o.up.to.items ≡ []) × (o.down.to.items ≡ [])
-  pub sent : (o.up.sent ≡ 0) × (o.down.sent ≡ 0)
-  pub up_horizon : o.up.to.horizon ≡ horizon
-  pub down_horizon : o.down.to.horizon ≡ horizon
+  pub up : o.up.flow ≡ no_items
+  pub down : o.down.flow ≡ no_items
+  pub none : (o.up.items ≡ []) × (o.down.items ≡ [])
+  pub up_horizon : o.up.horizon ≡ horizon
+  pub down_horizon : o.down.horizon ≡ horizon
 
 abbrev pub AllEmpty : ℕ → List Outlet → Type 0
 AllEmpty horizon [] = Unit {0}
@@ -21,7 +20,7 @@ AllEmpty horizon (o ∷ outlets) = IsEmpty horizon o × AllEmpty horizon outlets
 
 -- both ends keep their horizons and channels
 abbrev pub IsSameOutlet : Outlet → Outlet → Type 0
-IsSameOutlet old new = IsSameEnd old.up.to new.up.to × IsSameEnd old.down.to new.down.to
+IsSameOutlet old new = IsSameEnd old.up new.up × IsSameEnd old.down new.down
 
 abbrev pub AllSameOutlets : List Outlet → List Outlet → Type 0
 AllSameOutlets [] [] = Unit {0}

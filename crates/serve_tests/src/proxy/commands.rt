@@ -4,7 +4,10 @@ use crate::links::{REQUEST, RESPONSE, links, port_of};
 use mm_base::MemPort;
 use record_proxy::MemDialer;
 use std::alloc::Global;
+use std::marker::Sync;
 use std::process::Abort;
+use std::sync::Wait;
+use std::thread::Threads;
 use test_outside::{ABSENT, TestOutside};
 use text_base::OutOfMemory;
 
@@ -81,36 +84,42 @@ fn refuses_second(port: &MemPort, dialer: &MemDialer) -> bool {
 }
 
 // The status of a run over this disk and this `out`, and whether it refuses a second client.
-fn status_in(
+fn status_in<R: Threads + Wait + Sync>(
+    rt: &R,
     alloc: Global,
     case: &Case,
     outside: &mut TestOutside,
 ) -> Result<(u8, bool), OutOfMemory> {
     let mut port = port_of(alloc, case.clients, 65_536, case.fails.port)?;
     let mut dialer = dialer_of(alloc, case.said, case.fails.server, case.fails.dialer)?;
-    let status = status_of(alloc, case.words, outside, &mut port, &mut dialer)?;
+    let status = status_of(rt, alloc, case.words, outside, &mut port, &mut dialer)?;
     Ok((status, refuses_second(&port, &dialer)))
 }
 
 // Whether a run over this disk and this `out` has its status, and leaves what it should.
-fn leaves(alloc: Global, case: &Case, outside: &mut TestOutside) -> bool {
-    status_in(alloc, case, outside) == Ok((case.status, case.refuses_second))
+fn leaves<R: Threads + Wait + Sync>(
+    rt: &R,
+    alloc: Global,
+    case: &Case,
+    outside: &mut TestOutside,
+) -> bool {
+    status_in(rt, alloc, case, outside) == Ok((case.status, case.refuses_second))
         && outside.is_left(case.printed, &[("s", case.store)])
 }
 
 // The same over a disk and an `out` of its own.
-fn is_left(alloc: Global, case: &Case) -> bool {
+fn is_left<R: Threads + Wait + Sync>(rt: &R, alloc: Global, case: &Case) -> bool {
     match TestOutside::new(alloc, &[], &[case.fails.disk], &[case.fails.out]) {
-        Ok(mut outside) => leaves(alloc, case, &mut outside),
+        Ok(mut outside) => leaves(rt, alloc, case, &mut outside),
         Err(_) => false,
     }
 }
 
 // Each run leaves what it should.
-fn are_left(rt: &impl Abort, alloc: Global, cases: &[Case]) {
+fn are_left<R: Abort + Threads + Wait + Sync>(rt: &R, alloc: Global, cases: &[Case]) {
     for case in cases {
         assert!(rt;
-            is_left(alloc, case),
+            is_left(rt, alloc, case),
             "at {}, which leaves {} and {}",
             case.words,
             case.printed,
@@ -242,14 +251,85 @@ fn each_fault_has_its_status(rt: HostRuntime) {
     are_left(&rt, rt.alloc(), &FAULTS);
 }
 
+// Runs that last until the port has no more clients.
+static UNTIL_ENDED: [Case; 6] = [
+    Case {
+        words: "--port 80 --to 8080 --connections 64 --out s --until-ended",
+        ..DONE
+    },
+    Case {
+        words: "--until-ended --port 80 --to 8080 --connections 1 --out s",
+        clients: &[],
+        printed: "closed 0 bad 0 broken 0 full 0\n",
+        store: NO_RECORD,
+        ..DONE
+    },
+    Case {
+        words: "--until-ended --port 80 --to 8080 --connections 1 --out s",
+        said: "HTTP/1.1 200 OK\r\n",
+        ..BAD
+    },
+    Case {
+        words: "--until-ended --port 80 --to 8080 --connections 1 --out s",
+        fails: Fails { port: 1, ..NONE },
+        ..NET_FAULT
+    },
+    Case {
+        words: "--until-ended --port 80 --to 8080 --connections 1 --out s",
+        fails: Fails { port: 2, ..NONE },
+        ..NET_FAULT
+    },
+    Case {
+        words: "--until-ended --port 80 --to 8080 --connections 1 --out s",
+        fails: Fails { dialer: 2, ..NONE },
+        ..BROKEN
+    },
+];
+
+#[test]
+fn clients_are_recorded_until_there_are_no_more(rt: HostRuntime) {
+    are_left(&rt, rt.alloc(), &UNTIL_ENDED);
+}
+
+// Words that have no job, in which nobody is served at a time.
+static NO_JOB: [Case; 2] = [
+    Case {
+        words: "--port 80 --to 8080 --connections 0 --out s --until-ended",
+        status: 2,
+        printed: "mm: usage\n",
+        store: ABSENT,
+        ..DONE
+    },
+    Case {
+        words: "--port 80 --to 8080 --connections 65 --out s --until-ended",
+        status: 2,
+        printed: "mm: usage\n",
+        store: ABSENT,
+        ..DONE
+    },
+];
+
+#[test]
+fn nobody_at_a_time_is_no_job(rt: HostRuntime) {
+    are_left(&rt, rt.alloc(), &NO_JOB);
+}
+
 // Two clients that ask the same, and one server alone.
-static TWO_CLIENTS: [Case; 1] = [Case {
+static TWO_CLIENTS: [Case; 2] = [
+    Case {
+        words: "--port 80 --to 8080 --connections 1 --out s --until-ended",
+        ..TWO_IN_TURN
+    },
+    TWO_IN_TURN,
+];
+
+const TWO_IN_TURN: Case = Case {
     words: "--port 80 --to 8080 --connections 2 --out s",
     clients: &[(REQUEST, 0), (REQUEST, 0)],
     printed: "closed 1 bad 0 broken 1 full 0\n",
     refuses_second: true,
     ..DONE
-}];
+};
 
 #[test]
 fn a_client_for_which_nothing_is_dialed_is_broken(rt: HostRuntime) {

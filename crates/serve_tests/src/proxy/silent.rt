@@ -1,5 +1,6 @@
 // A dialed connection of TCP on which nobody says anything.
 use crate::links::listening;
+use end_watch::EndWatch;
 use mm_base::{EndError, Link, Port, TcpLimits, TcpPort};
 use record_proxy::{Dialer, TcpDialer};
 use std::time::Duration;
@@ -18,7 +19,8 @@ fn short_limits() -> TcpLimits {
 fn is_a_fault(rt: &HostRuntime) -> Option<bool> {
     let port: TcpPort<HostRuntime> = listening(rt)?;
     let number = port.number()?;
-    let mut dialer = TcpDialer::with_limits(*rt, short_limits());
+    let watch = EndWatch::new(None);
+    let mut dialer = TcpDialer::with_limits(*rt, &watch, short_limits());
     let mut dialed = dialer.dial(number).ok()?;
     let read = dialed.read(&mut [0u8; 1]);
     dialer.finish(dialed).ok()?;

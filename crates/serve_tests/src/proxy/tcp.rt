@@ -1,6 +1,7 @@
 // A connection over TCP.
 use super::end_of;
 use crate::links::{REQUEST, RESPONSE, link, listening};
+use end_watch::EndWatch;
 use mm_base::{EndError, Link, MemLink, Port};
 use record_proxy::{Dialer, ProxyEnd, TcpDialer};
 use std::alloc::Global;
@@ -54,9 +55,9 @@ fn is_joined<P: Port, X: Dialer>(alloc: Global, port: &mut P, dialer: &mut X, nu
 }
 
 // A dialer of TCP. `None`: it couldn't be had.
-fn tcp_dialer(rt: &HostRuntime) -> Option<TcpDialer<HostRuntime>> {
+fn tcp_dialer<'a>(rt: &HostRuntime, watch: &'a EndWatch) -> Option<TcpDialer<'a, HostRuntime>> {
     match rt.clone() {
-        Ok(rt) => Some(TcpDialer::new(rt)),
+        Ok(rt) => Some(TcpDialer::new(rt, watch)),
         Err(_) => None,
     }
 }
@@ -65,7 +66,8 @@ fn tcp_dialer(rt: &HostRuntime) -> Option<TcpDialer<HostRuntime>> {
 fn is_joined_over_tcp(rt: &HostRuntime, alloc: Global) -> Option<bool> {
     let mut port = listening(rt)?;
     let number = port.number()?;
-    let mut dialer = tcp_dialer(rt)?;
+    let watch = EndWatch::new(None);
+    let mut dialer = tcp_dialer(rt, &watch)?;
     Some(is_joined(alloc, &mut port, &mut dialer, number))
 }
 
@@ -83,7 +85,8 @@ fn number_let_go(rt: &HostRuntime) -> Option<u16> {
 // Whether a call fails that dials a port that was let go. `None`: there was no such port, or no dialer.
 fn fails_to_dial(rt: &HostRuntime) -> Option<bool> {
     let number = number_let_go(rt)?;
-    let mut dialer = tcp_dialer(rt)?;
+    let watch = EndWatch::new(None);
+    let mut dialer = tcp_dialer(rt, &watch)?;
     Some(matches!(dialer.dial(number), Err(EndError::Failed)))
 }
 

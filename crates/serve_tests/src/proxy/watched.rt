@@ -6,9 +6,12 @@ ghost use Rattle.mm_base.specs.MemLink.{mem_link_view};
 
 use super::status_of;
 use crate::links::{REQUEST, RESPONSE};
-use mm_base::{EndError, Link, MemLink, Port};
+use mm_base::{EndError, Link, Listened, MemLink, Port};
 use record_proxy::Dialer;
 use std::alloc::Global;
+use std::marker::Sync;
+use std::sync::Wait;
+use std::thread::Threads;
 use test_outside::TestOutside;
 use text_base::Bytes;
 
@@ -74,7 +77,7 @@ pub struct WatchedNet {
     left: u64,
     given: u64,
     well: u32,
-    listened: Option<u16>,
+    listened: Listened,
     number: u16,
 }
 
@@ -87,7 +90,7 @@ impl WatchedNet {
             left,
             given: 0,
             well: 0,
-            listened: None,
+            listened: Listened::never(),
             number: 0,
         }
     }
@@ -129,7 +132,7 @@ impl Port for WatchedNet {
     } };
 
     fn listen(&mut self, number: u16) -> Result<(), EndError> {
-        self.listened = Some(number);
+        self.listened.listen(number);
         self.number = number;
         Ok(())
     }
@@ -188,18 +191,22 @@ fn length_of(outside: &TestOutside, name: &str) -> Option<usize> {
 }
 
 // Whether a program that serves 64 clients ends well, at its ports, where 65 wait.
-fn serves_many(alloc: Global, outside: &mut TestOutside) -> bool {
+fn serves_many<R: Threads + Wait + Sync>(rt: &R, alloc: Global, outside: &mut TestOutside) -> bool {
     let words = "--port 80 --to 8080 --connections 64 --out s";
     let mut port = WatchedNet::new(alloc, REQUEST, RESPONSE, 65);
     let mut dialer = WatchedNet::new(alloc, RESPONSE, REQUEST, 0);
-    status_of(alloc, words, outside, &mut port, &mut dialer) == Ok(0)
+    status_of(rt, alloc, words, outside, &mut port, &mut dialer) == Ok(0)
         && is_used(&port, 80, 1)
         && is_used(&dialer, 8080, 0)
 }
 
 // Whether such a program leaves their records.
-fn records_many(alloc: Global, outside: &mut TestOutside) -> bool {
-    serves_many(alloc, outside)
+fn records_many<R: Threads + Wait + Sync>(
+    rt: &R,
+    alloc: Global,
+    outside: &mut TestOutside,
+) -> bool {
+    serves_many(rt, alloc, outside)
         && outside.is_left("closed 64 bad 0 broken 0 full 0\n", &[])
         && length_of(outside, "s") == Some(10 + 64 * 91)
 }
@@ -207,5 +214,5 @@ fn records_many(alloc: Global, outside: &mut TestOutside) -> bool {
 #[test]
 fn each_of_many_clients_is_served_and_ended(rt: HostRuntime) {
     let mut outside = TestOutside::new(rt.alloc(), &[], &[], &[]).expect(&rt, "memory");
-    assert!(rt; records_many(rt.alloc(), &mut outside));
+    assert!(rt; records_many(&rt, rt.alloc(), &mut outside));
 }

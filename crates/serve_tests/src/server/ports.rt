@@ -1,11 +1,10 @@
 // Servings over ports in memory.
 ghost use Rattle.std.specs.Prelude.{◌≤◌};
-ghost use Rattle.mm_base.specs.MemPort.{mem_port_view};
 
 use super::{TWO, TWO_ANSWERS};
 use crate::links::{REQUEST, RESPONSE, port_of};
 use crate::store::paired;
-use mm_base::{EndError, MemLink, MemPort, NoPace, Pace, Port, Role};
+use mm_base::{Listened, MemPort, NoPace, Pace, Port, Role};
 use replay_server::{ServeError, Served, serve};
 use std::alloc::Global;
 use std::marker::{Send, Sync};
@@ -146,47 +145,21 @@ fn a_port_that_fails_stops_the_serving(rt: HostRuntime) {
     }
 }
 
-// A port in memory that notes the number that it listened at last, and how often it listened.
-#[derive(Drop)]
-struct Heard {
-    port: MemPort,
-    number: u16,
-    times: u64,
-}
-
-impl Port for Heard {
-    type Conn = MemLink;
-
-    ghost view = { λ p. mem_port_view p.port };
-
-    fn listen(&mut self, number: u16) -> Result<(), EndError> {
-        self.number = number;
-        self.times = self.times.saturating_add(1);
-        self.port.listen(number)
-    }
-
-    fn accept(&mut self) -> Result<Option<MemLink>, EndError> {
-        self.port.accept()
-    }
-
-    fn finish(&mut self, conn: MemLink) -> Result<(), EndError> {
-        self.port.finish(conn)
-    }
-}
+// What a port that listened once, at the number of these tests, was asked.
+const ONCE: Listened = Listened {
+    times: 1,
+    last: Some(8_080),
+    listening: Some(8_080),
+};
 
 /// Whether a serving listens once, at its number, whatever its site.
 fn listens<R: Threads + Wait + Sync>(rt: &R, alloc: Global, site: Option<u16>) -> bool {
-    let Ok(port) = port_of(alloc, &ONLY, 8, 0) else {
+    let Ok(mut port) = port_of(alloc, &ONLY, 8, 0) else {
         return false;
-    };
-    let mut port = Heard {
-        port,
-        number: 0,
-        times: 0,
     };
     let answer = served(rt, alloc, &mut port, 8_080, site, 1, &NoPace);
     let is_closed = matches!(answer, Ok(Served { closed: 1, .. }));
-    is_closed && port.number == 8_080 && port.times == 1
+    is_closed && port.listened() == ONCE
 }
 
 #[test]

@@ -1,10 +1,10 @@
--- What callers see of a cell and its seats, and what a call does to a seat.
+-- What contracts see of a seat, by what the seat knows.
 use Rattle.atomic_table.specs.Seated.{TableId}
 use Rattle.shell_cell.specs.declared.view.View.{View}
 use Rattle.shell_cell.specs.History.{fed_flow, taken_flow}
 use Rattle.shell_cell.specs.Seats.{FeedView, DrainView}
 
--- what a seat at this table shows by what it knows
+-- The seat that feeds, at a table.
 abbrev pub feed_seat : TableId → View → FeedView
 feed_seat table v = record {
   turns = v.fed;
@@ -14,6 +14,7 @@ feed_seat table v = record {
   cell = record { table = table; opening = v.opening };
 }
 
+-- The seat that takes, at a table.
 abbrev pub drain_seat : TableId → View → DrainView
 drain_seat table v = record {
   turns = v.drained;

@@ -1,33 +1,21 @@
-// One who feeds both directions of a run with one row.
-ghost use Rattle.std.specs.Prelude.{◌≡◌, ◌∷◌, []};
+// One who feeds both directions of a run with one row, by the source that any such one may call.
+ghost use Rattle.std.specs.Prelude.{◌≡◌};
 ghost use Rattle.packet_record.specs.Streams.{no_items};
 ghost use Rattle.mark_channel.specs.Ends.{IsSameEnd};
-ghost use Rattle.mark_channel.specs.Feedings.{HasSentRows};
 
 use super::receive_all;
 use crate::checks::check;
 use crate::packets::timed;
 use crate::ways::{open_ways, settle_ways};
 use mark_channel::{FeedEnd, Feeds, Sender};
-use packet_record::{Direction, Item, Row};
+use mm_base::NoPace;
+use packet_record::{Direction, Row};
+use row_source::source;
 use std::alloc::Global;
 use std::process::Abort;
 use std::slice;
 use std::sync::Wait;
 use std::thread::Threads;
-
-// Sends the row's packet where it goes in this direction and enters up to the horizon, and then the end.
-fn send_row<R: Wait>(rt: &R, to: &mut Sender, direction: Direction, horizon: u64, row: &Row)
-    requires empty { to.old.flow ≡ no_items }
-    requires within { to.old.horizon ≡ horizon }
-    ensures sent { HasSentRows direction horizon (row.now ∷ []) to.new.flow }
-    ensures same { IsSameEnd to.old to.new }
-{
-    if row.direction == direction && row.timed.moment <= horizon {
-        to.send(rt, Item::Packet(row.timed));
-    }
-    to.send(rt, Item::End);
-}
 
 // One row, and all that is fed.
 #[derive(Drop)]
@@ -51,8 +39,7 @@ impl Feeds for OneRow {
         up: &mut Sender,
         down: &mut Sender,
     ) -> FeedEnd {
-        send_row(rt, up, Direction::Up, horizon, &self.row);
-        send_row(rt, down, Direction::Down, horizon, &self.row);
+        source(rt, slice::from_ref(&self.row), horizon, up, down, &NoPace);
         FeedEnd::Ended
     }
 }

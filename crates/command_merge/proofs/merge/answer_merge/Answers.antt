@@ -10,6 +10,7 @@ use Rattle.command_merge.specs.Merge.{GivesMerge, merge_of}
 use Rattle.command_merge.specs.MergeReading.{merge_reading, merge_words}
 use Rattle.command_merge.specs.inside.Values.{merge_values}
 use Rattle.command_merge.specs.declared.job.MergeJob.{MergeJob}
+use Rattle.command_ends.proofs.AloneLemmas.{asked_alone}
 use Rattle.command_merge.proofs.merge.answer_merge.Goals as goal
 
 pub returns-in-Some-clause-ends : goal.returns-in-Some-clause-ends
@@ -34,3 +35,10 @@ returns-in_err-job-clause-ends g c = λ out.
     rw p.1 (subst (λ (k : Cause). Ends (only GivesMerge) reading (offline disk out) (offline disk out) (Some k))
     (sym p.2)
     (ends_early (only GivesMerge) reading disk disk out tt (keeps_all disk)))
+
+pub returns-in-Some-clause-alone : goal.returns-in-Some-clause-alone
+returns-in-Some-clause-alone g c =
+    asked_alone (merge_of (map string_bytes c.args.words.now)) (merge_values c.in-Some.job) merge_reading
+    (g.D.Disk.view c.args.disk.now) (g.D.Disk.view c.merge.new.disk)
+    (ap (λ (o : Option MergeJob). option_map merge_values o) (sym c.in-Some.is) ∙ c.in_ok-job.ensures)
+    c.merge.ensures.alone

@@ -9,6 +9,7 @@ use Rattle.command_ends.proofs.ReadingLemmas.{stops_later}
 use Rattle.command_merge.specs.Merge.{GivesMerge, merge_files}
 use Rattle.command_merge.specs.MergeReading.{merge_inputs, merge_reading}
 use Rattle.command_merge.specs.inside.Values.{merge_values}
+use Rattle.command_ends.proofs.AloneLemmas.{accepted_alone}
 use Rattle.command_merge.proofs.merge.merge.Goals as goal
 
 pub returns-in_err-words-clause-ends : goal.returns-in_err-words-clause-ends
@@ -43,3 +44,9 @@ returns-clause-ends g c = λ out.
     (merge_files job.out c.in_ok-run.run') c.write_files.result
     (finishes_later (c.in_ok-words.ensures.read old) c.in_ok-run.ensures.found) c.merge_packets.ensures.only_reads
     c.write_files.ensures.ok c.write_files.ensures.stopped
+
+pub returns-in_err-run-clause-alone : goal.returns-in_err-run-clause-alone
+returns-in_err-run-clause-alone g c = accepted_alone (merge_reading (merge_values c.args.job.now)) _ _ c.in_ok-words.ensures.accepts
+
+pub returns-clause-alone : goal.returns-clause-alone
+returns-clause-alone g c = accepted_alone (merge_reading (merge_values c.args.job.now)) _ _ c.in_ok-words.ensures.accepts

@@ -9,6 +9,7 @@ use Rattle.command_relay.specs.Jobs.{relay_of}
 use Rattle.command_relay.specs.Relaying.{net, relay_reading, relay_words, relay_work}
 use Rattle.command_relay.specs.inside.Values.{relay_values}
 use Rattle.command_relay.specs.declared.job.RelayJob.{RelayJob}
+use Rattle.command_ends.proofs.AloneLemmas.{asked_alone}
 use Rattle.command_relay.proofs.command.answer.Goals as goal
 
 pub returns-in-Some-clause-ends : goal.returns-in-Some-clause-ends
@@ -37,3 +38,10 @@ returns-in_err-job-clause-ends g c =
     let before = net (g.C.Clock.view c.args.clock.now) (g.W.Wire.view c.args.wire.now) in
     rw p.1 (subst (λ (k : Cause). Ends relay_work reading (outside disk out before) (outside disk out before) (Some k))
     (sym p.2) (ends_early relay_work reading disk disk out before (keeps_all disk)))
+
+pub returns-in-Some-clause-alone : goal.returns-in-Some-clause-alone
+returns-in-Some-clause-alone g c =
+    asked_alone (relay_of (map string_bytes c.args.words.now)) (relay_values c.in-Some.job) relay_reading
+    (g.D.Disk.view c.args.disk.now) (g.D.Disk.view c.run.new.disk)
+    (ap (λ (o : Option RelayJob). option_map relay_values o) (sym c.in-Some.is) ∙ c.in_ok-job.ensures)
+    c.run.ensures.alone

@@ -4,6 +4,7 @@ use Rattle.command_ends.specs.Answers.{cause_in}
 use Rattle.command_ends.proofs.TellLemmas.{tells, tells_answered, tells_done, tells_stopped}
 use Rattle.command_relay.specs.Relaying.{relay_work}
 use Rattle.command_relay.proofs.RelayLemmas.{relay_first, relay_one}
+use Rattle.command_ends.proofs.AloneLemmas.{net_alone}
 use Rattle.command_relay.proofs.command.relay_main.Goals as goal
 
 pub returns-clause-done : goal.returns-clause-done
@@ -77,3 +78,6 @@ returns-clause-complete g c =
 
 pub returns-clause-out_counts : goal.returns-clause-out_counts
 returns-clause-out_counts g c = CountsFaults-then c.answer-answer.ensures.out_counts c.conclude.ensures.counts
+
+pub returns-clause-net_alone : goal.returns-clause-net_alone
+returns-clause-net_alone g c = net_alone relay_work _ _ _ (cause_in c.answer-answer.result) c.answer-answer.ensures.ends

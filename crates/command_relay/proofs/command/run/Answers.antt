@@ -12,6 +12,7 @@ use Rattle.command_relay.specs.Lines.{relay_line}
 use Rattle.command_relay.specs.Relaying.{net, relay_inputs, relay_reading, relay_work}
 use Rattle.command_relay.specs.inside.Values.{relay_values}
 use Rattle.command_relay.proofs.RelayLemmas.{ends_relaying, relay_finishes, some_files}
+use Rattle.command_ends.proofs.AloneLemmas.{accepted_alone}
 use Rattle.command_relay.proofs.command.run.Goals as goal
 
 abbrev output_of : List ℕ → RelayResult → Output
@@ -91,3 +92,19 @@ returns-clause-ends g c =
     (c.in_ok-write_whole.ensures.ok
     ∙ ap (holding_all (run_files job.out r.run)) c.load_nest.ensures.only_reads.same_files)
     (λ none. absurd (some_files _ _ none)) c.print_relayed.ensures.ok c.print_relayed.ensures.stopped
+
+pub returns-in_err-nest-clause-alone : goal.returns-in_err-nest-clause-alone
+returns-in_err-nest-clause-alone g c =
+    accepted_alone (relay_reading (relay_values c.args.job.now)) _ _ c.in_ok-words.ensures.accepts
+
+pub returns-in_err-relayed-clause-alone : goal.returns-in_err-relayed-clause-alone
+returns-in_err-relayed-clause-alone g c =
+    accepted_alone (relay_reading (relay_values c.args.job.now)) _ _ c.in_ok-words.ensures.accepts
+
+pub returns-in_err-write_whole-clause-alone : goal.returns-in_err-write_whole-clause-alone
+returns-in_err-write_whole-clause-alone g c =
+    accepted_alone (relay_reading (relay_values c.args.job.now)) _ _ c.in_ok-words.ensures.accepts
+
+pub returns-clause-alone : goal.returns-clause-alone
+returns-clause-alone g c =
+    accepted_alone (relay_reading (relay_values c.args.job.now)) _ _ c.in_ok-words.ensures.accepts

@@ -10,6 +10,7 @@ use Rattle.command_report.specs.Report.{GivesReport, report_job_of}
 use Rattle.command_report.specs.ReportReading.{report_reading, report_words}
 use Rattle.command_report.specs.inside.Values.{report_values}
 use Rattle.command_report.specs.declared.report.ReportJob.{ReportJob}
+use Rattle.command_ends.proofs.AloneLemmas.{asked_alone, unrefused}
 use Rattle.command_report.proofs.report.answer_report.Goals as goal
 
 pub returns-in-Some-clause-ends : goal.returns-in-Some-clause-ends
@@ -36,3 +37,10 @@ returns-in_err-job-clause-ends g c =
     rw p.1 (subst (λ (k : Cause). Ends (only GivesReport) reading (offline disk out) (offline disk out) (Some k))
     (sym p.2)
     (ends_early (only GivesReport) reading disk disk out tt (keeps_all disk)))
+
+pub returns-in-Some-clause-alone : goal.returns-in-Some-clause-alone
+returns-in-Some-clause-alone g c =
+    let old = g.D.Disk.view c.args.disk.now in
+    let new = g.D.Disk.view c.report.new.disk in
+    asked_alone (report_job_of (map string_bytes c.args.words.now)) (report_values c.in-Some.job) report_reading old new
+    (ap (λ (o : Option ReportJob). option_map report_values o) (sym c.in-Some.is) ∙ c.in_ok-job.ensures) (unrefused old new)

@@ -10,6 +10,7 @@ use Rattle.command_run.specs.Run.{GivesRun, run_of}
 use Rattle.command_run.specs.RunReading.{run_reading, run_words}
 use Rattle.command_run.specs.inside.Values.{run_values}
 use Rattle.command_run.specs.declared.run_job.RunJob.{RunJob}
+use Rattle.command_ends.proofs.AloneLemmas.{asked_alone}
 use Rattle.command_run.proofs.run.answer_run.Goals as goal
 
 pub returns-in-Some-clause-ends : goal.returns-in-Some-clause-ends
@@ -32,3 +33,10 @@ returns-in_err-job-clause-ends g c = λ out.
     let disk = g.D.Disk.view c.args.disk.now in
     rw p.1 (subst (λ (k : Cause). Ends (only GivesRun) reading (offline disk out) (offline disk out) (Some k)) (sym p.2)
     (ends_early (only GivesRun) reading disk disk out tt (keeps_all disk)))
+
+pub returns-in-Some-clause-alone : goal.returns-in-Some-clause-alone
+returns-in-Some-clause-alone g c =
+    asked_alone (run_of (map string_bytes c.args.words.now)) (run_values c.in-Some.job) run_reading
+    (g.D.Disk.view c.args.disk.now) (g.D.Disk.view c.run.new.disk)
+    (ap (λ (o : Option RunJob). option_map run_values o) (sym c.in-Some.is) ∙ c.in_ok-job.ensures)
+    c.run.ensures.alone

@@ -5,6 +5,7 @@ use Rattle.command_ends.specs.declared.cause.Cause.{Cause}
 use Rattle.command_run.specs.RunReading.{run_reading}
 use Rattle.command_run.specs.inside.Values.{run_values}
 use Rattle.command_run.proofs.RunLemmas.{horizon_stop, names_stop, nest_stop, words_read}
+use Rattle.command_run.proofs.FirstLemmas.{words_accepted}
 use Rattle.command_run.proofs.run.read_words.Goals as goal
 
 pub returns-in-Err-clause-read : goal.returns-in-Err-clause-read
@@ -29,4 +30,8 @@ returns-in_err-check_horizon-clause-read c =
 
 pub returns-clause-read : goal.returns-clause-read
 returns-clause-read c = words_read (run_values c.args.job.now) c.in-Ok.nest c.in-Ok.ensures
+    c.in_ok-check_names.ensures c.in_ok-check_horizon.ensures.refused
+
+pub returns-clause-accepts : goal.returns-clause-accepts
+returns-clause-accepts c = words_accepted (run_values c.args.job.now) c.in-Ok.nest c.in-Ok.ensures
     c.in_ok-check_names.ensures c.in_ok-check_horizon.ensures.refused

@@ -11,6 +11,7 @@ use Rattle.nest_command.specs.RunFiles.{run_files}
 use Rattle.command_run.specs.Run.{GivesRun}
 use Rattle.command_run.specs.RunReading.{run_inputs, run_reading}
 use Rattle.command_run.specs.inside.Values.{run_values}
+use Rattle.command_ends.proofs.AloneLemmas.{accepted_alone}
 use Rattle.command_run.proofs.run.run.Goals as goal
 
 pub returns-in_err-words-clause-ends : goal.returns-in_err-words-clause-ends
@@ -43,3 +44,9 @@ returns-clause-ends g c = λ out.
     (run_files job.out (passed_lists c.in_ok-run.run')) c.write_files.result
     (finishes_later (c.in_ok-words.ensures.read old) c.in_ok-run.ensures.found) c.run_packets.ensures.only_reads
     c.write_files.ensures.ok c.write_files.ensures.stopped
+
+pub returns-in_err-run-clause-alone : goal.returns-in_err-run-clause-alone
+returns-in_err-run-clause-alone g c = accepted_alone (run_reading (run_values c.args.job.now)) _ _ c.in_ok-words.ensures.accepts
+
+pub returns-clause-alone : goal.returns-clause-alone
+returns-clause-alone g c = accepted_alone (run_reading (run_values c.args.job.now)) _ _ c.in_ok-words.ensures.accepts

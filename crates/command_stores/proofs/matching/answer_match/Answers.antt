@@ -9,6 +9,7 @@ use Rattle.command_ends.proofs.EndLemmas.{ends_asked, ends_early, ends_unasked, 
 use Rattle.command_stores.specs.Matching.{GivesMatch, match_job_of, match_reading, match_words}
 use Rattle.command_stores.specs.inside.Values.{match_values}
 use Rattle.command_stores.specs.declared.matching.MatchJob.{MatchJob}
+use Rattle.command_ends.proofs.AloneLemmas.{asked_alone, unrefused}
 use Rattle.command_stores.proofs.matching.answer_match.Goals as goal
 
 pub returns-in-Some-clause-ends : goal.returns-in-Some-clause-ends
@@ -34,3 +35,10 @@ returns-in_err-job-clause-ends g c =
     let written = g.O.Sink.view c.args.out.now in
     rw p.1 (subst (λ (k : Cause). Ends (only GivesMatch) reading (offline disk written) (offline disk written) (Some k))
     (sym p.2) (ends_early (only GivesMatch) reading disk disk written tt (keeps_all disk)))
+
+pub returns-in-Some-clause-alone : goal.returns-in-Some-clause-alone
+returns-in-Some-clause-alone g c =
+    let old = g.D.Disk.view c.args.disk.now in
+    let new = g.D.Disk.view c.print_best.new.disk in
+    asked_alone (match_job_of (map string_bytes c.args.words.now)) (match_values c.in-Some.job) match_reading old new
+    (ap (λ (o : Option MatchJob). option_map match_values o) (sym c.in-Some.is) ∙ c.in_ok-job.ensures) (unrefused old new)

@@ -9,6 +9,7 @@ use Rattle.command_ends.proofs.EndLemmas.{ends_asked, ends_early, ends_unasked, 
 use Rattle.command_stores.specs.Migrating.{GivesMigrate, migrate_job_of, migrate_reading, migrate_words}
 use Rattle.command_stores.specs.inside.Values.{migrate_values}
 use Rattle.command_stores.specs.declared.migrating.MigrateJob.{MigrateJob}
+use Rattle.command_ends.proofs.AloneLemmas.{asked_alone}
 use Rattle.command_stores.proofs.migrating.answer_migrate.Goals as goal
 
 pub returns-in-Some-clause-ends : goal.returns-in-Some-clause-ends
@@ -35,3 +36,10 @@ returns-in_err-job-clause-ends g c = λ out.
     rw p.1 (subst (λ (k : Cause). Ends (only GivesMigrate) reading (offline disk written) (offline disk written)
     (Some k))
     (sym p.2) (ends_early (only GivesMigrate) reading disk disk written tt (keeps_all disk)))
+
+pub returns-in-Some-clause-alone : goal.returns-in-Some-clause-alone
+returns-in-Some-clause-alone g c =
+    asked_alone (migrate_job_of (map string_bytes c.args.words.now)) (migrate_values c.in-Some.job) migrate_reading
+    (g.D.Disk.view c.args.disk.now) (g.D.Disk.view c.migrate.new.disk)
+    (ap (λ (o : Option MigrateJob). option_map migrate_values o) (sym c.in-Some.is) ∙ c.in_ok-job.ensures)
+    c.migrate.ensures.alone

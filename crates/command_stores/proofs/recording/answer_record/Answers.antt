@@ -9,6 +9,7 @@ use Rattle.command_ends.proofs.EndLemmas.{ends_asked, ends_early, ends_unasked, 
 use Rattle.command_stores.specs.Recording.{GivesRecord, record_job_of, record_reading, record_words}
 use Rattle.command_stores.specs.inside.Values.{record_values}
 use Rattle.command_stores.specs.declared.recording.RecordJob.{RecordJob}
+use Rattle.command_ends.proofs.AloneLemmas.{asked_alone}
 use Rattle.command_stores.proofs.recording.answer_record.Goals as goal
 
 pub returns-in-Some-clause-ends : goal.returns-in-Some-clause-ends
@@ -34,3 +35,10 @@ returns-in_err-job-clause-ends g c = λ out.
     rw p.1 (subst (λ (k : Cause). Ends (only GivesRecord) reading (offline disk written) (offline disk written)
     (Some k))
     (sym p.2) (ends_early (only GivesRecord) reading disk disk written tt (keeps_all disk)))
+
+pub returns-in-Some-clause-alone : goal.returns-in-Some-clause-alone
+returns-in-Some-clause-alone g c =
+    asked_alone (record_job_of (map string_bytes c.args.words.now)) (record_values c.in-Some.job) record_reading
+    (g.D.Disk.view c.args.disk.now) (g.D.Disk.view c.make_store.new.disk)
+    (ap (λ (o : Option RecordJob). option_map record_values o) (sym c.in-Some.is) ∙ c.in_ok-job.ensures)
+    c.make_store.ensures.alone

@@ -9,6 +9,7 @@ use Rattle.command_ends.proofs.ReadingLemmas.{stops_later}
 use Rattle.command_stores.specs.Recording.{GivesRecord, record_inputs, record_reading}
 use Rattle.command_stores.specs.inside.Values.{record_values}
 use Rattle.command_stores.specs.Written.{store_file}
+use Rattle.command_ends.proofs.AloneLemmas.{accepted_alone}
 use Rattle.command_stores.proofs.recording.make_store.Goals as goal
 
 pub returns-in_err-check_record-clause-ends : goal.returns-in_err-check_record-clause-ends
@@ -18,7 +19,7 @@ returns-in_err-check_record-clause-ends g c = λ out.
     let old = g.D.Disk.view c.args.disk.now in
     rw p.1 (subst (λ (k : Cause). Ends (only GivesRecord) reading (offline old out) (offline old out) (Some k))
     (sym p.2)
-    (ends_stopped (only GivesRecord) reading old old out tt _ (keeps_all old) (c.in_err-check_record.ensures old)))
+    (ends_stopped (only GivesRecord) reading old old out tt _ (keeps_all old) (c.in_err-check_record.ensures.read old)))
 
 pub returns-in_err-store-clause-ends : goal.returns-in_err-store-clause-ends
 returns-in_err-store-clause-ends g c = λ out.
@@ -30,7 +31,7 @@ returns-in_err-store-clause-ends g c = λ out.
     (Some k))
     (sym p.2)
     (ends_stopped (only GivesRecord) (record_reading job) old new out tt _ (keeps c.load_pairs.ensures.only_reads)
-    (stops_later (record_reading job) (record_inputs job) old old new _ (c.in_ok-check_record.ensures old)
+    (stops_later (record_reading job) (record_inputs job) old old new _ (c.in_ok-check_record.ensures.read old)
     (reads_none old)
     c.in_err-store.ensures.stopped)))
 
@@ -41,5 +42,12 @@ returns-clause-ends g c = λ out.
     let mid = g.D.Disk.view c.load_pairs.new.disk in
     let new = g.D.Disk.view c.write_store.new.disk in
     ends_written (only GivesRecord) (record_reading job) old mid new out tt tt (store_file job.out c.in_ok-store.store)
-    c.write_store.result (finishes_later (c.in_ok-check_record.ensures old) c.in_ok-store.ensures.found)
+    c.write_store.result (finishes_later (c.in_ok-check_record.ensures.read old) c.in_ok-store.ensures.found)
     c.load_pairs.ensures.only_reads c.write_store.ensures.ok c.write_store.ensures.stopped
+
+pub returns-in_err-store-clause-alone : goal.returns-in_err-store-clause-alone
+returns-in_err-store-clause-alone g c =
+    accepted_alone (record_reading (record_values c.args.job.now)) _ _ c.in_ok-check_record.ensures.accepts
+
+pub returns-clause-alone : goal.returns-clause-alone
+returns-clause-alone g c = accepted_alone (record_reading (record_values c.args.job.now)) _ _ c.in_ok-check_record.ensures.accepts

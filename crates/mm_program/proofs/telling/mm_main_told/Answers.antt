@@ -4,6 +4,7 @@ use Rattle.command_ends.specs.Answers.{cause_in}
 use Rattle.command_ends.proofs.TellLemmas.{tells, tells_answered, tells_done, tells_stopped}
 use Rattle.mm_program.specs.Tasks.{work}
 use Rattle.mm_program.proofs.TopLemmas.{port_rose, reading_first, reading_one}
+use Rattle.command_ends.proofs.AloneLemmas.{net_alone}
 use Rattle.mm_program.proofs.telling.mm_main_told.Goals as goal
 
 pub returns-clause-done : goal.returns-clause-done
@@ -97,9 +98,12 @@ returns-clause-out_counts g c = CountsFaults-then c.answer-answer.ensures.out_co
 
 pub returns-clause-told : goal.returns-clause-told
 returns-clause-told g c = record {
-  answer = cause_in c.answer-answer.result;
   ended = g.O.Sink.view c.answer-answer.new.out;
   ends = c.answer-answer.ensures.ends;
   concludes = c.conclude-status.ensures;
   told_is = c.tell-told.ensures;
 }
+
+pub returns-clause-port_alone : goal.returns-clause-port_alone
+returns-clause-port_alone g c = net_alone (work g.P.Conn.Link.view) _ _ _ (cause_in c.answer-answer.result)
+    c.answer-answer.ensures.ends

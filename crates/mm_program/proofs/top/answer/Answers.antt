@@ -18,6 +18,8 @@ use Rattle.mm_program.specs.Tasks.{ToMerge}
 use Rattle.mm_program.specs.declared.command.Command.TheVariants.{Run, Report, Make, Replay, Record, Match, Migrate}
 use Rattle.mm_program.specs.declared.command.Command.TheVariants.{Merge}
 use Rattle.mm_program.proofs.TopLemmas.{another_named, command_named, reading_named}
+use Rattle.command_ends.proofs.AloneLemmas.{mapped_alone}
+use Rattle.mm_program.specs.Commands.{reading_of}
 use Rattle.mm_program.proofs.top.answer.Goals as goal
 
 pub returns-in-Run-clause-ends : goal.returns-in-Run-clause-ends
@@ -177,3 +179,66 @@ returns-in-Replay-clause-make g c = λ make.
     absurd (another_named (map string_bytes c.args.words.now) Replay Make make (λ is. cc is)
     (command_named string_bytes c.args.words.now c.word-item.result c.as_str.result.now Replay c.read_command.result
     c.in-len1-up.len_at_least c.word-item.is c.as_str.ensures.value c.in-Replay.is c.read_command.ensures))
+
+pub returns-in-Run-clause-alone : goal.returns-in-Run-clause-alone
+returns-in-Run-clause-alone g c =
+    let all = c.args.words.now in
+    mapped_alone ToRun (run_words (map string_bytes (take (length all - 1) (drop 1 all)))) (reading_of (map string_bytes all))
+    (g.D.Disk.view c.args.disk.now) (g.D.Disk.view c.answer_run.new.disk)
+    (reading_named string_bytes all c.word-item.result c.as_str.result.now Run c.read_command.result
+    c.in-len1-up.len_at_least c.word-item.is c.as_str.ensures.value c.in-Run.is c.read_command.ensures)
+    c.answer_run.ensures.alone
+
+pub returns-in-Merge-clause-alone : goal.returns-in-Merge-clause-alone
+returns-in-Merge-clause-alone g c =
+    let all = c.args.words.now in
+    mapped_alone ToMerge (merge_words (map string_bytes (take (length all - 1) (drop 1 all)))) (reading_of (map string_bytes all))
+    (g.D.Disk.view c.args.disk.now) (g.D.Disk.view c.answer_merge.new.disk)
+    (reading_named string_bytes all c.word-item.result c.as_str.result.now Merge c.read_command.result
+    c.in-len1-up.len_at_least c.word-item.is c.as_str.ensures.value c.in-Merge.is c.read_command.ensures)
+    c.answer_merge.ensures.alone
+
+pub returns-in-Report-clause-alone : goal.returns-in-Report-clause-alone
+returns-in-Report-clause-alone g c =
+    let all = c.args.words.now in
+    mapped_alone ToReport (report_words (map string_bytes (take (length all - 1) (drop 1 all)))) (reading_of (map string_bytes all))
+    (g.D.Disk.view c.args.disk.now) (g.D.Disk.view c.answer_report.new.disk)
+    (reading_named string_bytes all c.word-item.result c.as_str.result.now Report c.read_command.result
+    c.in-len1-up.len_at_least c.word-item.is c.as_str.ensures.value c.in-Report.is c.read_command.ensures)
+    c.answer_report.ensures.alone
+
+pub returns-in-Record-clause-alone : goal.returns-in-Record-clause-alone
+returns-in-Record-clause-alone g c =
+    let all = c.args.words.now in
+    mapped_alone ToRecord (record_words (map string_bytes (take (length all - 1) (drop 1 all)))) (reading_of (map string_bytes all))
+    (g.D.Disk.view c.args.disk.now) (g.D.Disk.view c.answer_record.new.disk)
+    (reading_named string_bytes all c.word-item.result c.as_str.result.now Record c.read_command.result
+    c.in-len1-up.len_at_least c.word-item.is c.as_str.ensures.value c.in-Record.is c.read_command.ensures)
+    c.answer_record.ensures.alone
+
+pub returns-in-Match-clause-alone : goal.returns-in-Match-clause-alone
+returns-in-Match-clause-alone g c =
+    let all = c.args.words.now in
+    mapped_alone ToMatch (match_words (map string_bytes (take (length all - 1) (drop 1 all)))) (reading_of (map string_bytes all))
+    (g.D.Disk.view c.args.disk.now) (g.D.Disk.view c.answer_match.new.disk)
+    (reading_named string_bytes all c.word-item.result c.as_str.result.now Match c.read_command.result
+    c.in-len1-up.len_at_least c.word-item.is c.as_str.ensures.value c.in-Match.is c.read_command.ensures)
+    c.answer_match.ensures.alone
+
+pub returns-in-Migrate-clause-alone : goal.returns-in-Migrate-clause-alone
+returns-in-Migrate-clause-alone g c =
+    let all = c.args.words.now in
+    mapped_alone ToMigrate (migrate_words (map string_bytes (take (length all - 1) (drop 1 all)))) (reading_of (map string_bytes all))
+    (g.D.Disk.view c.args.disk.now) (g.D.Disk.view c.answer_migrate.new.disk)
+    (reading_named string_bytes all c.word-item.result c.as_str.result.now Migrate c.read_command.result
+    c.in-len1-up.len_at_least c.word-item.is c.as_str.ensures.value c.in-Migrate.is c.read_command.ensures)
+    c.answer_migrate.ensures.alone
+
+pub returns-in-Replay-clause-alone : goal.returns-in-Replay-clause-alone
+returns-in-Replay-clause-alone g c =
+    let all = c.args.words.now in
+    mapped_alone ToReplay (replay_words (map string_bytes (take (length all - 1) (drop 1 all)))) (reading_of (map string_bytes all))
+    (g.D.Disk.view c.args.disk.now) (g.D.Disk.view c.answer_replay.new.disk)
+    (reading_named string_bytes all c.word-item.result c.as_str.result.now Replay c.read_command.result
+    c.in-len1-up.len_at_least c.word-item.is c.as_str.ensures.value c.in-Replay.is c.read_command.ensures)
+    c.answer_replay.ensures.alone

@@ -4,6 +4,7 @@ use Rattle.command_ends.specs.Answers.{cause_in}
 use Rattle.command_ends.proofs.TellLemmas.{tells, tells_answered, tells_done, tells_stopped}
 use Rattle.mm_program.specs.Tasks.{work}
 use Rattle.mm_program.proofs.TopLemmas.{port_rose, reading_first, reading_one}
+use Rattle.command_ends.proofs.AloneLemmas.{net_alone}
 use Rattle.mm_program.proofs.top.mm_main.Goals as goal
 
 pub returns-clause-done : goal.returns-clause-done
@@ -94,3 +95,7 @@ returns-clause-complete g c =
 
 pub returns-clause-out_counts : goal.returns-clause-out_counts
 returns-clause-out_counts g c = CountsFaults-then c.answer-answer.ensures.out_counts c.conclude.ensures.counts
+
+pub returns-clause-port_alone : goal.returns-clause-port_alone
+returns-clause-port_alone g c = net_alone (work g.P.Conn.Link.view) _ _ _ (cause_in c.answer-answer.result)
+    c.answer-answer.ensures.ends

@@ -4,6 +4,7 @@ use Rattle.command_ends.specs.Answers.{cause_in}
 use Rattle.command_ends.proofs.TellLemmas.{tells, tells_answered, tells_done, tells_stopped}
 use Rattle.record_proxy.specs.Proxying.{proxy_work}
 use Rattle.record_proxy.proofs.CommandLemmas.{ends_status, proxy_status, proxy_words_first, proxy_words_one}
+use Rattle.command_ends.proofs.AloneLemmas.{net_alone}
 use Rattle.record_proxy.proofs.command.proxy_main.Goals as goal
 
 pub returns-clause-done : goal.returns-clause-done
@@ -72,3 +73,7 @@ returns-clause-statuses g c =
     (ends_status g.P.Conn.Link.view g.X.Conn.Link.view (map string_bytes c.args.words.now) _ _
     (cause_in c.answer-answer.result) c.answer-answer.ensures.ends)
     c.conclude.ensures.status_is
+
+pub returns-clause-net_alone : goal.returns-clause-net_alone
+returns-clause-net_alone g c = net_alone (proxy_work g.P.Conn.Link.view g.X.Conn.Link.view) _ _ _
+    (cause_in c.answer-answer.result) c.answer-answer.ensures.ends

@@ -1,4 +1,4 @@
-use Rattle.std.proofs.Common.{◌≡◌, ◌∙◌, ◌+◌, [], ◌∷◌, ◌++◌, length-append, ap, rules, arith}
+use Rattle.std.proofs.Common.{◌≡◌, false, ◌∙◌, ◌+◌, [], ◌∷◌, ◌++◌, length-append, ap, rules, arith}
 use Rattle.replay_server.specs.inside.Tallies.{total}
 use Rattle.record_proxy.specs.inside.Passing.{plus}
 use Rattle.record_proxy.specs.Servings.{counted_as}
@@ -9,8 +9,8 @@ pub clients-init : goal.clients-init
 clients-init g c = record {
   so_far = record {
     passages = [];
-    serves = serves_none c.args.job.now.site g.P.Conn.Link.view g.X.Conn.Link.view _ _ _ _ c.in_default.ensures.keeps
-        c.in_default.ensures.finished c.in_default.ensures.accepted;
+    serves = serves_none c.args.job.now.site g.P.Conn.Link.view g.X.Conn.Link.view false _ _ _ _
+        c.in_default.ensures.keeps c.in_default.ensures.finished c.in_default.ensures.accepted;
     counts = c.nothing-served.ensures;
     few = omega arith;
     within = let none = ap total c.nothing-served.ensures in omega (arith, none);

@@ -10,10 +10,10 @@ pub returns : goal.returns
 returns g c =
     let digits : c.format-digits.result.now ≡ decimal (code_of c.args.reason) =
     c.format-digits.ensures.text ∙ ap decimal c.code_of.ensures in
-    let said : map (λ s. s.now) c.line-pieces.result ≡ line c.args.program (reason_parts c.args.reason
+    let said : map (λ s. s.now) c.line-pieces.result ≡ line c.args.program (reason_parts c.args.reason c.args.input.now
     (decimal (code_of c.args.reason))) =
     c.line-pieces.ensures
-    ∙ ap (line c.args.program) (c.reason_parts.ensures ∙ ap (reason_parts c.args.reason) digits) in
+    ∙ ap (line c.args.program) (c.reason_parts.ensures ∙ ap (reason_parts c.args.reason c.args.input.now) digits) in
     subst (λ (text : List ℕ). IsTold text (g.O.Sink.view c.args.told.now) (g.O.Sink.view c.send_pieces.new.told)
     c.send_pieces.result) (flat_map_texts (λ s. s.now) c.line-pieces.result
     ∙ ap (flat_map (λ piece. piece)) said) c.send_pieces.ensures

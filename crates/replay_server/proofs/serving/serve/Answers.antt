@@ -1,10 +1,10 @@
-use Rattle.std.proofs.Common.{◌∙◌, ap, ℕ, List, Option, Result, Err, refl, subst}
-use Rattle.mm_base.specs.declared.errors.EndError.{EndError}
+use Rattle.std.proofs.Common.{◌∙◌, ap, ℕ, List, Option, Err, refl, subst}
+use Rattle.mm_base.specs.Listened.{after_listen}
 use Rattle.mm_base.specs.declared.errors.EndError.TheVariants as refusals
-use Rattle.mm_base.specs.Port.{listened_after}
 use Rattle.record_store.specs.declared.record.Record.{Record}
 use Rattle.replay_server.specs.Servings.{IsServing}
-use Rattle.replay_server.proofs.ServingLemmas.{serving_listened, serving_refused, serving_unheard, keeps_same, listens_on}
+use Rattle.replay_server.proofs.ServingLemmas.{serving_listened, serving_refused, serving_unheard, keeps_same}
+use Rattle.replay_server.proofs.ServingLemmas.{listens_once}
 use Rattle.replay_server.proofs.serving.serve.Goals as goal
 
 pub returns-in_default-clause-serving : goal.returns-in_default-clause-serving
@@ -43,9 +43,7 @@ returns-in-Ok-listen-clause-serving g c =
 pub returns-in-Ok-listen-clause-listens : goal.returns-in-Ok-listen-clause-listens
 returns-in-Ok-listen-clause-listens g c =
     let before = g.P.Port.view c.args.port.now in
-    let asked = g.P.Port.view c.listen.new.self in
-    let same = c.serve_from.ensures.listened in
-    listens_on c.args.store.now c.args.site g.P.Conn.Link.view before (g.P.Port.view c.serve_from.new.port)
-    c.args.number c.args.connections c.serve_from.result c.serve_from.ensures.within
-    (same ∙ c.listen.ensures.listened
-    ∙ ap (λ (r : Result Unit EndError). listened_after c.args.number r before.listened) c.in-Ok-listen.is)
+    let after = g.P.Port.view c.serve_from.new.port in
+    listens_once c.args.store.now c.args.site g.P.Conn.Link.view before after c.args.number c.args.connections
+    c.serve_from.result c.serve_from.ensures.within (c.serve_from.ensures.listened ∙ c.listen.ensures.listened
+    ∙ ap (λ answer. after_listen c.args.number answer before.listened) c.in-Ok-listen.is)

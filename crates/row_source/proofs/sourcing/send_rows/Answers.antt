@@ -16,7 +16,7 @@ loop-row-preserved g c =
     let h = c.args.horizon in
     let row = c.row-item.result in
     let rest = drop (n + 1) rows in
-    let sent = c.send_both-sent.ensures in
+    let sent = c.source_row-sent.ensures in
     let split : drop n rows ≡ row ∷ rest = drop_more rows n row c.loop-row-test.true
     ∙ ap (λ (r : Row). r ∷ rest) (sym c.row-item.is) in
     let front : take (n + 1) rows ≡ take n rows ++ row ∷ [] = take_more rows n row c.loop-row-test.true
@@ -31,7 +31,7 @@ loop-row-preserved g c =
       sent.sent.1,
       Rises-from _ _ rest sent.rises.0 up.1,
       Rises-from _ _ rest sent.rises.1 down.1,
-      (λ first before has. subst (λ l. HasSent Up h first l c.send_both-sent.result.up c.send_both-sent.new.up) (longer before)
+      (λ first before has. subst (λ l. HasSent Up h first l c.source_row-sent.result.up c.source_row-sent.new.up) (longer before)
           (one_sent Up h c.loop-row.sent.up _ first _ row c.loop-row.up _
           (record {
             after = sent.after.0;
@@ -39,7 +39,7 @@ loop-row-preserved g c =
             items = sent.items.0;
             packets = sent.packets.0;
           }) (i.6 first before has))),
-      (λ first before has. subst (λ l. HasSent Down h first l c.send_both-sent.result.down c.send_both-sent.new.down)
+      (λ first before has. subst (λ l. HasSent Down h first l c.source_row-sent.result.down c.source_row-sent.new.down)
           (longer before)
           (one_sent Down h c.loop-row.sent.down _ first _ row c.loop-row.down _
           (record {

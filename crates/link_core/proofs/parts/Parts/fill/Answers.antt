@@ -11,14 +11,14 @@ pub returns-in_err-step-clause-same : goal.returns-in_err-step-clause-same
 returns-in_err-step-clause-same g c =
     let was = c.filling.invariant in
     let now = c.step.ensures in
-    same_rest g.gone c.filling.self was.well was.logged c.step.new.self now.sound (now.link.logged ∙ was.logged)
+    same_rest g.gone c.filling.self was.well was.logged c.args.last c.step.new.self now.sound (now.link.logged ∙ was.logged)
     was.playable now.playable now.link.opportunities now.link.spec now.arrivals ∙ was.same
 
 pub returns-then-not-branch-clause-same : goal.returns-then-not-branch-clause-same
 returns-then-not-branch-clause-same g c =
     let was = c.filling.invariant in
     let now = c.step.ensures in
-    same_rest g.gone c.filling.self was.well was.logged c.step.new.self now.sound (now.link.logged ∙ was.logged)
+    same_rest g.gone c.filling.self was.well was.logged c.args.last c.step.new.self now.sound (now.link.logged ∙ was.logged)
     was.playable now.playable now.link.opportunities now.link.spec now.arrivals ∙ was.same
 
 pub filling-preserved : goal.filling-preserved
@@ -30,7 +30,7 @@ filling-preserved g c =
       playable = now.playable;
       logged = now.link.logged ∙ was.logged;
       same =
-          same_rest g.gone c.filling.self was.well was.logged c.step.new.self now.sound (now.link.logged ∙ was.logged)
+          same_rest g.gone c.filling.self was.well was.logged c.args.last c.step.new.self now.sound (now.link.logged ∙ was.logged)
           was.playable now.playable now.link.opportunities now.link.spec now.arrivals
           ∙ was.same;
     }
@@ -39,7 +39,7 @@ pub returns-in_err-step-clause-err : goal.returns-in_err-step-clause-err
 returns-in_err-step-clause-err g c =
     let was = c.filling.invariant in
     let now = c.step.ensures in
-    let some = rest_some g.gone c.step.new.self now.sound (now.link.logged ∙ was.logged) now.playable
+    let some = rest_some g.gone c.step.new.self now.sound (now.link.logged ∙ was.logged) c.args.last now.playable
     c.in_err-step.ensures.err in
     where_err c.from_residual.result some
 

@@ -7,13 +7,13 @@ use Rattle.link_core.proofs.parts.Parts.fill.Given as goal
 abbrev pub invariant-filling : goal.invariant-filling
 invariant-filling g l = record {
   well : IsSoundAfter g.gone l.self;
-  playable : CanPlay l.self;
+  playable : CanPlay l.last l.self;
   logged : l.self.log.kept ≡ true;
-  same : l.self.log.entries ++ rest_of l.self ≡ l.fn.self.log.entries ++ rest_of l.fn.self;
+  same : l.self.log.entries ++ rest_of l.last l.self ≡ l.fn.self.log.entries ++ rest_of l.last l.fn.self;
 }
 
 abbrev pub decreases-filling : goal.decreases-filling
-decreases-filling g l = work l.self
+decreases-filling g l = work l.last l.self
 
 abbrev pub ghost-step : goal.ghost-step
 ghost-step g a = g.gone

@@ -7,13 +7,13 @@ use Rattle.link_core.proofs.parts.Parts.finish.Given as goal
 abbrev pub invariant-finishing : goal.invariant-finishing
 invariant-finishing g l = record {
   well : IsSoundAfter g.gone l.self;
-  playable : CanPlay l.self;
+  playable : CanPlay l.last l.self;
   link : IsSameLink l.fn.self l.self;
   arrivals : all_arrivals l.self ≡ all_arrivals l.fn.self;
 }
 
 abbrev pub decreases-finishing : goal.decreases-finishing
-decreases-finishing g l = work l.self
+decreases-finishing g l = work l.last l.self
 
 abbrev pub ghost-step : goal.ghost-step
 ghost-step g a = g.gone

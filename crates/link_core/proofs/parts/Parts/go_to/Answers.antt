@@ -19,9 +19,9 @@ enter-requires g c =
     ∙ c.reserve.ensures.link.opportunities ∙ c.count_from-due.ensures.same) in
     let end : c.burn_to.new.self.burnt ≡ length (up_to m os) = omega arith in
     let arrived : c.burn_to.new.self.arrived ≡ now.arrived = c.burn_to.ensures.arrived ∙ c.reserve.ensures.arrived in
-    let order = next_order os now.opportunities.horizon now.burnt now.arrived.come now.arrived.coming c.requires.1.0 t
+    let order = next_order os now.opportunities.horizon c.args._last now.burnt now.arrived.come now.arrived.coming c.requires.1.0 t
     c.requires.1.1 in
-    let within = next_within os now.opportunities.horizon now.burnt now.arrived.come now.arrived.coming c.requires.1.0
+    let within = next_within os now.opportunities.horizon c.args._last now.burnt now.arrived.come now.arrived.coming c.requires.1.0
     t c.requires.1.1 in
     let most = c.count_from-due.ensures.horizon in
     let here = counted m os c.requires.0.order in (
@@ -62,5 +62,5 @@ returns-clause-playable g c =
     let come_e = c.enter.ensures.come ∙ ap (λ (a : Arriving). a.come ++ c.args.t ∷ []) arrived in
     let coming_e = c.enter.ensures.coming ∙ ap (λ (a : Arriving). drop 1 a.coming) arrived in
     rw (opps_e, burnt_e)
-    (playable_entered os now.opportunities.horizon now.burnt now.arrived.come now.arrived.coming c.requires.1.0
+    (playable_entered os now.opportunities.horizon c.args._last now.burnt now.arrived.come now.arrived.coming c.requires.1.0
     c.args.t c.requires.1.1 _ _ come_e coming_e)

@@ -26,15 +26,15 @@ invariant_of-self c =
 pub returns-clause-err : goal.returns-clause-err
 returns-clause-err c =
     let was = c.let_go.ensures in
-    let same_rest : rest_of c.let_go.new.self ≡ rest_of c.self.inside.parts =
+    let same_rest : rest_of c.self.inside.last c.let_go.new.self ≡ rest_of c.self.inside.last c.self.inside.parts =
     rw (was.opportunities, was.burnt, was.arrived, was.line) in
-    let same : c.fill.new.self.log.entries ++ rest_of c.fill.new.self ≡ c.args.self.now.rest =
+    let same : c.fill.new.self.log.entries ++ rest_of c.self.inside.last c.fill.new.self ≡ c.args.self.now.rest =
     c.fill.ensures.same
-    ∙ ap (λ (es : List Entry). es ++ rest_of c.let_go.new.self) was.entries
+    ∙ ap (λ (es : List Entry). es ++ rest_of c.self.inside.last c.let_go.new.self) was.entries
     ∙ same_rest
     ∙ ap (λ (v : Pieces). v.rest) c.self.view_is
     in
     let size = ap length same in
-    let both = length-append c.fill.new.self.log.entries (rest_of c.fill.new.self) in
-    let some : 0 < length (rest_of c.fill.new.self) → 0 < length c.args.self.now.rest = λ lt. omega arith in
+    let both = length-append c.fill.new.self.log.entries (rest_of c.self.inside.last c.fill.new.self) in
+    let some : 0 < length (rest_of c.self.inside.last c.fill.new.self) → 0 < length c.args.self.now.rest = λ lt. omega arith in
     on_err_weaker c.fill.result some c.fill.ensures.err

@@ -37,3 +37,7 @@ returns-clause-ok g c =
 
 pub returns-clause-sent : goal.returns-clause-sent
 returns-clause-sent g c = search rules
+
+pub returns-clause-kept : goal.returns-clause-kept
+returns-clause-kept g c = λ all keeps.
+    c.forget_lost.ensures.kept all (c.in_ok-send_packets.ensures.kept all keeps)

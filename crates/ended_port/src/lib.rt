@@ -1,0 +1,9 @@
+//! A port of TCP whose user may ask it to end, by the end of one descriptor.
+#![tactic(auto)]
+
+mod ending;
+mod link;
+mod port;
+
+pub use link::{EndedLink, Silence};
+pub use port::EndedPort;

@@ -1,0 +1,108 @@
+// A connection over TCP that waits no longer for its peer once its user has asked it to end. It tells no content.
+ghost use Rattle.std.specs.Prelude.{◌≡◌, ◌≤◌, ◌<◌, length, None, false, IfOk};
+ghost use Rattle.mm_base.specs.Counts.{Rose};
+
+use crate::ending::{Ending, Wait};
+use end_watch::EndWatch;
+use mm_base::{EndError, Link, TcpLimits, TcpLink};
+use std::io;
+use std::net::TcpStream;
+use std::os::fd::AsRawFd;
+use std::time::Clock;
+
+/// What the silence of a peer is, once the user has asked for the end.
+#[derive(Clone, Copy, PartialEq, Eq)]
+pub enum Silence {
+    /// The end of its input: nothing more is asked.
+    End,
+    /// A fault: what it said isn't whole.
+    Fault,
+}
+
+/// A connection over TCP, as `TcpLink` is one, and with its limits. Where its watch can't end, it does what a `TcpLink`
+/// does.
+///
+/// Once the watch is at its end a peer that says nothing is waited for two seconds at most, and five seconds after the
+/// connection saw the end nothing more is read. Then the input is at its end, or that is a fault, as its `Silence`
+/// says. A peer that takes nothing is waited for a thirtieth of the limit of giving, which is two seconds of a minute,
+/// and after the five seconds it is given only what there is room for at once; one that takes nothing then is a fault.
+/// While there is no room, the end is seen after a sixtieth of that limit.
+#[derive(Drop)]
+pub struct EndedLink<'a, K: Clock + Copy + Drop> {
+    link: TcpLink<K>,
+    limits: TcpLimits,
+    ending: Ending<'a, K>,
+    silence: Silence,
+    faults: u64,
+}
+
+impl<'a, K: Clock + Copy + Drop> EndedLink<'a, K> {
+    /// A link over this stream, without a fault so far. An error where the limits can't be set.
+    pub fn new(
+        clock: K,
+        stream: TcpStream,
+        limits: TcpLimits,
+        watch: &'a EndWatch,
+        silence: Silence,
+    ) -> io::Result<Self>
+        ensures { IfOk result (λ link. link.faults ≡ 0) }
+    {
+        let ending = Ending {
+            clock,
+            descriptor: stream.as_raw_fd(),
+            watch,
+            seen: None,
+        };
+        Ok(EndedLink {
+            link: TcpLink::new(clock, stream, limits)?,
+            limits,
+            ending,
+            silence,
+            faults: 0,
+        })
+    }
+
+    /// Ends the connection. Where its output wasn't closed before, it is closed first.
+    pub fn end(self) {
+        self.link.end();
+    }
+
+    // Counts a fault, unless memory was wanting.
+    fn refuse(&mut self, error: EndError) -> EndError
+        ensures same { result ≡ error }
+        ensures failed { error ≡ EndError.Failed → Rose self.old.faults self.new.faults }
+        ensures grows { self.old.faults ≤ self.new.faults }
+    {
+        if error == EndError::Failed {
+            self.faults = self.faults.saturating_add(1);
+        }
+        error
+    }
+}
+
+impl<'a, K: Clock + Copy + Drop> Link for EndedLink<'a, K> {
+    ghost view = { λ l. record { told = None; faults = l.faults; never_fails = false } };
+
+    fn read(&mut self, buf: &mut [u8]) -> Result<usize, EndError> {
+        let answer = match self.ending.wait(self.limits.reading) {
+            Wait::Ready => self.link.read(buf),
+            Wait::Over if self.silence == Silence::End => Ok(0),
+            _ => Err(EndError::Failed),
+        };
+        match answer {
+            Ok(count) => Ok(count),
+            Err(error) => Err(self.refuse(error)),
+        }
+    }
+
+    fn write(&mut self, piece: &[u8]) -> Result<usize, EndError> {
+        match self.ending.give(&mut self.link, piece) {
+            Ok(count) => Ok(count),
+            Err(error) => Err(self.refuse(error)),
+        }
+    }
+
+    fn close_output(&mut self) {
+        self.link.close_output();
+    }
+}

@@ -1,0 +1,19 @@
+use Rattle.std.proofs.Common.{ap, Err}
+use Rattle.record_proxy.specs.Servings.{net}
+use Rattle.record_proxy.proofs.PoolLemmas.{pool_lost}
+use Rattle.record_proxy.proofs.pool.dial_for.Goals as goal
+
+pub returns-in_ok-finish_client-in-Err-Failed-clause-moves :
+    goal.returns-in_ok-finish_client-in-Err-Failed-clause-moves
+returns-in_ok-finish_client-in-Err-Failed-clause-moves g c = λ before accepted finished keeps start pool.
+    let dialed = c.in-Err-Failed.ensures in
+    let client = c.finish_client.ensures in
+    let one = c.with_one_lost.ensures.one in
+    pool_lost g.K.Site.number g.P.Conn.Link.view g.X.Conn.Link.view start
+    (net before (g.X.Dialer.view c.args.dialer.now))
+    c.args.standing (g.P.Port.view c.args.port.now)
+    (net (g.P.Port.view c.finish_client.new.port) (g.X.Dialer.view c.dial.new.self)) c.with_one_lost.result
+    c.args.client pool c.requires.fresh accepted finished keeps client.accepted
+    c.in_ok-finish_client-in-Err-Failed.ensures.finished client.keeps dialed.err dialed.finished dialed.counts
+    (dialed.failed_cause (ap Err c.in-Err-Failed.field-0-is)) c.with_one_lost.ensures.records
+    c.with_one_lost.ensures.served one.0 one.1
