@@ -46,7 +46,7 @@ own_status status answer old new c other = elim c.status_is [ inl e ↦ e | inr 
 
 module _ {A N : Type 0} (work : A → Work N) (reading : Reading A) (old : Outside N) (disk : DiskView) (net : N)
     (mid out : SinkView) where
-  -- an end by its answer, where the answer's status isn't that of want of memory
+  -- an end by its answer, where the answer's status isn't that of running out of memory
   pub tells_done : (answer : Option Cause) (status : ℕ) → Ends work reading old (outside disk mid net) answer
       → Concludes answer mid out status → status ≡ 0
       → IsDone work reading old (outside disk out net)

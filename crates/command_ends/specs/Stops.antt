@@ -23,12 +23,12 @@ pub record IsInput (told : Option Files) (name : Text) (bytes : List ℕ) : Type
   pub held : Holds told name (Some bytes)
   pub few : length bytes ≤ 67108864
 
--- why a text isn't accepted: its refusal, or want of memory
+-- why a text isn't accepted: its refusal, or out of memory
 abbrev pub RefusesText : Option Refusal → Cause → Type 0
 RefusesText found cause = (cause ≡ OutOfMemory)
     ⊎ ((refusal : Refusal) × (cause ≡ Refused refusal) × (found ≡ Some refusal))
 
--- why the file of this name isn't read: its refusal, a fault, or want of memory
+-- why the file of this name isn't read: its refusal, a fault, or out of memory
 pub data StopsAtFile (name : Text) (old new : DiskView) (cause : Cause) : Type 0 where
   FileRefused : (refusal : Refusal) → cause ≡ Refused refusal → (given : Option (List ℕ)) → Holds old.files name given
       → input_of name given ≡ Err refusal
@@ -36,7 +36,7 @@ pub data StopsAtFile (name : Text) (old new : DiskView) (cause : Cause) : Type 0
   FileFault : cause ≡ ReadFault name → FailsReading name old new → StopsAtFile name old new cause
   FileWants : cause ≡ OutOfMemory → StopsAtFile name old new cause
 
--- why a reading isn't done: its refusal, a fault at the file that is next, or want of memory
+-- why a reading isn't done: its refusal, a fault at the file that is next, or out of memory
 pub data StopsReading {A : Type 0} (reading : Reading A) (old new : DiskView) (cause : Cause) : Type 0 where
   ReadingRefused : (refusal : Refusal) → cause ≡ Refused refusal → Reaches old.files reading (AtRefusal refusal)
       → CountsAbsence refusal old new

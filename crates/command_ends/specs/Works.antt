@@ -7,7 +7,7 @@ use Rattle.command_ends.specs.declared.cause.Cause.{Cause}
 pub record Work (N : Type 0) : Type 1 where
   -- done, it gives this output, and this became of the net
   pub gives : N → N → Output → Type 0
-  -- stopped by itself, by a fault of the net or for want of memory, it left the net so
+  -- stopped by itself, by a fault of the net or for lack of memory, it left the net so
   pub stops : N → N → Cause → Type 0
   -- a fault of the net was counted while it served
   pub faulted : N → N → Type 0

@@ -71,7 +71,7 @@ pub record HasRelayed (job : RelayJob) (nest : NestParts) (old new : RelayNet) (
   pub relayed : IsRelayed nest job.turns old.clock new.clock old.wire new.wire r
   pub end : (r.end ≡ Horizon) ↔ (nest.horizon < new.clock.latest)
 
--- The wire couldn't be opened, or the relay stopped, by a fault of the wire that was counted, or for want of memory.
+-- The wire couldn't be opened, or the relay stopped, by a fault of the wire that was counted, or for lack of memory.
 pub record HasStopped (job : RelayJob) (nest : NestParts) (old new : RelayNet) (cause : Cause) : Type 0 where
   pub stopped : IsStopped nest job.turns old.clock new.clock old.wire new.wire
   pub why : ((cause ≡ NetFault) × Rose old.wire.faults new.wire.faults) ⊎ (cause ≡ OutOfMemory)

@@ -32,7 +32,7 @@ fn with_numbers<'a>(texts: RelayWords<'a>, shells: &'a [String]) -> Option<Relay
     })
 }
 
-/// The job of the words after the program's name, if they have one. `OutOfMemory` is want of memory.
+/// The job of the words after the program's name, if they have one. `OutOfMemory` means out of memory.
 #[tactic(auto, unfolding(crate::specs::Jobs::relay_of))]
 pub(crate) fn read_relay<'a>(
     alloc: Global,

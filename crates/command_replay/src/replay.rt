@@ -34,7 +34,7 @@ fn cause_of(error: ServeError) -> Cause
     }
 }
 
-// Serves so many connections as a job says, or so many at a time until it is ended.
+// Serves as many connections as the job says, or that many at a time until it is ended.
 fn serve_some<R: Threads + Wait + Sync, P: Port + Send, Q: Pace + Sync>(
     rt: &R,
     alloc: Global,
@@ -99,8 +99,8 @@ fn replay<R: Threads + Wait + Sync, D: Disk, O: Sink, P: Port + Send, Q: Pace + 
     print_served(alloc, served, out)
 }
 
-/// Does what the words after `replay` say: reads a store, listens at a port, serves so many connections side by side, or
-/// with `--until-ended` so many at a time until the port has no more, and prints how they ended, as
+/// Does what the words after `replay` say: reads a store, listens at a port, serves its connections side by side, or
+/// with `--until-ended` some at a time until the port has no more, and prints how they ended, as
 /// `closed C bad B broken K full F`. No file is written. `NetFault` comes where the port can't be listened at, or a
 /// connection can't be accepted or finished.
 pub fn answer_replay<R: Threads + Wait + Sync, D: Disk, O: Sink, P: Port + Send, Q: Pace + Sync>(

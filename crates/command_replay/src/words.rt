@@ -36,7 +36,7 @@ fn with_numbers<'a>(texts: ReplayWords<'a>) -> Option<ReplayJob<'a>>
     })
 }
 
-/// The job of the words after `replay`, if they have one. `OutOfMemory` is want of memory.
+/// The job of the words after `replay`, if they have one. `OutOfMemory` means out of memory.
 #[tactic(auto, unfolding(crate::specs::Replay::replay_job_of))]
 pub(crate) fn read_replay<'a>(
     alloc: Global,

@@ -123,7 +123,7 @@ impl<'a, K: Clock + Copy + Drop> Ending<'a, K> {
         }
     }
 
-    /// Gives bytes of the front of a piece, and waits for room as the link does: in so many waits, after each of which
+    /// Gives bytes of the front of a piece, and waits for room as the link does: in short waits, after each of which
     /// the end is looked for.
     pub fn give(&mut self, link: &mut TcpLink<K>, piece: &[u8]) -> Result<usize, EndError>
         ensures within { IfOk result (λ n. n ≤ length piece.now) }

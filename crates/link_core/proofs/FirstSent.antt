@@ -1,4 +1,4 @@
--- The first opportunity with which so many bytes are sent.
+-- The first opportunity with which a number of bytes are sent.
 use Rattle.std.proofs.Common.{◌≡◌, ℕ, suc, ◌+◌, ◌-◌, ◌<◌, ◌≤◌, ◌++◌, false, cond, List, [], ◌∷◌, Option, Some, None}
 use Rattle.std.proofs.Common.{option_to_list, reverse, length, nat_le, slice_get, arith, refl, ap, sym, ◌∙◌, inl, inr}
 use Rattle.std.specs.Option.{option_map, option_and_then}

@@ -9,7 +9,7 @@ abbrev pub or_then : Option ℕ → Option ℕ → Option ℕ
 or_then None o = o
 or_then (Some m) o = Some m
 
--- the moment of the first of these opportunities, the latest of which stands first, with which at least so many bytes
+-- the moment of the first of these opportunities, the latest of which stands first, with which at least `n` bytes
 -- are sent
 abbrev pub moment_sent : List Timed → List Opportunity → ℕ → Option ℕ
 moment_sent kept [] n = None

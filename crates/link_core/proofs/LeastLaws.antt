@@ -47,7 +47,7 @@ moment_keeps : (kept : List Timed) (o : Opportunity) (earlier : List Opportunity
 moment_keeps kept o earlier n m e =
     ap (λ (x : Option ℕ). or_then x (cond (nat_le n (sent kept (o ∷ earlier))) (Some o.moment) None)) e
 
--- some moment where so many are sent in all
+-- some moment where that number are sent in all
 pub some_moment : (kept : List Timed) (opps : List Opportunity) (n : ℕ) → AreFalling opps → 0 < n → n ≤ sent kept opps
     → (m : ℕ) × (moment_sent kept opps n ≡ Some m)
 some_moment kept [] n f some le = absurd (omega arith)

@@ -113,7 +113,7 @@ pub apart : (turns : List Turn) → AreApart (rows_of turns)
 apart turns i j d lt lt' e =
     let a = numbered 1 (stamps_of turns) i d lt in let b = numbered 1 (stamps_of turns) j d lt' in omega arith
 
--- a packet whose bytes don't stand among so many
+-- a packet whose bytes don't stand among the first `n`
 abbrev pub is_beyond : ℕ → Packet → Bool
 is_beyond n p = nat_le n (p.id - 1)
 

@@ -93,7 +93,7 @@ counts_out m (t ∷ ts) (suc k) d rises lt late =
     by true rest = omega arith
     by false rest = omega arith
 
--- those up to a moment past the first so many, by their places
+-- those up to a moment past the first `n`, by their places
 pub up_to_rest : (m known end : ℕ) (ts : List Timed) → Rise ts → known ≤ end → end ≡ length (up_to m ts)
     → take (end - known) (drop known ts) ≡ drop known (up_to m ts)
 up_to_rest m known end ts rises le is =

@@ -22,7 +22,7 @@ pub record IsFrontOf {A : Type 0} (front all : List A) : Type 0 where
   pub more : List A
   pub is : all ≡ front ++ more
 
--- When so many datagrams had been sent to a side, what is due was what had been sent to it since the relay began.
+-- When `so_many` datagrams had been sent to a side, what is due was what had been sent to it since the relay began.
 pub record WasSent (old now due : List (List ℕ)) (so_many : ℕ) : Type 0 where
   pub count : so_many ≡ length old + length due
   pub front : IsFrontOf (old ++ due) now
@@ -70,7 +70,7 @@ pub record HasSentSome (nest : NestParts) (turns : List Turn) (m : ℕ) (old now
 abbrev pub IfTold : WireView → WireView → (WireTold → WireTold → Type 0) → Type 0
 IfTold old new P = (start now : WireTold) → old.told ≡ Some start → new.told ≡ Some now → P start now
 
--- the end is Turns where so many turns were taken, and the last moment that was read is theirs; it is Horizon where
+-- the end is Turns where all `turns` turns were taken, and the last moment that was read is theirs; it is Horizon where
 -- fewer were, and the last moment is above the horizon
 abbrev pub EndsBy : RelayEnd → ℕ → ℕ → List Turn → ℕ → Type 0
 EndsBy Turns limit h turns last = (length turns ≡ limit) × (last ≡ last_moment turns)
@@ -86,7 +86,7 @@ abbrev pub NeverBefore : ℕ → List Turn → Type 0
 NeverBefore low [] = Unit {0}
 NeverBefore low (t ∷ turns) = (low ≤ t.moment) × NeverBefore t.moment turns
 
--- A relay that is done, of at most so many turns: these were taken, each at or before the horizon and with one receive.
+-- A relay that is done, of at most `turns` turns: these were taken, each at or before the horizon and with one receive.
 -- Its rows are those of the turns, and its run is the result of the nest over them.
 pub record IsRelayed (nest : NestParts) (limit : ℕ) (old_clock new_clock : ClockView) (old_wire new_wire : WireView)
     (r : RelayResult) : Type 0 where

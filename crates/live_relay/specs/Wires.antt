@@ -46,7 +46,7 @@ abbrev pub opened_after : ℕ → ℕ → Result Unit EndError → Option (ℕ �
 opened_after listen to (Ok done) opened = Some (listen, to)
 opened_after listen to (Err error) opened = opened
 
--- a receive into a buffer of so many bytes
+-- a receive into a buffer of a given length
 abbrev pub receiving : ℕ → Option Datagram → WireTold → WireTold
 receiving room answer w = record w {
   received = w.received ++ record {

@@ -13,14 +13,14 @@ use std::alloc::Global;
 // The room for a datagram: one byte more than a packet has, so that a longer one shows.
 const ROOM: usize = MOST + 1;
 
-/// Lets datagrams pass a nest, in at most so many turns, 1 to 1,000,000.
+/// Lets datagrams pass a nest, in at most `turns` turns, 1 to 1,000,000.
 ///
 /// A turn reads the clock. Where the moment is above the nest's horizon, what hasn't been sent yet of all that departs
 /// is sent, and the relay ends. Otherwise the wire is asked once: a datagram of 1 to 1,504 bytes becomes the next row
 /// at this moment, up from the client and down from the server, and another is counted as refused. Then what departs at
 /// moments up to this one, and wasn't sent yet, is sent, up before down.
 ///
-/// `WireFault` comes only where a fault of the wire was counted, and `OutOfMemory` is want of memory. After either what
+/// `WireFault` comes only where a fault of the wire was counted, and `OutOfMemory` means out of memory. After either what
 /// was sent is a front of what is due for the datagrams received so far, and what was received isn't given back.
 pub fn relay<C: Clock, W: Wire>(
     alloc: Global,

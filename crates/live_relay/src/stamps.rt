@@ -25,7 +25,7 @@ pub(crate) struct Stamps {
     pub refused: u32,
 }
 
-// A packet of so many bytes with the number after these, where they are as many as a packet has.
+// The packet of `size` bytes after `before` others, where a packet may have that size.
 fn packet_after(before: usize, size: usize) -> Option<Packet>
     requires { before < 1000000 }
     ensures some { IfSome result (λ p. (p.id ≡ before + 1) × (p.size ≡ size)) }

@@ -17,7 +17,7 @@ const EARLY: u64 = 60;
 // How often the clock looks whether a datagram is there before it gives up its rest. A millisecond needs fewer.
 const LOOKS: u32 = 10_000;
 
-// After so many milliseconds in which nothing came or left there is a silence.
+// A silence: this many milliseconds in which nothing came or left.
 const SILENCE: u64 = 1_000;
 
 // How long the clock waits for a datagram in a silence, in milliseconds.

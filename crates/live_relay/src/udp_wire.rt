@@ -40,7 +40,7 @@ const WAIT: i32 = 10;
 /// Where it was opened it says so on the standard error, and where the system grants less room for datagrams that come
 /// than it was asked for, how much that is.
 ///
-/// Want of memory is no fault. Every other error is counted as one: a port that can't be had; a receive or a send
+/// Out of memory is no fault. Every other error is counted as one: a port that can't be had; a receive or a send
 /// before `open`; a send that took a part; one more receive than a `u64` counts; and any other error of the system's
 /// calls.
 #[derive(Drop)]

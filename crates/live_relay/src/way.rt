@@ -80,7 +80,7 @@ fn forget(kept: &mut Kept, packets: &[Timed])
     }
 }
 
-// How many of these packets are at moments up to this one, of which so many are known to be.
+// How many of the packets depart by `moment`; the first `known` are known to.
 fn due_count(departed: &[Timed], known: usize, moment: u64) -> usize
     requires rises { Rise departed.now }
     requires known { known ≤ length (up_to moment departed.now) }

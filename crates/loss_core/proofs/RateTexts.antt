@@ -45,7 +45,7 @@ by_tests true true false v n e = absurd cc
 by_tests true false c v n e = absurd cc
 by_tests false b c v n e = absurd cc
 
--- so many digits stand for less than that power of ten
+-- a number of `n` digits is below the `n`-th power of ten
 pub decimal_of-lt : (text : List ℕ) (n k : ℕ) → decimal_of text ≡ Some n → length text ≤ k → n < 10 ^ k
 decimal_of-lt text n k e le =
     let t = by_tests (nat_le 1 (length text)) (nat_le (length text) 10) (list_all is_digit text)
@@ -74,7 +74,7 @@ positive (suc k) =
     let same : suc k ≡ k + 1 = omega arith in
     rw same (rw step (omega arith))
 
--- so many digits, and zeros behind them up to nine
+-- some digits, and zeros behind them up to nine
 pub filled-lt : (v k : ℕ) → v < 10 ^ k → k ≤ 9 → v * 10 ^ (9 - k) < 1000000000
 filled-lt v k lt le =
     let less : v * 10 ^ (9 - k) < 10 ^ k * 10 ^ (9 - k) = mul-lt-mul_of_pos_right lt (positive (9 - k)) in

@@ -20,7 +20,7 @@ use std::sync::Wait;
 use std::thread::Threads;
 use std::{env, io};
 
-// The exit status of want of memory.
+// The exit status where memory runs out.
 const OUT_OF_MEMORY: u8 = 9;
 
 // The variable of the environment that names a descriptor, whose end is the user's word to end.
@@ -71,7 +71,7 @@ fn tell_more<O: Sink>(rt: &HostRuntime, words: &[String], ending: &Ending, told:
     }
 }
 
-// What the words make of the machine's files and of its port, over threads. An error is want of memory before the top
+// What the words make of the machine's files and of its port, over threads. An error means out of memory before the top
 // call.
 fn run<T: Threads + Wait + Sync>(threads: &T, rt: &HostRuntime) -> io::Result<u8> {
     let words = read_words(rt)?;
@@ -98,7 +98,7 @@ fn run<T: Threads + Wait + Sync>(threads: &T, rt: &HostRuntime) -> io::Result<u8
     Ok(ending.status)
 }
 
-// Ends the program with the status of the top call, or with that of want of memory before it.
+// Ends the program with the status of the top call, or with that of running out of memory before it.
 fn ended(status: io::Result<u8>) -> ExitCode
     ensures status { IfOk status (λ status. exit_status result ≡ status) }
     ensures wanted { OnErr status (exit_status result ≡ 9) }

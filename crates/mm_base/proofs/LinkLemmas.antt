@@ -8,7 +8,7 @@ use Rattle.mm_base.proofs.Pieces.{take-append-take}
 abbrev pub bytes_at : List ℕ → ℕ → List ℕ → List ReadStart → LinkBytes
 bytes_at input at given reads = record { taken = take at input; rest = drop at input; given = given; reads = reads }
 
--- So many bytes further on, the bytes are those after the move.
+-- `n` bytes further on, the bytes are those after the move.
 pub moved-bytes_at : (input : List ℕ) (at n : ℕ) (given : List ℕ) (reads : List ReadStart) (before : LinkBytes)
     → bytes_at input at given reads ≡ before → bytes_at input (at + n) given reads ≡ moved n before
 moved-bytes_at input at n given reads before is =

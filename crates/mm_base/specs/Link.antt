@@ -31,7 +31,7 @@ CountsLinkFaults old new = CountsFaults (λ (l : LinkView). l.faults) (λ (l : L
 abbrev pub read_begun : LinkBytes → LinkBytes
 read_begun l = record l { reads = l.reads ++ record { taken = length l.taken; given = length l.given } ∷ [] }
 
--- So many bytes go from the front of what is to come to the end of what was taken.
+-- `n` bytes go from the front of what is to come to the end of what was taken.
 abbrev pub moved : ℕ → LinkBytes → LinkBytes
 moved n l = record l { taken = l.taken ++ take n l.rest; rest = drop n l.rest }
 

@@ -9,7 +9,7 @@ use interrupted_calls::write_once;
 use std::io::{ErrorKind, Write};
 
 /// The standard output, or another writer of std. It tells no content, and adds to what its writer holds, where that is
-/// known, exactly what it answers. Each error of its writer but want of memory is counted as a fault, and so is a write
+/// known, exactly what it answers. Each error of its writer other than out of memory is counted as a fault, and so is a write
 /// that takes nothing of a piece. A call that a signal interrupted is made again.
 #[derive(Drop)]
 pub struct StdSink<W: Write + Drop> {

@@ -18,7 +18,7 @@ const MOST_LAST_BYTES: usize = 67_108_864;
 
 const LAST_PIECE: usize = 16_384;
 
-/// A connection over TCP. It tells no content. Each error but want of memory is counted as a fault: a peer that resets
+/// A connection over TCP. It tells no content. Each error other than out of memory is counted as a fault: a peer that resets
 /// the connection, one that takes nothing within the limit while there is something to be given, and one that says
 /// nothing within the limit, where there is one.
 ///
@@ -74,7 +74,7 @@ fn hear<K: Clock>(
     }
 }
 
-// Hears a peer out: until it has ended its side, for so long and so many bytes at most.
+// Hears a peer out: until it has ended its side, for at most `limit` and a fixed number of bytes.
 fn hear_out<K: Clock>(clock: &K, stream: &mut TcpStream, limit: Duration) {
     let Ok(begun) = Instant::now(clock) else {
         return;

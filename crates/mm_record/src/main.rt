@@ -20,7 +20,7 @@ use std::sync::Wait;
 use std::thread::Threads;
 use std::{env, io};
 
-// The exit status of want of memory.
+// The exit status where memory runs out.
 const OUT_OF_MEMORY: u8 = 9;
 
 // The variable of the environment that names a descriptor, whose end is the user's word to end.
@@ -114,7 +114,7 @@ fn run<T: Threads + Wait + Sync>(threads: &T, rt: &HostRuntime) -> io::Result<u8
     run_until(threads, rt, &words, &watch)
 }
 
-// Ends the program with the status of the top call, or with that of want of memory before it.
+// Ends the program with the status of the top call, or with that of running out of memory before it.
 fn ended(status: io::Result<u8>) -> ExitCode
     ensures status { IfOk status (λ status. exit_status result ≡ status) }
     ensures wanted { OnErr status (exit_status result ≡ 9) }

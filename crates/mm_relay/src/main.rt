@@ -15,7 +15,7 @@ use refusal_words::Program;
 use std::process::ExitCode;
 use std::{env, fs, io};
 
-// The exit status of want of memory.
+// The exit status where memory runs out.
 const OUT_OF_MEMORY: u8 = 9;
 
 // The variable of the environment that names a descriptor, whose end is the user's word to end.
@@ -119,7 +119,7 @@ fn tell_more<O: Sink>(rt: &HostRuntime, words: &[String], ending: &Ending, told:
     }
 }
 
-// What the words make of the machine's files, its clock and its ports. An error is want of memory before the top call.
+// What the words make of the machine's files, its clock and its ports. An error means out of memory before the top call.
 fn run(rt: &HostRuntime) -> io::Result<u8> {
     let words = read_words(rt)?;
     let pulse = Pulse::new();
@@ -147,7 +147,7 @@ fn run(rt: &HostRuntime) -> io::Result<u8> {
     Ok(ending.status)
 }
 
-// Ends the program with the status of the top call, or with that of want of memory before it.
+// Ends the program with the status of the top call, or with that of running out of memory before it.
 fn ended(status: io::Result<u8>) -> ExitCode
     ensures status { IfOk status (λ status. exit_status result ≡ status) }
     ensures wanted { OnErr status (exit_status result ≡ 9) }

@@ -1,4 +1,4 @@
--- A trace has at most so many opportunities up to an hour.
+-- The most opportunities that a trace has up to an hour.
 use Rattle.std.proofs.Common.{ℕ, zero, suc, ◌+◌, ◌*◌, ◌/◌, ◌≤◌, Bool, true, false, cond, List, [], ◌∷◌, Option, Some}
 use Rattle.std.proofs.Common.{None, option_to_list, length, nat_le, arith, length-append}
 use Rattle.std.proofs.Math.Nat.{mul-le-mul, div-le_self}

@@ -33,7 +33,7 @@ fn make_words<'a>(number: Option<&'a str>, packets: Option<&'a str>) -> Option<M
 }
 
 /// The values of these option words of `make`: `--number` and `--packets`, which must be there.
-/// `None` comes exactly where the words aren't these options, each at most once. `AllocError` is want of memory.
+/// `None` comes exactly where the words aren't these options, each at most once. `AllocError` means out of memory.
 pub fn parse_make<'a>(
     alloc: Global,
     words: &'a [String],

@@ -39,7 +39,7 @@ fn match_words<'a>(
 }
 
 /// The values of these option words of `match`: `--store` and `--request`, which must be there, and `--port`.
-/// `None` comes exactly where the words aren't these options, each at most once. `AllocError` is want of memory.
+/// `None` comes exactly where the words aren't these options, each at most once. `AllocError` means out of memory.
 pub fn parse_match<'a>(
     alloc: Global,
     words: &'a [String],

@@ -48,7 +48,7 @@ fn merge_words<'a>(
 }
 
 /// The values of these option words of `merge`: `--until`, `--senders` and `--out`, which must be there, and `--seed`.
-/// `None` comes exactly where the words aren't these options, each at most once. `AllocError` is want of memory.
+/// `None` comes exactly where the words aren't these options, each at most once. `AllocError` means out of memory.
 pub fn parse_merge<'a>(
     alloc: Global,
     words: &'a [String],

@@ -33,7 +33,7 @@ fn migrate_words<'a>(store: Option<&'a str>, out: Option<&'a str>) -> Option<Mig
 }
 
 /// The values of these option words of `migrate`: `--store` and `--out`, which must be there.
-/// `None` comes exactly where the words aren't these options, each at most once. `AllocError` is want of memory.
+/// `None` comes exactly where the words aren't these options, each at most once. `AllocError` means out of memory.
 pub fn parse_migrate<'a>(
     alloc: Global,
     words: &'a [String],

@@ -53,7 +53,7 @@ fn proxy_words<'a>(
 
 /// The values of these option words of `mm-record`: `--port`, `--to`, `--connections` and `--out`, which must be there,
 /// and the flag `--until-ended`.
-/// `None` comes exactly where the words aren't these options, each at most once. `AllocError` is want of memory.
+/// `None` comes exactly where the words aren't these options, each at most once. `AllocError` means out of memory.
 pub fn parse_proxy<'a>(
     alloc: Global,
     words: &'a [String],

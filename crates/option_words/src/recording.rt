@@ -49,7 +49,7 @@ fn record_words<'a>(
 
 /// The values of these option words of `record`: `--client`, `--server` and `--out`, which must be there, and
 /// `--port`.
-/// `None` comes exactly where the words aren't these options, each at most once. `AllocError` is want of memory.
+/// `None` comes exactly where the words aren't these options, each at most once. `AllocError` means out of memory.
 pub fn parse_record<'a>(
     alloc: Global,
     words: &'a [String],

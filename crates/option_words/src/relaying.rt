@@ -58,7 +58,7 @@ fn relay_words<'a>(
 
 /// The values of these option words of a relay: `--until`, `--listen`, `--to`, `--turns` and `--out`, which must be
 /// there, and `--seed`. `None` comes exactly where the words aren't these options, each at most once. `AllocError` is
-/// want of memory.
+/// out of memory.
 pub fn parse_relay<'a>(
     alloc: Global,
     words: &'a [String],

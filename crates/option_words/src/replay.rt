@@ -53,7 +53,7 @@ fn replay_words<'a>(
 
 /// The values of these option words of `replay`: `--store`, `--port` and `--connections`, which must be there,
 /// `--site-port` and the flag `--until-ended`.
-/// `None` comes exactly where the words aren't these options, each at most once. `AllocError` is want of memory.
+/// `None` comes exactly where the words aren't these options, each at most once. `AllocError` means out of memory.
 pub fn parse_replay<'a>(
     alloc: Global,
     words: &'a [String],

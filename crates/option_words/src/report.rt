@@ -28,7 +28,7 @@ fn report_words<'a>(log: Option<&'a str>) -> Option<ReportWords<'a>>
 }
 
 /// The values of these option words of `report`: `--log`, which must be there.
-/// `None` comes exactly where the words aren't these options, each at most once. `AllocError` is want of memory.
+/// `None` comes exactly where the words aren't these options, each at most once. `AllocError` means out of memory.
 pub fn parse_report<'a>(
     alloc: Global,
     words: &'a [String],

@@ -57,7 +57,7 @@ fn run_words<'a>(
 
 /// The values of these option words of `run`: `--until`, `--schedule` and `--out`, which must be there, `--seed`,
 /// `--order` and the flag `--plain`.
-/// `None` comes exactly where the words aren't these options, each at most once. `AllocError` is want of memory.
+/// `None` comes exactly where the words aren't these options, each at most once. `AllocError` means out of memory.
 pub fn parse_run<'a>(alloc: Global, words: &'a [String]) -> Result<Option<RunWords<'a>>, AllocError>
     ensures { IfOk result (λ r. option_map texts_of r ≡ run_texts (map string_bytes words.now)) }
 {

@@ -40,7 +40,7 @@ awaits_row all rest line g row before going says id few order fault =
           ∙ ap (λ n. first_fault n row.timed.moment rest) (sym after);
     }
 
--- a refusal, of the next line or for want of memory
+-- a refusal, of the next line or for lack of memory
 pub awaits_refusal : (all rest : List (List ℕ)) (line : List ℕ) (g : Gathered) (fault : ScheduleError)
     → Awaits all (line ∷ rest) g → g.refused ≡ None
     → (fault ≢ errors.OutOfMemory → first_fault (length g.rows + 1) g.low (line ∷ rest) ≡ Some fault)

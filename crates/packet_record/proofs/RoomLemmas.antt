@@ -1,4 +1,4 @@
--- How many rows a text of so many bytes can have.
+-- How many rows a text of a given length can have.
 use Rattle.std.proofs.Common.{◌≡◌, ℕ, ◌+◌, ◌*◌, ◌/◌, ◌≤◌, eqb, true, false, cond, List, [], ◌∷◌, ◌++◌, length, min}
 use Rattle.std.proofs.Common.{Some, ap, arith, length-append}
 use Rattle.std.specs.List.{onto_first}

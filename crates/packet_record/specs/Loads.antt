@@ -8,7 +8,7 @@ use Rattle.packet_record.specs.declared.packet.Direction.TheVariants.{Up, Down}
 abbrev pub drawn_direction : ℕ → Direction
 drawn_direction b = if nat_lt (b % 4) 2 then Up else Down
 
--- What so many rows say: each takes three draws after x, which are for the milliseconds since the row before, the
+-- What a number of rows say: each takes three draws after x, which are for the milliseconds since the row before, the
 -- direction and the size.
 abbrev pub load_from : ℕ → ℕ → ℕ → List (ℕ × Direction × ℕ)
 load_from x moment zero = []

@@ -65,7 +65,7 @@ stored port start now client server n k client_is server_is whole are turn befor
       };
     }
 
--- at a refusal of a link, and for want of memory
+-- at a refusal of a link, and for lack of memory
 pub ends_cut : (A B : Type 0) (s : Sides) (whole : List Exchange) → IsCut (EndsShort B s.server.taken) s whole
     → (fault : ProxyEnd) → (IsCut (EndsShort B s.server.taken) s whole → EndsAs A B s whole (Ok fault))
     → (e : EndError) (result : Result ProxyEnd OutOfMemory)
@@ -132,7 +132,7 @@ module _ {start now : Links} {x : Course} {t : Taken} (s : Stands start now x t)
       (inl s.open_ones) before records (map (recorded port) x.whole) are result ends
       (adds_all (map (recorded port) x.whole) result)
 
-  -- for want of memory
+  -- for lack of memory
   pub stored_cut : (port : ℕ) (before records : List Record) → records ≡ before ++ map (recorded port) x.whole
       → (error : OutOfMemory) → IsStored port start now before records (Err error)
   stored_cut port before records are error =

@@ -159,7 +159,7 @@ module _ {C X : Type 0} (site : ℕ) (client_view : C → LinkView) (server_view
       pub records : store' ≡ store ++ flat_map (λ (p : Passage C X). added_of p.dialed) ps
       pub keeps : KeepsPort old.port new.port
 
-  -- A serving of at most so many clients that is done: as many as it should, or the port is drained.
+  -- A serving of at most `most` clients that is done: as many as it should, or the port is drained.
   pub record IsServed (beside : Bool) (most : ℕ) (old new : Net C X) (store store' : List Record) (n : Served) : Type 0
     where
       pub passages : List (Passage C X)
@@ -167,7 +167,7 @@ module _ {C X : Type 0} (site : ℕ) (client_view : C → LinkView) (server_view
       pub counts : n ≡ tally passages
       pub many : (length passages ≡ most) ⊎ ((length passages < most) × (new.port.drained ≡ true))
 
-  -- Or it stopped, by a fault of the port or for want of memory.
+  -- Or it stopped, by a fault of the port or for lack of memory.
   abbrev pub ServingSays : Bool → ℕ → Net C X → Net C X → List Record → List Record → Result Served ProxyError → Type 0
   ServingSays beside most old new store store' (Ok n) = IsServed beside most old new store store' n
   ServingSays beside most old new store store' (Err errors.Port) = Rose old.port.faults new.port.faults

@@ -18,7 +18,7 @@ pub trait Dialer {
 
     /// Dials the port of this number, and gives the connection. Nothing was taken from it or given to it before.
     ///
-    /// `Failed` is counted as a fault. `OutOfMemory` is want of memory.
+    /// `Failed` is counted as a fault. `OutOfMemory` means out of memory.
     fn dial(&mut self, number: u16) -> Result<Self::Conn, EndError>
         ensures ok { IfOk result (λ conn. ((view self.new).dialed ≡ (view self.old).dialed + 1)
             × IsFresh (Self.Conn.view conn)) }
@@ -29,7 +29,7 @@ pub trait Dialer {
 
     /// Ends a connection. After a refusal it is given up.
     ///
-    /// `Failed` is counted as a fault. `OutOfMemory` is want of memory.
+    /// `Failed` is counted as a fault. `OutOfMemory` means out of memory.
     fn finish(&mut self, conn: Self::Conn) -> Result<(), EndError>
         ensures finished { (view self.new).finished ≡ after_finish conn result (view self.old).finished }
         ensures dialed { (view self.new).dialed ≡ (view self.old).dialed }

@@ -24,7 +24,7 @@ pub enum ProxyEnd {
 pub enum ProxyError {
     /// The port can't be listened at, or a client couldn't be accepted, or not be finished.
     Port,
-    /// For want of memory.
+    /// Out of memory.
     OutOfMemory,
 }
 

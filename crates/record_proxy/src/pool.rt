@@ -1,4 +1,4 @@
-// A proxy until its user ends it: so many clients at a time, and no limit in all.
+// A proxy until its user ends it: a number of clients at a time, and no limit in all.
 ghost use Rattle.std.specs.Prelude.{◌≡◌, ◌≢◌, ◌⊎◌, ◌<◌, ◌≤◌, ◌+◌, [], true, Some, Ok, Err, IfOk};
 ghost use Rattle.std.specs.Thread.{IsSync};
 ghost use Rattle.mm_base.specs.Counts.{Rose};
@@ -108,7 +108,7 @@ struct Bench<K: Site, A: Link + Send + Drop, B: Link + Send + Drop> {
     most: u32,
 }
 
-/// So many who pass, each in a thread.
+/// Those who pass clients' connections, each in a thread.
 fn work_all<
     K: Site + Send + Sync,
     A: Link + Send + Drop,
@@ -415,7 +415,7 @@ fn serve_beside<
     served
 }
 
-/// Serves the clients of a port, so many at a time.
+/// Serves the clients of a port, up to the job's number of them at a time.
 fn run_pool<K: Site + Send + Sync, P: Port + Send, X: Dialer + Send, R: Threads + Wait + Sync>(
     rt: &R,
     alloc: Global,
@@ -453,13 +453,13 @@ fn run_pool<K: Site + Send + Sync, P: Port + Send, X: Dialer + Send, R: Threads 
     serve_beside(rt, &bench, Door { site, to }, port, dialer)
 }
 
-/// Listens at the port of a job, and serves its clients, up to so many of them at a time as it says, until the port has
+/// Listens at the port of a job, and serves its clients, up to the job's number of them at a time, until the port has
 /// no more, or 4,294,967,295 were accepted: for each a connection to the site's port is dialed, both pass through
 /// (`proxy_conn`) in a thread, and both are finished once they have ended and the next client comes. It is waited for
 /// one to end where as many are being served as may be. A client for which the dialer fails is counted as broken.
 ///
 /// `Port` comes only where a fault of the port was counted: it can't be listened at, or a client can't be accepted or
-/// finished. `OutOfMemory` is want of memory, and comes also where no thread can be made.
+/// finished. `OutOfMemory` means out of memory, and comes also where no thread can be made.
 pub fn serve_until_ended<P: Port + Send, X: Dialer + Send, R: Threads + Wait + Sync>(
     rt: &R,
     alloc: Global,

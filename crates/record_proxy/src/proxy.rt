@@ -39,7 +39,7 @@ fn converse<A: Link, B: Link>(
     }
 }
 
-/// So many bytes of 0.
+/// `count` bytes of 0.
 fn zeros(alloc: Global, count: usize) -> Result<Vec<u8>, OutOfMemory>
     ensures { IfOk result (λ v. vec_len v ≡ count) }
 {
@@ -54,7 +54,7 @@ fn zeros(alloc: Global, count: usize) -> Result<Vec<u8>, OutOfMemory>
 /// `Closed`: the client's input ended between requests, or an answer was given whose request or response closes
 /// (RFC 9112, section 9.3). `BadRequest`, `BadResponse`: that side's rest is refused, or its input ended within a
 /// message, or before a response that is due. `ClientFault`, `ServerFault`: only where that link's faults rose. `Full`:
-/// more bytes are needed of a side from which 67,108,864 were taken. After `OutOfMemory`, which is want of memory, the
+/// more bytes are needed of a side from which 67,108,864 were taken. After `OutOfMemory`, which means out of memory, the
 /// store has the records of the exchanges before.
 pub fn proxy_conn<A: Link, B: Link>(
     alloc: Global,

@@ -173,10 +173,10 @@ fn serve_client<P: Port, X: Dialer>(
 
 /// Listens at the port of a job, and serves up to as many clients as it says, one after the other: for each a
 /// connection to the site's port is dialed, both pass through (`proxy_conn`), and both are finished. It stops after
-/// so many, or where the port has no more. A client for which the dialer fails is counted as broken.
+/// that number, or where the port has no more. A client for which the dialer fails is counted as broken.
 ///
 /// `Port` comes only where a fault of the port was counted: it can't be listened at, or a client can't be accepted or
-/// finished. `OutOfMemory` is want of memory.
+/// finished. `OutOfMemory` means out of memory.
 pub fn serve<P: Port, X: Dialer>(
     alloc: Global,
     job: &ProxyJob<'_>,

@@ -27,7 +27,7 @@ fn with_numbers<'a>(texts: ProxyWords<'a>) -> Option<ProxyJob<'a>>
     })
 }
 
-/// The job of the words after the program's name, if they have one. `OutOfMemory` is want of memory.
+/// The job of the words after the program's name, if they have one. `OutOfMemory` means out of memory.
 #[tactic(auto, unfolding(crate::specs::Proxying::proxy_job_of))]
 pub(crate) fn read_proxy<'a>(
     alloc: Global,

@@ -17,7 +17,7 @@ use Rattle.refusal_words.specs.declared.slips.KnownWord.TheVariants.{Delay, Loss
 use Rattle.refusal_words.specs.declared.slips.KnownWord.TheVariants.{UplinkQueue, DownlinkQueue, UplinkQueueArgs}
 use Rattle.refusal_words.specs.declared.slips.KnownWord.TheVariants.{DownlinkQueueArgs, Once}
 
--- the word before which so many stand, or no text
+-- the word before which `n` others stand, or no text
 abbrev pub word_at : ℕ → List Text → Text
 word_at before [] = []
 word_at zero (word ∷ words) = word

@@ -23,7 +23,7 @@ if_trace zero go stop = go 1
 if_trace (suc zero) go stop = go 2
 if_trace (suc (suc n)) go stop = stop
 
--- the words after those of a link that has so many traces, where an option may wait for its value
+-- the words after those of a link that has `traces` traces, where an option may wait for its value
 abbrev pub after_link : Bool → ℕ → List Text → List Text
 after_link waits traces [] = []
 after_link true traces (word ∷ words) = after_link false traces words
@@ -49,7 +49,7 @@ abbrev pub past_end : List Text → List Text
 past_end [] = []
 past_end (word ∷ words) = if is_end word then words else word ∷ words
 
--- the words from the shell on before which so many shells stand
+-- the words from the shell on before which `n` shells stand
 abbrev pub shell_words : ℕ → List Text → List Text
 shell_words zero words = words
 shell_words (suc before) words = shell_words before (past_end (after_shell words))
@@ -73,7 +73,7 @@ is_empty (byte ∷ bytes) = false
 abbrev pub is_log : Text → Bool
 is_log option = bytes_eq option (codes "--uplink-log") || bytes_eq option (codes "--downlink-log")
 
--- what the words of a link that has so many traces lack, where an option may wait for its value
+-- what the words of a link that has `n` traces lack, where an option may wait for its value
 abbrev pub link_lack : Option Text → ℕ → List Text → Lack
 link_lack (Some option) traces [] = Value option
 link_lack None traces [] = lack_from traces

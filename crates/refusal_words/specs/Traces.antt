@@ -29,7 +29,7 @@ abbrev pub trace_or : ℕ → Option TraceAt → Option Bool → Option TraceAt
 trace_or shell otherwise None = otherwise
 trace_or shell otherwise (Some up) = Some (record { shell = shell; up = up })
 
--- the first trace of this name, where the shell of this number begins, and so many may stand
+-- the first trace of this name, from the shell of this number on, of which `n` more may follow
 abbrev pub trace_from : Text → ℕ → ℕ → List Text → Option TraceAt
 trace_from name shell zero words = None
 trace_from name shell (suc left) words = trace_or shell

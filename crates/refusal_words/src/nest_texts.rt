@@ -36,7 +36,7 @@ const LINK_OPTIONS: &[KnownWord] = &[
     KnownWord::Once,
 ];
 
-// The word before which so many stand, or no text.
+// The word before which `before` others stand, or no text.
 fn word_at(before: u64, words: &[String]) -> &str
     ensures { result.now ≡ word_at before (map string_bytes words.now) }
 {

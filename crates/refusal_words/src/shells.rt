@@ -30,7 +30,7 @@ pub(crate) fn is_valued(word: &str) -> bool
     }
 }
 
-// The words after those of a link that has so many traces, where an option may wait for its value.
+// The words after those of a link that has `traces` traces, where an option may wait for its value.
 fn after_link(waits: bool, traces: u32, words: &[String]) -> &[String]
     ensures rest { map string_bytes result.now ≡ after_link waits traces (map string_bytes words.now) }
     ensures within { length result.now ≤ length words.now }
@@ -88,7 +88,7 @@ pub(crate) fn past_end(words: &[String]) -> &[String]
     }
 }
 
-/// The words from the shell on before which so many shells stand.
+/// The words from the shell on before which `before` shells stand.
 pub fn shell_words(before: u64, words: &[String]) -> &[String]
     ensures { map string_bytes result.now ≡ shell_words before (map string_bytes words.now) }
 {
@@ -123,7 +123,7 @@ fn is_log(option: &str) -> bool
     option == "--uplink-log" || option == "--downlink-log"
 }
 
-/// What the words of a link that has so many traces lack, where an option may wait for its value.
+/// What the words of a link that has `traces` traces lack, where an option may wait for its value.
 pub(crate) fn link_lack<'a>(
     waiting: Option<&'a str>,
     traces: u32,

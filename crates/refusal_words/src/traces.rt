@@ -51,7 +51,7 @@ fn side_of(name: &str, words: &[String]) -> Option<bool>
     link_side(name, own_words(words))
 }
 
-// The first trace of this name, where the shell of this number begins, and so many may stand.
+// The first trace of this name, from the shell number `shell` on, of which `left` more may follow.
 fn trace_from(name: &str, shell: u32, left: u32, words: &[String]) -> Option<TraceAt>
     requires { shell + left ≤ 9 }
     ensures { result ≡ trace_from name.now shell left (map string_bytes words.now) }

@@ -349,7 +349,7 @@ tally_most few most (Err errors.Listen) less tally = tally
 tally_most few most (Err errors.Accept) less tally = tt
 tally_most few most (Err errors.OutOfMemory) less tally = tt
 
--- nothing was done, for want of memory
+-- nothing was done, for lack of memory
 module _ {C : Type 0} (store : List Record) (site : Option ℕ) (view : C → LinkView) where
   pub pool_idle : (p : PortView C) → PoolServes store site view p p (Err errors.OutOfMemory)
   pool_idle p = record {

@@ -59,7 +59,7 @@ finished_with [] finished = finished
 finished_with (c ∷ served) finished = finished_with served finished ++ c.0 ∷ []
 
 module _ {C : Type 0} (store : List Record) (site : Option ℕ) (view : C → LinkView) where
-  -- of at most so many connections, what the answer says
+  -- of at most `most` connections, what the answer says
   abbrev pub ServingSays : ℕ → PortView C → PortView C → List (C × ConnEnd) → Result Served ServeError → Type 0
   ServingSays most old new served (Ok n) =
       (n ≡ ends_of served) × All (λ (c : C × ConnEnd). c.1 ≢ OutOfMemory) served
@@ -72,10 +72,10 @@ module _ {C : Type 0} (store : List Record) (site : Option ℕ) (view : C → Li
       × (new.faults < 2 ^ 64 - 1 → new.accepted + old.faults ≤ old.accepted + length served + new.faults)
   ServingSays most old new served (Err errors.OutOfMemory) = Unit {0}
 
-  -- What a serving of at most so many connections did: it served these, and finished the last of them first. At Ok
+  -- What a serving of at most `most` connections did: it served these, and finished the last of them first. At Ok
   -- these are all that it accepted: as many as it should, or the port is drained. At Accept those that it accepted and
   -- didn't finish are no more than the faults that the port counted. Neither is answered where one that was finished
-  -- ended for want of memory.
+  -- ran out of memory.
   pub record IsServing (most : ℕ) (old new : PortView C) (result : Result Served ServeError) : Type 0 where
     pub served : List (C × ConnEnd)
     pub each : All (λ (c : C × ConnEnd). ∥ IsConnServed store site (view c.0) c.1 ∥₁) served

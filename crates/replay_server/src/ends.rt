@@ -11,11 +11,11 @@ pub enum ConnEnd {
     LinkFault,
     /// 67,108,864 bytes were taken, and no answer closed.
     Full,
-    /// For want of memory.
+    /// Out of memory.
     OutOfMemory,
 }
 
-/// How many connections ended in each way, but for want of memory.
+/// How many connections ended in each way other than out of memory.
 #[derive(Clone, Copy, PartialEq, Eq)]
 pub struct Served {
     pub closed: u32,
@@ -31,7 +31,7 @@ pub enum ServeError {
     Listen,
     /// A connection couldn't be accepted, or not be finished. Those accepted before were served to their end.
     Accept,
-    /// For want of memory, in a connection or in a call of the port. Where a connection that was finished ended so,
+    /// Out of memory, in a connection or in a call of the port. Where a connection that was finished ended so,
     /// no other answer is given.
     OutOfMemory,
 }

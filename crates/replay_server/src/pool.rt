@@ -1,4 +1,4 @@
-// A pool: so many connections at a time, each in a thread, and no limit in all.
+// A pool: a number of connections at a time, each in a thread, and no limit in all.
 ghost use Rattle.std.specs.Prelude.{◌≡◌, ◌<◌, ◌≤◌, ◌+◌, ◌⊎◌, true, IfOk, IfErr, IsOk, IfSome};
 ghost use Rattle.std.specs.Thread.{IsSync};
 ghost use Rattle.mm_base.specs.Link.{IsFresh};
@@ -106,7 +106,7 @@ fn work<K: Serving, C: Link + Send + Drop, Q: Pace, R: Wait>(
     }
 }
 
-/// So many who serve, each in a thread.
+/// Those who serve, each in a thread.
 fn work_all<
     K: Serving + Send + Sync,
     C: Link + Send + Drop,

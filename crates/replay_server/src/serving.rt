@@ -202,7 +202,7 @@ fn serve_beside<P: Port + Send, Q: Pace + Sync, R: Threads + Wait + Sync>(
 }
 
 /// Listens at the port of this number, and serves up to `connections` connections, each beside accepting the next
-/// (`serve_conn`). It stops after so many, or where the port has no more. The connections are finished in the reverse
+/// (`serve_conn`). It stops after `connections`, or where the port has no more. The connections are finished in the reverse
 /// order of their acceptance.
 ///
 /// `Listen` comes where the port can't be listened at, and `Accept` where a connection can't be accepted or finished,

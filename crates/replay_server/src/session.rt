@@ -73,7 +73,7 @@ fn converse<L: Link, Q: Pace, R: Wait>(
     }
 }
 
-/// So many bytes of 0.
+/// `count` bytes of 0.
 fn zeros(alloc: Global, count: usize) -> Result<Vec<u8>, OutOfMemory>
     ensures { IfOk result (λ v. vec_len v ≡ count) }
 {

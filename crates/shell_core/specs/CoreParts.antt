@@ -26,7 +26,7 @@ with_arrival c t = record {
 abbrev pub with_burnt : CorePart → ℕ → CorePart
 with_burnt c n = record { spec = c.spec; horizon = c.horizon; arrivals = c.arrivals; burnt = c.burnt + n }
 
--- how many of the next opportunities are up to the bound, at most so many
+-- how many of the next opportunities are up to the bound, at most a given number
 abbrev pub burns : CorePart → ℕ → ℕ → ℕ
 burns c bound most = min most (count_to (opportunities c.spec c.horizon) bound - c.burnt)
 

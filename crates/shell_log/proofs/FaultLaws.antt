@@ -180,7 +180,7 @@ same_log text xs ys is is' e f =
     tails : {a b : List ℕ} {xs ys : List (List ℕ)} → a ∷ xs ≡ b ∷ ys → xs ≡ ys
     tails e = cc
 
--- so a text of a log is refused only for want of memory
+-- so a text of a log is refused only where memory runs out
 pub only_memory : (text : List ℕ) (es : List Entry) (fault : LogError) → IsLog es → text ≡ log_text es
     → (fault ≢ errors.OutOfMemory → log_fault text ≡ Some fault) → fault ≡ errors.OutOfMemory
 only_memory text es errors.BadHeader is e h = let none = log_no_fault es is in let some = h (λ q. cc)

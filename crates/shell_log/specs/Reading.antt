@@ -60,7 +60,7 @@ entry_of line = do
   moment ← canonical_of (first_word line)
   entry_by_sign (first_word (other_words line)) moment (other_words (other_words line))
 
--- the number of a refusal, 0 for want of memory
+-- the number of a refusal, 0 for out of memory
 abbrev pub number_of : LogError → ℕ
 number_of errors.BadHeader = 1
 number_of (errors.BadLine line) = 2

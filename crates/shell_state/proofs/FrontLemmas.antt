@@ -1,4 +1,4 @@
--- The front of a list: so many of it, where the list goes on.
+-- The front of a list: its first `n`, where the list goes on.
 use Rattle.std.proofs.Common.{◌≡◌, ℕ, ◌+◌, ◌≤◌, ◌<◌, List, [], ◌∷◌, ◌++◌, length, take, drop, ap, sym, ◌∙◌}
 use Rattle.std.proofs.Common.{append_assoc, arith}
 use Rattle.std.proofs.lemmas.List.{length-append, length-take-le, take_at}

@@ -50,7 +50,7 @@ within_all s coming st come =
     let parts = ap length st.taken ∙ length-append s.taken.packets (ready s) in
     omega arith
 
--- the answer, of the state after so many were burnt
+-- the answer, of the state after those were burnt
 Nears : List Timed → State → State → Taken → Type 0
 Nears packets s b a = (a ≡ NotYet s.fed.bound) ⊎ (takes_left packets (with_answer b a) < takes_left packets s)
 

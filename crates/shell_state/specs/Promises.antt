@@ -45,7 +45,7 @@ open_of Open = 1
 open_of Ended = 0
 open_of Cut = 0
 
--- At most so many takes may still answer anything but NotYet, where these are all packets that are ever fed: one for
+-- At most `n` takes may still answer anything but NotYet, where these are all packets that are ever fed: one for
 -- each opportunity that isn't burnt, each moment up to the horizon plus 1 that nothing taken has reached, each
 -- departure that wasn't taken, and the end.
 abbrev pub takes_left : List Timed → State → ℕ

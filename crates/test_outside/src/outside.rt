@@ -26,7 +26,7 @@ fn files_of(alloc: Global, texts: &[(&str, &str)]) -> Result<Vec<(Text, Bytes)>,
 }
 
 impl TestOutside {
-    /// A disk with these files, and an `out`. The calls of these numbers fail. `OutOfMemory` is want of memory.
+    /// A disk with these files, and an `out`. The calls of these numbers fail. `OutOfMemory` means out of memory.
     pub fn new(
         alloc: Global,
         files: &[(&str, &str)],

@@ -2,7 +2,7 @@
 use std::alloc::Global;
 use text_base::OutOfMemory;
 
-/// The words between the spaces of a line. `OutOfMemory` is want of memory.
+/// The words between the spaces of a line. `OutOfMemory` means out of memory.
 pub fn words_of(alloc: Global, line: &str) -> Result<Vec<String>, OutOfMemory> {
     let mut words = Vec::new(alloc);
     for word in line.split(' ') {

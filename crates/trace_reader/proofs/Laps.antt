@@ -14,7 +14,7 @@ use Rattle.trace_reader.proofs.ListLemmas.{slice_get-front, slice_get-next, take
 use Rattle.trace_reader.proofs.OrderLemmas.{each_map, each_append, each_later, each_from, last_latest, rising-append}
 use Rattle.trace_reader.proofs.OrderLemmas.{rising-later, up_to-append, up_to_all, up_to_none, up_to-later}
 
--- so many laps
+-- a number of laps
 abbrev pub laps : List Opportunity → ℕ → List Opportunity
 laps trace zero = []
 laps trace (suc k) = laps trace k ++ map (later (k * last_moment trace)) trace

@@ -87,7 +87,7 @@ up_to-opps_min t once m horizon is = elim (cases_lt m horizon) [
   | inr le ↦ up_to-opps_later t once m horizon le ∙ ap (opps t.opportunities once) (sym (min-eq_right le))
 ]
 
--- so many of them come up to a moment, and they are the first
+-- those that come up to a moment are the first ones
 pub length-up_to-opps : (t : TraceView) (once : Bool) (m horizon : ℕ) → IsTrace t
     → length (up_to m (opps t.opportunities once horizon)) ≡ length (opps t.opportunities once (min m horizon))
 length-up_to-opps t once m horizon is = ap length (up_to-opps_min t once m horizon is)

@@ -1,4 +1,4 @@
--- How many opportunities a text of so many bytes can state.
+-- How many opportunities a text of a given length can state.
 use Rattle.std.proofs.Common.{◌≡◌, ℕ, zero, suc, ◌+◌, ◌*◌, ◌/◌, ◌≤◌, List, [], ◌∷◌, length, map, min, drop, Some, None}
 use Rattle.std.proofs.Common.{arith}
 use Rattle.text_base.specs.Lines.{lines_of}

@@ -2,7 +2,7 @@
 use Rattle.std.specs.Prelude.{ℕ, zero, suc, ◌+◌, ◌%◌, List, [], ◌∷◌}
 use Rattle.packet_record.specs.Draws.{draw_start, next_draw}
 
--- so many moments after this one, each 1 to 3 milliseconds after the one before, by one draw
+-- `n` moments after this one, each 1 to 3 milliseconds after the one before, by one draw
 abbrev pub moments_from : ℕ → ℕ → ℕ → List ℕ
 moments_from x moment zero = []
 moments_from x moment (suc n) =

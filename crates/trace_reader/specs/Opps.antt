@@ -14,7 +14,7 @@ last_moment [] = 0
 last_moment (o ∷ []) = o.moment
 last_moment (o ∷ p ∷ ps) = last_moment (p ∷ ps)
 
--- an opportunity of the same bytes, so many milliseconds later
+-- an opportunity of the same bytes, `by` milliseconds later
 abbrev pub later : ℕ → Opportunity → Opportunity
 later by o = record o { moment = o.moment + by }
 

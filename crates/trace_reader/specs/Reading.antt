@@ -8,7 +8,7 @@ use Rattle.trace_reader.specs.declared.reading.TraceError.{TraceError}
 use Rattle.trace_reader.specs.declared.reading.TraceError.TheVariants as errors
 use Rattle.trace_reader.specs.TraceText.{form_of, lines_before, stated, said_of}
 
--- the number of a refusal, 0 for want of memory
+-- the number of a refusal, 0 for out of memory
 abbrev pub number_of : TraceError → ℕ
 number_of errors.Empty = 1
 number_of (errors.BadLine line) = 2
@@ -43,7 +43,7 @@ abbrev pub moment_after : Option (ℕ × ℕ) → ℕ
 moment_after None = 0
 moment_after (Some said) = said.0
 
--- the first refusal of the lines that follow so many opportunities, of which the last is at this moment
+-- the first refusal of the lines that follow `count` opportunities, of which the last is at this moment
 abbrev pub first_fault : Form → ℕ → ℕ → List (List ℕ) → Option TraceError
 first_fault form count low [] = end_fault count low
 first_fault form count low (line ∷ lines) =

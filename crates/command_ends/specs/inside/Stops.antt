@@ -14,7 +14,7 @@ use Rattle.command_ends.specs.declared.cause.Cause.{Cause}
 use Rattle.command_ends.specs.declared.cause.Cause.TheVariants.{Refused, OutOfMemory}
 use Rattle.command_ends.specs.Stops.{StopsReading}
 
--- why what was read is refused where it is judged: its refusal, or want of memory
+-- why what was read is refused where it is judged: its refusal, or out of memory
 abbrev pub RefusesBy : (Option Refusal → Type 0) → Cause → Type 0
 RefusesBy Says cause = (cause ≡ OutOfMemory) ⊎ ((refusal : Refusal) × (cause ≡ Refused refusal) × Says (Some refusal))
 

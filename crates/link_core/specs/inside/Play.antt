@@ -39,7 +39,7 @@ all_arrivals c = c.arrived.come ++ c.arrived.coming
 abbrev pub work : ℕ → Parts → ℕ
 work last c = length c.arrived.coming + (last - c.burnt)
 
--- all but the last so many
+-- all but the last `n`
 abbrev pub without_last : {X : Type 0} → List X → List X → List X
 without_last last all = take (length all - length last) all
 

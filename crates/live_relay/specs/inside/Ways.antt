@@ -16,7 +16,7 @@ use Rattle.live_relay.specs.Due.{bytes_in}
 use Rattle.live_relay.specs.Relays.{IsFrontOf}
 use Rattle.live_relay.specs.Wires.{WireTold, sending_all}
 
--- so many bytes are no packet's
+-- no packet has this number of bytes
 abbrev pub fits_not : ℕ → Type 0
 fits_not size = 1 ≤ size → size ≤ 1504 → ⊥
 

@@ -62,7 +62,7 @@ plus n m = record {
 }
 
 module _ {C X : Type 0} (site : ℕ) (client_view : C → LinkView) (server_view : X → LinkView) where
-  -- A serving that goes on, with so many clients left of so many.
+  -- A serving that goes on, with `left` clients left of `most`.
   pub record ServesSoFar (old new : Net C X) (store store' : List Record) (n : Served) (left most : ℕ) : Type 0 where
     pub passages : List (Passage C X)
     pub serves : Serves site client_view server_view false old new store store' passages

@@ -5,7 +5,7 @@ use Rattle.record_proxy.specs.Servings.{Net, Passage, Serves, net, tally}
 use Rattle.record_proxy.specs.declared.standing.Standing.{Standing}
 
 module _ {C X : Type 0} (site : ℕ) (client_view : C → LinkView) (server_view : X → LinkView) where
-  -- These clients came back and are finished. Beside them, so many were accepted and dialed for that are away.
+  -- These clients came back and are finished. Beside them, a number of clients were accepted and dialed for that are away.
   pub record InPool (old new : Net C X) (s : Standing) : Type 0 where
     pub passages : List (Passage C X)
     pub accepted : ℕ

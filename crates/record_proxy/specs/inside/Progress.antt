@@ -91,7 +91,7 @@ to_do talk =
     + (2 * (most - talk.server_taken) + length talk.responses.unread)
     + (if talk.server_ended then 0 else 1)
 
--- A connection ends so at a refusal of a link: by that fault of it, or for want of memory.
+-- A connection ends so at a refusal of a link: by that fault of it, or for lack of memory.
 abbrev pub IsEndAt : ProxyEnd → EndError → Result ProxyEnd OutOfMemory → Type 0
 IsEndAt fault refusals.Failed (Ok end) = end ≡ fault
 IsEndAt fault refusals.Failed (Err error) = ⊥

@@ -20,7 +20,7 @@ abbrev pub IsCounted : Standing → Type 0
 IsCounted s = IsTally (s.begun - s.out) s.ends
 
 module _ {C : Type 0} where
-  -- what the ends so far say, where so many connections were accepted and so many are being served
+  -- what the ends so far say, where `begun` connections were accepted and `out` are being served
   abbrev pub PoolSays : ℕ → ℕ → PortView C → PortView C → List (C × ConnEnd) → Result Served ServeError → Type 0
   PoolSays begun out old new served (Ok n) =
       (n ≡ ends_of served) × All (λ (c : C × ConnEnd). c.1 ≢ OutOfMemory) served

@@ -12,7 +12,7 @@ use Rattle.replay_server.specs.Servings.{with_end}
 abbrev pub total : Served → ℕ
 total n = ((n.closed + n.bad) + n.broken) + n.full
 
--- so many ends are counted at most, and it isn't the port that couldn't be listened at
+-- at most `n` ends are counted, and it isn't the port that couldn't be listened at
 abbrev pub IsTally : ℕ → Result Served ServeError → Type 0
 IsTally most (Ok n) = total n ≤ most
 IsTally most (Err errors.Listen) = ⊥

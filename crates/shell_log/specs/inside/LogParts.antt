@@ -18,7 +18,7 @@ keeping bytes p = record p { kept = bytes }
 abbrev pub bad_line : LogPart → LogError
 bad_line p = if p.has_begun then BadLine (p.entries + 2) else BadHeader
 
--- The new one refuses what the old one didn't: by this fault, or for want of memory.
+-- The new one refuses what the old one didn't: by this fault, or for lack of memory.
 pub record IsRefusing (fault : Option LogError) (old new : LogPart) : Type 0 where
   pub given : LogError
   pub new_is : new ≡ refusing given old
