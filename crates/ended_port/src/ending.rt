@@ -48,6 +48,11 @@ fn in_milliseconds(limit: Duration) -> i32 {
 }
 
 impl<'a, K: Clock + Copy + Drop> Ending<'a, K> {
+    /// Whether the user can ask for the end.
+    pub fn can_end(&self) -> bool {
+        self.watch.can_end()
+    }
+
     // How many milliseconds have passed since the end was seen here first.
     fn since_end(&mut self) -> u64 {
         if self.seen.is_none() {
@@ -104,7 +109,7 @@ impl<'a, K: Clock + Copy + Drop> Ending<'a, K> {
 
     /// Waits until the peer says something, within a limit. Where the end can't come there is no wait.
     pub fn wait(&mut self, limit: Option<Duration>) -> Wait {
-        if !self.watch.can_end() {
+        if !self.can_end() {
             return Wait::Ready;
         }
         match self.wait_open(limit) {

@@ -26,13 +26,16 @@ pub enum Silence {
 /// connection saw the end nothing more is read. Then the input is at its end, or that is a fault, as its `Silence`
 /// says. A peer that takes nothing is waited for a thirtieth of the limit of giving, which is two seconds of a minute,
 /// and after the five seconds it is given only what there is room for at once; one that takes nothing then is a fault.
-/// While there is no room, the end is seen after a sixtieth of that limit.
+/// While there is no room, the end is seen after a sixtieth of that limit. A peer to which nothing was given isn't heard
+/// out when its connection is ended, where the watch can end.
 #[derive(Drop)]
 pub struct EndedLink<'a, K: Clock + Copy + Drop> {
     link: TcpLink<K>,
     limits: TcpLimits,
     ending: Ending<'a, K>,
     silence: Silence,
+    // Whether bytes were given to the peer.
+    is_given: bool,
     faults: u64,
 }
 
@@ -58,13 +61,17 @@ impl<'a, K: Clock + Copy + Drop> EndedLink<'a, K> {
             limits,
             ending,
             silence,
+            is_given: false,
             faults: 0,
         })
     }
 
-    /// Ends the connection. Where its output wasn't closed before, it is closed first.
+    /// Ends the connection. Where its output wasn't closed before, it is closed first, and the peer heard out, if
+    /// anything was given to it that it might lose.
     pub fn end(self) {
-        self.link.end();
+        if self.is_given || !self.ending.can_end() {
+            self.link.end();
+        }
     }
 
     // Counts a fault, unless memory was wanting.
@@ -97,7 +104,10 @@ impl<'a, K: Clock + Copy + Drop> Link for EndedLink<'a, K> {
 
     fn write(&mut self, piece: &[u8]) -> Result<usize, EndError> {
         match self.ending.give(&mut self.link, piece) {
-            Ok(count) => Ok(count),
+            Ok(count) => {
+                self.is_given = true;
+                Ok(count)
+            }
             Err(error) => Err(self.refuse(error)),
         }
     }

@@ -19,7 +19,7 @@ use Rattle.command_ends.specs.declared.cause.WordsRefusal.TheVariants.{Usage}
 use Rattle.command_ends.proofs.EndLemmas.{keeps_all}
 use Rattle.command_ends.proofs.ReadingLemmas.{HasOneEnd, RefusesWordsFirst, asked_first}
 use Rattle.command_ends.specs.Readings.{Reaches, Stop, AtTask, AtRefusal, AtFile, asked}
-use Rattle.record_proxy.specs.Proxying.{ProxyJob, ServesJob, StopsProxy, cause_of, proxy_job_of, proxy_output}
+use Rattle.record_proxy.specs.Proxying.{AsksAt, ProxyJob, ServesJob, StopsProxy, cause_of, proxy_job_of, proxy_output}
 use Rattle.record_proxy.specs.Proxying.{proxy_reading}
 use Rattle.record_proxy.specs.Proxying.{IsProxyStatus, proxy_words, proxy_work}
 use Rattle.record_proxy.specs.Servings.{Net, ServingSays, most_recorded}
@@ -69,11 +69,12 @@ module _ {C X : Type 0} (client_view : C → LinkView) (server_view : X → Link
     (old new : Net C X) where
   pub finishes : (records : List Record) (n : Served)
       → ServesJob client_view server_view job old new records (Ok n)
+      → AsksAt job old new (Ok n)
       → Finishes (proxy_work client_view server_view) (proxy_reading job) told old new (proxy_output job.out records n)
-  finishes records n serving = record {
+  finishes records n serving asks = record {
     task = job;
     read = refl;
-    gives = record { records = records; served = n; serving = serving; output_is = refl };
+    gives = record { records = records; served = n; serving = serving; asks = asks; output_is = refl };
   }
 
 module _ {C X : Type 0} (client_view : C → LinkView) (server_view : X → LinkView) (job : ProxyJob) (disk : DiskView)
@@ -91,15 +92,17 @@ module _ {C X : Type 0} (client_view : C → LinkView) (server_view : X → Link
 
   ends_for : (e : ProxyError) (store : List Record)
       → ServesJob client_view server_view job old new store (Err e)
+      → AsksAt job old new (Err e)
       → Ends (proxy_work client_view server_view) (proxy_reading job) (outside disk out old) (outside disk out new)
       (Some (cause_of e))
-  ends_for errors.Port store s = record {
-    stopped = stops_for NetFault (record { error = errors.Port; cause_is = refl; store = store; serving = s });
+  ends_for errors.Port store s asks = record {
+    stopped = stops_for NetFault
+        (record { error = errors.Port; cause_is = refl; store = store; serving = s; asks = asks });
     rose = s;
   }
-  ends_for errors.OutOfMemory store s =
+  ends_for errors.OutOfMemory store s asks =
       Serving (stops_for OutOfMemory
-      (record { error = errors.OutOfMemory; cause_is = refl; store = store; serving = s }))
+      (record { error = errors.OutOfMemory; cause_is = refl; store = store; serving = s; asks = asks }))
 
   pub ends_serving : (cause : Cause) → StopsProxy client_view server_view job old new cause
       → Ends (proxy_work client_view server_view) (proxy_reading job) (outside disk out old) (outside disk out new)
@@ -107,7 +110,7 @@ module _ {C X : Type 0} (client_view : C → LinkView) (server_view : X → Link
   ends_serving cause stopped =
       subst (λ (k : Cause). Ends (proxy_work client_view server_view) (proxy_reading job) (outside disk out old)
       (outside disk out new) (Some k)) (sym stopped.cause_is)
-      (ends_for stopped.error stopped.store stopped.serving)
+      (ends_for stopped.error stopped.store stopped.serving stopped.asks)
 
 -- ---- statuses
 

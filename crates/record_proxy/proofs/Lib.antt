@@ -9,6 +9,7 @@ pub mod ResponseLemmas
 pub mod ClientLemmas
 pub mod ServerLemmas
 pub mod FirstLemmas
+pub mod AskingLemmas
 pub mod ServingLemmas
 pub mod PoolLemmas
 pub mod CommandLemmas

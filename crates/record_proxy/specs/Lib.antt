@@ -2,6 +2,7 @@ pub mod Exchanges
 pub mod Courses
 pub mod Ends
 pub mod Links
+pub mod Asking
 pub mod Dialers
 pub mod MemDialers
 pub mod Servings

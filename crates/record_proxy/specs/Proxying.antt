@@ -16,6 +16,7 @@ use Rattle.command_ends.specs.declared.cause.Cause.{Cause}
 use Rattle.command_ends.specs.declared.cause.Cause.TheVariants.{NetFault, OutOfMemory}
 use Rattle.command_replay.specs.Replay.{served_line}
 use Rattle.command_stores.specs.Written.{store_file}
+use Rattle.record_proxy.specs.Asking.{ListensAt, OnlyAsks}
 use Rattle.record_proxy.specs.Servings.{Net, ServingSays, most_recorded}
 use Rattle.record_proxy.specs.declared.ends.ProxyError.{ProxyError}
 use Rattle.record_proxy.specs.declared.ends.ProxyError.TheVariants as errors
@@ -68,6 +69,11 @@ cause_of errors.OutOfMemory = OutOfMemory
 abbrev pub proxy_output : Text → List Record → Served → Output
 proxy_output out records served = record { files = store_file out records; printed = served_line served }
 
+-- A job asks its port once to listen, at the port that it names, and its dialer at no port but the site's.
+pub record AsksAt {C X : Type 0} (job : ProxyJob) (old new : Net C X) (result : Result Served ProxyError) : Type 0 where
+  pub listens : ListensAt job.port old.port new.port result
+  pub dials : OnlyAsks job.site old.dialer.asked new.dialer.asked
+
 module _ {C X : Type 0} (client_view : C → LinkView) (server_view : X → LinkView) where
   -- What the serving of a job did, from no records on: one client after the other, or many beside each other.
   abbrev pub ServesJob : ProxyJob → Net C X → Net C X → List Record → Result Served ProxyError → Type 0
@@ -81,12 +87,14 @@ module _ {C X : Type 0} (client_view : C → LinkView) (server_view : X → Link
       pub cause_is : cause ≡ cause_of error
       pub store : List Record
       pub serving : ServesJob job old new store (Err error)
+      pub asks : AsksAt job old new (Err error)
 
     -- The clients of the job were served; the records of all are written, and it is printed how they ended.
     pub record GivesProxy (output : Output) : Type 0 where
       pub records : List Record
       pub served : Served
       pub serving : ServesJob job old new records (Ok served)
+      pub asks : AsksAt job old new (Ok served)
       pub output_is : output ≡ proxy_output job.out records served
 
 -- what a job does with its port and its dialer, of whose connections this is seen

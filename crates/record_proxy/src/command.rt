@@ -12,7 +12,7 @@ ghost use Rattle.command_ends.specs.Readings.{Reaches, AtTask, refused_first};
 ghost use Rattle.command_ends.specs.declared.cause.Refusal.{Refusal};
 ghost use Rattle.command_ends.specs.declared.cause.Refusal.TheVariants.{Words};
 ghost use Rattle.command_ends.specs.declared.cause.WordsRefusal.{WordsRefusal};
-ghost use Rattle.record_proxy.specs.Proxying.{ProxyJob as JobValue, ServesJob, StopsProxy, cause_of, proxy_reading};
+ghost use Rattle.record_proxy.specs.Proxying.{AsksAt, ProxyJob as JobValue, ServesJob, StopsProxy, cause_of, proxy_reading};
 ghost use Rattle.record_proxy.specs.Proxying.{IsProxyStatus, proxy_words, proxy_work};
 ghost use Rattle.record_proxy.specs.Servings.{net};
 ghost use Rattle.record_proxy.specs.inside.Values.{proxy_values};
@@ -56,6 +56,8 @@ fn serve_job<P: Port + Send, X: Dialer + Send, R: Threads + Wait + Sync>(
     requires { store.old ≡ [] }
     ensures served { IfOk result (λ n. ServesJob P.Conn.view X.Conn.view (proxy_values job.now)
         (net (P.view port.old) (X.view dialer.old)) (net (P.view port.new) (X.view dialer.new)) store.new (Ok n)) }
+    ensures asks { IfOk result (λ n. AsksAt (proxy_values job.now) (net (P.view port.old) (X.view dialer.old))
+        (net (P.view port.new) (X.view dialer.new)) (Ok n)) }
     ensures stopped { IfErr result (λ cause. StopsProxy P.Conn.view X.Conn.view (proxy_values job.now)
         (net (P.view port.old) (X.view dialer.old)) (net (P.view port.new) (X.view dialer.new)) cause) }
     ensures keeps { KeepsPort (P.view port.old) (P.view port.new) }

@@ -1,6 +1,7 @@
 //! A proxy that records what passes between clients and one site.
 #![tactic(auto)]
 
+mod asked;
 mod command;
 mod dialer;
 mod ends;
@@ -19,6 +20,7 @@ mod tcp_dialer;
 mod telling;
 mod words;
 
+pub use asked::Asked;
 pub use command::proxy_main;
 pub use dialer::Dialer;
 pub use ends::ProxyEnd;

@@ -6,18 +6,22 @@ ghost use Rattle.mm_base.specs.Listened.{never};
 ghost use Rattle.mm_base.specs.MemLink.{mem_link_view};
 ghost use Rattle.mm_base.specs.MemPort.{AllUnused, IsPortCall};
 ghost use Rattle.mm_base.specs.Port.{after_finish};
+ghost use Rattle.record_proxy.specs.Asking.{asked_at};
 ghost use Rattle.record_proxy.specs.Dialers.{CountsDials};
 ghost use Rattle.record_proxy.specs.MemDialers.{mem_dialer_view};
+ghost use Rattle.record_proxy.specs.declared.asked.Asked.TheVariants.{Never};
 
+use crate::asked::Asked;
 use crate::dialer::Dialer;
 use mm_base::{EndError, MemLink, MemPort, Port};
 use std::alloc::Global;
 use std::marker::Model;
 
-/// A dialer in memory, which gives links in memory in their order. It tells its finished links, counts its calls from
-/// 1, and fails those that its list names, and a `dial` where no link is left.
+/// A dialer in memory, which gives links in memory in their order. It tells its finished links and at which
+/// ports it was asked, counts its calls from 1, and fails those that its list names, and a `dial` where no link is left.
 #[derive(Drop)]
 pub struct MemDialer {
+    asked: Asked,
     links: MemPort,
     missing: u64,
 }
@@ -27,7 +31,7 @@ impl Model for MemDialer {
 
     ghost Value = { MemDialerState };
 
-    ghost view = { λ d. record { links = d.links; missing = d.missing } };
+    ghost view = { λ d. record { asked = d.asked; links = d.links; missing = d.missing } };
 }
 
 impl MemDialer {
@@ -44,11 +48,20 @@ impl MemDialer {
           faults = 0;
         } }
         ensures missing { result.missing ≡ 0 }
+        ensures asked { result.asked ≡ Never }
     {
         MemDialer {
+            asked: Asked::Never,
             links: MemPort::new(alloc, links, fails),
             missing: 0,
         }
+    }
+
+    /// At which ports it was asked for links.
+    pub fn asked(&self) -> Asked
+        ensures { result ≡ self.now.asked }
+    {
+        self.asked
     }
 
     /// The finished links, in the order in which they were finished.
@@ -64,7 +77,7 @@ impl Dialer for MemDialer {
 
     ghost view = { mem_dialer_view };
 
-    fn dial(&mut self, _number: u16) -> Result<MemLink, EndError>
+    fn dial(&mut self, number: u16) -> Result<MemLink, EndError>
         ensures counted { self.new.links.calls ≡ one_more self.old.links.calls }
         ensures named { Contains self.old.links.fails self.new.links.calls → IsErrOf result EndError.Failed }
         ensures failed { IsErrOf result EndError.Failed
@@ -75,11 +88,13 @@ impl Dialer for MemDialer {
         ensures ok { IfOk result (λ conn. (self.new.links.accepted ≡ self.old.links.accepted + 1)
             × IsFresh (mem_link_view conn)) }
         ensures err { OnErr result (self.new.links.accepted ≡ self.old.links.accepted) }
+        ensures asked { self.new.asked ≡ asked_at number self.old.asked }
         ensures finished { Some self.new.links.finished ≡ Some self.old.links.finished }
         ensures counts { CountsDials (mem_dialer_view self.old) (mem_dialer_view self.new) }
         ensures failed_cause { IsErrOf result EndError.Failed
             → Rose (mem_dialer_view self.old).faults (mem_dialer_view self.new).faults }
     {
+        self.asked.ask(number);
         match self.links.accept() {
             Ok(Some(link)) => Ok(link),
             Ok(None) => {
@@ -95,6 +110,7 @@ impl Dialer for MemDialer {
         ensures waiting { self.new.links.waiting ≡ self.old.links.waiting }
         ensures finished { Some self.new.links.finished ≡ after_finish conn result (Some self.old.links.finished) }
         ensures dialed { self.new.links.accepted ≡ self.old.links.accepted }
+        ensures asked { self.new.asked ≡ self.old.asked }
         ensures counts { CountsDials (mem_dialer_view self.old) (mem_dialer_view self.new) }
         ensures failed_cause { IsErrOf result EndError.Failed
             → Rose (mem_dialer_view self.old).faults (mem_dialer_view self.new).faults }

@@ -1,9 +1,10 @@
 // A proxy until its user ends it: a number of clients at a time, and no limit in all.
-ghost use Rattle.std.specs.Prelude.{◌≡◌, ◌≢◌, ◌⊎◌, ◌<◌, ◌≤◌, ◌+◌, [], true, Some, Ok, Err, IfOk};
+ghost use Rattle.std.specs.Prelude.{◌≡◌, ◌≢◌, ◌⊎◌, ◌<◌, ◌≤◌, ◌+◌, [], true, Some, Ok, Err, IfOk, IfSome};
 ghost use Rattle.std.specs.Thread.{IsSync};
 ghost use Rattle.mm_base.specs.Counts.{Rose};
 ghost use Rattle.mm_base.specs.Link.{IsFresh};
 ghost use Rattle.mm_base.specs.Port.{PortView, KeepsPort, after_finish};
+ghost use Rattle.record_proxy.specs.Asking.{ListensAt, OnlyAsks, asked_at};
 ghost use Rattle.record_proxy.specs.Servings.{IsJoined, IsServed, ServingSays, most_recorded, net};
 ghost use Rattle.record_proxy.specs.inside.Passing.{EndsWith};
 ghost use Rattle.record_proxy.specs.inside.Pools.{MovesPool};
@@ -154,6 +155,7 @@ fn finish_client<P: Port>(port: &mut P, client: P::Conn) -> Result<(), ProxyErro
     ensures finished { IfOk result (λ u. (P.view port.new).finished ≡ after_finish client (Ok u)
         (P.view port.old).finished) }
     ensures accepted { (P.view port.new).accepted ≡ (P.view port.old).accepted }
+    ensures heard { (P.view port.new).listened ≡ (P.view port.old).listened }
     ensures keeps { KeepsPort (P.view port.old) (P.view port.new) }
     ensures cause { result ≡ Err ProxyError.Port → Rose (P.view port.old).faults (P.view port.new).faults }
 {
@@ -175,6 +177,8 @@ fn take_back<K: Site, P: Port, X: Dialer>(
         (net (P.view port.old) (X.view dialer.old)) standing (net (P.view port.new) (X.view dialer.new)) next) }
     ensures less { IfOk result (λ next. next.away + 1 ≡ standing.away) }
     ensures same { IfOk result (λ next. next.begun ≡ standing.begun) }
+    ensures heard { (P.view port.new).listened ≡ (P.view port.old).listened }
+    ensures asked { (X.view dialer.new).asked ≡ (X.view dialer.old).asked }
     ensures keeps { KeepsPort (P.view port.old) (P.view port.new) }
     ensures cause { result ≡ Err ProxyError.Port → Rose (P.view port.old).faults (P.view port.new).faults }
 {
@@ -231,6 +235,8 @@ fn clear<K: Site, P: Port, X: Dialer, R: Wait>(
     ensures moves { IfOk result (λ next. MovesPool K.number P.Conn.view X.Conn.view
         (net (P.view port.old) (X.view dialer.old)) standing (net (P.view port.new) (X.view dialer.new)) next) }
     ensures same { IfOk result (λ next. next.begun ≡ standing.begun) }
+    ensures heard { (P.view port.new).listened ≡ (P.view port.old).listened }
+    ensures asked { (X.view dialer.new).asked ≡ (X.view dialer.old).asked }
     ensures keeps { KeepsPort (P.view port.old) (P.view port.new) }
     ensures cause { result ≡ Err ProxyError.Port → Rose (P.view port.old).faults (P.view port.new).faults }
 {
@@ -269,11 +275,14 @@ fn dial_for<K: Site, P: Port, X: Dialer, R: Wait>(
 ) -> Result<Standing, ProxyError>
     requires fresh { IsFresh (P.Conn.view client) }
     requires few { standing.begun < most_recorded }
+    requires at { door.now.site ≡ K.number }
     ensures moves { IfOk result (λ next. (before : PortView P.Conn) → (P.view port.old).accepted ≡ before.accepted + 1
         → (P.view port.old).finished ≡ before.finished → KeepsPort before (P.view port.old)
         → MovesPool K.number P.Conn.view X.Conn.view (net before (X.view dialer.old)) standing
         (net (P.view port.new) (X.view dialer.new)) next) }
     ensures more { IfOk result (λ next. next.begun ≡ standing.begun + 1) }
+    ensures heard { (P.view port.new).listened ≡ (P.view port.old).listened }
+    ensures asks { (X.view dialer.new).asked ≡ asked_at K.number (X.view dialer.old).asked }
     ensures keeps { KeepsPort (P.view port.old) (P.view port.new) }
     ensures cause { result ≡ Err ProxyError.Port → Rose (P.view port.old).faults (P.view port.new).faults }
 {
@@ -302,11 +311,14 @@ fn admit_all<K: Site, P: Port, X: Dialer, R: Wait>(
     door: &Door<P::Conn, X::Conn>,
     standing: Standing,
 ) -> Result<Standing, ProxyError>
-    requires { standing.begun ≤ most_recorded }
+    requires few { standing.begun ≤ most_recorded }
+    requires at { door.now.site ≡ K.number }
     ensures moves { IfOk result (λ next. MovesPool K.number P.Conn.view X.Conn.view
         (net (P.view port.old) (X.view dialer.old)) standing (net (P.view port.new) (X.view dialer.new)) next) }
     ensures stopped { IfOk result (λ next. ((P.view port.new).drained ≡ true) ⊎ (next.begun ≡ most_recorded)) }
     ensures few { IfOk result (λ next. next.begun ≤ most_recorded) }
+    ensures heard { (P.view port.new).listened ≡ (P.view port.old).listened }
+    ensures asks { OnlyAsks K.number (X.view dialer.old).asked (X.view dialer.new).asked }
     ensures keeps { KeepsPort (P.view port.old) (P.view port.new) }
     ensures cause { result ≡ Err ProxyError.Port → Rose (P.view port.old).faults (P.view port.new).faults }
 {
@@ -336,6 +348,8 @@ fn take_all<K: Site, P: Port, X: Dialer, R: Wait>(
         (net (P.view port.old) (X.view dialer.old)) standing (net (P.view port.new) (X.view dialer.new)) next) }
     ensures none { IfOk result (λ next. next.away ≡ 0) }
     ensures same { IfOk result (λ next. next.begun ≡ standing.begun) }
+    ensures heard { (P.view port.new).listened ≡ (P.view port.old).listened }
+    ensures asked { (X.view dialer.new).asked ≡ (X.view dialer.old).asked }
     ensures keeps { KeepsPort (P.view port.old) (P.view port.new) }
     ensures cause { result ≡ Err ProxyError.Port → Rose (P.view port.old).faults (P.view port.new).faults }
 {
@@ -355,9 +369,12 @@ fn serve_port<K: Site, P: Port, X: Dialer, R: Wait>(
     port: &mut P,
     dialer: &mut X,
 ) -> Result<Standing, ProxyError>
+    requires { door.site ≡ K.number }
     ensures serving { IfOk result (λ next. IsServed K.number P.Conn.view X.Conn.view true most_recorded
         (net (P.view port.old) (X.view dialer.old)) (net (P.view port.new) (X.view dialer.new)) []
         next.records next.served) }
+    ensures heard { (P.view port.new).listened ≡ (P.view port.old).listened }
+    ensures asks { OnlyAsks K.number (X.view dialer.old).asked (X.view dialer.new).asked }
     ensures keeps { KeepsPort (P.view port.old) (P.view port.new) }
     ensures cause { result ≡ Err ProxyError.Port → Rose (P.view port.old).faults (P.view port.new).faults }
 {
@@ -384,10 +401,13 @@ fn serve_beside<
     port: &'a mut P,
     dialer: &'a mut X,
 ) -> Result<Standing, ProxyError>
-    requires { bench.now.site ≡ K.number }
+    requires here { bench.now.site ≡ K.number }
+    requires there { door.site ≡ K.number }
     ensures serving { IfOk result (λ next. IsServed K.number P.Conn.view X.Conn.view true most_recorded
         (net (P.view port.old) (X.view dialer.old)) (net (P.view port.new) (X.view dialer.new)) []
         next.records next.served) }
+    ensures heard { (P.view port.new).listened ≡ (P.view port.old).listened }
+    ensures asks { OnlyAsks K.number (X.view dialer.old).asked (X.view dialer.new).asked }
     ensures keeps { KeepsPort (P.view port.old) (P.view port.new) }
     ensures cause { result ≡ Err ProxyError.Port → Rose (P.view port.old).faults (P.view port.new).faults }
 {
@@ -398,10 +418,12 @@ fn serve_beside<
             requires { (bench.now.site ≡ K.number) × IsSync R.row }
         { work_all::<K, P::Conn, X::Conn, R>(rt, bench) },
         &mut || -> Result<Standing, ProxyError>
-            requires { IsSync R.row }
+            requires { IsSync R.row × IfSome given (λ door. door.site ≡ K.number) }
             ensures serving { IfOk result (λ next. IsServed K.number P.Conn.view X.Conn.view true most_recorded
                 (net (P.view port.entry.now) (X.view dialer.entry.now)) (net (P.view port.exit.now)
                 (X.view dialer.exit.now)) [] next.records next.served) }
+            ensures heard { (P.view port.exit.now).listened ≡ (P.view port.entry.now).listened }
+            ensures asks { OnlyAsks K.number (X.view dialer.entry.now).asked (X.view dialer.exit.now).asked }
             ensures keeps { KeepsPort (P.view port.entry.now) (P.view port.exit.now) }
             ensures cause { result ≡ Err ProxyError.Port
                 → Rose (P.view port.entry.now).faults (P.view port.exit.now).faults }
@@ -427,6 +449,8 @@ fn run_pool<K: Site + Send + Sync, P: Port + Send, X: Dialer + Send, R: Threads 
     ensures serving { IfOk result (λ next. IsServed K.number P.Conn.view X.Conn.view true most_recorded
         (net (P.view port.old) (X.view dialer.old)) (net (P.view port.new) (X.view dialer.new)) []
         next.records next.served) }
+    ensures heard { (P.view port.new).listened ≡ (P.view port.old).listened }
+    ensures asks { OnlyAsks K.number (X.view dialer.old).asked (X.view dialer.new).asked }
     ensures keeps { KeepsPort (P.view port.old) (P.view port.new) }
     ensures cause { result ≡ Err ProxyError.Port → Rose (P.view port.old).faults (P.view port.new).faults }
 {
@@ -470,6 +494,8 @@ pub fn serve_until_ended<P: Port + Send, X: Dialer + Send, R: Threads + Wait + S
 ) -> Result<Served, ProxyError>
     ensures serving { ServingSays job.now.site P.Conn.view X.Conn.view true most_recorded
         (net (P.view port.old) (X.view dialer.old)) (net (P.view port.new) (X.view dialer.new)) [] store.new result }
+    ensures listens { ListensAt job.now.port (P.view port.old) (P.view port.new) result }
+    ensures asks { OnlyAsks job.now.site (X.view dialer.old).asked (X.view dialer.new).asked }
     ensures keeps { KeepsPort (P.view port.old) (P.view port.new) }
 {
     if let Err(error) = port.listen(job.port) {

@@ -4,6 +4,7 @@ ghost use Rattle.mm_base.specs.Counts.{Rose};
 ghost use Rattle.mm_base.specs.Link.{IsFresh};
 ghost use Rattle.mm_base.specs.Port.{KeepsPort, after_finish};
 ghost use Rattle.replay_server.specs.inside.Tallies.{total};
+ghost use Rattle.record_proxy.specs.Asking.{ListensAt, OnlyAsks, asked_at};
 ghost use Rattle.record_proxy.specs.Dialers.{CountsDials};
 ghost use Rattle.record_proxy.specs.inside.Passing.{Dials, EndsWith, Joins, ServesOne, plus};
 ghost use Rattle.record_proxy.specs.Servings.{ServingSays, counted_as, net, no_ends};
@@ -86,6 +87,7 @@ pub(crate) fn part<A: Link, B: Link>(client: &mut A, server: &mut B)
 pub(crate) fn finish_dialed<X: Dialer>(dialer: &mut X, server: X::Conn) -> Result<(), EndError>
     ensures finished { (X.view dialer.new).finished ≡ after_finish server result (X.view dialer.old).finished }
     ensures dialed { (X.view dialer.new).dialed ≡ (X.view dialer.old).dialed }
+    ensures asked { (X.view dialer.new).asked ≡ (X.view dialer.old).asked }
     ensures counts { CountsDials (X.view dialer.old) (X.view dialer.new) }
     ensures failed_cause { IsErrOf result EndError.Failed
         → Rose (X.view dialer.old).faults (X.view dialer.new).faults }
@@ -104,8 +106,9 @@ fn join<A: Link, X: Dialer>(
 ) -> Result<Option<ProxyEnd>, OutOfMemory>
     requires client_fresh { IsFresh (A.view client.old) }
     requires server_fresh { IsFresh (X.Conn.view server) }
-    ensures { IfOk result (λ end. Joins site X.Conn.view (A.view client.new) (X.view dialer.old) (X.view dialer.new)
-        store.old store.new end) }
+    ensures joins { IfOk result (λ end. Joins site X.Conn.view (A.view client.new) (X.view dialer.old)
+        (X.view dialer.new) store.old store.new end) }
+    ensures asked { (X.view dialer.new).asked ≡ (X.view dialer.old).asked }
 {
     let mut server = server;
     let end = proxy_conn(alloc, client, &mut server, site, store);
@@ -123,8 +126,9 @@ fn pass<A: Link, X: Dialer>(
     store: &mut Store,
 ) -> Result<Option<ProxyEnd>, OutOfMemory>
     requires { IsFresh (A.view client.old) }
-    ensures { IfOk result (λ end. Dials site X.Conn.view (A.view client.new) (X.view dialer.old) (X.view dialer.new)
-        store.old store.new end) }
+    ensures dials { IfOk result (λ end. Dials site X.Conn.view (A.view client.new) (X.view dialer.old)
+        (X.view dialer.new) store.old store.new end) }
+    ensures asks { (X.view dialer.new).asked ≡ asked_at site (X.view dialer.old).asked }
 {
     match dialer.dial(site) {
         Ok(server) => join(alloc, site, client, server, dialer, store),
@@ -162,6 +166,8 @@ fn serve_client<P: Port, X: Dialer>(
     requires { IsFresh (P.Conn.view client) }
     ensures one { IfOk result (λ end. ServesOne site P.Conn.view X.Conn.view (net (P.view port.old) (X.view dialer.old))
         (net (P.view port.new) (X.view dialer.new)) store.old store.new end) }
+    ensures heard { (P.view port.new).listened ≡ (P.view port.old).listened }
+    ensures asks { (X.view dialer.new).asked ≡ asked_at site (X.view dialer.old).asked }
     ensures keeps { KeepsPort (P.view port.old) (P.view port.new) }
     ensures cause { result ≡ Err ProxyError.Port → Rose (P.view port.old).faults (P.view port.new).faults }
 {
@@ -187,6 +193,8 @@ pub fn serve<P: Port, X: Dialer>(
     ensures serving { ServingSays job.now.site P.Conn.view X.Conn.view false job.now.connections
         (net (P.view port.old) (X.view dialer.old)) (net (P.view port.new) (X.view dialer.new)) store.old store.new
         result }
+    ensures listens { ListensAt job.now.port (P.view port.old) (P.view port.new) result }
+    ensures asks { OnlyAsks job.now.site (X.view dialer.old).asked (X.view dialer.new).asked }
     ensures keeps { KeepsPort (P.view port.old) (P.view port.new) }
 {
     if let Err(error) = port.listen(job.port) {

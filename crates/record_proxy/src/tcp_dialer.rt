@@ -1,7 +1,10 @@
 // A dialer of TCP on this machine alone. It tells no content.
 ghost use Rattle.std.specs.Prelude.{◌≡◌, ◌≤◌, ◌<◌, ◌-◌, ◌^◌, None, IfOk, OnOk};
 ghost use Rattle.mm_base.specs.Counts.{Rose};
+ghost use Rattle.record_proxy.specs.Asking.{asked_at};
+ghost use Rattle.record_proxy.specs.declared.asked.Asked.TheVariants.{Never};
 
+use crate::asked::Asked;
 use crate::dialer::Dialer;
 use end_watch::EndWatch;
 use ended_port::{EndedLink, Silence};
@@ -14,15 +17,16 @@ use std::time::{Clock, Duration};
 // How long it waits for a site that has no room for one more connection, in seconds.
 const DIAL_LIMIT: u64 = 10;
 
-/// A dialer of TCP at the address 127.0.0.1. It tells no content. Each error other than out of memory is counted as a
-/// fault: a port at which nobody listens, a site that has no room for one more connection for ten seconds, or one more
-/// connection than a `u64` counts. A connection that it gives waits
-/// for a byte no longer than a minute; then its read is a fault of that connection.
+/// A dialer of TCP at the address 127.0.0.1. It tells no content, but at which ports it was asked. Each error other than
+/// out of memory is counted as a fault: a port at which nobody listens, a site that has no room for one more connection
+/// for ten seconds, or one more connection than a `u64` counts. A connection that it gives waits for a byte no longer
+/// than a minute; then its read is a fault of that connection.
 #[derive(Drop)]
 pub struct TcpDialer<'a, R: Net<Stream = TcpStream, Listener = TcpListener> + Clock + Copy + Drop> {
     rt: R,
     limits: TcpLimits,
     watch: &'a EndWatch,
+    asked: Asked,
     dialed: u64,
     faults: u64,
 }
@@ -33,19 +37,20 @@ impl<'a, R: Net<Stream = TcpStream, Listener = TcpListener> + Clock + Copy + Dro
 > {
     /// A dialer over the runtime's network, which has given no connection.
     pub fn new(rt: R, watch: &'a EndWatch) -> Self
-        ensures { (result.dialed ≡ 0) × (result.faults ≡ 0) }
+        ensures { (result.asked ≡ Never) × ((result.dialed ≡ 0) × (result.faults ≡ 0)) }
     {
         Self::with_limits(rt, watch, TcpLimits::dialed())
     }
 
     /// A dialer whose connections have these limits.
     pub fn with_limits(rt: R, watch: &'a EndWatch, limits: TcpLimits) -> Self
-        ensures { (result.dialed ≡ 0) × (result.faults ≡ 0) }
+        ensures { (result.asked ≡ Never) × ((result.dialed ≡ 0) × (result.faults ≡ 0)) }
     {
         TcpDialer {
             rt,
             limits,
             watch,
+            asked: Asked::Never,
             dialed: 0,
             faults: 0,
         }
@@ -56,6 +61,7 @@ impl<'a, R: Net<Stream = TcpStream, Listener = TcpListener> + Clock + Copy + Dro
         ensures failed { result ≡ EndError.Failed → Rose self.old.faults self.new.faults }
         ensures grows { self.old.faults ≤ self.new.faults }
         ensures dialed { self.new.dialed ≡ self.old.dialed }
+        ensures asked { self.new.asked ≡ self.old.asked }
     {
         if error.kind() == ErrorKind::OutOfMemory {
             return EndError::OutOfMemory;
@@ -94,9 +100,10 @@ impl<'a, R: Net<Stream = TcpStream, Listener = TcpListener> + Clock + Send + Cop
     for TcpDialer<'a, R> {
     type Conn = EndedLink<'a, R>;
 
-    ghost view = { λ d. record { finished = None; dialed = d.dialed; faults = d.faults } };
+    ghost view = { λ d. record { asked = d.asked; finished = None; dialed = d.dialed; faults = d.faults } };
 
     fn dial(&mut self, number: u16) -> Result<EndedLink<'a, R>, EndError> {
+        self.asked.ask(number);
         match self.link_to(number) {
             Ok(link) => {
                 self.dialed += 1;

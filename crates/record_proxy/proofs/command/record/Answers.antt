@@ -39,7 +39,7 @@ returns-in_err-write_store-clause-ends g c =
     (ends_unwritten work (proxy_reading job) disk disk written out before after
     (proxy_output job.out records c.in_ok-served.served) _
     (finishes g.P.Conn.Link.view g.X.Conn.Link.view job disk.files before after records c.in_ok-served.served
-    c.in_ok-served.ensures.served)
+    c.in_ok-served.ensures.served c.in_ok-served.ensures.asks)
     (reads_nothing disk) c.in_err-write_store.ensures.stopped))
 
 pub returns-clause-ends : goal.returns-clause-ends
@@ -54,5 +54,5 @@ returns-clause-ends g c =
     (outside (g.D.Disk.view c.write_store.new.disk) (g.O.Sink.view c.print_served.new.out) after)
     (proxy_output job.out records c.in_ok-served.served) c.print_served.result
     (finishes g.P.Conn.Link.view g.X.Conn.Link.view job disk.files before after records c.in_ok-served.served
-    c.in_ok-served.ensures.served)
+    c.in_ok-served.ensures.served c.in_ok-served.ensures.asks)
     c.in_ok-write_store.ensures.ok (λ none. absurd (cc none)) c.print_served.ensures.ok c.print_served.ensures.stopped

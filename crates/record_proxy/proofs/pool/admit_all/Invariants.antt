@@ -1,5 +1,6 @@
-use Rattle.std.proofs.Common.{◌-◌, ◌≤◌}
+use Rattle.std.proofs.Common.{◌≡◌, ◌-◌, ◌≤◌}
 use Rattle.mm_base.specs.Port.{KeepsPort}
+use Rattle.record_proxy.specs.Asking.{OnlyAsks}
 use Rattle.record_proxy.specs.Servings.{most_recorded, net}
 use Rattle.record_proxy.specs.inside.Pools.{MovesPool}
 use Rattle.record_proxy.proofs.pool.admit_all.Given as goal
@@ -10,6 +11,8 @@ invariant-open g l = record {
       (net (g.P.Port.view l.fn.port) (g.X.Dialer.view l.fn.dialer)) l.fn.standing
       (net (g.P.Port.view l.port) (g.X.Dialer.view l.dialer)) l.standing;
   few : l.standing.begun ≤ most_recorded;
+  heard : (g.P.Port.view l.port).listened ≡ (g.P.Port.view l.fn.port).listened;
+  asks : OnlyAsks g.K.Site.number (g.X.Dialer.view l.fn.dialer).asked (g.X.Dialer.view l.dialer).asked;
   keeps : KeepsPort (g.P.Port.view l.fn.port) (g.P.Port.view l.port);
 }
 

@@ -10,6 +10,8 @@ invariant-back g l = record {
       (net (g.P.Port.view l.fn.port) (g.X.Dialer.view l.fn.dialer)) l.fn.standing
       (net (g.P.Port.view l.port) (g.X.Dialer.view l.dialer)) l.standing;
   begun : l.standing.begun ≡ l.fn.standing.begun;
+  heard : (g.P.Port.view l.port).listened ≡ (g.P.Port.view l.fn.port).listened;
+  asked : (g.X.Dialer.view l.dialer).asked ≡ (g.X.Dialer.view l.fn.dialer).asked;
   keeps : KeepsPort (g.P.Port.view l.fn.port) (g.P.Port.view l.port);
 }
 

@@ -7,8 +7,8 @@ use Rattle.record_proxy.specs.declared.ends.ProxyEnd.TheVariants.{ClientFault, S
 use Rattle.record_proxy.proofs.ServingLemmas.{if_ok, joins_so}
 use Rattle.record_proxy.proofs.serving.join.Goals as goal
 
-pub returns : goal.returns
-returns g c =
+pub returns-clause-joins : goal.returns-clause-joins
+returns-clause-joins g c =
     let first = g.A.Link.view c.args.client.now in
     let after = g.A.Link.view c.proxy_conn-end.new.client in
     let server_first = g.X.Conn.Link.view c.args.server in

@@ -2,6 +2,7 @@ use Rattle.std.proofs.Common.{◌≡◌, false, ◌∙◌, ◌+◌, [], ◌∷�
 use Rattle.replay_server.specs.inside.Tallies.{total}
 use Rattle.record_proxy.specs.inside.Passing.{plus}
 use Rattle.record_proxy.specs.Servings.{counted_as}
+use Rattle.record_proxy.proofs.AskingLemmas.{asks_none, asks_once}
 use Rattle.record_proxy.proofs.ServingLemmas.{passage_of, serves_none, serves_push, tally_push}
 use Rattle.record_proxy.proofs.serving.serve.Goals as goal
 
@@ -16,6 +17,8 @@ clients-init g c = record {
     within = let none = ap total c.nothing-served.ensures in omega (arith, none);
   };
   few = c.args.job.now.few;
+  listens = search rules;
+  asks = asks_none c.args.job.now.site (g.X.Dialer.view c.args.dialer.now).asked;
 }
 
 pub clients-preserved : goal.clients-preserved
@@ -50,4 +53,6 @@ clients-preserved g c =
         );
       };
       few = c.clients.invariant.few;
+      listens = search rules;
+      asks = asks_once c.args.job.now.site _ _ _ c.clients.invariant.asks c.in-Ok.ensures.asks;
     }

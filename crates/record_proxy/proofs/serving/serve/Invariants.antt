@@ -1,4 +1,6 @@
-use Rattle.std.proofs.Common.{◌≤◌}
+use Rattle.std.proofs.Common.{◌≡◌, ◌≤◌}
+use Rattle.mm_base.specs.Listened.{listened_at}
+use Rattle.record_proxy.specs.Asking.{OnlyAsks}
 use Rattle.record_proxy.specs.Servings.{net}
 use Rattle.record_proxy.specs.inside.Passing.{ServesSoFar}
 use Rattle.record_proxy.proofs.serving.serve.Given as goal
@@ -10,6 +12,8 @@ invariant-clients g l = record {
       l.left
       l.job.connections;
   few : l.job.connections ≤ 64;
+  listens : (g.P.Port.view l.port).listened ≡ listened_at l.job.port (g.P.Port.view l.fn.port).listened;
+  asks : OnlyAsks l.job.site (g.X.Dialer.view l.fn.dialer).asked (g.X.Dialer.view l.dialer).asked;
 }
 
 abbrev pub decreases-clients : goal.decreases-clients
