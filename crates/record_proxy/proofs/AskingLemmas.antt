@@ -1,5 +1,5 @@
 -- A dialer that was asked at one port alone.
-use Rattle.std.proofs.Common.{◌≡◌, ◌∙◌, inl, inr, ℕ, Bool, true, false, ap, refl, sym, nat_eq, eq-eqb}
+use Rattle.std.proofs.Common.{◌≡◌, ◌∙◌, inl, inr, ℕ, Bool, true, false, ap, refl, nat_eq, eq-eqb}
 use Rattle.std.specs.Prelude.{if◌then◌else◌}
 use Rattle.record_proxy.specs.Asking.{OnlyAsks, asked_at}
 use Rattle.record_proxy.specs.declared.asked.Asked.{Asked}

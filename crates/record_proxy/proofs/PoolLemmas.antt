@@ -1,6 +1,6 @@
 -- A proxy that serves clients beside each other, one step more.
-use Rattle.std.proofs.Common.{◌≡◌, ◌∙◌, ◌⊎◌, inl, inr, ◌<◌, ◌≤◌, ℕ, ◌+◌, ◌-◌, ◌^◌, true, List, [], ◌∷◌, ◌++◌, length}
-use Rattle.std.proofs.Common.{Option, Some, None, Ok, Err, refl, sym, ap, subst, arith, append-nil, length-append, map}
+use Rattle.std.proofs.Common.{◌≡◌, ◌∙◌, ◌⊎◌, inl, inr, ◌<◌, ◌≤◌, ℕ, ◌+◌, ◌-◌, true, List, [], ◌∷◌, ◌++◌, length}
+use Rattle.std.proofs.Common.{Option, None, Ok, Err, refl, sym, ap, subst, arith, append-nil, length-append, map}
 use Rattle.std.specs.Prelude.{Result, IfOk, IsErrOf}
 use Rattle.std.proofs.lemmas.Bool.{cases_lt}
 use mathlib.Core.Logic.{∥∥₁_map}
@@ -12,9 +12,9 @@ use Rattle.mm_base.specs.declared.errors.EndError.TheVariants.{Failed, OutOfMemo
 use Rattle.record_store.specs.declared.record.Record.{Record}
 use Rattle.replay_server.specs.declared.ends.Served.{Served}
 use Rattle.record_proxy.specs.Dialers.{DialerView}
-use Rattle.record_proxy.specs.Servings.{Dialed, GivenUp, IsDialed, IsJoined, IsServed, Joined, Net, NotDialed, Passage}
-use Rattle.record_proxy.specs.Servings.{Known, RisesFor, Serves, added_of, counted_as, dials_of, end_of, finished_with}
-use Rattle.record_proxy.specs.Servings.{most_recorded, net, no_ends, servers_of, tally}
+use Rattle.record_proxy.specs.Servings.{GivenUp, IsDialed, IsJoined, IsServed, Joined, Net, NotDialed, Passage}
+use Rattle.record_proxy.specs.Servings.{RisesFor, Serves, added_of, counted_as, dials_of, end_of, finished_with}
+use Rattle.record_proxy.specs.Servings.{most_recorded, net, no_ends, servers_of}
 use Rattle.record_proxy.specs.Links.{HasFaultCause, IsStored, links}
 use Rattle.record_proxy.specs.inside.Passing.{EndsWith, plus}
 use Rattle.record_proxy.specs.inside.Pools.{InPool, MovesPool}
