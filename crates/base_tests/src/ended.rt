@@ -169,6 +169,27 @@ fn a_peer_that_takes_nothing_is_cut_soon_after_the_end(rt: HostRuntime) {
     assert!(rt; passed.is_some_and(|passed| (SILENCE..LATE).contains(&passed)));
 }
 
+// Returns for how many milliseconds a peer that stays is heard out when its connection is ended, to which this was given.
+fn heard_out(rt: &HostRuntime, piece: &[u8]) -> io::Result<u64> {
+    let (_reader, watch) = ended_watch(rt)?;
+    let (client, mut link) = link_beside(rt, &watch, Silence::End)?;
+    if !piece.is_empty() {
+        let _ = link.write(piece);
+    }
+    let begun = Instant::now(rt)?;
+    link.end();
+    let passed = millis_since(rt, &begun);
+    drop(client);
+    Ok(passed)
+}
+
+#[test]
+fn a_peer_to_which_nothing_was_given_is_left_at_once(rt: HostRuntime) {
+    assert!(rt; heard_out(&rt, b"").expect(&rt, "a link") < SILENCE);
+    let passed = heard_out(&rt, b"x").expect(&rt, "a link");
+    assert!(rt; (SILENCE..LATE).contains(&passed));
+}
+
 // Returns whether a port beside this descriptor gives a connection, and a read of it waits until its limit.
 fn goes_on_beside(rt: &HostRuntime, descriptor: i32) -> io::Result<bool> {
     let watch = EndWatch::new(Some(descriptor));

@@ -175,10 +175,12 @@ fn a_client_that_goes_on_is_left_at_the_limit(rt: HostRuntime) {
     assert!(rt; link.read(&mut [0u8; 1]) == Ok(1));
 }
 
-// Finishing a connection whose output wasn't closed hears the client out.
+// Finishing a connection whose output wasn't closed hears the client out to which something was given.
 fn hears_out<P: Port + Numbered + Drop>(rt: &HostRuntime, port: P) -> Option<bool> {
     let mut port = port;
     let (client, link) = connect(rt, &mut port)?;
+    let mut link = link;
+    link.write(b"x").ok()?;
     let begun = Instant::now(rt).ok()?;
     let is_finished = port.finish(link).is_ok();
     let has_passed = is_a_limit_ago(rt, &begun).ok()?;
