@@ -1,7 +1,5 @@
 -- How a replay ends, from what its serving did.
-use Rattle.std.proofs.Common.{◌≡◌, ◌∙◌, inl, inr, ℕ, List, [], ◌++◌, Option, Some, None, Result, Ok, Err, OnOk, IfErr}
-use Rattle.std.proofs.Common.{refl}
-use Rattle.std.proofs.Common.{sym, ap, subst, length, ◌<◌}
+use Rattle.std.proofs.Common.{◌≡◌, inl, ℕ, List, [], Option, Some, None, Ok, Err, refl, sym, ap, subst, length, ◌<◌}
 use Rattle.std.proofs.lemmas.List.{append-nil}
 use Rattle.mm_base.specs.Disk.{DiskView, OnlyReads}
 use Rattle.mm_base.specs.Link.{LinkView}
@@ -15,7 +13,7 @@ use Rattle.replay_server.specs.declared.ends.Served.{Served}
 use Rattle.replay_server.specs.declared.ends.ServeError.{ServeError}
 use Rattle.replay_server.specs.declared.ends.ServeError.TheVariants as errors
 use Rattle.command_ends.specs.Causes.{Text}
-use Rattle.command_ends.specs.Ends.{Ends, Finishes, HasNetFault, IsStopped, Serving, outside}
+use Rattle.command_ends.specs.Ends.{Ends, Finishes, IsStopped, Serving, outside}
 use Rattle.command_ends.specs.Outputs.{prints}
 use Rattle.command_ends.specs.Readings.{Done, AtTask}
 use Rattle.command_ends.specs.inside.Readings.{Leads}
@@ -55,7 +53,7 @@ module _ {C : Type 0} (view : C → LinkView) (job : ReplayJob) (old new : DiskV
   led : Leads old.files (replay_reading job) (Done task)
   led = leads_store old.files job.store (λ store. Done (record { job = job; store = store })) text records input says
 
-  pub finishes : (n : Served) → IsServing records (Some job.site) view (most_of job) p q (Ok n)
+  pub finishes : (n : Served) → IsServing records (Some job.site) view job.until_ended (most_of job) p q (Ok n)
       → q.listened ≡ listened_at job.port p.listened
       → Finishes (serve_work view) (replay_reading job) old.files p q (prints (served_line n))
   finishes n serving listens = record {
@@ -81,7 +79,7 @@ module _ {C : Type 0} (view : C → LinkView) (job : ReplayJob) (old new : DiskV
     silent = refl;
   }
 
-  ends_for : (e : ServeError) → IsServing records (Some job.site) view (most_of job) p q (Err e)
+  ends_for : (e : ServeError) → IsServing records (Some job.site) view job.until_ended (most_of job) p q (Err e)
       → ListensAt job.port p q (Err e)
       → Ends (serve_work view) (replay_reading job) (outside old out p) (outside new out q) (Some (cause_of e))
   ends_for errors.Listen s listens = record {

@@ -94,7 +94,7 @@ module _ {C : Type 0} where
       (cause : Cause) : Type 0 where
     pub error : ServeError
     pub cause_is : cause ≡ cause_of error
-    pub serving : IsServing records (Some job.site) view (most_of job) old new (Err error)
+    pub serving : IsServing records (Some job.site) view job.until_ended (most_of job) old new (Err error)
     pub listens : ListensAt job.port old new (Err error)
 
   module _ (view : C → LinkView) (task : ReplayTask) (old new : PortView C) where
@@ -104,7 +104,8 @@ module _ {C : Type 0} where
       pub records : List Record
       pub says : StoreSays task.store (Ok records)
       pub served : Served
-      pub serving : IsServing records (Some task.job.site) view (most_of task.job) old new (Ok served)
+      pub serving : IsServing records (Some task.job.site) view task.job.until_ended (most_of task.job) old new
+          (Ok served)
       pub listens : ListensAt task.job.port old new (Ok served)
       pub output_is : output ≡ prints (served_line served)
 

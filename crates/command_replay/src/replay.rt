@@ -43,8 +43,8 @@ fn serve_some<R: Threads + Wait + Sync, P: Port + Send, Q: Pace + Sync>(
     port: &mut P,
     pace: &Q,
 ) -> Result<Served, ServeError>
-    ensures serving { IsServing store.now (Some job.now.site) P.Conn.view (most_of (replay_values job.now))
-        (P.view port.old) (P.view port.new) result }
+    ensures serving { IsServing store.now (Some job.now.site) P.Conn.view job.now.until_ended
+        (most_of (replay_values job.now)) (P.view port.old) (P.view port.new) result }
     ensures listens { ListensAt job.now.port (P.view port.old) (P.view port.new) result }
 {
     let (number, site, most) = (job.port, Some(job.site), job.connections);
@@ -65,7 +65,7 @@ fn serve_job<R: Threads + Wait + Sync, P: Port + Send, Q: Pace + Sync>(
     pace: &Q,
 ) -> Result<Served, Cause>
     ensures served { IfOk result (λ n. IsServing store.now (Some job.now.site) P.Conn.view
-        (most_of (replay_values job.now)) (P.view port.old) (P.view port.new) (Ok n)) }
+        job.now.until_ended (most_of (replay_values job.now)) (P.view port.old) (P.view port.new) (Ok n)) }
     ensures listened { OnOk result ((P.view port.new).listened ≡ listened_at job.now.port (P.view port.old).listened) }
     ensures stopped { IfErr result (λ cause. StopsAsServing store.now P.Conn.view (replay_values job.now)
         (P.view port.old) (P.view port.new) cause) }

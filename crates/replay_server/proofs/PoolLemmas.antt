@@ -1,6 +1,6 @@
 -- Pools, one step more.
-use Rattle.std.proofs.Common.{◌≡◌, ◌∙◌, ◌≢◌, ◌⊎◌, inl, inr, ◌<◌, ◌≤◌, ℕ, ◌+◌, ◌-◌, ◌^◌, Bool, true, false, List, []}
-use Rattle.std.proofs.Common.{◌∷◌, ◌++◌, length, Option, Some, None, Ok, Err, refl, sym, ap, subst, arith}
+use Rattle.std.proofs.Common.{◌≡◌, ◌∙◌, ◌≢◌, ◌⊎◌, inl, inr, ◌<◌, ◌≤◌, ℕ, ◌+◌, ◌-◌, Bool, true, false, List, []}
+use Rattle.std.proofs.Common.{◌∷◌, ◌++◌, length, Option, Ok, Err, refl, sym, ap, subst, arith}
 use Rattle.std.specs.Prelude.{Result, All, IsErrOf, OnOk}
 use Rattle.std.specs.Option.{option_map}
 use Rattle.std.proofs.lemmas.Bool.{cases_lt}
@@ -12,9 +12,8 @@ use Rattle.mm_base.specs.declared.errors.EndError.{EndError}
 use Rattle.mm_base.specs.declared.errors.EndError.TheVariants as refusals
 use Rattle.record_store.specs.declared.record.Record.{Record}
 use Rattle.replay_server.specs.Servings.{IsConnServed, IsServing, ServingSays, most_served, no_ends, with_end}
-use Rattle.replay_server.specs.Servings.{finished_with}
 use Rattle.replay_server.specs.inside.Pools.{PoolSays, PoolServes, PoolStands}
-use Rattle.replay_server.specs.inside.Tallies.{IsTally, ended, tallied, total}
+use Rattle.replay_server.specs.inside.Tallies.{IsTally, ended, tallied}
 use Rattle.replay_server.specs.declared.ends.ConnEnd.{ConnEnd}
 use Rattle.replay_server.specs.declared.ends.ConnEnd.TheVariants.{Closed, BadRequest, LinkFault, Full, OutOfMemory}
 use Rattle.replay_server.specs.declared.ends.Served.{Served}
@@ -53,7 +52,7 @@ module _ {C : Type 0} (store : List Record) (site : Option ℕ) (view : C → Li
 
   pub pool_lost : (p₀ p₁ : PortView C) (begun out : ℕ) (ends : Result Served ServeError)
       → PoolStands store site view p₀ p₁ begun out ends
-      → IsServing store site view most_served p₀ p₁ (Err errors.OutOfMemory)
+      → IsServing store site view true most_served p₀ p₁ (Err errors.OutOfMemory)
   pool_lost p₀ p₁ begun out ends x = record {
     served = x.served;
     each = x.each;
@@ -300,7 +299,7 @@ module _ {C : Type 0} (store : List Record) (site : Option ℕ) (view : C → Li
   pub pool_ends : (p₀ p₁ : PortView C) (begun out : ℕ) (ends : Result Served ServeError) → out ≡ 0
       → OnOk ends ((p₁.drained ≡ true) ⊎ (begun ≡ most_served))
       → PoolStands store site view p₀ p₁ begun out ends
-      → IsServing store site view most_served p₀ p₁ ends
+      → IsServing store site view true most_served p₀ p₁ ends
   pool_ends p₀ p₁ begun out ends none stopped x = record {
     served = x.served;
     each = x.each;
@@ -353,7 +352,7 @@ tally_most few most (Err errors.OutOfMemory) less tally = tt
 module _ {C : Type 0} (store : List Record) (site : Option ℕ) (view : C → LinkView) where
   pub pool_idle : (p : PortView C) → PoolServes store site view p p (Err errors.OutOfMemory)
   pool_idle p = record {
-    serving = serving_refused store site view most_served p p refusals.OutOfMemory (keeps_same p) refl refl
+    serving = serving_refused store site view true most_served p p refusals.OutOfMemory (keeps_same p) refl refl
         (λ is. absurd (cc is));
     listened = refl;
     within = tt;

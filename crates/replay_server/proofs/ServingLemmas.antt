@@ -17,8 +17,8 @@ use Rattle.mm_base.proofs.Then.{CountsFaults-then, CountsFaults-none}
 use Rattle.record_store.specs.declared.record.Record.{Record}
 use Rattle.replay_server.specs.Sessions.{Session, most as most_bytes}
 use Rattle.replay_server.specs.Links.{Passed, IfBothTold, counted_from, IsAtEnd, IsPrompt, IsServed, HasFaultCause}
-use Rattle.replay_server.specs.Servings.{IsConnServed, IsServing, ListensAt, ServingSays, no_ends, with_end}
-use Rattle.replay_server.specs.Servings.{finished_with}
+use Rattle.replay_server.specs.Servings.{IsConnServed, IsServing, Known, ListensAt, ServingSays, no_ends}
+use Rattle.replay_server.specs.Servings.{finished_with, with_end}
 use Rattle.replay_server.specs.inside.Tallies.{IsTally, refusal_of, ended, tallied}
 use Rattle.replay_server.specs.declared.ends.ConnEnd.{ConnEnd}
 use Rattle.replay_server.specs.declared.ends.ConnEnd.TheVariants.{Closed, BadRequest, LinkFault, Full, OutOfMemory}
@@ -141,16 +141,16 @@ ended_memory LinkFault rest is = absurd (true≢false (sym is))
 ended_memory Full rest is = absurd (true≢false (sym is))
 ended_memory OutOfMemory rest is = refl
 
-module _ {C : Type 0} (store : List Record) (site : Option ℕ) (view : C → LinkView) where
-  none_each : All (λ (c : C × ConnEnd). ∥ IsConnServed store site (view c.0) c.1 ∥₁) []
-  none_each = All-nil (λ (c : C × ConnEnd). ∥ IsConnServed store site (view c.0) c.1 ∥₁)
+module _ {C : Type 0} (store : List Record) (site : Option ℕ) (view : C → LinkView) (pooled : Bool) where
+  abbrev Each : C × ConnEnd → Type 0
+  Each c = Known pooled (IsConnServed store site (view c.0) c.1)
 
   pub serving_none : (most : ℕ) (old new : PortView C) (n : Served) → KeepsPort old new → new.finished ≡ old.finished
       → new.accepted ≡ old.accepted → n ≡ no_ends
-      → (most ≡ 0) ⊎ ((0 < most) × (new.drained ≡ true)) → IsServing store site view most old new (Ok n)
+      → (most ≡ 0) ⊎ ((0 < most) × (new.drained ≡ true)) → IsServing store site view pooled most old new (Ok n)
   serving_none most old new n keeps finished accepted none stop = record {
     served = [];
-    each = none_each;
+    each = All-nil Each;
     finished_is = finished ∙ map_same old.finished;
     keeps = keeps;
     says = (
@@ -163,10 +163,11 @@ module _ {C : Type 0} (store : List Record) (site : Option ℕ) (view : C → Li
 
   pub serving_refused : (most : ℕ) (old new : PortView C) (e : EndError) → KeepsPort old new
       → new.finished ≡ old.finished → new.accepted ≡ old.accepted
-      → (e ≡ refusals.Failed → Rose old.faults new.faults) → IsServing store site view most old new (Err (refusal_of e))
+      → (e ≡ refusals.Failed → Rose old.faults new.faults)
+      → IsServing store site view pooled most old new (Err (refusal_of e))
   serving_refused most old new refusals.Failed keeps finished accepted cause = record {
     served = [];
-    each = none_each;
+    each = All-nil Each;
     finished_is = finished ∙ map_same old.finished;
     keeps = keeps;
     says = (
@@ -177,7 +178,7 @@ module _ {C : Type 0} (store : List Record) (site : Option ℕ) (view : C → Li
   }
   serving_refused most old new refusals.OutOfMemory keeps finished accepted cause = record {
     served = [];
-    each = none_each;
+    each = All-nil Each;
     finished_is = finished ∙ map_same old.finished;
     keeps = keeps;
     says = tt;
@@ -194,10 +195,10 @@ module _ {C : Type 0} (store : List Record) (site : Option ℕ) (view : C → Li
   -- the port can't be listened at
   pub serving_unheard : (most : ℕ) (old new : PortView C) → KeepsPort old new → new.finished ≡ old.finished
       → new.accepted ≡ old.accepted → Rose old.faults new.faults
-      → IsServing store site view most old new (Err errors.Listen)
+      → IsServing store site view pooled most old new (Err errors.Listen)
   serving_unheard most old new keeps finished accepted rose = record {
     served = [];
-    each = none_each;
+    each = All-nil Each;
     finished_is = finished ∙ map_same old.finished;
     keeps = keeps;
     says = (finished, accepted, rose);
@@ -219,8 +220,8 @@ module _ {C : Type 0} (store : List Record) (site : Option ℕ) (view : C → Li
   -- what a serving does after listening, counted from before it
   pub serving_listened : (most : ℕ) (p₀ p₁ p₂ : PortView C) → KeepsPort p₀ p₁ → p₁.finished ≡ p₀.finished
       → p₁.accepted ≡ p₀.accepted
-      → (answer : Result Served ServeError) → IsTally most answer → IsServing store site view most p₁ p₂ answer
-      → IsServing store site view most p₀ p₂ answer
+      → (answer : Result Served ServeError) → IsTally most answer → IsServing store site view pooled most p₁ p₂ answer
+      → IsServing store site view pooled most p₀ p₂ answer
   serving_listened most p₀ p₁ p₂ keeps finished accepted answer tally x = record {
     served = x.served;
     each = x.each;
@@ -230,24 +231,23 @@ module _ {C : Type 0} (store : List Record) (site : Option ℕ) (view : C → Li
   }
 
   module _ (most : ℕ) (some : 0 < most) (p₀ p₁ p₂ p₃ : PortView C) (conn : C) (end : ConnEnd)
-      (one : IsConnServed store site (view conn) end)
+      (one : Each (conn, end))
       (accepted : p₁.accepted ≡ p₀.accepted + 1) (first : p₁.finished ≡ p₀.finished) (before : KeepsPort p₀ p₁)
       (counted : p₃.accepted ≡ p₂.accepted) (after : KeepsPort p₂ p₃) where
     rose_all : Rose p₁.faults p₂.faults → Rose p₀.faults p₃.faults
     rose_all rose = let a = before.counts.grows in let b = after.counts.grows in omega (arith, rose, a, b)
 
-    module _ (rest : Result Served ServeError) (s : IsServing store site view (most - 1) p₁ p₂ rest) where
+    module _ (rest : Result Served ServeError) (s : IsServing store site view pooled (most - 1) p₁ p₂ rest) where
       -- the connection is finished
       module _ (finished : p₃.finished ≡ option_map (λ conns. conns ++ conn ∷ []) p₂.finished) where
         abbrev with_one : List (C × ConnEnd)
         with_one = (conn, end) ∷ s.served
 
         finishes : (answer : Result Served ServeError) → ServingSays store site view most p₀ p₃ with_one answer
-            → IsServing store site view most p₀ p₃ answer
+            → IsServing store site view pooled most p₀ p₃ answer
         finishes answer says = record {
           served = with_one;
-          each = All-cons (λ (c : C × ConnEnd). ∥ IsConnServed store site (view c.0) c.1 ∥₁) (conn, end) s.served
-              (∣ one ∣₁) s.each;
+          each = All-cons Each (conn, end) s.served one s.each;
           finished_is = finished ∙ ap (option_map (λ conns. conns ++ conn ∷ [])) s.finished_is
               ∙ map_more conn end s.served p₁.finished
               ∙ ap (option_map (finished_with with_one)) first;
@@ -256,7 +256,7 @@ module _ {C : Type 0} (store : List Record) (site : Option ℕ) (view : C → Li
         }
 
         counts_one : (n : Served) → ServingSays store site view (most - 1) p₁ p₂ s.served (Ok n) → end ≢ OutOfMemory
-            → IsServing store site view most p₀ p₃ (Ok (with_end end n))
+            → IsServing store site view pooled most p₀ p₃ (Ok (with_end end n))
         counts_one n says other = finishes (Ok (with_end end n)) (
           ap (with_end end) says.0,
           All-cons (λ (c : C × ConnEnd). c.1 ≢ OutOfMemory) (conn, end) s.served other says.1,
@@ -269,7 +269,7 @@ module _ {C : Type 0} (store : List Record) (site : Option ℕ) (view : C → Li
 
         passes_on : end ≢ OutOfMemory → (e : ServeError) → IsTally (most - 1) (Err e)
             → ServingSays store site view (most - 1) p₁ p₂ s.served (Err e)
-            → IsServing store site view most p₀ p₃ (Err e)
+            → IsServing store site view pooled most p₀ p₃ (Err e)
         passes_on other errors.Listen tally says = absurd tally
         passes_on other errors.Accept tally says = finishes (Err errors.Accept) (
           All-cons (λ (c : C × ConnEnd). c.1 ≢ OutOfMemory) (conn, end) s.served other says.0,
@@ -282,13 +282,13 @@ module _ {C : Type 0} (store : List Record) (site : Option ℕ) (view : C → Li
         )
         passes_on other errors.OutOfMemory tally says = finishes (Err errors.OutOfMemory) tt
 
-        lacks : IsServing store site view most p₀ p₃ (Err errors.OutOfMemory)
+        lacks : IsServing store site view pooled most p₀ p₃ (Err errors.OutOfMemory)
         lacks = finishes (Err errors.OutOfMemory) tt
 
       -- it is given up
       module _ (finished : p₃.finished ≡ p₂.finished) where
         gives_up : (answer : Result Served ServeError) → ServingSays store site view most p₀ p₃ s.served answer
-            → IsServing store site view most p₀ p₃ answer
+            → IsServing store site view pooled most p₀ p₃ answer
         gives_up answer says = record {
           served = s.served;
           each = s.each;
@@ -297,12 +297,12 @@ module _ {C : Type 0} (store : List Record) (site : Option ℕ) (view : C → Li
           says = says;
         }
 
-        lost : IsServing store site view most p₀ p₃ (Err errors.OutOfMemory)
+        lost : IsServing store site view pooled most p₀ p₃ (Err errors.OutOfMemory)
         lost = gives_up (Err errors.OutOfMemory) tt
 
         fails_late : All (λ (c : C × ConnEnd). c.1 ≢ OutOfMemory) s.served → Rose p₂.faults p₃.faults
             → (p₂.faults < 2 ^ 64 - 1 → p₂.accepted + p₁.faults ≤ p₁.accepted + length s.served + p₂.faults)
-            → IsServing store site view most p₀ p₃ (Err errors.Accept)
+            → IsServing store site view pooled most p₀ p₃ (Err errors.Accept)
         fails_late others rose bound = gives_up (Err errors.Accept) (
           others,
           (let a = before.counts.grows in let b = s.keeps.counts.grows in omega (arith, rose, a, b)),
@@ -314,26 +314,26 @@ module _ {C : Type 0} (store : List Record) (site : Option ℕ) (view : C → Li
               omega (arith, k, accepted, counted, a, less),
         )
 
-    memory_ends : (rest : Result Served ServeError) → IsServing store site view (most - 1) p₁ p₂ rest
+    memory_ends : (rest : Result Served ServeError) → IsServing store site view pooled (most - 1) p₁ p₂ rest
         → (done : Result Unit EndError)
         → p₃.finished ≡ after_finish conn done p₂.finished
-        → IsServing store site view most p₀ p₃ (tallied done (Err errors.OutOfMemory))
+        → IsServing store site view pooled most p₀ p₃ (tallied done (Err errors.OutOfMemory))
     memory_ends rest s (Ok d) finished = lacks rest s finished
     memory_ends rest s (Err refusals.Failed) finished = lost rest s finished
     memory_ends rest s (Err refusals.OutOfMemory) finished = lost rest s finished
 
-    gave_up : (e : ServeError) → IsServing store site view (most - 1) p₁ p₂ (Err e) → IsTally (most - 1) (Err e)
+    gave_up : (e : ServeError) → IsServing store site view pooled (most - 1) p₁ p₂ (Err e) → IsTally (most - 1) (Err e)
         → p₃.finished ≡ p₂.finished
-        → Rose p₂.faults p₃.faults → IsServing store site view most p₀ p₃ (Err e)
+        → Rose p₂.faults p₃.faults → IsServing store site view pooled most p₀ p₃ (Err e)
     gave_up errors.Listen s tally finished rose = absurd tally
     gave_up errors.Accept s tally finished rose = fails_late (Err errors.Accept) s finished s.says.0 rose s.says.2
     gave_up errors.OutOfMemory s tally finished rose = lost (Err errors.OutOfMemory) s finished
 
     other_ends : end ≢ OutOfMemory → (done : Result Unit EndError) (rest : Result Served ServeError)
-        → IsServing store site view (most - 1) p₁ p₂ rest
+        → IsServing store site view pooled (most - 1) p₁ p₂ rest
         → IsTally (most - 1) rest → p₃.finished ≡ after_finish conn done p₂.finished
         → (IsErrOf done refusals.Failed → Rose p₂.faults p₃.faults)
-        → IsServing store site view most p₀ p₃ (tallied done (joined end rest))
+        → IsServing store site view pooled most p₀ p₃ (tallied done (joined end rest))
     other_ends other (Ok d) (Ok n) s tally finished cause = counts_one (Ok n) s finished n s.says other
     other_ends other (Ok d) (Err e) s tally finished cause = passes_on (Err e) s finished other e tally s.says
     other_ends other (Err refusals.OutOfMemory) rest s tally finished cause = lost rest s finished
@@ -344,16 +344,17 @@ module _ {C : Type 0} (store : List Record) (site : Option ℕ) (view : C → Li
 
     -- what finishing answered, and those behind it
     pub serving_more : (done : Result Unit EndError) (rest : Result Served ServeError)
-        → IsServing store site view (most - 1) p₁ p₂ rest → IsTally (most - 1) rest
+        → IsServing store site view pooled (most - 1) p₁ p₂ rest → IsTally (most - 1) rest
         → p₃.finished ≡ after_finish conn done p₂.finished → (IsErrOf done refusals.Failed → Rose p₂.faults p₃.faults)
-        → IsServing store site view most p₀ p₃ (tallied done (ended end rest))
+        → IsServing store site view pooled most p₀ p₃ (tallied done (ended end rest))
     serving_more done rest s tally finished cause = split (is_memory end) refl
       where
-        split : (b : Bool) → is_memory end ≡ b → IsServing store site view most p₀ p₃ (tallied done (ended end rest))
+        split : (b : Bool) → is_memory end ≡ b
+            → IsServing store site view pooled most p₀ p₃ (tallied done (ended end rest))
         split true is =
-            subst (λ (r : Result Served ServeError). IsServing store site view most p₀ p₃ (tallied done r))
+            subst (λ (r : Result Served ServeError). IsServing store site view pooled most p₀ p₃ (tallied done r))
             (sym (ended_memory end rest is)) (memory_ends rest s done finished)
         split false is =
-            subst (λ (r : Result Served ServeError). IsServing store site view most p₀ p₃ (tallied done r))
+            subst (λ (r : Result Served ServeError). IsServing store site view pooled most p₀ p₃ (tallied done r))
             (sym (ended_other end rest is))
             (other_ends (other_end end is) done rest s tally finished cause)

@@ -1,6 +1,6 @@
 -- What a serving does to its port.
-use Rattle.std.specs.Prelude.{◌≡◌, ◌≢◌, ◌⊎◌, ◌<◌, ◌≤◌, ℕ, ◌+◌, ◌-◌, ◌^◌, ◌++◌, true, List, [], ◌∷◌, length, All}
-use Rattle.std.specs.Prelude.{Option, Result, Ok, Err, IfSome}
+use Rattle.std.specs.Prelude.{◌≡◌, ◌≢◌, ◌⊎◌, ◌<◌, ◌≤◌, ℕ, ◌+◌, ◌-◌, ◌^◌, ◌++◌, Bool, true, false, List, [], ◌∷◌}
+use Rattle.std.specs.Prelude.{Option, Result, Ok, Err, IfSome, All, length}
 use Rattle.std.specs.Option.{option_map}
 use Rattle.mm_base.specs.Counts.{Rose}
 use Rattle.mm_base.specs.Link.{LinkView}
@@ -53,6 +53,11 @@ ListensAt number old new (Err errors.OutOfMemory) =
     (new.listened ≡ old.listened)
     ⊎ ((new.listened ≡ listened_at number old.listened) ⊎ (new.listened ≡ refused_at number old.listened))
 
+-- What holds, and by which links it does. Where it comes from another thread it's known that it holds, and no more.
+abbrev pub Known : Bool → Type 0 → Type 0
+Known false T = T
+Known true T = ∥ T ∥₁
+
 -- these connections are finished, the last of them first
 abbrev pub finished_with : {C : Type 0} → List (C × ConnEnd) → List C → List C
 finished_with [] finished = finished
@@ -72,13 +77,14 @@ module _ {C : Type 0} (store : List Record) (site : Option ℕ) (view : C → Li
       × (new.faults < 2 ^ 64 - 1 → new.accepted + old.faults ≤ old.accepted + length served + new.faults)
   ServingSays most old new served (Err errors.OutOfMemory) = Unit {0}
 
-  -- What a serving of at most `most` connections did: it served these, and finished the last of them first. At Ok
-  -- these are all that it accepted: as many as it should, or the port is drained. At Accept those that it accepted and
-  -- didn't finish are no more than the faults that the port counted. Neither is answered where one that was finished
-  -- ran out of memory.
-  pub record IsServing (most : ℕ) (old new : PortView C) (result : Result Served ServeError) : Type 0 where
-    pub served : List (C × ConnEnd)
-    pub each : All (λ (c : C × ConnEnd). ∥ IsConnServed store site (view c.0) c.1 ∥₁) served
-    pub finished_is : new.finished ≡ option_map (finished_with served) old.finished
-    pub keeps : KeepsPort old new
-    pub says : ServingSays most old new served result
+  -- What a serving of at most `most` connections did, by a pool or each beside accepting the next: it served these, and
+  -- finished the last of them first. At Ok these are all that it accepted: as many as it should, or the port is
+  -- drained. At Accept those that it accepted and didn't finish are no more than the faults that the port counted.
+  -- Neither is answered where one that was finished ran out of memory.
+  pub record IsServing (pooled : Bool) (most : ℕ) (old new : PortView C) (result : Result Served ServeError) : Type 0
+    where
+      pub served : List (C × ConnEnd)
+      pub each : All (λ (c : C × ConnEnd). Known pooled (IsConnServed store site (view c.0) c.1)) served
+      pub finished_is : new.finished ≡ option_map (finished_with served) old.finished
+      pub keeps : KeepsPort old new
+      pub says : ServingSays most old new served result

@@ -18,10 +18,13 @@ use std::alloc::Global;
 use std::marker::{Brand, PhantomData, Send, Sync};
 use std::sync::Wait;
 use std::sync::atomic::{AtomicU64, Ordering};
-use std::thread::{Threads, join_mut, map_indices, yield_now};
+use std::thread::{Threads, join_mut, map_indices};
+use std::time::Duration;
 
-// How often it is looked whether those who serve have begun, some seconds.
-const LOOKS: u32 = 10_000_000;
+// How often it is looked whether those who serve have begun, and how many milliseconds lie between two looks.
+const LOOKS: u32 = 1_000;
+
+const REST: u64 = 1;
 
 /// Those who serve, each in a thread: how many there are to be, and how many have begun.
 #[derive(Drop)]
@@ -43,14 +46,16 @@ impl Crew {
         self.begun.fetch_add(1, Ordering::SeqCst);
     }
 
-    /// Waits until all have begun, and no longer than some seconds. Whether any has: where no thread can be made, none
-    /// does before the port is drained.
-    fn has_begun(&self) -> bool {
+    /// Waits until all have begun, and no longer than about a second. Whether any has: where no thread can be made,
+    /// none does before the port is drained.
+    fn has_begun<R: Wait>(&self, rt: &R) -> bool {
         for _ in 0..LOOKS {
-            if self.begun.load(Ordering::SeqCst) >= u64::from(self.most) {
+            let begun = self.begun.load(Ordering::SeqCst);
+            if begun >= u64::from(self.most) {
                 return true;
             }
-            yield_now();
+            self.begun
+                .park_timeout(rt, begun as u32, Duration::from_millis(REST));
         }
         self.begun.load(Ordering::SeqCst) > 0
     }
@@ -207,7 +212,8 @@ fn send_fresh<C: Link + Send + Drop, R: Wait>(
     to.send(rt, Fresh { conn, number }).is_ok()
 }
 
-/// Accepts the next connection and sends it to those who serve. Err: there is no next one, or it is refused.
+/// Takes back those that have ended, accepts the next connection and sends it to those who serve. Err: there is no
+/// next one, or it is refused.
 fn admit<K: Serving, P: Port, R: Wait>(
     rt: &R,
     port: &mut P,
@@ -370,7 +376,7 @@ fn admit_or_serve<K: Serving, P: Port, Q: Pace, R: Wait>(
     ensures few { result.begun ≤ most_served }
     ensures counted { IsCounted result }
 {
-    if crew.has_begun() {
+    if crew.has_begun(rt) {
         return admit_all(rt, port, to, from, crew);
     }
     serve_alone::<K, P, Q, R>(rt, alloc, source, port, pace)
@@ -463,9 +469,10 @@ fn run_pool<K: Serving + Send + Sync, P: Port + Send, Q: Pace + Sync, R: Threads
 }
 
 /// Listens at the port of this number, and serves its connections, up to `connections` of them at a time
-/// (`serve_conn`), until the port has no more, or 4,294,967,295 were accepted. None waits for another while fewer are being served.
-/// One that has ended has said so to its peer, and is finished before the next one is accepted, or at the end. Where
-/// fewer threads can be made, fewer are served at a time, and where none can be made, one after the other.
+/// (`serve_conn`), until the port has no more, or 4,294,967,295 were accepted. None waits for another while fewer than
+/// `connections` are being served. One that has ended has said so to its peer, and is finished once the next one has
+/// come, or at the end. Where fewer threads can be made, fewer are served at a time, and where none can be made, one
+/// after the other.
 ///
 /// `Listen` comes where the port can't be listened at, and `Accept` where a connection can't be accepted or finished,
 /// each only where a fault of the port was counted. Those accepted before are served to their end.
@@ -481,7 +488,8 @@ pub fn serve_pool<P: Port + Send, Q: Pace + Sync, R: Threads + Wait + Sync>(
 ) -> Result<Served, ServeError>
     requires some { 1 ≤ connections }
     requires few { connections ≤ 64 }
-    ensures serving { IsServing store.now site P.Conn.view most_served (P.view port.old) (P.view port.new) result }
+    ensures serving { IsServing store.now site P.Conn.view true most_served
+        (P.view port.old) (P.view port.new) result }
     ensures listens { ListensAt number (P.view port.old) (P.view port.new) result }
 {
     let Ok(source) = Source::new(alloc, store, site) else {

@@ -1,5 +1,5 @@
 // Serving: connections beside each other.
-ghost use Rattle.std.specs.Prelude.{◌≡◌, ◌<◌, ◌≤◌, ◌+◌, Option, IsErrOf};
+ghost use Rattle.std.specs.Prelude.{◌≡◌, ◌<◌, ◌≤◌, ◌+◌, false, Option, IsErrOf};
 ghost use Rattle.std.specs.Thread.{IsSync};
 ghost use Rattle.mm_base.specs.Counts.{Rose};
 ghost use Rattle.mm_base.specs.Link.{IsFresh};
@@ -131,7 +131,7 @@ fn serve_from<P: Port + Send, Q: Pace + Sync, R: Threads + Wait + Sync>(
     pace: &Q,
 ) -> Result<Served, ServeError>
     requires { most ≤ 64 }
-    ensures serving { IsServing source.now.store.now source.now.index.port P.Conn.view most
+    ensures serving { IsServing source.now.store.now source.now.index.port P.Conn.view false most
         (P.view port.old) (P.view port.new) result }
     ensures listened { (P.view port.new).listened ≡ (P.view port.old).listened }
     ensures within { IsTally most result }
@@ -167,7 +167,7 @@ fn serve_beside<P: Port + Send, Q: Pace + Sync, R: Threads + Wait + Sync>(
     requires most { most < 64 }
     requires fresh { IsFresh (P.Conn.view conn) }
     ensures one { IsConnServed source.now.store.now source.now.index.port (P.Conn.view result.0) result.1 }
-    ensures rest { IsServing source.now.store.now source.now.index.port P.Conn.view most
+    ensures rest { IsServing source.now.store.now source.now.index.port P.Conn.view false most
         (P.view port.old) (P.view port.new) result.2 }
     ensures listened { (P.view port.new).listened ≡ (P.view port.old).listened }
     ensures within { IsTally most result.2 }
@@ -177,7 +177,7 @@ fn serve_beside<P: Port + Send, Q: Pace + Sync, R: Threads + Wait + Sync>(
         rt,
         &mut || -> Result<Served, ServeError>
             requires { (most < 64) × IsSync R.row × IsSync Q.row }
-            ensures serving { IsServing source.entry.now.store.now source.entry.now.index.port P.Conn.view most
+            ensures serving { IsServing source.entry.now.store.now source.entry.now.index.port P.Conn.view false most
                 (P.view port.entry.now) (P.view port.exit.now) result }
             ensures listened { (P.view port.exit.now).listened ≡ (P.view port.entry.now).listened }
             ensures within { IsTally most result }
@@ -202,8 +202,8 @@ fn serve_beside<P: Port + Send, Q: Pace + Sync, R: Threads + Wait + Sync>(
 }
 
 /// Listens at the port of this number, and serves up to `connections` connections, each beside accepting the next
-/// (`serve_conn`). It stops after `connections`, or where the port has no more. The connections are finished in the reverse
-/// order of their acceptance.
+/// (`serve_conn`). It stops after `connections`, or where the port has no more. The connections are finished in the
+/// reverse order of their acceptance: the last of them first.
 ///
 /// `Listen` comes where the port can't be listened at, and `Accept` where a connection can't be accepted or finished,
 /// each only where a fault of the port was counted. Those accepted before are served to their end.
@@ -219,7 +219,8 @@ pub fn serve<P: Port + Send, Q: Pace + Sync, R: Threads + Wait + Sync>(
 ) -> Result<Served, ServeError>
     requires some { 1 ≤ connections }
     requires few { connections ≤ 64 }
-    ensures serving { IsServing store.now site P.Conn.view connections (P.view port.old) (P.view port.new) result }
+    ensures serving { IsServing store.now site P.Conn.view false connections
+        (P.view port.old) (P.view port.new) result }
     ensures listens { ListensAt number (P.view port.old) (P.view port.new) result }
 {
     let Ok(source) = Source::new(alloc, store, site) else {

@@ -58,6 +58,6 @@ module _ {C : Type 0} where
   -- A pool served its port, which listens as before.
   pub record PoolServes (store : List Record) (site : Option ℕ) (view : C → LinkView) (old new : PortView C)
       (result : Result Served ServeError) : Type 0 where
-    pub serving : IsServing store site view most_served old new result
+    pub serving : IsServing store site view true most_served old new result
     pub listened : new.listened ≡ old.listened
     pub within : IsTally most_served result

@@ -1,6 +1,4 @@
-use Rattle.std.proofs.Common.{◌≡◌, ◌∙◌, inl, inr, subst, sym, ◌⊎◌, true}
-use Rattle.replay_server.specs.Servings.{most_served}
-use Rattle.replay_server.proofs.PoolLemmas.{pool_at, pool_finishes, stopped_back}
+use Rattle.replay_server.proofs.PoolLemmas.{pool_at, pool_finishes}
 use Rattle.replay_server.proofs.pool.take_back.Goals as goal
 
 pub returns-clause-pool : goal.returns-clause-pool
