@@ -69,7 +69,7 @@ module _ {C X : Type 0} (client_view : C → LinkView) (server_view : X → Link
     (old new : Net C X) where
   pub finishes : (records : List Record) (n : Served)
       → ServesJob client_view server_view job old new records (Ok n)
-      → Finishes (proxy_work client_view server_view) (proxy_reading job) told old new (proxy_output job.out records n)
+      → Finishes (proxy_work client_view server_view) (proxy_reading job) told old new (proxy_output job records n)
   finishes records n serving = record {
     task = job;
     read = refl;
