@@ -24,11 +24,14 @@ use std::alloc::Global;
 use std::marker::{Brand, PhantomData, Send, Sync};
 use std::sync::Wait;
 use std::sync::atomic::{AtomicU64, Ordering};
-use std::thread::{Threads, join_mut, map_indices, yield_now};
+use std::thread::{Threads, join_mut, map_indices};
+use std::time::Duration;
 use text_base::OutOfMemory;
 
-// How often it is looked whether a worker has begun, some seconds.
-const LOOKS: u32 = 10_000_000;
+// How often it is looked whether the workers have begun, and how many milliseconds lie between two looks.
+const LOOKS: u32 = 1_000;
+
+const REST: u64 = 1;
 
 /// The site's port, and where pairs are sent to be passed.
 #[derive(Drop)]
@@ -127,15 +130,23 @@ fn work_all<
     let _ = map_indices(rt, bench.alloc, bench.most as usize, &worker);
 }
 
-/// Whether somebody passes. Where no thread can be made nobody does before the port is drained.
-fn has_begun(begun: &AtomicU64) -> bool {
+/// Waits until all of `most` workers have begun, and no longer than about a second. Whether any has: where no thread
+/// can be made, none does before the port is drained.
+fn has_begun<R: Wait>(rt: &R, begun: &AtomicU64, most: u32) -> bool {
     for _ in 0..LOOKS {
-        if begun.load(Ordering::SeqCst) > 0 {
+        let count = begun.load(Ordering::SeqCst);
+        if count >= u64::from(most) {
             return true;
         }
-        yield_now();
+        begun.park_timeout(rt, count as u32, Duration::from_millis(REST));
     }
-    false
+    begun.load(Ordering::SeqCst) > 0
+}
+
+/// How many pairs may be away: one for each worker that has begun.
+fn most_away(begun: &AtomicU64, most: u32) -> u32 {
+    let count = u32::try_from(begun.load(Ordering::SeqCst)).unwrap_or(most);
+    count.min(most)
 }
 
 /// How a pair counts that ended so, where finishing the dialed connection answered that. None: it failed.
@@ -215,7 +226,7 @@ fn next_back<K: Site, A: Link + Send + Drop, B: Link + Send + Drop, R: Wait>(
 ) -> Option<Result<Passed<K, A, B>, ProxyError>>
     ensures { result ≢ Some (Err ProxyError.Port) }
 {
-    if away >= bench.most {
+    if away >= most_away(&bench.begun, bench.most) {
         return Some(back(bench.from.recv(rt).ok()));
     }
     match bench.from.try_recv(rt) {
@@ -378,7 +389,7 @@ fn serve_port<K: Site, P: Port, X: Dialer, R: Wait>(
     ensures keeps { KeepsPort (P.view port.old) (P.view port.new) }
     ensures cause { result ≡ Err ProxyError.Port → Rose (P.view port.old).faults (P.view port.new).faults }
 {
-    if !has_begun(&bench.begun) {
+    if !has_begun(rt, &bench.begun, bench.most) {
         return Err(ProxyError::OutOfMemory);
     }
     let standing = Standing::new(bench.alloc);
@@ -483,7 +494,8 @@ fn run_pool<K: Site + Send + Sync, P: Port + Send, X: Dialer + Send, R: Threads 
 /// one to end where as many are being served as may be. A client for which the dialer fails is counted as broken.
 ///
 /// `Port` comes only where a fault of the port was counted: it can't be listened at, or a client can't be accepted or
-/// finished. `OutOfMemory` means out of memory, and comes also where no thread can be made.
+/// finished. `OutOfMemory` means out of memory, and comes also where no thread can be made; where fewer can be made
+/// than the job says, fewer clients are served at a time.
 pub fn serve_until_ended<P: Port + Send, X: Dialer + Send, R: Threads + Wait + Sync>(
     rt: &R,
     alloc: Global,
