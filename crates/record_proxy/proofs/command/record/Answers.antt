@@ -24,8 +24,8 @@ returns-in_err-served-clause-ends g c =
 
 pub returns-in_err-write_recorded-clause-ends : goal.returns-in_err-write_recorded-clause-ends
 returns-in_err-write_recorded-clause-ends g c =
-    let p = err_from_is_err_and c.from_residual-in_err-write_recorded.result c.from_residual-in_err-write_recorded.ensures.1
-    in
+    let p = err_from_is_err_and c.from_residual-in_err-write_recorded.result
+    c.from_residual-in_err-write_recorded.ensures.1 in
     let job = proxy_values c.args.job.now in
     let out = g.O.Sink.view c.args.out.now in
     let disk = g.D.Disk.view c.args.disk.now in
@@ -55,4 +55,5 @@ returns-clause-ends g c =
     (proxy_output job records c.in_ok-served.served) c.print_served.result
     (finishes g.P.Conn.Link.view g.X.Conn.Link.view job disk.files before after records c.in_ok-served.served
     c.in_ok-served.ensures.served)
-    c.in_ok-write_recorded.ensures.ok c.in_ok-write_recorded.ensures.unwritten c.print_served.ensures.ok c.print_served.ensures.stopped
+    c.in_ok-write_recorded.ensures.ok c.in_ok-write_recorded.ensures.unwritten c.print_served.ensures.ok
+    c.print_served.ensures.stopped
