@@ -40,13 +40,13 @@ const NONE: Fails = Fails {
     server: 0,
 };
 
-// A run: its words, what the file `s` holds before it, if it is there, what each client says and the call of its link
-// that fails, what the one server says, and which other calls fail. Then its status, what it prints, what it leaves in the file `s`, and whether a second client is
+// A run: its words, the files before it, what each client says and the call of its link that fails, what the one server
+// says, and which other calls fail. Then its status, what it prints, what it leaves in the file `s`, and whether a second client is
 // given nothing.
 #[derive(Clone, Copy)]
 struct Case {
     words: &'static str,
-    before: Option<&'static str>,
+    before: &'static [(&'static str, &'static str)],
     clients: &'static [(&'static str, u64)],
     said: &'static str,
     fails: Fails,
@@ -59,7 +59,7 @@ struct Case {
 // A connection is recorded.
 const DONE: Case = Case {
     words: WORDS,
-    before: None,
+    before: &[],
     clients: &[(REQUEST, 0)],
     said: RESPONSE,
     fails: NONE,
@@ -114,13 +114,7 @@ fn leaves<R: Threads + Wait + Sync>(
 
 // The same over a disk and an `out` of its own.
 fn is_left<R: Threads + Wait + Sync>(rt: &R, alloc: Global, case: &Case) -> bool {
-    let before = case.before.map(|text| ("s", text));
-    match TestOutside::new(
-        alloc,
-        before.as_slice(),
-        &[case.fails.disk],
-        &[case.fails.out],
-    ) {
+    match TestOutside::new(alloc, case.before, &[case.fails.disk], &[case.fails.out]) {
         Ok(mut outside) => leaves(rt, alloc, case, &mut outside),
         Err(_) => false,
     }
@@ -270,7 +264,7 @@ static UNTIL_ENDED: [Case; 5] = [
     },
     Case {
         words: "--until-ended --port 80 --to 8080 --connections 1 --out s",
-        before: Some(OLD_STORE),
+        before: &[("s", OLD_STORE)],
         ..DONE
     },
     Case {
@@ -299,7 +293,7 @@ fn clients_are_recorded_until_there_are_no_more(rt: HostRuntime) {
 // response is cut. The disk's first call would fail.
 const NOTHING: Case = Case {
     words: "--until-ended --port 80 --to 8080 --connections 1 --out s",
-    before: Some(OLD_STORE),
+    before: &[("s", OLD_STORE)],
     fails: Fails { disk: 1, ..NONE },
     store: OLD_STORE,
     ..DONE
@@ -312,7 +306,7 @@ static NOTHING_RECORDED: [Case; 4] = [
         ..NOTHING
     },
     Case {
-        before: None,
+        before: &[],
         clients: &[],
         printed: "closed 0 bad 0 broken 0 full 0\n",
         store: ABSENT,
