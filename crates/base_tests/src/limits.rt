@@ -175,12 +175,14 @@ fn a_client_that_goes_on_is_left_at_the_limit(rt: HostRuntime) {
     assert!(rt; link.read(&mut [0u8; 1]) == Ok(1));
 }
 
-// Finishing a connection whose output wasn't closed hears the client out to which something was given.
-fn hears_out<P: Port + Numbered + Drop>(rt: &HostRuntime, port: P) -> Option<bool> {
+// Finishing a connection whose output wasn't closed, and to which this was given, hears the client out.
+fn hears_out<P: Port + Numbered + Drop>(rt: &HostRuntime, port: P, piece: &[u8]) -> Option<bool> {
     let mut port = port;
     let (client, link) = connect(rt, &mut port)?;
     let mut link = link;
-    link.write(b"x").ok()?;
+    if !piece.is_empty() {
+        link.write(piece).ok()?;
+    }
     let begun = Instant::now(rt).ok()?;
     let is_finished = port.finish(link).is_ok();
     let has_passed = is_a_limit_ago(rt, &begun).ok()?;
@@ -191,9 +193,9 @@ fn hears_out<P: Port + Numbered + Drop>(rt: &HostRuntime, port: P) -> Option<boo
 #[test]
 fn finishing_hears_a_client_out(rt: HostRuntime) {
     let beside = Beside::new(&rt, short_limits()).expect(&rt, "a pipe");
-    assert!(rt; hears_out(&rt, TcpPort::with_limits(rt, short_limits())) == Some(true));
-    assert!(rt; hears_out(&rt, beside.nothing()) == Some(true));
-    assert!(rt; hears_out(&rt, beside.an_open_pipe()) == Some(true));
+    assert!(rt; hears_out(&rt, TcpPort::with_limits(rt, short_limits()), b"") == Some(true));
+    assert!(rt; hears_out(&rt, beside.nothing(), b"") == Some(true));
+    assert!(rt; hears_out(&rt, beside.an_open_pipe(), b"x") == Some(true));
 }
 
 // A port listens at this machine's own address, and at no other.

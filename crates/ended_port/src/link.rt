@@ -26,8 +26,10 @@ pub enum Silence {
 /// connection saw the end nothing more is read. Then the input is at its end, or that is a fault, as its `Silence`
 /// says. A peer that takes nothing is waited for a thirtieth of the limit of giving, which is two seconds of a minute,
 /// and after the five seconds it is given only what there is room for at once; one that takes nothing then is a fault.
-/// While there is no room, the end is seen after a sixtieth of that limit. A peer to which nothing was given isn't heard
-/// out when its connection is ended, where the watch can end.
+/// While there is no room, the end is seen after a sixtieth of that limit.
+///
+/// Where its watch can end, a peer to which nothing was given, and whose output wasn't closed, is left at once when its
+/// connection is ended.
 #[derive(Drop)]
 pub struct EndedLink<'a, K: Clock + Copy + Drop> {
     link: TcpLink<K>,
@@ -66,8 +68,8 @@ impl<'a, K: Clock + Copy + Drop> EndedLink<'a, K> {
         })
     }
 
-    /// Ends the connection. Where its output wasn't closed before, it is closed first, and the peer heard out, if
-    /// anything was given to it that it might lose.
+    /// Ends the connection. Where its output wasn't closed before, it is closed first and the peer heard out, unless the
+    /// watch can end and nothing was given that the peer might lose.
     pub fn end(self) {
         if self.is_given || !self.ending.can_end() {
             self.link.end();

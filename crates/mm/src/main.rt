@@ -13,6 +13,7 @@ use refusal_lines::{
     Ending, Reason, reason_of, show_line, system_reason, tell_commit, tell_reason,
 };
 use refusal_words::Program;
+use request_notes::{NotedPort, Notes, Recorded, read_recorded};
 use std::io::Stderr;
 use std::marker::Sync;
 use std::process::ExitCode;
@@ -25,6 +26,12 @@ const OUT_OF_MEMORY: u8 = 9;
 
 // The variable of the environment that names a descriptor, whose end is the user's word to end.
 const END: &str = "MM_END_FD";
+
+// The variable of the environment that asks for a line for each request.
+const LOG: &str = "MM_LOG";
+
+// Its value where it does.
+const IS_LOGGED: &str = "1";
 
 // Who says that it listens.
 const NAME: &str = "mm replay";
@@ -46,6 +53,15 @@ fn read_end(rt: &HostRuntime) -> Option<i32> {
         return None;
     }
     Some(descriptor)
+}
+
+// What a serving answers from, where the environment asks for a line for each request and it can be read.
+fn read_logged(rt: &HostRuntime, words: &[String]) -> Option<Recorded> {
+    let value = env::var(rt, LOG).ok()?;
+    if value.as_str() != IS_LOGGED {
+        return None;
+    }
+    read_recorded(rt.alloc(), words, &mut FileDisk::new(rt.clone().ok()?))
 }
 
 // Why the outside refused the call for which the program ends with this status, if that is known.
@@ -71,31 +87,61 @@ fn tell_more<O: Sink>(rt: &HostRuntime, words: &[String], ending: &Ending, told:
     }
 }
 
-// What the words make of the machine's files and of its port, over threads. An error means out of memory before the top
-// call.
-fn run<T: Threads + Wait + Sync>(threads: &T, rt: &HostRuntime) -> io::Result<u8> {
-    let words = read_words(rt)?;
+// A port of this machine, whose requests are noted where the environment asks for it.
+type LocalPort<'a> = NotedPort<'a, HostRuntime, Stderr>;
+
+// The port, which the end of this watch ends.
+fn new_port<'a>(
+    rt: &HostRuntime,
+    watch: &'a EndWatch,
+    recorded: &'a Option<Recorded>,
+) -> io::Result<LocalPort<'a>> {
+    let notes = match recorded {
+        Some(recorded) => Some(Notes::new(rt.alloc(), recorded, rt.stderr())),
+        None => None,
+    };
+    let port = EndedPort::new(rt.clone()?, watch, NAME, rt.stderr());
+    Ok(NotedPort::new(port, notes))
+}
+
+// What the words make of the machine's files and of its port, which the end of this watch ends. An error means out of
+// memory before the top call.
+fn run_until<'a, T: Threads + Wait + Sync>(
+    threads: &T,
+    rt: &HostRuntime,
+    words: &[String],
+    watch: &'a EndWatch,
+    recorded: &'a Option<Recorded>,
+) -> io::Result<u8> {
     let mut out = StdSink::new(rt.stdout());
     let mut disk = FileDisk::new(rt.clone()?);
-    let watch = EndWatch::new(read_end(rt));
-    let mut port = EndedPort::new(rt.clone()?, &watch, NAME, rt.stderr());
+    let mut port: LocalPort<'a> = new_port(rt, watch, recorded)?;
     let mut told = StdSink::new(rt.stderr());
     let ending = mm_main_told(
         threads,
         rt.alloc(),
-        &words,
+        words,
         &mut disk,
         &mut out,
         &mut port,
         &NoPace,
         &mut told,
     );
-    if let Some(reason) = reason_at(ending.status, &disk, &port) {
+    if let Some(reason) = reason_at(ending.status, &disk, port.port()) {
         let input = disk.met_input().unwrap_or("");
         let _ = tell_reason(Program::Mm, reason, input, &mut told);
     }
-    tell_more(rt, &words, &ending, &mut told);
+    tell_more(rt, words, &ending, &mut told);
     Ok(ending.status)
+}
+
+// What the words make of the machine's files and of its port, over threads. An error means out of memory before the top
+// call.
+fn run<T: Threads + Wait + Sync>(threads: &T, rt: &HostRuntime) -> io::Result<u8> {
+    let words = read_words(rt)?;
+    let watch = EndWatch::new(read_end(rt));
+    let recorded = read_logged(rt, &words);
+    run_until(threads, rt, &words, &watch, &recorded)
 }
 
 // Ends the program with the status of the top call, or with that of running out of memory before it.

@@ -70,7 +70,7 @@ module _ {C X : Type 0} (client_view : C → LinkView) (server_view : X → Link
   pub finishes : (records : List Record) (n : Served)
       → ServesJob client_view server_view job old new records (Ok n)
       → AsksAt job old new (Ok n)
-      → Finishes (proxy_work client_view server_view) (proxy_reading job) told old new (proxy_output job.out records n)
+      → Finishes (proxy_work client_view server_view) (proxy_reading job) told old new (proxy_output job records n)
   finishes records n serving asks = record {
     task = job;
     read = refl;

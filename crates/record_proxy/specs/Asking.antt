@@ -13,7 +13,7 @@ asked_at number Never = Alone number
 asked_at number (Alone before) = if nat_eq before number then Alone before else Several
 asked_at number Several = Several
 
--- it was asked at no other number than this
+-- It was asked at no other number than this. Where it had been asked at another before, nothing is said.
 abbrev pub OnlyAsks : ℕ → Asked → Asked → Type 0
 OnlyAsks number old new = (new ≡ old) ⊎ (new ≡ asked_at number old)
 

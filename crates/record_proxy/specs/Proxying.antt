@@ -1,6 +1,7 @@
 -- What `mm-record` is asked for, and what it does with its port and its dialer.
-use Rattle.std.specs.Prelude.{◌≡◌, ◌⊎◌, ℕ, Bool, List, [], Option, Some, Result, Ok, Err, option_and_then}
+use Rattle.std.specs.Prelude.{◌≡◌, ◌⊎◌, ◌∷◌, ℕ, Bool, List, [], Option, Some, Result, Ok, Err, option_and_then}
 use Rattle.std.specs.Prelude.{if◌then◌else◌}
+use Rattle.std.specs.Option.{option_map}
 use Rattle.mm_base.specs.Counts.{Rose}
 use Rattle.mm_base.specs.Link.{LinkView}
 use Rattle.record_store.specs.declared.record.Record.{Record}
@@ -9,7 +10,7 @@ use Rattle.option_words.specs.Commands.{ProxyTexts, proxy_texts}
 use Rattle.option_words.specs.Givens.{◌>>=◌}
 use Rattle.option_words.specs.Numbers.{number_within, port_of}
 use Rattle.command_ends.specs.Causes.{Text}
-use Rattle.command_ends.specs.Outputs.{Output}
+use Rattle.command_ends.specs.Outputs.{NamedText, Output}
 use Rattle.command_ends.specs.Readings.{Reading, Done, asked}
 use Rattle.command_ends.specs.Works.{Work}
 use Rattle.command_ends.specs.declared.cause.Cause.{Cause}
@@ -52,6 +53,10 @@ proxy_job_with texts = do
 unfoldable pub proxy_job_of : List Text → Option ProxyJob
 proxy_job_of words = option_and_then proxy_job_with (proxy_texts words)
 
+-- the name of the store's file, if the words have a job
+abbrev pub store_named : List Text → Option Text
+store_named words = option_map (λ job. job.out) (proxy_job_of words)
+
 -- No file is read.
 abbrev pub proxy_reading : ProxyJob → Reading ProxyJob
 proxy_reading job = Done job
@@ -65,9 +70,15 @@ abbrev pub cause_of : ProxyError → Cause
 cause_of errors.Port = NetFault
 cause_of errors.OutOfMemory = OutOfMemory
 
+-- The file of the records. A recording until ended that has no record writes none, so that a store that stood there
+-- stays as it was.
+abbrev pub proxy_files : ProxyJob → List Record → List NamedText
+proxy_files job [] = if job.until_ended then [] else store_file job.out []
+proxy_files job (first ∷ others) = store_file job.out (first ∷ others)
+
 -- the file of the records, and then the line of how the connections ended
-abbrev pub proxy_output : Text → List Record → Served → Output
-proxy_output out records served = record { files = store_file out records; printed = served_line served }
+abbrev pub proxy_output : ProxyJob → List Record → Served → Output
+proxy_output job records served = record { files = proxy_files job records; printed = served_line served }
 
 -- A job asks its port once to listen, at the port that it names, and its dialer at no port but the site's.
 pub record AsksAt {C X : Type 0} (job : ProxyJob) (old new : Net C X) (result : Result Served ProxyError) : Type 0 where
@@ -89,13 +100,14 @@ module _ {C X : Type 0} (client_view : C → LinkView) (server_view : X → Link
       pub serving : ServesJob job old new store (Err error)
       pub asks : AsksAt job old new (Err error)
 
-    -- The clients of the job were served; the records of all are written, and it is printed how they ended.
+    -- The clients of the job were served; the records of all are written, but none where nothing was recorded until
+    -- ended, and it is printed how they ended.
     pub record GivesProxy (output : Output) : Type 0 where
       pub records : List Record
       pub served : Served
       pub serving : ServesJob job old new records (Ok served)
       pub asks : AsksAt job old new (Ok served)
-      pub output_is : output ≡ proxy_output job.out records served
+      pub output_is : output ≡ proxy_output job records served
 
 -- what a job does with its port and its dialer, of whose connections this is seen
 abbrev pub proxy_work : {C X : Type 0} → (C → LinkView) → (X → LinkView) → ProxyJob → Work (Net C X)

@@ -1,5 +1,5 @@
 // The program `mm-record`: its words, the clients that it serves, the store that it writes and the line that it prints.
-ghost use Rattle.std.specs.Prelude.{◌≡◌, ◌≢◌, ◌⊎◌, [], Some, Ok, IfOk, IfErr, OnErr, map, string_bytes};
+ghost use Rattle.std.specs.Prelude.{◌≡◌, ◌≢◌, ◌⊎◌, [], Some, Ok, IfOk, IfErr, OnErr, OnOk, map, string_bytes};
 ghost use Rattle.mm_base.specs.Counts.{Rose};
 ghost use Rattle.mm_base.specs.Files.{Files};
 ghost use Rattle.mm_base.specs.Port.{KeepsPort};
@@ -8,12 +8,14 @@ ghost use Rattle.command_ends.specs.Alone.{IsLeftAlone};
 ghost use Rattle.command_ends.specs.Answers.{Answers, CountsDisk, IsFaultless, StopsShort, cause_in};
 ghost use Rattle.command_ends.specs.Causes.{status_of_refusal};
 ghost use Rattle.command_ends.specs.Ends.{Ends, IsDone, KeepsFiles, outside};
+ghost use Rattle.command_ends.specs.Outputs.{holding_all};
 ghost use Rattle.command_ends.specs.Readings.{Reaches, AtTask, refused_first};
+ghost use Rattle.command_ends.specs.Stops.{StopsWriting};
 ghost use Rattle.command_ends.specs.declared.cause.Refusal.{Refusal};
 ghost use Rattle.command_ends.specs.declared.cause.Refusal.TheVariants.{Words};
 ghost use Rattle.command_ends.specs.declared.cause.WordsRefusal.{WordsRefusal};
 ghost use Rattle.record_proxy.specs.Proxying.{AsksAt, ProxyJob as JobValue, ServesJob, StopsProxy, cause_of, proxy_reading};
-ghost use Rattle.record_proxy.specs.Proxying.{IsProxyStatus, proxy_words, proxy_work};
+ghost use Rattle.record_proxy.specs.Proxying.{IsProxyStatus, proxy_files, proxy_words, proxy_work};
 ghost use Rattle.record_proxy.specs.Servings.{net};
 ghost use Rattle.record_proxy.specs.inside.Values.{proxy_values};
 
@@ -73,6 +75,27 @@ fn serve_job<P: Port + Send, X: Dialer + Send, R: Threads + Wait + Sync>(
     }
 }
 
+// Writes the file of a store that was recorded. Where nothing was recorded until ended the disk isn't asked.
+fn write_recorded<D: Disk>(
+    alloc: Global,
+    job: &ProxyJob<'_>,
+    disk: &mut D,
+    store: &Store,
+) -> Result<(), Cause>
+    ensures ok { OnOk result ((D.view disk.new).files
+        ≡ holding_all (proxy_files (proxy_values job.now) store.now) (D.view disk.old).files) }
+    ensures stopped { IfErr result (λ cause. StopsWriting (proxy_files (proxy_values job.now) store.now)
+        (D.view disk.old) (D.view disk.new) cause) }
+    ensures unwritten { proxy_files (proxy_values job.now) store.now ≡ []
+        → (D.view disk.new).write_faults ≡ (D.view disk.old).write_faults }
+    ensures counts { CountsDisk (D.view disk.old) (D.view disk.new) }
+{
+    if job.until_ended && store.records().is_empty() {
+        return Ok(());
+    }
+    write_store(alloc, disk, job.out, store)
+}
+
 // Does the job: its clients are served, the records are written, and then it is printed how they ended.
 fn record<D: Disk, O: Sink, P: Port + Send, X: Dialer + Send, R: Threads + Wait + Sync>(
     rt: &R,
@@ -92,7 +115,7 @@ fn record<D: Disk, O: Sink, P: Port + Send, X: Dialer + Send, R: Threads + Wait 
 {
     let mut store = Store::new(alloc);
     let served = serve_job(rt, alloc, job, port, dialer, &mut store)?;
-    write_store(alloc, disk, job.out, &store)?;
+    write_recorded(alloc, job, disk, &store)?;
     print_served(alloc, served, out)
 }
 
@@ -130,7 +153,8 @@ pub(crate) fn answer<D: Disk, O: Sink, P: Port + Send, X: Dialer + Send, R: Thre
 ///
 /// With `--until-ended` up to N clients, then 1 to 64, are served at a time, without a limit in all but 4,294,967,295,
 /// until the port has no more, and the store has the records connection after connection in the order in which these
-/// ended.
+/// ended. Where there is no record, as nobody came or nothing was dialed, no store is written then, and the file stays
+/// as it was.
 ///
 /// 0: it is done. 2: the words have no job. 7: writing the store failed; or printing on `out`, and then the store is
 /// whole. 8: the port can't be listened at, or a client can't be accepted or finished. 9: memory was wanting. At 2
@@ -145,7 +169,7 @@ pub fn proxy_main<D: Disk, O: Sink, P: Port + Send, X: Dialer + Send, R: Threads
     port: &mut P,
     dialer: &mut X,
 ) -> u8
-    // 0: the store is written and the line printed, and nothing else is changed.
+    // 0: the store is written, unless nothing was recorded until ended, and the line printed; nothing else is changed.
     ensures done { result ≡ 0 → IsDone (proxy_work P.Conn.view X.Conn.view) (proxy_words (map string_bytes words.now))
         (outside (D.view disk.old) (O.view out.old) (net (P.view port.old) (X.view dialer.old)))
         (outside (D.view disk.new) (O.view out.new) (net (P.view port.new) (X.view dialer.new))) }

@@ -32,6 +32,8 @@ use std::thread::Threads;
 /// Does what `proxy_main` does, and says on `told`, which is the standard error, why the command line isn't done: the
 /// cause in words, with what was typed and where, or the usage. Where all is done it says nothing.
 ///
+/// As there, a recording until ended that has no record leaves the file of `--out` as it was.
+///
 /// Its status is that of `proxy_main`, whatever becomes of `told`, which is told when the line on `out` is written; beside
 /// it stand the command line's answer, and what `told` answered.
 pub fn proxy_main_told<
@@ -58,7 +60,7 @@ pub fn proxy_main_told<
         (outside (D.view disk.new) (O.view out.new) (net (P.view port.new) (X.view dialer.new)))
         (T.view told.old) (T.view told.new) result }
 
-    // 0: the store is written and the line printed, and nothing else is changed.
+    // 0: the store is written, unless nothing was recorded until ended, and the line printed; nothing else is changed.
     ensures done { result.status ≡ 0 → IsDone (proxy_work P.Conn.view X.Conn.view)
         (proxy_words (map string_bytes words.now))
         (outside (D.view disk.old) (O.view out.old) (net (P.view port.old) (X.view dialer.old)))

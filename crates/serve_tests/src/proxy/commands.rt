@@ -19,6 +19,9 @@ const STORE: &str =
 
 const NO_RECORD: &str = "MMSTORE 2\n";
 
+// What stood in the file `s` before a run.
+const OLD_STORE: &str = "MMSTORE 2\nwhat stood there";
+
 // The calls of these numbers fail, of the disk, of `out`, of the port, of the dialer, and of the server's link.
 #[derive(Clone, Copy)]
 struct Fails {
@@ -37,12 +40,13 @@ const NONE: Fails = Fails {
     server: 0,
 };
 
-// A run: its words, what each client says and the call of its link that fails, what the one server says, and which
-// other calls fail. Then its status, what it prints, what it leaves in the file `s`, and whether a second client is
+// A run: its words, what the file `s` holds before it, if it is there, what each client says and the call of its link
+// that fails, what the one server says, and which other calls fail. Then its status, what it prints, what it leaves in the file `s`, and whether a second client is
 // given nothing.
 #[derive(Clone, Copy)]
 struct Case {
     words: &'static str,
+    before: Option<&'static str>,
     clients: &'static [(&'static str, u64)],
     said: &'static str,
     fails: Fails,
@@ -55,6 +59,7 @@ struct Case {
 // A connection is recorded.
 const DONE: Case = Case {
     words: WORDS,
+    before: None,
     clients: &[(REQUEST, 0)],
     said: RESPONSE,
     fails: NONE,
@@ -109,7 +114,13 @@ fn leaves<R: Threads + Wait + Sync>(
 
 // The same over a disk and an `out` of its own.
 fn is_left<R: Threads + Wait + Sync>(rt: &R, alloc: Global, case: &Case) -> bool {
-    match TestOutside::new(alloc, &[], &[case.fails.disk], &[case.fails.out]) {
+    let before = case.before.map(|text| ("s", text));
+    match TestOutside::new(
+        alloc,
+        before.as_slice(),
+        &[case.fails.disk],
+        &[case.fails.out],
+    ) {
         Ok(mut outside) => leaves(rt, alloc, case, &mut outside),
         Err(_) => false,
     }
@@ -252,22 +263,15 @@ fn each_fault_has_its_status(rt: HostRuntime) {
 }
 
 // Runs that last until the port has no more clients.
-static UNTIL_ENDED: [Case; 6] = [
+static UNTIL_ENDED: [Case; 5] = [
     Case {
         words: "--port 80 --to 8080 --connections 64 --out s --until-ended",
         ..DONE
     },
     Case {
         words: "--until-ended --port 80 --to 8080 --connections 1 --out s",
-        clients: &[],
-        printed: "closed 0 bad 0 broken 0 full 0\n",
-        store: NO_RECORD,
+        before: Some(OLD_STORE),
         ..DONE
-    },
-    Case {
-        words: "--until-ended --port 80 --to 8080 --connections 1 --out s",
-        said: "HTTP/1.1 200 OK\r\n",
-        ..BAD
     },
     Case {
         words: "--until-ended --port 80 --to 8080 --connections 1 --out s",
@@ -289,6 +293,74 @@ static UNTIL_ENDED: [Case; 6] = [
 #[test]
 fn clients_are_recorded_until_there_are_no_more(rt: HostRuntime) {
     are_left(&rt, rt.alloc(), &UNTIL_ENDED);
+}
+
+// Runs until ended of which there is no record, over a file and without one: nobody comes, none can be dialed, and a
+// response is cut. The disk's first call would fail.
+const NOTHING: Case = Case {
+    words: "--until-ended --port 80 --to 8080 --connections 1 --out s",
+    before: Some(OLD_STORE),
+    fails: Fails { disk: 1, ..NONE },
+    store: OLD_STORE,
+    ..DONE
+};
+
+static NOTHING_RECORDED: [Case; 4] = [
+    Case {
+        clients: &[],
+        printed: "closed 0 bad 0 broken 0 full 0\n",
+        ..NOTHING
+    },
+    Case {
+        before: None,
+        clients: &[],
+        printed: "closed 0 bad 0 broken 0 full 0\n",
+        store: ABSENT,
+        ..NOTHING
+    },
+    Case {
+        fails: Fails {
+            dialer: 1,
+            disk: 1,
+            ..NONE
+        },
+        printed: "closed 0 bad 0 broken 1 full 0\n",
+        ..NOTHING
+    },
+    Case {
+        said: "HTTP/1.1 200 OK\r\n",
+        printed: "closed 0 bad 1 broken 0 full 0\n",
+        ..NOTHING
+    },
+];
+
+#[test]
+fn a_recording_of_nothing_until_ended_leaves_the_file(rt: HostRuntime) {
+    are_left(&rt, rt.alloc(), &NOTHING_RECORDED);
+}
+
+// One that isn't until ended writes the store of no records in place of the file.
+static NOTHING_IN_TURN: [Case; 2] = [
+    Case {
+        words: WORDS,
+        fails: NONE,
+        clients: &[],
+        printed: "closed 0 bad 0 broken 0 full 0\n",
+        store: NO_RECORD,
+        ..NOTHING
+    },
+    Case {
+        words: WORDS,
+        fails: Fails { dialer: 1, ..NONE },
+        printed: "closed 0 bad 0 broken 1 full 0\n",
+        store: NO_RECORD,
+        ..NOTHING
+    },
+];
+
+#[test]
+fn a_recording_of_nothing_in_turn_replaces_the_file(rt: HostRuntime) {
+    are_left(&rt, rt.alloc(), &NOTHING_IN_TURN);
 }
 
 // Words that have no job, in which nobody is served at a time.

@@ -22,14 +22,14 @@ returns-in_err-served-clause-ends g c =
     (Some k)) (sym p.2)
     (ends_serving g.P.Conn.Link.view g.X.Conn.Link.view job disk out before after _ c.in_err-served.ensures.stopped))
 
-pub returns-in_err-write_store-clause-ends : goal.returns-in_err-write_store-clause-ends
-returns-in_err-write_store-clause-ends g c =
-    let p = err_from_is_err_and c.from_residual-in_err-write_store.result c.from_residual-in_err-write_store.ensures.1
-    in
+pub returns-in_err-write_recorded-clause-ends : goal.returns-in_err-write_recorded-clause-ends
+returns-in_err-write_recorded-clause-ends g c =
+    let p = err_from_is_err_and c.from_residual-in_err-write_recorded.result
+    c.from_residual-in_err-write_recorded.ensures.1 in
     let job = proxy_values c.args.job.now in
     let out = g.O.Sink.view c.args.out.now in
     let disk = g.D.Disk.view c.args.disk.now in
-    let written = g.D.Disk.view c.write_store.new.disk in
+    let written = g.D.Disk.view c.write_recorded.new.disk in
     let before = net (g.P.Port.view c.args.port.now) (g.X.Dialer.view c.args.dialer.now) in
     let after = net (g.P.Port.view c.serve_job.new.port) (g.X.Dialer.view c.serve_job.new.dialer) in
     let work = proxy_work g.P.Conn.Link.view g.X.Conn.Link.view in
@@ -37,10 +37,10 @@ returns-in_err-write_store-clause-ends g c =
     rw p.1 (subst (λ (k : Cause). Ends work (proxy_reading job) (outside disk out before) (outside written out after)
     (Some k)) (sym p.2)
     (ends_unwritten work (proxy_reading job) disk disk written out before after
-    (proxy_output job.out records c.in_ok-served.served) _
+    (proxy_output job records c.in_ok-served.served) _
     (finishes g.P.Conn.Link.view g.X.Conn.Link.view job disk.files before after records c.in_ok-served.served
     c.in_ok-served.ensures.served c.in_ok-served.ensures.asks)
-    (reads_nothing disk) c.in_err-write_store.ensures.stopped))
+    (reads_nothing disk) c.in_err-write_recorded.ensures.stopped))
 
 pub returns-clause-ends : goal.returns-clause-ends
 returns-clause-ends g c =
@@ -51,8 +51,9 @@ returns-clause-ends g c =
     let after = net (g.P.Port.view c.serve_job.new.port) (g.X.Dialer.view c.serve_job.new.dialer) in
     let records = c.serve_job.new.store in
     ends_whole (proxy_work g.P.Conn.Link.view g.X.Conn.Link.view) (proxy_reading job) (outside disk out before)
-    (outside (g.D.Disk.view c.write_store.new.disk) (g.O.Sink.view c.print_served.new.out) after)
-    (proxy_output job.out records c.in_ok-served.served) c.print_served.result
+    (outside (g.D.Disk.view c.write_recorded.new.disk) (g.O.Sink.view c.print_served.new.out) after)
+    (proxy_output job records c.in_ok-served.served) c.print_served.result
     (finishes g.P.Conn.Link.view g.X.Conn.Link.view job disk.files before after records c.in_ok-served.served
     c.in_ok-served.ensures.served c.in_ok-served.ensures.asks)
-    c.in_ok-write_store.ensures.ok (λ none. absurd (cc none)) c.print_served.ensures.ok c.print_served.ensures.stopped
+    c.in_ok-write_recorded.ensures.ok c.in_ok-write_recorded.ensures.unwritten c.print_served.ensures.ok
+    c.print_served.ensures.stopped

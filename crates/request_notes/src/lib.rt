@@ -1,0 +1,15 @@
+//! What a serving says of each request on the standard error, where it is asked for: by which record it is answered, or
+//! why by none. It only watches: a port and its connections do what they do without it.
+#![tactic(auto)]
+
+mod lines;
+mod link;
+mod misses;
+mod notes;
+mod port;
+mod recorded;
+
+pub use link::NotedLink;
+pub use notes::Notes;
+pub use port::NotedPort;
+pub use recorded::{Recorded, read_recorded};
