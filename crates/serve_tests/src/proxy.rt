@@ -3,6 +3,7 @@ ghost use Rattle.std.specs.Prelude.{◌≤◌};
 
 mod commands;
 mod limits;
+mod pool;
 mod silent;
 mod tcp;
 mod watched;

@@ -7,7 +7,7 @@ ghost use Rattle.mm_base.specs.MemLink.{mem_link_view};
 use super::status_of;
 use crate::links::{REQUEST, RESPONSE};
 use mm_base::{EndError, Link, Listened, MemLink, Port};
-use record_proxy::Dialer;
+use record_proxy::{Asked, Dialer};
 use std::alloc::Global;
 use std::marker::Sync;
 use std::sync::Wait;
@@ -78,11 +78,12 @@ pub struct WatchedNet {
     given: u64,
     well: u32,
     listened: Listened,
+    asked: Asked,
     number: u16,
 }
 
 impl WatchedNet {
-    fn new(alloc: Global, says: &'static str, hears: &'static str, left: u64) -> Self {
+    pub fn new(alloc: Global, says: &'static str, hears: &'static str, left: u64) -> Self {
         WatchedNet {
             alloc,
             says,
@@ -91,6 +92,7 @@ impl WatchedNet {
             given: 0,
             well: 0,
             listened: Listened::never(),
+            asked: Asked::Never,
             number: 0,
         }
     }
@@ -112,6 +114,7 @@ impl WatchedNet {
         ensures left { self.new.left ≡ self.old.left }
         ensures given { self.new.given ≡ self.old.given }
         ensures listened { self.new.listened ≡ self.old.listened }
+        ensures asked { self.new.asked ≡ self.old.asked }
     {
         if conn.is_well(self.hears) {
             self.well = self.well.saturating_add(1);
@@ -159,10 +162,11 @@ impl Port for WatchedNet {
 impl Dialer for WatchedNet {
     type Conn = Watched;
 
-    ghost view = { λ d. record { finished = None; dialed = d.given; faults = 0 } };
+    ghost view = { λ d. record { asked = d.asked; finished = None; dialed = d.given; faults = 0 } };
 
     fn dial(&mut self, number: u16) -> Result<Watched, EndError> {
         self.number = number;
+        self.asked.ask(number);
         if self.given == u64::MAX {
             return Err(EndError::OutOfMemory);
         }
@@ -183,7 +187,7 @@ fn is_used(net: &WatchedNet, number: u16, left: u64) -> bool {
 }
 
 // How many bytes a file has.
-fn length_of(outside: &TestOutside, name: &str) -> Option<usize> {
+pub fn length_of(outside: &TestOutside, name: &str) -> Option<usize> {
     match outside.disk.file(name) {
         Some(text) => Some(text.len()),
         None => None,

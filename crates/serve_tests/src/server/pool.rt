@@ -31,7 +31,7 @@ fn served<R: Threads + Wait + Sync, P: Port + Send, Q: Pace + Sync>(
     }
 }
 
-// The first turn of the first connection waits until so many others have ended.
+// The first turn of the first connection waits until `goal` others have ended.
 #[derive(Drop)]
 struct Others {
     ended: AtomicU64,
@@ -139,7 +139,7 @@ impl Pace for AtATime {
     }
 }
 
-/// Whether no more than so many of seven connections are served at a time, and all of them in the end.
+/// Whether no more than `connections` of seven are served at a time, and all of them in the end.
 fn serves_at_a_time<R: Threads + Wait + Sync>(
     rt: &R,
     alloc: Global,
