@@ -98,7 +98,7 @@ fn refused(rt: &HostRuntime, words: &[String], name: &str) -> Option<u8> {
     Some(ending.status)
 }
 
-// Says on the standard error that the store was left as it was, or that it is too long to be replayed.
+// Says on the standard error that the store was not written, or that it is too long to be replayed.
 fn say_written(
     rt: &HostRuntime,
     name: Option<&str>,
@@ -108,7 +108,7 @@ fn say_written(
         return Ok(());
     };
     if !disk.is_written {
-        return eprintln!(rt; "{NAME}: nothing was recorded, and {name} is as it was");
+        return eprintln!(rt; "{NAME}: nothing was recorded, so {name} was not written");
     }
     let bytes = disk.bytes;
     if bytes > MOST_FILE_BYTES {
