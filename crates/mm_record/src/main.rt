@@ -98,6 +98,22 @@ fn refused(rt: &HostRuntime, words: &[String], name: &str) -> Option<u8> {
     Some(ending.status)
 }
 
+// Says on the standard error why the site wasn't reached, if it wasn't for some client.
+fn say_dialed(
+    rt: &HostRuntime,
+    dialer: &TcpDialer<'_, HostRuntime>,
+    told: &mut StdSink<Stderr>,
+) -> io::Result<()> {
+    let Some(error) = dialer.last_error() else {
+        return Ok(());
+    };
+    eprintln!(rt; "{NAME}: for a client the site couldn't be reached at the port of --to")?;
+    if let Some(reason) = system_reason(error) {
+        let _ = tell_reason(Program::Record, reason, "", told);
+    }
+    Ok(())
+}
+
 // Says on the standard error that the store was not written, or that it is too long to be replayed.
 fn say_written(
     rt: &HostRuntime,
@@ -153,6 +169,7 @@ fn run_until<'a, T: Threads + Wait + Sync>(
         let _ = tell_reason(Program::Record, reason, input, &mut told);
     }
     tell_more(rt, words, &ending, &mut told);
+    let _ = say_dialed(rt, &dialer, &mut told);
     if ending.status == 0 {
         let _ = say_written(rt, name, &disk);
     }

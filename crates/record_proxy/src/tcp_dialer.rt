@@ -29,6 +29,7 @@ pub struct TcpDialer<'a, R: Net<Stream = TcpStream, Listener = TcpListener> + Cl
     asked: Asked,
     dialed: u64,
     faults: u64,
+    last_error: Option<i32>,
 }
 
 impl<'a, R: Net<Stream = TcpStream, Listener = TcpListener> + Clock + Copy + Drop> TcpDialer<
@@ -53,7 +54,13 @@ impl<'a, R: Net<Stream = TcpStream, Listener = TcpListener> + Clock + Copy + Dro
             asked: Asked::Never,
             dialed: 0,
             faults: 0,
+            last_error: None,
         }
+    }
+
+    /// The number of the last error that the system gave. None where there was none.
+    pub fn last_error(&self) -> Option<i32> {
+        self.last_error
     }
 
     // Counts a fault, unless memory was wanting.
@@ -63,6 +70,7 @@ impl<'a, R: Net<Stream = TcpStream, Listener = TcpListener> + Clock + Copy + Dro
         ensures dialed { self.new.dialed ≡ self.old.dialed }
         ensures asked { self.new.asked ≡ self.old.asked }
     {
+        self.last_error = error.raw_os_error();
         if error.kind() == ErrorKind::OutOfMemory {
             return EndError::OutOfMemory;
         }
