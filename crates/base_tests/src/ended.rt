@@ -169,7 +169,8 @@ fn a_peer_that_takes_nothing_is_cut_soon_after_the_end(rt: HostRuntime) {
     assert!(rt; passed.is_some_and(|passed| (SILENCE..LATE).contains(&passed)));
 }
 
-// Returns for how many milliseconds a peer that stays is heard out when its connection is ended, to which this was given.
+// Returns for how many milliseconds a peer that stays is heard out when its connection is ended, to which this was
+// given.
 fn heard_out(rt: &HostRuntime, piece: &[u8]) -> io::Result<u64> {
     let (_reader, watch) = ended_watch(rt)?;
     let (client, mut link) = link_beside(rt, &watch, Silence::End)?;

@@ -1,7 +1,7 @@
 // Tests of calls of the system that fail once, and would succeed if they were made again.
 ghost use Rattle.std.specs.Prelude.{◌≡◌, IfOk};
 
-use interrupted_calls::{call_again, read_once, write_once};
+use mm_base::{call_again, read_once, write_once};
 use std::cell::Cell;
 use std::io::{self, ErrorKind, Read, Write};
 

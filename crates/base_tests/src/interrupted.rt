@@ -1,6 +1,6 @@
 //! Tests of calls of the system that a signal interrupts.
 use crate::halting::Halting;
-use interrupted_calls::{call_again, read_once, write_once};
+use mm_base::{call_again, read_once, write_once};
 use std::cell::Cell;
 use std::io::{self, ErrorKind};
 

@@ -3,6 +3,7 @@ pub mod AloneLemmas
 pub mod EndLemmas
 pub mod MapLemmas
 pub mod TellLemmas
+pub mod TopLemmas
 pub mod SendLemmas
 pub mod NameLemmas
 pub mod PieceLemmas

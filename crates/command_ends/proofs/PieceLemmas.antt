@@ -2,7 +2,7 @@
 use Rattle.std.proofs.Common.{ℕ, List, Option, Some, ap, sym, ◌∙◌}
 use Rattle.mm_base.specs.Files.{Files, file}
 use Rattle.mm_base.proofs.FilesLemmas.{is_held}
-use Rattle.file_pieces.specs.inside.Pieces.{WholeIsRead}
+use Rattle.mm_base.specs.inside.Pieces.{WholeIsRead}
 use Rattle.command_ends.specs.Causes.{Text}
 use Rattle.command_ends.specs.Stops.{InputIsRead, IsInput}
 

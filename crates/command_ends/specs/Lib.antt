@@ -6,5 +6,6 @@ pub mod Outputs
 pub mod Works
 pub mod Ends
 pub mod Answers
+pub mod TopCalls
 pub mod Stops
 pub mod inside

@@ -4,7 +4,7 @@ use Rattle.std.specs.Prelude.{length}
 use Rattle.mm_base.specs.Counts.{Rose}
 use Rattle.mm_base.specs.Disk.{DiskView, FailsReading}
 use Rattle.mm_base.specs.Files.{Files}
-use Rattle.file_pieces.specs.Pieces.{GoesOnBy}
+use Rattle.mm_base.specs.Pieces.{GoesOnBy}
 use Rattle.mm_base.specs.Sink.{SinkView, sending}
 use Rattle.command_ends.specs.Causes.{Text}
 use Rattle.command_ends.specs.Outputs.{NamedText, HoldsFirst}

@@ -142,7 +142,7 @@ fn send_line<O: Sink>(cause: &Cause, out: &mut O) -> Result<(), EndError>
     }
 }
 
-// Explains a cause by its line, and answers the status: the cause's own, or 9 where the sink found no memory.
+// Explains a cause by its line, and returns the status: the cause's own, or 9 where the sink found no memory.
 fn explain<O: Sink>(cause: &Cause, out: &mut O) -> u8
     ensures { Concludes (Some cause.now) (O.view out.old) (O.view out.new) result }
 {
@@ -153,7 +153,7 @@ fn explain<O: Sink>(cause: &Cause, out: &mut O) -> u8
     }
 }
 
-/// Explains an answer on `out`, and answers the exit status: 0 where all is done, and nothing is written; else the
+/// Explains an answer on `out`, and returns the exit status: 0 where all is done, and nothing is written; else the
 /// cause's own, and its line or a front of it is written; or 9 where the sink found no memory for the line.
 pub fn conclude<O: Sink>(answer: &Result<(), Cause>, out: &mut O) -> u8
     ensures { Concludes (cause_in answer.now) (O.view out.old) (O.view out.new) result }

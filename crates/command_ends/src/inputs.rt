@@ -1,13 +1,14 @@
 // Inputs, whole or in pieces. An input has at most 67,108,864 bytes.
 ghost use Rattle.std.specs.Prelude.{◌≡◌, IfOk, IfErr, OnOk};
 ghost use Rattle.mm_base.specs.Disk.{OnlyReads};
-ghost use Rattle.file_pieces.specs.Pieces.{HasSize};
+ghost use Rattle.mm_base.specs.Pieces.{HasSize};
 ghost use Rattle.command_ends.specs.inside.Loads.{cause_of_disk, cause_of_load};
 ghost use Rattle.command_ends.specs.Stops.{InputIsRead, IsInput, StopsAtFile};
 
 use crate::{Cause, Limit, Refusal};
-use file_pieces::{piece_buffer, push_pieces, size_within};
-use mm_base::{Disk, DiskError, LoadError, load};
+use mm_base::{
+    Disk, DiskError, FilePlace, LoadError, load, piece_buffer, push_pieces, size_within,
+};
 use std::alloc::Global;
 use text_base::limits::MOST_FILE_BYTES;
 use text_base::{Bytes, PieceReader, Text};
@@ -73,8 +74,9 @@ pub fn read_pieces<D: Disk, P: PieceReader>(
     ensures stopped { IfErr result (λ cause. StopsAtFile name.now (D.view disk.old) (D.view disk.new) cause) }
     ensures only_reads { OnlyReads (D.view disk.old) (D.view disk.new) }
 {
+    let place = FilePlace { name, at: 0, size };
     let mut piece = piece_buffer(alloc, size)?;
-    match push_pieces(disk, name, 0, size, piece.as_mut_slice(), reader) {
+    match push_pieces(disk, &place, piece.as_mut_slice(), reader) {
         Ok(()) => Ok(()),
         Err(error) => Err(cause_of_disk(Text::from_text(alloc, name)?, error)),
     }

@@ -3,13 +3,17 @@
 #![tactic(auto)]
 
 mod cause;
+mod environment;
 mod explain;
+mod host;
 mod inputs;
 mod names;
 mod outputs;
 
 pub use cause::{Cause, Limit, Refusal, WordsRefusal};
+pub use environment::{exit_code, read_end, read_words};
 pub use explain::conclude;
+pub use host::Host;
 pub use inputs::{input_size, read_input, read_pieces};
 pub use names::first_taken;
 pub use outputs::{file_written, print};

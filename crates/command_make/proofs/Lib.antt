@@ -1,1 +1,5 @@
 pub mod MakeLemmas
+pub mod Totals
+pub mod LoadLemmas
+pub mod TraceLemmas
+pub mod WordLemmas

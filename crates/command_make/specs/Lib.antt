@@ -1,2 +1,5 @@
+pub mod Made
+pub mod Summaries
+pub mod SummaryText
 pub mod Make
 pub mod inside

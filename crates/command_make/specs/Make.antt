@@ -1,7 +1,7 @@
 -- What the command `make` is asked for, and what it prints.
 use Rattle.std.specs.Prelude.{◌≡◌, ℕ, List, Option, Some, None, ◌&&◌, nat_le, option_and_then, if◌then◌else◌}
 use Rattle.text_base.specs.Numbers.{decimal_of}
-use Rattle.made_run.specs.SummaryText.{IsSummary}
+use Rattle.command_make.specs.SummaryText.{IsSummary}
 use Rattle.option_words.specs.Commands.{MakeTexts, make_texts}
 use Rattle.option_words.specs.Givens.{◌>>=◌}
 use Rattle.command_ends.specs.Causes.{Text}

@@ -11,8 +11,8 @@ ghost use Rattle.command_make.specs.Make.{GivesMake, make_job_of, make_reading, 
 ghost use Rattle.command_make.specs.inside.Values.{make_values};
 
 use crate::make_job::MakeJob;
+use crate::run::make_summary;
 use command_ends::{Cause, print};
-use made_run::make_summary;
 use mm_base::Sink;
 use option_words::{MakeWords, parse_make};
 use std::alloc::Global;

@@ -45,12 +45,12 @@ use Rattle.command_merge.proofs.ScheduleLemmas.{leads_schedules, schedule_texts,
 
 -- what is read and refused once the nest is known
 abbrev after_nest : MergeJob → NestPlan → Reading MergeTask
-after_nest job plan = unless (refused_outputs job plan) (unless (refused_horizon job.until) (merge_inputs job plan))
+after_nest job plan = unless (refused_outputs job plan) (unless (refused_horizon job.horizon) (merge_inputs job plan))
 
 -- what is read and refused once the traces were read
 abbrev pub after_traces : MergeJob → NestPlan → List (List ℕ) → Reading MergeTask
 after_traces job plan traces =
-    unless (refused_count job.until plan.shells (map trace_in traces)) (sender_inputs job plan traces)
+    unless (refused_count job.horizon plan.shells (map trace_in traces)) (sender_inputs job plan traces)
 
 -- what is read and refused once the list was read
 abbrev after_list : MergeJob → NestPlan → List (List ℕ) → List ℕ → Reading MergeTask
@@ -92,48 +92,48 @@ names_stop job plan cause e refused disk =
 
 -- the horizon is past an hour
 pub horizon_stop : (job : MergeJob) (plan : NestPlan) (cause : Cause) → nest_of job.shells ≡ Ok plan
-    → refused_outputs job plan ≡ None → RefusesText (refused_horizon job.until) cause
+    → refused_outputs job plan ≡ None → RefusesText (refused_horizon job.horizon) cause
     → (disk : DiskView) → StopsReading (merge_reading job) disk disk cause
 horizon_stop job plan cause e free refused disk =
-    let rest : Reading MergeTask = unless (refused_horizon job.until) (merge_inputs job plan) in
+    let rest : Reading MergeTask = unless (refused_horizon job.horizon) (merge_inputs job plan) in
     stops_later (merge_reading job) rest disk disk disk cause
     (leads_then (nest_known disk.files job plan e) (leads_unless disk.files (refused_outputs job plan) rest free))
     (reads_none disk)
-    (found_stop (refused_horizon job.until) (merge_inputs job plan) disk disk cause
-    (λ refusal h. (horizon_text job.until refusal h).not_absent) refused)
+    (found_stop (refused_horizon job.horizon) (merge_inputs job plan) disk disk cause
+    (λ refusal h. (horizon_text job.horizon refusal h).not_absent) refused)
 
 -- nothing is refused
 pub words_read : (job : MergeJob) (plan : NestPlan) → nest_of job.shells ≡ Ok plan → refused_outputs job plan ≡ None
-    → refused_horizon job.until ≡ None → (disk : DiskView)
+    → refused_horizon job.horizon ≡ None → (disk : DiskView)
     → Leads disk.files (merge_reading job) (merge_inputs job plan)
 words_read job plan e free within disk =
-    let rest : Reading MergeTask = unless (refused_horizon job.until) (merge_inputs job plan) in
+    let rest : Reading MergeTask = unless (refused_horizon job.horizon) (merge_inputs job plan) in
     leads_then (nest_known disk.files job plan e)
     (leads_then (leads_unless disk.files (refused_outputs job plan) rest free)
-    (leads_unless disk.files (refused_horizon job.until) (merge_inputs job plan) within))
+    (leads_unless disk.files (refused_horizon job.horizon) (merge_inputs job plan) within))
 
 -- there are too many opportunities
 pub count_stop : (job : MergeJob) (plan : NestPlan) (old new : DiskView) (texts : List (List ℕ))
     (traces : List TraceView) (cause : Cause) → HaveTraces old.files plan.traces texts traces
-    → RefusesText (refused_count job.until plan.shells traces) cause
+    → RefusesText (refused_count job.horizon plan.shells traces) cause
     → StopsReading (merge_inputs job plan) old new cause
 count_stop job plan old new texts traces cause have refused =
-    let said : RefusesText (refused_count job.until plan.shells (map trace_in texts)) cause =
-    subst (λ (l : List TraceView). RefusesText (refused_count job.until plan.shells l) cause) (sym (have_said have))
+    let said : RefusesText (refused_count job.horizon plan.shells (map trace_in texts)) cause =
+    subst (λ (l : List TraceView). RefusesText (refused_count job.horizon plan.shells l) cause) (sym (have_said have))
     refused in
     stops_later (merge_inputs job plan) (after_traces job plan texts) old old new cause
     (leads_traces (after_traces job plan) have) (reads_none old)
-    (found_stop (refused_count job.until plan.shells (map trace_in texts)) _ old new cause
-    (λ refusal h. (count_text job.until plan.shells (map trace_in texts) refusal h).not_absent) said)
+    (found_stop (refused_count job.horizon plan.shells (map trace_in texts)) _ old new cause
+    (λ refusal h. (count_text job.horizon plan.shells (map trace_in texts) refusal h).not_absent) said)
 
 senders_next : (told : Option Files) (job : MergeJob) (plan : NestPlan) (traces : List TraceView)
     (has : HasTraces told job plan traces) → Leads told (merge_inputs job plan) (sender_inputs job plan has.texts)
 senders_next told job plan traces has =
-    let few : refused_count job.until plan.shells (map trace_in has.texts) ≡ None =
-    ap (refused_count job.until plan.shells) (have_said has.have)
-    ∙ count_within job.until plan.shells traces has.few in
+    let few : refused_count job.horizon plan.shells (map trace_in has.texts) ≡ None =
+    ap (refused_count job.horizon plan.shells) (have_said has.have)
+    ∙ count_within job.horizon plan.shells traces has.few in
     leads_then (leads_traces (after_traces job plan) has.have)
-    (leads_unless told (refused_count job.until plan.shells (map trace_in has.texts))
+    (leads_unless told (refused_count job.horizon plan.shells (map trace_in has.texts))
     (sender_inputs job plan has.texts) few)
 
 -- the senders aren't read
@@ -272,10 +272,10 @@ traces_one (name ∷ names) next one = λ text.
 nest_one : (job : MergeJob) (nest : Result NestPlan NestError) → HasOneEnd (with_nest nest (after_nest job))
 nest_one job (Err error) = tt
 nest_one job (Ok plan) =
-    unless_one (refused_outputs job plan) (unless (refused_horizon job.until) (merge_inputs job plan))
-    (unless_one (refused_horizon job.until) (merge_inputs job plan)
+    unless_one (refused_outputs job plan) (unless (refused_horizon job.horizon) (merge_inputs job plan))
+    (unless_one (refused_horizon job.horizon) (merge_inputs job plan)
     (traces_one plan.traces (after_traces job plan) (λ traces.
-    unless_one (refused_count job.until plan.shells (map trace_in traces)) (sender_inputs job plan traces)
+    unless_one (refused_count job.horizon plan.shells (map trace_in traces)) (sender_inputs job plan traces)
     (senders_one job plan traces))))
 
 words_one : (found : Option MergeJob) → HasOneEnd (asked found merge_reading)
@@ -295,14 +295,14 @@ traces_accepted (name ∷ names) next accepts = λ refusal is. cc is
 inputs_accepted : (job : MergeJob) (plan : NestPlan) → AcceptsWords (merge_inputs job plan)
 inputs_accepted job plan =
     traces_accepted plan.traces (after_traces job plan)
-    (unless_words (refused_count job.until plan.shells []) (sender_inputs job plan [])
-    (λ refusal e. (count_text job.until plan.shells [] refusal e).not_words) (λ refusal is. cc is))
+    (unless_words (refused_count job.horizon plan.shells []) (sender_inputs job plan [])
+    (λ refusal e. (count_text job.horizon plan.shells [] refusal e).not_words) (λ refusal is. cc is))
 
 -- a nest of known words whose names are free, within the horizon, is accepted
 pub words_accepted : (job : MergeJob) (plan : NestPlan) → nest_of job.shells ≡ Ok plan
-    → refused_outputs job plan ≡ None → refused_horizon job.until ≡ None → AcceptsWords (merge_reading job)
+    → refused_outputs job plan ≡ None → refused_horizon job.horizon ≡ None → AcceptsWords (merge_reading job)
 words_accepted job plan known free within =
     let inputs : Reading MergeTask = merge_inputs job plan in
     subst (λ (r : Result NestPlan NestError). AcceptsWords (with_nest r (λ p. after_nest job p))) (sym known)
-    (unless_accepted (refused_outputs job plan) (unless (refused_horizon job.until) inputs) free
-    (unless_accepted (refused_horizon job.until) inputs within (inputs_accepted job plan)))
+    (unless_accepted (refused_outputs job plan) (unless (refused_horizon job.horizon) inputs) free
+    (unless_accepted (refused_horizon job.horizon) inputs within (inputs_accepted job plan)))

@@ -22,7 +22,7 @@ use Rattle.command_merge.specs.FateLines.{merged_fates_text}
 -- the horizon in milliseconds, the names of the list of senders and of the file of the fates, the seed, and the words
 -- of the shells
 pub record MergeJob : Type 0 where
-  pub until : ℕ
+  pub horizon : ℕ
   pub senders : Text
   pub out : Text
   pub seed : ℕ
@@ -31,9 +31,9 @@ pub record MergeJob : Type 0 where
 -- the job, where the numbers are decimals
 unfoldable pub merge_numbers : List Text → MergeTexts → Option MergeJob
 merge_numbers shells texts = do
-  until ← decimal_of texts.until
+  horizon ← decimal_of texts.until
   seed ← seed_of texts.seed
-  Some (record { until = until; senders = texts.senders; out = texts.out; seed = seed; shells = shells })
+  Some (record { horizon = horizon; senders = texts.senders; out = texts.out; seed = seed; shells = shells })
 
 -- the job, where the options end at `place`: the words before it are options, and those after it are the shells'
 abbrev pub merge_at : Option ℕ → List Text → Option MergeJob
@@ -53,7 +53,7 @@ pub record MergeTask : Type 0 where
 
 -- the nest of the shells' words with `traces`
 abbrev pub nest_for : MergeJob → NestPlan → List TraceView → NestParts
-nest_for job plan traces = built plan traces job.seed job.until
+nest_for job plan traces = built plan traces job.seed job.horizon
 
 -- each text is that of the schedule at the same place
 abbrev pub AreScheduleTexts : List (List ℕ) → List (List Row) → Type 0

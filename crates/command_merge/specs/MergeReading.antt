@@ -60,7 +60,7 @@ sender_inputs job plan traces =
 abbrev pub merge_inputs : MergeJob → NestPlan → Reading MergeTask
 merge_inputs job plan =
     reading_traces plan.traces (λ traces.
-    unless (refused_count job.until plan.shells (map trace_in traces)) (
+    unless (refused_count job.horizon plan.shells (map trace_in traces)) (
     sender_inputs job plan traces))
 
 -- Words that name no nest, names that are taken and a horizon past an hour are refused before any file is read.
@@ -68,7 +68,7 @@ abbrev pub merge_reading : MergeJob → Reading MergeTask
 merge_reading job =
     with_nest (nest_of job.shells) (λ plan.
     unless (refused_outputs job plan) (
-    unless (refused_horizon job.until) (
+    unless (refused_horizon job.horizon) (
     merge_inputs job plan)))
 
 -- what `merge` reads and refuses by the words after it

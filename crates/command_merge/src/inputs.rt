@@ -32,7 +32,7 @@ pub(crate) fn load_nest_traces<D: Disk>(
     job: &MergeJob<'_>,
     nest: &NestWords,
 ) -> Result<Vec<Trace>, Cause>
-    requires { job.now.until ≤ 3600000 }
+    requires { job.now.horizon ≤ 3600000 }
     ensures found { IfOk result (λ traces. HasTraces (D.view disk.old).files (merge_values job.now) nest.now
         traces.items) }
     ensures count { IfOk result (λ traces. length traces.items ≡ length nest.now.traces) }
@@ -41,7 +41,7 @@ pub(crate) fn load_nest_traces<D: Disk>(
     ensures only_reads { OnlyReads (D.view disk.old) (D.view disk.new) }
 {
     let traces = load_traces(alloc, disk, nest.traces())?;
-    check_count(job.until, nest, traces.as_slice())?;
+    check_count(job.horizon, nest, traces.as_slice())?;
     Ok(traces)
 }
 

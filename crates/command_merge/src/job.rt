@@ -10,11 +10,11 @@ use option_words::{MergeWords, parse_merge, read_seed};
 use std::alloc::Global;
 use text_base::{OutOfMemory, read_decimal};
 
-// The job of a merge: the horizon `until` in milliseconds, the names of the list of senders and of the file of the
+// The job of a merge: the horizon in milliseconds, the names of the list of senders and of the file of the
 // fates, the seed, and the words of the shells.
 #[derive(Drop)]
 pub(crate) struct MergeJob<'a> {
-    pub until: u64,
+    pub horizon: u64,
     pub senders: &'a str,
     pub out: &'a str,
     pub seed: u64,
@@ -45,10 +45,10 @@ fn merge_job<'a>(texts: MergeWords<'a>, shells: &'a [String]) -> Option<MergeJob
     ensures { option_map merge_values result ≡ merge_numbers (map string_bytes shells.now)
         (merge_texts_of texts.entry) }
 {
-    let until = read_decimal(texts.until.as_bytes())?;
+    let horizon = read_decimal(texts.until.as_bytes())?;
     let seed = read_seed(texts.seed)?;
     Some(MergeJob {
-        until,
+        horizon,
         senders: texts.senders,
         out: texts.out,
         seed,

@@ -5,7 +5,7 @@ ghost use Rattle.text_base.specs.Lines.{lines_of};
 ghost use Rattle.command_merge.specs.List.{is_name, line_fault, list_fault, number_of, place_of};
 ghost use Rattle.command_merge.specs.declared.list.ListError.TheVariants as errors;
 
-use std::alloc::{AllocError, AllocFailed, Global};
+use std::alloc::{AllocFailed, Global};
 use text_base::Lines;
 
 // How many senders a list names at most.
@@ -92,14 +92,6 @@ pub(crate) fn read_list(alloc: Global, text: &[u8]) -> Result<Vec<&str>, ListErr
         return Err(ListError::Empty);
     }
     Ok(names)
-}
-
-impl From<AllocError> for ListError {
-    ghost from_gives = { λ _ e. e ≡ errors.OutOfMemory };
-
-    fn from(_: AllocError) -> Self {
-        ListError::OutOfMemory
-    }
 }
 
 impl<T: Drop> From<AllocFailed<T>> for ListError {

@@ -18,7 +18,7 @@ ghost use Rattle.command_merge.specs.inside.Values.{merge_values};
 use crate::files::write_files;
 use crate::inputs::{load_nest_traces, load_senders};
 use crate::job::{MergeJob, read_merge};
-use command_ends::Cause;
+use command_ends::{Cause, Host};
 use mm_base::{Disk, Pace};
 use nest_command::{check_horizon, check_outputs, names_of, nest_cause};
 use nest_plain::NestRun;
@@ -46,45 +46,43 @@ fn read_words(alloc: Global, job: &MergeJob<'_>) -> Result<NestWords, Cause>
     ensures read { (disk : DiskView) → ReadsOn (merge_reading (merge_values job.now))
         (merge_inputs (merge_values job.now)) disk disk result }
     ensures accepts { OnOk result (AcceptsWords (merge_reading (merge_values job.now))) }
-    ensures small { OnOk result (job.now.until ≤ 3600000) }
+    ensures small { OnOk result (job.now.horizon ≤ 3600000) }
 {
     let nest = match read_nest(alloc, job.shells) {
         Ok(nest) => nest,
         Err(error) => return Err(nest_cause(error)),
     };
     check_names(alloc, job, &nest)?;
-    check_horizon(job.until)?;
+    check_horizon(job.horizon)?;
     Ok(nest)
 }
 
 // Reads the inputs of a job and returns its run. The nest and the schedules are dropped before any file is written, but
 // for the traces of links whose logs have a name.
 fn merge_packets<R: Threads + Wait + Sync, D: Disk, Q: Pace + Sync>(
-    rt: &R,
-    alloc: Global,
+    host: &Host<'_, R>,
     job: &MergeJob<'_>,
     words: NestWords,
     disk: &mut D,
     pace: &Q,
 ) -> Result<NestRun, Cause>
-    requires { job.now.until ≤ 3600000 }
+    requires { job.now.horizon ≤ 3600000 }
     ensures found { IfOk result (λ run. FinishesOnly GivesMerge (merge_inputs (merge_values job.now) words)
         (D.view disk.old).files (writes (merge_files job.now.out.now run))) }
     ensures stopped { IfErr result (λ cause. StopsReading (merge_inputs (merge_values job.now) words) (D.view disk.old)
         (D.view disk.new) cause) }
     ensures only_reads { OnlyReads (D.view disk.old) (D.view disk.new) }
 {
-    let traces = load_nest_traces(alloc, disk, job, &words)?;
-    let schedules = load_senders(alloc, disk, job, &words)?;
-    let nest = build(alloc, words, traces, job.seed, job.until)?;
-    let mut senders = Senders::new(alloc, schedules)?;
-    Ok(run_nest_feeds(rt, alloc, &nest, &mut senders, pace)?)
+    let traces = load_nest_traces(host.alloc, disk, job, &words)?;
+    let schedules = load_senders(host.alloc, disk, job, &words)?;
+    let nest = build(host.alloc, words, traces, job.seed, job.horizon)?;
+    let mut senders = Senders::new(host.alloc, schedules)?;
+    Ok(run_nest_feeds(host.threads, host.alloc, &nest, &mut senders, pace)?)
 }
 
 // Runs the job: reads its inputs, passes its packets through the nest, and then writes its logs and its fates.
 fn merge<R: Threads + Wait + Sync, D: Disk, Q: Pace + Sync>(
-    rt: &R,
-    alloc: Global,
+    host: &Host<'_, R>,
     job: &MergeJob<'_>,
     disk: &mut D,
     pace: &Q,
@@ -94,9 +92,9 @@ fn merge<R: Threads + Wait + Sync, D: Disk, Q: Pace + Sync>(
     ensures alone { IsLeftAlone (merge_reading (merge_values job.now)) (D.view disk.old) (D.view disk.new) }
     ensures counts { CountsDisk (D.view disk.old) (D.view disk.new) }
 {
-    let words = read_words(alloc, job)?;
-    let run = merge_packets(rt, alloc, job, words, disk, pace)?;
-    write_files(alloc, disk, job.out, run)
+    let words = read_words(host.alloc, job)?;
+    let run = merge_packets(host, job, words, disk, pace)?;
+    write_files(host.alloc, disk, job.out, run)
 }
 
 /// Carries out the command `merge`, whose further words are `words`: passes the packets of up to 16 senders, each with
@@ -106,8 +104,7 @@ fn merge<R: Threads + Wait + Sync, D: Disk, Q: Pace + Sync>(
 ///
 /// The cause of an error is a refusal of words or of an input, a fault of the disk, or out of memory.
 pub fn answer_merge<R: Threads + Wait + Sync, D: Disk, Q: Pace + Sync>(
-    rt: &R,
-    alloc: Global,
+    host: &Host<'_, R>,
     words: &[String],
     disk: &mut D,
     pace: &Q,
@@ -117,8 +114,8 @@ pub fn answer_merge<R: Threads + Wait + Sync, D: Disk, Q: Pace + Sync>(
     ensures alone { IsLeftAlone (merge_words (map string_bytes words.now)) (D.view disk.old) (D.view disk.new) }
     ensures counts { CountsDisk (D.view disk.old) (D.view disk.new) }
 {
-    match read_merge(alloc, words)? {
-        Some(job) => merge(rt, alloc, &job, disk, pace),
+    match read_merge(host.alloc, words)? {
+        Some(job) => merge(host, &job, disk, pace),
         None => Err(Cause::usage()),
     }
 }

@@ -42,7 +42,7 @@ use Rattle.command_relay.specs.Relaying.{refused_outputs, relay_inputs, relay_re
 
 -- a relay's reading after its nest is known
 abbrev after_nest : RelayJob → NestPlan → Reading RelayTask
-after_nest job plan = unless (refused_outputs job plan) (unless (refused_horizon job.until) (relay_inputs job plan))
+after_nest job plan = unless (refused_outputs job plan) (unless (refused_horizon job.horizon) (relay_inputs job plan))
 
 -- what is to be done
 abbrev done_with : RelayJob → NestPlan → List (List ℕ) → Reading RelayTask
@@ -51,7 +51,7 @@ done_with job plan traces = Done (record { job = job; plan = plan; traces = trac
 -- and after its traces were read
 abbrev pub after_traces : RelayJob → NestPlan → List (List ℕ) → Reading RelayTask
 after_traces job plan traces =
-    unless (refused_count job.until plan.shells (map trace_in traces)) (done_with job plan traces)
+    unless (refused_count job.horizon plan.shells (map trace_in traces)) (done_with job plan traces)
 
 nest_known : (told : Option Files) (job : RelayJob) (plan : NestPlan) → nest_of job.shells ≡ Ok plan
     → Leads told (relay_reading job) (after_nest job plan)
@@ -84,39 +84,39 @@ names_stop job plan cause e refused disk =
 
 -- the horizon is past an hour
 pub horizon_stop : (job : RelayJob) (plan : NestPlan) (cause : Cause) → nest_of job.shells ≡ Ok plan
-    → refused_outputs job plan ≡ None → RefusesText (refused_horizon job.until) cause
+    → refused_outputs job plan ≡ None → RefusesText (refused_horizon job.horizon) cause
     → (disk : DiskView) → StopsReading (relay_reading job) disk disk cause
 horizon_stop job plan cause e free refused disk =
-    let rest : Reading RelayTask = unless (refused_horizon job.until) (relay_inputs job plan) in
+    let rest : Reading RelayTask = unless (refused_horizon job.horizon) (relay_inputs job plan) in
     stops_later (relay_reading job) rest disk disk disk cause
     (leads_then (nest_known disk.files job plan e) (leads_unless disk.files (refused_outputs job plan) rest free))
     (reads_none disk)
-    (found_stop (refused_horizon job.until) (relay_inputs job plan) disk disk cause
-    (λ refusal h. (horizon_text job.until refusal h).not_absent) refused)
+    (found_stop (refused_horizon job.horizon) (relay_inputs job plan) disk disk cause
+    (λ refusal h. (horizon_text job.horizon refusal h).not_absent) refused)
 
 -- nothing is refused
 pub words_read : (job : RelayJob) (plan : NestPlan) → nest_of job.shells ≡ Ok plan → refused_outputs job plan ≡ None
-    → refused_horizon job.until ≡ None → (disk : DiskView)
+    → refused_horizon job.horizon ≡ None → (disk : DiskView)
     → Leads disk.files (relay_reading job) (relay_inputs job plan)
 words_read job plan e free within disk =
-    let rest : Reading RelayTask = unless (refused_horizon job.until) (relay_inputs job plan) in
+    let rest : Reading RelayTask = unless (refused_horizon job.horizon) (relay_inputs job plan) in
     leads_then (nest_known disk.files job plan e)
     (leads_then (leads_unless disk.files (refused_outputs job plan) rest free)
-    (leads_unless disk.files (refused_horizon job.until) (relay_inputs job plan) within))
+    (leads_unless disk.files (refused_horizon job.horizon) (relay_inputs job plan) within))
 
 -- there are too many opportunities
 pub count_stop : (job : RelayJob) (plan : NestPlan) (old new : DiskView) (texts : List (List ℕ))
     (traces : List TraceView) (cause : Cause) → HaveTraces old.files plan.traces texts traces
-    → RefusesText (refused_count job.until plan.shells traces) cause
+    → RefusesText (refused_count job.horizon plan.shells traces) cause
     → StopsReading (relay_inputs job plan) old new cause
 count_stop job plan old new texts traces cause have refused =
-    let said : RefusesText (refused_count job.until plan.shells (map trace_in texts)) cause =
-    subst (λ (l : List TraceView). RefusesText (refused_count job.until plan.shells l) cause) (sym (have_said have))
+    let said : RefusesText (refused_count job.horizon plan.shells (map trace_in texts)) cause =
+    subst (λ (l : List TraceView). RefusesText (refused_count job.horizon plan.shells l) cause) (sym (have_said have))
     refused in
     stops_later (relay_inputs job plan) (after_traces job plan texts) old old new cause
     (leads_traces (after_traces job plan) have) (reads_none old)
-    (found_stop (refused_count job.until plan.shells (map trace_in texts)) _ old new cause
-    (λ refusal h. (count_text job.until plan.shells (map trace_in texts) refusal h).not_absent) said)
+    (found_stop (refused_count job.horizon plan.shells (map trace_in texts)) _ old new cause
+    (λ refusal h. (count_text job.horizon plan.shells (map trace_in texts) refusal h).not_absent) said)
 
 -- a relay writes some files
 pub some_files : {A : Type 0} (front : List A) (last : A) → front ++ last ∷ [] ≡ [] → ⊥
@@ -127,11 +127,11 @@ some_files (x ∷ front) last e = cc e
 all_read : (told : Option Files) (job : RelayJob) (plan : NestPlan) (nest : NestParts)
     (has : HasNest told job plan nest) → Leads told (relay_inputs job plan) (done_with job plan has.texts)
 all_read told job plan nest has =
-    let few : refused_count job.until plan.shells (map trace_in has.texts) ≡ None =
-    ap (refused_count job.until plan.shells) (have_said has.have)
-    ∙ count_within job.until plan.shells has.traces has.few in
+    let few : refused_count job.horizon plan.shells (map trace_in has.texts) ≡ None =
+    ap (refused_count job.horizon plan.shells) (have_said has.have)
+    ∙ count_within job.horizon plan.shells has.traces has.few in
     leads_then (leads_traces (after_traces job plan) has.have)
-    (leads_unless told (refused_count job.until plan.shells (map trace_in has.texts)) (done_with job plan has.texts)
+    (leads_unless told (refused_count job.horizon plan.shells (map trace_in has.texts)) (done_with job plan has.texts)
     few)
 
 module _ (job : RelayJob) (plan : NestPlan) (nest : NestParts) (told : Option Files)
@@ -199,15 +199,15 @@ traces_no_words (name ∷ names) next none = λ text.
 inputs_no_words : (job : RelayJob) (plan : NestPlan) → RefusesNoWords (relay_inputs job plan)
 inputs_no_words job plan =
     traces_no_words plan.traces (after_traces job plan) (λ texts.
-    unless_no_words (refused_count job.until plan.shells (map trace_in texts)) (done_with job plan texts)
-    (λ refusal e. (count_text job.until plan.shells (map trace_in texts) refusal e).not_words) tt)
+    unless_no_words (refused_count job.horizon plan.shells (map trace_in texts)) (done_with job plan texts)
+    (λ refusal e. (count_text job.horizon plan.shells (map trace_in texts) refusal e).not_words) tt)
 
 nest_first : (job : RelayJob) (nest : Result NestPlan NestError)
     → RefusesWordsFirst (with_nest nest (after_nest job))
 nest_first job (Err error) = tt
 nest_first job (Ok plan) =
-    unless_first (refused_outputs job plan) (unless (refused_horizon job.until) (relay_inputs job plan))
-    (unless_first (refused_horizon job.until) (relay_inputs job plan)
+    unless_first (refused_outputs job plan) (unless (refused_horizon job.horizon) (relay_inputs job plan))
+    (unless_first (refused_horizon job.horizon) (relay_inputs job plan)
     (none_first (relay_inputs job plan) (inputs_no_words job plan)))
 
 pub relay_first : (words : List Text) → RefusesWordsFirst (relay_words words)
@@ -219,10 +219,10 @@ relay_one words = first_one (relay_words words) (relay_first words)
 
 -- a nest of known words whose names are free, within the horizon, is accepted
 pub words_accepted : (job : RelayJob) (plan : NestPlan) → nest_of job.shells ≡ Ok plan
-    → refused_outputs job plan ≡ None → refused_horizon job.until ≡ None → AcceptsWords (relay_reading job)
+    → refused_outputs job plan ≡ None → refused_horizon job.horizon ≡ None → AcceptsWords (relay_reading job)
 words_accepted job plan known free within =
     let inputs : Reading RelayTask = relay_inputs job plan in
     subst (λ (r : Result NestPlan NestError). AcceptsWords (with_nest r (after_nest job))) (sym known)
-    (unless_accepted (refused_outputs job plan) (unless (refused_horizon job.until) inputs) free
-    (unless_accepted (refused_horizon job.until) inputs within
+    (unless_accepted (refused_outputs job plan) (unless (refused_horizon job.horizon) inputs) free
+    (unless_accepted (refused_horizon job.horizon) inputs within
     (no_words_accepted inputs (inputs_no_words job plan))))

@@ -10,7 +10,7 @@ use Rattle.nest_command.specs.Words.{ends_options}
 -- its horizon in milliseconds, the port at which it listens for the client, the server's port, how many turns it takes
 -- at most, the name of the fates' file, its seed, and the words of its shells
 pub record RelayJob : Type 0 where
-  pub until : ℕ
+  pub horizon : ℕ
   pub listen : ℕ
   pub to : ℕ
   pub turns : ℕ
@@ -21,13 +21,13 @@ pub record RelayJob : Type 0 where
 -- the numbers are decimals within their ranges
 unfoldable pub relay_numbers : List Text → RelayTexts → Option RelayJob
 relay_numbers shells texts = do
-  until ← decimal_of texts.until
+  horizon ← decimal_of texts.until
   listen ← port_of texts.listen
   to ← port_of texts.to
   turns ← number_within 1 1000000 texts.turns
   seed ← seed_of texts.seed
   Some (record {
-    until = until;
+    horizon = horizon;
     listen = listen;
     to = to;
     turns = turns;

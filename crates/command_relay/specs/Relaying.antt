@@ -7,13 +7,14 @@ use Rattle.nest_spec.specs.Nests.{NestParts, built}
 use Rattle.nest_spec.specs.Words.{NestPlan, nest_of}
 use Rattle.live_relay.specs.Clocks.{ClockView}
 use Rattle.live_relay.specs.Relays.{IsRelayed, IsStopped}
-use Rattle.live_relay.specs.Wires.{WireView}
+use Rattle.live_relay.specs.Wires.{CountsWireFaults, WireView}
 use Rattle.live_relay.specs.declared.outcome.RelayEnd.TheVariants.{Horizon}
 use Rattle.live_relay.specs.declared.outcome.RelayResult.{RelayResult}
 use Rattle.command_ends.specs.Causes.{Text}
 use Rattle.command_ends.specs.Names.{refused_names}
 use Rattle.command_ends.specs.Outputs.{Output}
 use Rattle.command_ends.specs.Readings.{Reading, Done, asked, unless}
+use Rattle.command_ends.specs.TopCalls.{NetCounts}
 use Rattle.command_ends.specs.Works.{Work}
 use Rattle.command_ends.specs.declared.cause.Cause.{Cause}
 use Rattle.command_ends.specs.declared.cause.Cause.TheVariants.{NetFault, OutOfMemory}
@@ -38,14 +39,14 @@ refused_outputs job plan = refused_names plan.traces (plan.logs ++ job.out ∷ [
 abbrev pub relay_inputs : RelayJob → NestPlan → Reading RelayTask
 relay_inputs job plan =
     reading_traces plan.traces (λ traces.
-    unless (refused_count job.until plan.shells (map trace_in traces)) (
+    unless (refused_count job.horizon plan.shells (map trace_in traces)) (
     Done (record { job = job; plan = plan; traces = traces })))
 
 abbrev pub relay_reading : RelayJob → Reading RelayTask
 relay_reading job =
     with_nest (nest_of job.shells) (λ plan.
     unless (refused_outputs job plan) (
-    unless (refused_horizon job.until) (
+    unless (refused_horizon job.horizon) (
     relay_inputs job plan)))
 
 -- the words after the program's name
@@ -54,7 +55,7 @@ relay_words words = asked (relay_of words) relay_reading
 
 -- the nest of the shells' words with these traces
 abbrev pub nest_for : RelayJob → NestPlan → List TraceView → NestParts
-nest_for job plan traces = built plan traces job.seed job.until
+nest_for job plan traces = built plan traces job.seed job.horizon
 
 -- the clock and the wire
 pub record RelayNet : Type 0 where
@@ -95,4 +96,11 @@ relay_work task = record {
   gives = GivesRelay task;
   stops = StopsRelay task;
   faulted = λ old new. Rose old.wire.faults new.wire.faults;
+}
+
+-- what is counted of the net is what the wire counts
+abbrev pub net_counts : NetCounts RelayNet
+net_counts = record {
+  faults = λ (n : RelayNet). n.wire.faults;
+  keeps = λ (old : RelayNet) (new : RelayNet). CountsWireFaults old.wire new.wire;
 }

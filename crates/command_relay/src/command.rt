@@ -1,18 +1,12 @@
 // The program `mm-relay`: its words, its inputs, its datagrams, the files that it writes and the line that it prints.
-ghost use Rattle.std.specs.Prelude.{◌≡◌, ◌≢◌, ◌⊎◌, Some, map, string_bytes};
-ghost use Rattle.mm_base.specs.Counts.{Rose};
-ghost use Rattle.mm_base.specs.Files.{Files};
+ghost use Rattle.std.specs.Prelude.{map, string_bytes};
 ghost use Rattle.mm_base.specs.Sink.{CountsSinkFaults};
 ghost use Rattle.live_relay.specs.Wires.{CountsWireFaults};
 ghost use Rattle.command_ends.specs.Alone.{IsLeftAlone};
-ghost use Rattle.command_ends.specs.Answers.{Answers, CountsDisk, IsFaultless, StopsShort, cause_in};
-ghost use Rattle.command_ends.specs.Causes.{status_of_refusal};
-ghost use Rattle.command_ends.specs.Ends.{Ends, IsDone, KeepsFiles, outside};
-ghost use Rattle.command_ends.specs.Readings.{Reaches, AtTask, AtRefusal, refused_first};
-ghost use Rattle.command_ends.specs.declared.cause.Refusal.{Refusal};
-ghost use Rattle.command_ends.specs.declared.cause.Refusal.TheVariants.{Words};
-ghost use Rattle.command_ends.specs.declared.cause.WordsRefusal.{WordsRefusal};
-ghost use Rattle.command_relay.specs.Relaying.{RelayTask, net, relay_reading, relay_words, relay_work};
+ghost use Rattle.command_ends.specs.Answers.{CountsDisk, cause_in};
+ghost use Rattle.command_ends.specs.Ends.{Ends, outside};
+ghost use Rattle.command_ends.specs.TopCalls.{RefusesByWords, TopCall};
+ghost use Rattle.command_relay.specs.Relaying.{net, net_counts, relay_reading, relay_words, relay_work};
 ghost use Rattle.command_relay.specs.inside.Values.{relay_values};
 
 use crate::inputs::{load_nest, read_words};
@@ -74,7 +68,7 @@ pub(crate) fn answer<D: Disk, O: Sink, C: Clock, W: Wire>(
     }
 }
 
-/// Does what the words after the program's name say, and answers the exit status.
+/// Does what the words after the program's name say, and returns the exit status.
 ///
 /// `--until MS --listen N --to N --turns N --out FILE [--seed N] -- SHELLS` reads the traces of the shells, opens the
 /// wire at two ports of 1 to 65,535, lets datagrams pass the nest for 1 to 1,000,000 turns or until the clock is past
@@ -93,56 +87,12 @@ pub fn relay_main<D: Disk, O: Sink, C: Clock, W: Wire>(
     clock: &mut C,
     wire: &mut W,
 ) -> u8
-    // 0: the files are written and the line printed, and nothing else is changed.
-    ensures done { result ≡ 0 → IsDone relay_work (relay_words (map string_bytes words.now))
-        (outside (D.view disk.old) (O.view out.old) (net (C.view clock.old) (W.view wire.old)))
-        (outside (D.view disk.new) (O.view out.new) (net (C.view clock.new) (W.view wire.new))) }
-
-    // Each status has its cause, what it leaves of the files, the clock and the wire, and its line.
-    ensures answered { result ≢ 9 → Answers relay_work (relay_words (map string_bytes words.now))
+    ensures top { TopCall net_counts relay_work (relay_words (map string_bytes words.now))
         (outside (D.view disk.old) (O.view out.old) (net (C.view clock.old) (W.view wire.old)))
         (outside (D.view disk.new) (O.view out.new) (net (C.view clock.new) (W.view wire.new))) result }
-    ensures stopped { result ≡ 9 → StopsShort relay_work (relay_words (map string_bytes words.now))
-        (outside (D.view disk.old) (O.view out.old) (net (C.view clock.old) (W.view wire.old)))
-        (outside (D.view disk.new) (O.view out.new) (net (C.view clock.new) (W.view wire.new))) }
 
-    // 2 comes by the words alone. 3, 6, 7 and 8 only where the disk, `out` or the wire counted it. At 2 to 6 and at 8
-    // no file is changed.
-    ensures usage { result ≡ 2 → ((w : WordsRefusal)
-        × (refused_first (relay_words (map string_bytes words.now)) ≡ Some (Words w))) }
-    ensures absent { result ≡ 3 → Rose (D.view disk.old).absences (D.view disk.new).absences }
-    ensures read_fault { result ≡ 6 → Rose (D.view disk.old).read_faults (D.view disk.new).read_faults }
-    ensures write_fault { result ≡ 7 → Rose (D.view disk.old).write_faults (D.view disk.new).write_faults
-        ⊎ Rose (O.view out.old).faults (O.view out.new).faults }
-    ensures net_fault { result ≡ 8 → Rose (W.view wire.old).faults (W.view wire.new).faults }
-    ensures keeps { result ≢ 0 → result ≢ 7 → result ≢ 9 → KeepsFiles (D.view disk.old) (D.view disk.new) }
-
-    // Words that refuse give their status, and so do files that are told, unless reading fails. Nothing refused gives
-    // 0, unless a fault is counted.
-    ensures by_words { (refusal : Refusal)
-        → refused_first (relay_words (map string_bytes words.now)) ≡ Some refusal
-        → (result ≡ status_of_refusal refusal) ⊎ (result ≡ 9) }
-    ensures by_files { (m : Files) (refusal : Refusal) → (D.view disk.old).files ≡ Some m
-        → Reaches (Some m) (relay_words (map string_bytes words.now)) (AtRefusal refusal)
-        → ¬ Rose (D.view disk.old).read_faults (D.view disk.new).read_faults → (result ≡ status_of_refusal refusal)
-        ⊎ (result ≡ 9) }
-    ensures complete { (m : Files) (task : RelayTask) → (D.view disk.old).files ≡ Some m
-        → Reaches (Some m) (relay_words (map string_bytes words.now)) (AtTask task)
-        → IsFaultless relay_work task
-        (outside (D.view disk.old) (O.view out.old) (net (C.view clock.old) (W.view wire.old)))
-        (outside (D.view disk.new) (O.view out.new) (net (C.view clock.new) (W.view wire.new)))
-        → (result ≡ 0) ⊎ (result ≡ 9) }
-
-    // Where the words have no job, or are refused before any file is read, the disk isn't asked, and neither are the
-    // clock and the wire.
-    ensures disk_alone { IsLeftAlone (relay_words (map string_bytes words.now)) (D.view disk.old) (D.view disk.new) }
-    ensures net_alone { IsLeftAlone (relay_words (map string_bytes words.now))
-        (net (C.view clock.old) (W.view wire.old)) (net (C.view clock.new) (W.view wire.new)) }
-
-    // No count falls, and those of a disk, an `out` or a wire that never fails stand still.
-    ensures wire_counts { CountsWireFaults (W.view wire.old) (W.view wire.new) }
-    ensures counts { CountsDisk (D.view disk.old) (D.view disk.new) }
-    ensures out_counts { CountsSinkFaults (O.view out.old) (O.view out.new) }
+    // 2 comes by the words alone.
+    ensures usage { RefusesByWords (relay_words (map string_bytes words.now)) result }
 {
     let answer = answer(alloc, words, disk, out, clock, wire);
     conclude(&answer, out)

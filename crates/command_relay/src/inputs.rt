@@ -42,14 +42,14 @@ pub(crate) fn read_words(alloc: Global, job: &RelayJob<'_>) -> Result<NestWords,
     ensures read { (disk : DiskView) → ReadsOn (relay_reading (relay_values job.now))
         (relay_inputs (relay_values job.now)) disk disk result }
     ensures accepts { OnOk result (AcceptsWords (relay_reading (relay_values job.now))) }
-    ensures small { OnOk result (job.now.until ≤ 3600000) }
+    ensures small { OnOk result (job.now.horizon ≤ 3600000) }
 {
     let nest = match read_nest(alloc, job.shells) {
         Ok(nest) => nest,
         Err(error) => return Err(nest_cause(error)),
     };
     check_names(alloc, job, &nest)?;
-    check_horizon(job.until)?;
+    check_horizon(job.horizon)?;
     Ok(nest)
 }
 
@@ -60,13 +60,13 @@ pub(crate) fn load_nest<D: Disk>(
     words: NestWords,
     disk: &mut D,
 ) -> Result<Nest, Cause>
-    requires { job.now.until ≤ 3600000 }
+    requires { job.now.horizon ≤ 3600000 }
     ensures found { IfOk result (λ nest. HasNest (D.view disk.old).files (relay_values job.now) words nest) }
     ensures stopped { IfErr result (λ cause. StopsReading (relay_inputs (relay_values job.now) words)
         (D.view disk.old) (D.view disk.new) cause) }
     ensures only_reads { OnlyReads (D.view disk.old) (D.view disk.new) }
 {
     let traces = load_traces(alloc, disk, words.traces())?;
-    check_count(job.until, &words, traces.as_slice())?;
-    Ok(build(alloc, words, traces, job.seed, job.until)?)
+    check_count(job.horizon, &words, traces.as_slice())?;
+    Ok(build(alloc, words, traces, job.seed, job.horizon)?)
 }

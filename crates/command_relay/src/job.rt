@@ -5,7 +5,7 @@ ghost use Rattle.std.specs.Prelude.{◌≤◌};
 // at most, the name of the fates' file, the seed, and the words of the shells.
 #[derive(Drop)]
 pub(crate) struct RelayJob<'a> {
-    pub until: u64,
+    pub horizon: u64,
     pub listen: u16,
     pub to: u16,
     pub turns: u32,

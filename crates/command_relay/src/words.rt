@@ -16,13 +16,13 @@ fn with_numbers<'a>(texts: RelayWords<'a>, shells: &'a [String]) -> Option<Relay
     ensures { option_map relay_values result ≡ relay_numbers (map string_bytes shells.now)
         (relay_texts_of texts.entry) }
 {
-    let until = read_decimal(texts.until.as_bytes())?;
+    let horizon = read_decimal(texts.until.as_bytes())?;
     let listen = read_port(texts.listen)?;
     let to = read_port(texts.to)?;
     let turns = read_within(texts.turns, 1, 1_000_000)?;
     let seed = read_seed(texts.seed)?;
     Some(RelayJob {
-        until,
+        horizon,
         listen,
         to,
         turns: turns as u32,

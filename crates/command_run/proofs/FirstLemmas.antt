@@ -43,29 +43,29 @@ order_no_words (Some name) next none = λ bytes. none
 inputs_no_words : (job : RunJob) (plan : NestPlan) → RefusesNoWords (run_inputs job plan)
 inputs_no_words job plan =
     traces_no_words plan.traces _ (λ texts.
-    unless_no_words (refused_count job.until plan.shells (map trace_in texts)) _
-    (λ refusal e. (count_text job.until plan.shells (map trace_in texts) refusal e).not_words)
+    unless_no_words (refused_count job.horizon plan.shells (map trace_in texts)) _
+    (λ refusal e. (count_text job.horizon plan.shells (map trace_in texts) refusal e).not_words)
     (order_no_words job.order _ (schedule_no_words job.schedule
     (λ schedule. Done (record { job = job; plan = plan; traces = texts; schedule = schedule })) (λ text. tt))))
 
 run_first : (job : RunJob) (nest : Result NestPlan NestError)
     → RefusesWordsFirst (with_nest nest
-    (λ plan. unless (refused_outputs job plan) (unless (refused_horizon job.until) (run_inputs job plan))))
+    (λ plan. unless (refused_outputs job plan) (unless (refused_horizon job.horizon) (run_inputs job plan))))
 run_first job (Err error) = tt
 run_first job (Ok plan) =
-    unless_first (refused_outputs job plan) (unless (refused_horizon job.until) (run_inputs job plan))
-    (unless_first (refused_horizon job.until) (run_inputs job plan)
+    unless_first (refused_outputs job plan) (unless (refused_horizon job.horizon) (run_inputs job plan))
+    (unless_first (refused_horizon job.horizon) (run_inputs job plan)
     (none_first (run_inputs job plan) (inputs_no_words job plan)))
 
 -- a nest of known words whose names are free, within the horizon, is accepted
 pub words_accepted : (job : RunJob) (plan : NestPlan) → nest_of job.shells ≡ Ok plan
-    → refused_outputs job plan ≡ None → refused_horizon job.until ≡ None → AcceptsWords (run_reading job)
+    → refused_outputs job plan ≡ None → refused_horizon job.horizon ≡ None → AcceptsWords (run_reading job)
 words_accepted job plan known free within =
     let inputs : Reading RunTask = run_inputs job plan in
     subst (λ (r : Result NestPlan NestError). AcceptsWords (with_nest r
-    (λ p. unless (refused_outputs job p) (unless (refused_horizon job.until) (run_inputs job p))))) (sym known)
-    (unless_accepted (refused_outputs job plan) (unless (refused_horizon job.until) inputs) free
-    (unless_accepted (refused_horizon job.until) inputs within
+    (λ p. unless (refused_outputs job p) (unless (refused_horizon job.horizon) (run_inputs job p))))) (sym known)
+    (unless_accepted (refused_outputs job plan) (unless (refused_horizon job.horizon) inputs) free
+    (unless_accepted (refused_horizon job.horizon) inputs within
     (no_words_accepted inputs (inputs_no_words job plan))))
 
 pub run_words_first : (words : List Text) → RefusesWordsFirst (run_words words)

@@ -41,12 +41,12 @@ use Rattle.nest_command.proofs.NestLemmas.{count_text, count_within, horizon_tex
 
 -- what is read and refused once the nest is known
 abbrev after_nest : RunJob → NestPlan → Reading RunTask
-after_nest job plan = unless (refused_outputs job plan) (unless (refused_horizon job.until) (run_inputs job plan))
+after_nest job plan = unless (refused_outputs job plan) (unless (refused_horizon job.horizon) (run_inputs job plan))
 
 -- what is read and refused once the traces were read
 abbrev pub after_traces : RunJob → NestPlan → List (List ℕ) → Reading RunTask
 after_traces job plan traces =
-    unless (refused_count job.until plan.shells (map trace_in traces)) (
+    unless (refused_count job.horizon plan.shells (map trace_in traces)) (
     reading_order job.order (
     reading_schedule job.schedule (λ schedule.
     Done (record { job = job; plan = plan; traces = traces; schedule = schedule }))))
@@ -91,48 +91,49 @@ names_stop job plan cause e refused disk =
 
 -- the horizon is past an hour
 pub horizon_stop : (job : RunJob) (plan : NestPlan) (cause : Cause) → nest_of job.shells ≡ Ok plan
-    → refused_outputs job plan ≡ None → RefusesText (refused_horizon job.until) cause
+    → refused_outputs job plan ≡ None → RefusesText (refused_horizon job.horizon) cause
     → (disk : DiskView) → StopsReading (run_reading job) disk disk cause
 horizon_stop job plan cause e free refused disk =
-    let rest : Reading RunTask = unless (refused_horizon job.until) (run_inputs job plan) in
+    let rest : Reading RunTask = unless (refused_horizon job.horizon) (run_inputs job plan) in
     stops_later (run_reading job) rest disk disk disk cause
     (leads_then (nest_known disk.files job plan e) (leads_unless disk.files (refused_outputs job plan) rest free))
     (reads_none disk)
-    (found_stop (refused_horizon job.until) (run_inputs job plan) disk disk cause
-    (λ refusal h. (horizon_text job.until refusal h).not_absent) refused)
+    (found_stop (refused_horizon job.horizon) (run_inputs job plan) disk disk cause
+    (λ refusal h. (horizon_text job.horizon refusal h).not_absent) refused)
 
 -- nothing is refused
 pub words_read : (job : RunJob) (plan : NestPlan) → nest_of job.shells ≡ Ok plan → refused_outputs job plan ≡ None
-    → refused_horizon job.until ≡ None → (disk : DiskView)
+    → refused_horizon job.horizon ≡ None → (disk : DiskView)
     → Leads disk.files (run_reading job) (run_inputs job plan)
 words_read job plan e free within disk =
-    let rest : Reading RunTask = unless (refused_horizon job.until) (run_inputs job plan) in
+    let rest : Reading RunTask = unless (refused_horizon job.horizon) (run_inputs job plan) in
     leads_then (nest_known disk.files job plan e)
     (leads_then (leads_unless disk.files (refused_outputs job plan) rest free)
-    (leads_unless disk.files (refused_horizon job.until) (run_inputs job plan) within))
+    (leads_unless disk.files (refused_horizon job.horizon) (run_inputs job plan) within))
 
 -- there are too many opportunities
 pub count_stop : (job : RunJob) (plan : NestPlan) (old new : DiskView) (texts : List (List ℕ))
     (traces : List TraceView) (cause : Cause) → HaveTraces old.files plan.traces texts traces
-    → RefusesText (refused_count job.until plan.shells traces) cause → StopsReading (run_inputs job plan) old new cause
+    → RefusesText (refused_count job.horizon plan.shells traces) cause
+    → StopsReading (run_inputs job plan) old new cause
 count_stop job plan old new texts traces cause have refused =
-    let said : RefusesText (refused_count job.until plan.shells (map trace_in texts)) cause =
-    subst (λ (l : List TraceView). RefusesText (refused_count job.until plan.shells l) cause) (sym (have_said have))
+    let said : RefusesText (refused_count job.horizon plan.shells (map trace_in texts)) cause =
+    subst (λ (l : List TraceView). RefusesText (refused_count job.horizon plan.shells l) cause) (sym (have_said have))
     refused in
     stops_later (run_inputs job plan) (after_traces job plan texts) old old new cause
     (leads_traces (after_traces job plan) have) (reads_none old)
-    (found_stop (refused_count job.until plan.shells (map trace_in texts)) _ old new cause
-    (λ refusal h. (count_text job.until plan.shells (map trace_in texts) refusal h).not_absent) said)
+    (found_stop (refused_count job.horizon plan.shells (map trace_in texts)) _ old new cause
+    (λ refusal h. (count_text job.horizon plan.shells (map trace_in texts) refusal h).not_absent) said)
 
 order_next : (told : Option Files) (job : RunJob) (plan : NestPlan) (nest : NestParts)
     (has : HasNest told job plan nest)
     → Leads told (run_inputs job plan) (reading_order job.order (after_order job plan has.texts))
 order_next told job plan nest has =
-    let few : refused_count job.until plan.shells (map trace_in has.texts) ≡ None =
-    ap (refused_count job.until plan.shells) (have_said has.have)
-    ∙ count_within job.until plan.shells has.traces has.few in
+    let few : refused_count job.horizon plan.shells (map trace_in has.texts) ≡ None =
+    ap (refused_count job.horizon plan.shells) (have_said has.have)
+    ∙ count_within job.horizon plan.shells has.traces has.few in
     leads_then (leads_traces (after_traces job plan) has.have)
-    (leads_unless told (refused_count job.until plan.shells (map trace_in has.texts))
+    (leads_unless told (refused_count job.horizon plan.shells (map trace_in has.texts))
     (reading_order job.order (after_order job plan has.texts)) few)
 
 -- an order that was read leads on

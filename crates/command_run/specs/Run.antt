@@ -24,7 +24,7 @@ o >>= f = option_and_then f o
 -- the horizon in milliseconds, the names of the files, with that of the order if there is one, the seed, whether
 -- packets pass shell by shell, and the words of the shells
 pub record RunJob : Type 0 where
-  pub until : ℕ
+  pub horizon : ℕ
   pub schedule : Text
   pub out : Text
   pub seed : ℕ
@@ -35,10 +35,10 @@ pub record RunJob : Type 0 where
 -- the job, where the numbers are decimals
 unfoldable pub run_numbers : List Text → RunTexts → Option RunJob
 run_numbers shells texts = do
-  until ← decimal_of texts.until
+  horizon ← decimal_of texts.until
   seed ← seed_of texts.seed
   Some (record {
-    until = until;
+    horizon = horizon;
     schedule = texts.schedule;
     out = texts.out;
     seed = seed;
@@ -69,7 +69,7 @@ pub record RunTask : Type 0 where
 
 -- the nest of the shells' words with `traces`
 abbrev pub nest_with : RunJob → NestPlan → List TraceView → NestParts
-nest_with job plan traces = built plan traces job.seed job.until
+nest_with job plan traces = built plan traces job.seed job.horizon
 
 -- A run gives the files of its result, over the traces and the rows that the texts state. Each row has one fate.
 pub record GivesRun (task : RunTask) (output : Output) : Type 0 where

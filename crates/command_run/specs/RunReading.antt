@@ -29,7 +29,7 @@ reading_order (Some name) next = Reads name (λ order. next)
 abbrev pub run_inputs : RunJob → NestPlan → Reading RunTask
 run_inputs job plan =
     reading_traces plan.traces (λ traces.
-    unless (refused_count job.until plan.shells (map trace_in traces)) (
+    unless (refused_count job.horizon plan.shells (map trace_in traces)) (
     reading_order job.order (
     reading_schedule job.schedule (λ schedule.
     Done (record { job = job; plan = plan; traces = traces; schedule = schedule })))))
@@ -39,7 +39,7 @@ abbrev pub run_reading : RunJob → Reading RunTask
 run_reading job =
     with_nest (nest_of job.shells) (λ plan.
     unless (refused_outputs job plan) (
-    unless (refused_horizon job.until) (
+    unless (refused_horizon job.horizon) (
     run_inputs job plan)))
 
 -- what `run` reads and refuses by the words after it

@@ -2,4 +2,4 @@
 pub mod Loaded
 pub mod Passed
 pub mod Values
-pub mod Ways
+pub mod Modes

@@ -8,16 +8,15 @@ ghost use Rattle.command_ends.specs.Stops.{StopsReading};
 ghost use Rattle.nest_command.specs.Inputs.{reading_schedule};
 ghost use Rattle.command_run.specs.inside.Loaded.{HasRun};
 ghost use Rattle.command_run.specs.inside.Passed.{passed_lists};
-ghost use Rattle.command_run.specs.inside.Ways.{way_of};
+ghost use Rattle.command_run.specs.inside.Modes.{mode_of};
 
-use command_ends::{Cause, Limit, Refusal};
+use command_ends::{Cause, Host, Limit, Refusal};
 use mm_base::{Disk, Pace};
 use nest_command::{load_schedule, schedule_cause};
 use nest_core::run_order;
 use nest_plain::{NestRun, run_nest};
 use nest_runner::{StreamError, run_nest_stream};
 use nest_spec::{Nest, RunResult};
-use std::alloc::Global;
 use std::marker::Sync;
 use std::sync::Wait;
 use std::thread::Threads;
@@ -25,23 +24,23 @@ use text_base::{Bytes, Text};
 
 // How packets pass a nest.
 #[derive(Drop)]
-pub(crate) enum Way {
+pub(crate) enum RunMode {
     Threads,
     ShellByShell,
     // By single steps, in the order that the bytes state.
     Steps(Bytes),
 }
 
-impl Way {
-    // Returns the way of a run: the order's, if there is one; else shell by shell with `plain`, and over threads
+impl RunMode {
+    // Returns the mode of a run: the order's, if there is one; else shell by shell with `plain`, and over threads
     // without it.
     pub fn new(plain: bool, order: Option<Bytes>) -> Self
-        ensures { result ≡ way_of plain order }
+        ensures { result ≡ mode_of plain order }
     {
         match order {
-            Some(order) => Way::Steps(order),
-            None if plain => Way::ShellByShell,
-            None => Way::Threads,
+            Some(order) => RunMode::Steps(order),
+            None if plain => RunMode::ShellByShell,
+            None => RunMode::Threads,
         }
     }
 }
@@ -69,8 +68,7 @@ fn stream_cause(name: Text, error: StreamError) -> Cause
 
 // Returns the result of a nest and the schedule in the file `name`, which is read while its packets pass.
 fn stream_packets<R: Threads + Wait + Sync, D: Disk, Q: Pace + Sync>(
-    rt: &R,
-    alloc: Global,
+    host: &Host<'_, R>,
     nest: &Nest,
     disk: &mut D,
     name: &str,
@@ -81,20 +79,19 @@ fn stream_packets<R: Threads + Wait + Sync, D: Disk, Q: Pace + Sync>(
         (D.view disk.new) cause) }
     ensures only_reads { OnlyReads (D.view disk.old) (D.view disk.new) }
 {
-    match run_nest_stream(rt, alloc, nest, disk, name, pace) {
+    match run_nest_stream(host.threads, host.alloc, nest, disk, name, pace) {
         Ok(run) => Ok(run),
-        Err(error) => Err(stream_cause(Text::from_text(alloc, name)?, error)),
+        Err(error) => Err(stream_cause(Text::from_text(host.alloc, name)?, error)),
     }
 }
 
-// Returns the result of a nest and the schedule in the file `name`, whose packets pass by `way`.
+// Returns the result of a nest and the schedule in the file `name`, whose packets pass in `mode`.
 pub(crate) fn pass_packets<R: Threads + Wait + Sync, D: Disk, Q: Pace + Sync>(
-    rt: &R,
-    alloc: Global,
+    host: &Host<'_, R>,
     nest: &Nest,
     disk: &mut D,
     name: &str,
-    way: Way,
+    mode: RunMode,
     pace: &Q,
 ) -> Result<Passed, Cause>
     ensures found { IfOk result (λ run. HasRun (D.view disk.old).files name.now nest.now (passed_lists run)) }
@@ -102,18 +99,18 @@ pub(crate) fn pass_packets<R: Threads + Wait + Sync, D: Disk, Q: Pace + Sync>(
         (D.view disk.new) cause) }
     ensures only_reads { OnlyReads (D.view disk.old) (D.view disk.new) }
 {
-    match way {
-        Way::Threads => {
-            let run = stream_packets(rt, alloc, nest, disk, name, pace)?;
+    match mode {
+        RunMode::Threads => {
+            let run = stream_packets(host, nest, disk, name, pace)?;
             Ok(Passed::InPieces(run))
         }
-        Way::ShellByShell => {
-            let schedule = load_schedule(alloc, disk, name)?;
-            Ok(Passed::InPieces(run_nest(alloc, nest, &schedule)?))
+        RunMode::ShellByShell => {
+            let schedule = load_schedule(host.alloc, disk, name)?;
+            Ok(Passed::InPieces(run_nest(host.alloc, nest, &schedule)?))
         }
-        Way::Steps(order) => {
-            let schedule = load_schedule(alloc, disk, name)?;
-            Ok(Passed::Whole(run_order(alloc, nest, &schedule, order.as_slice())?))
+        RunMode::Steps(order) => {
+            let schedule = load_schedule(host.alloc, disk, name)?;
+            Ok(Passed::Whole(run_order(host.alloc, nest, &schedule, order.as_slice())?))
         }
     }
 }

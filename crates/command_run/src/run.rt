@@ -19,10 +19,10 @@ ghost use Rattle.command_run.specs.inside.Passed.{passed_lists};
 ghost use Rattle.command_run.specs.inside.Values.{run_values};
 
 use crate::order::load_order;
-use crate::passing::{Passed, Way, pass_packets};
+use crate::passing::{Passed, RunMode, pass_packets};
 use crate::run_files::write_files;
 use crate::run_job::{RunJob, read_run};
-use command_ends::Cause;
+use command_ends::{Cause, Host};
 use mm_base::{Disk, Pace};
 use nest_command::{check_count, check_horizon, check_outputs, load_traces, names_of, nest_cause};
 use nest_spec::{Nest, NestWords, build, read_nest};
@@ -63,14 +63,14 @@ fn read_words(alloc: Global, job: &RunJob<'_>) -> Result<NestWords, Cause>
     ensures read { (disk : DiskView) → ReadsOn (run_reading (run_values job.now)) (run_inputs (run_values job.now))
         disk disk result }
     ensures accepts { OnOk result (AcceptsWords (run_reading (run_values job.now))) }
-    ensures small { OnOk result (job.now.until ≤ 3600000) }
+    ensures small { OnOk result (job.now.horizon ≤ 3600000) }
 {
     let nest = match read_nest(alloc, job.shells) {
         Ok(nest) => nest,
         Err(error) => return Err(nest_cause(error)),
     };
     check_names(alloc, job, &nest)?;
-    check_horizon(job.until)?;
+    check_horizon(job.horizon)?;
     Ok(nest)
 }
 
@@ -81,44 +81,42 @@ fn load_nest<D: Disk>(
     words: NestWords,
     disk: &mut D,
 ) -> Result<Nest, Cause>
-    requires { job.now.until ≤ 3600000 }
+    requires { job.now.horizon ≤ 3600000 }
     ensures found { IfOk result (λ nest. HasNest (D.view disk.old).files (run_values job.now) words nest) }
     ensures stopped { IfErr result (λ cause. StopsReading (run_inputs (run_values job.now) words) (D.view disk.old)
         (D.view disk.new) cause) }
     ensures only_reads { OnlyReads (D.view disk.old) (D.view disk.new) }
 {
     let traces = load_traces(alloc, disk, words.traces())?;
-    check_count(job.until, &words, traces.as_slice())?;
-    Ok(build(alloc, words, traces, job.seed, job.until)?)
+    check_count(job.horizon, &words, traces.as_slice())?;
+    Ok(build(alloc, words, traces, job.seed, job.horizon)?)
 }
 
 // Reads the inputs of a job and returns its run. The nest and the schedule are dropped before any file is written, but
 // for the traces of links whose logs have a name.
 fn run_packets<R: Threads + Wait + Sync, D: Disk, Q: Pace + Sync>(
-    rt: &R,
-    alloc: Global,
+    host: &Host<'_, R>,
     job: &RunJob<'_>,
     words: NestWords,
     disk: &mut D,
     pace: &Q,
 ) -> Result<Passed, Cause>
-    requires { job.now.until ≤ 3600000 }
+    requires { job.now.horizon ≤ 3600000 }
     ensures found { IfOk result (λ run. FinishesOnly GivesRun (run_inputs (run_values job.now) words)
         (D.view disk.old).files (writes (run_files job.now.out.now (passed_lists run)))) }
     ensures stopped { IfErr result (λ cause. StopsReading (run_inputs (run_values job.now) words) (D.view disk.old)
         (D.view disk.new) cause) }
     ensures only_reads { OnlyReads (D.view disk.old) (D.view disk.new) }
 {
-    let nest = load_nest(alloc, job, words, disk)?;
-    let order = load_order(alloc, disk, job.order)?;
-    let way = Way::new(job.plain, order);
-    pass_packets(rt, alloc, &nest, disk, job.schedule, way, pace)
+    let nest = load_nest(host.alloc, job, words, disk)?;
+    let order = load_order(host.alloc, disk, job.order)?;
+    let mode = RunMode::new(job.plain, order);
+    pass_packets(host, &nest, disk, job.schedule, mode, pace)
 }
 
 // Runs the job: reads its inputs, passes its packets through the nest, and then writes its logs and its fates.
 fn run<R: Threads + Wait + Sync, D: Disk, Q: Pace + Sync>(
-    rt: &R,
-    alloc: Global,
+    host: &Host<'_, R>,
     job: &RunJob<'_>,
     disk: &mut D,
     pace: &Q,
@@ -128,9 +126,9 @@ fn run<R: Threads + Wait + Sync, D: Disk, Q: Pace + Sync>(
     ensures alone { IsLeftAlone (run_reading (run_values job.now)) (D.view disk.old) (D.view disk.new) }
     ensures counts { CountsDisk (D.view disk.old) (D.view disk.new) }
 {
-    let words = read_words(alloc, job)?;
-    let run = run_packets(rt, alloc, job, words, disk, pace)?;
-    write_files(alloc, disk, job.out, run)
+    let words = read_words(host.alloc, job)?;
+    let run = run_packets(host, job, words, disk, pace)?;
+    write_files(host.alloc, disk, job.out, run)
 }
 
 /// Carries out the command `run`, whose further words are `words`: passes the packets of a schedule through a nest of
@@ -140,8 +138,7 @@ fn run<R: Threads + Wait + Sync, D: Disk, Q: Pace + Sync>(
 ///
 /// The cause of an error is a refusal of words or of an input, a fault of the disk, or out of memory.
 pub fn answer_run<R: Threads + Wait + Sync, D: Disk, Q: Pace + Sync>(
-    rt: &R,
-    alloc: Global,
+    host: &Host<'_, R>,
     words: &[String],
     disk: &mut D,
     pace: &Q,
@@ -151,8 +148,8 @@ pub fn answer_run<R: Threads + Wait + Sync, D: Disk, Q: Pace + Sync>(
     ensures alone { IsLeftAlone (run_words (map string_bytes words.now)) (D.view disk.old) (D.view disk.new) }
     ensures counts { CountsDisk (D.view disk.old) (D.view disk.new) }
 {
-    match read_run(alloc, words)? {
-        Some(job) => run(rt, alloc, &job, disk, pace),
+    match read_run(host.alloc, words)? {
+        Some(job) => run(host, &job, disk, pace),
         None => Err(Cause::usage()),
     }
 }

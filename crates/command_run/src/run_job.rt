@@ -10,11 +10,11 @@ use option_words::{RunWords, parse_run, read_seed};
 use std::alloc::Global;
 use text_base::{OutOfMemory, read_decimal};
 
-// The job of a run: the horizon `until` in milliseconds, the names of the files, with that of the order if there is
+// The job of a run: the horizon in milliseconds, the names of the files, with that of the order if there is
 // one, the seed, whether packets pass shell by shell (`plain`), and the words of the shells.
 #[derive(Drop)]
 pub(crate) struct RunJob<'a> {
-    pub until: u64,
+    pub horizon: u64,
     pub schedule: &'a str,
     pub out: &'a str,
     pub seed: u64,
@@ -56,10 +56,10 @@ fn run_job<'a>(texts: RunWords<'a>, shells: &'a [String]) -> Option<RunJob<'a>>
 fn with_numbers<'a>(texts: RunWords<'a>, shells: &'a [String]) -> Option<RunJob<'a>>
     ensures { option_map run_values result ≡ run_numbers (map string_bytes shells.now) (texts_of texts.entry) }
 {
-    let until = read_decimal(texts.until.as_bytes())?;
+    let horizon = read_decimal(texts.until.as_bytes())?;
     let seed = read_seed(texts.seed)?;
     Some(RunJob {
-        until,
+        horizon,
         schedule: texts.schedule,
         out: texts.out,
         seed,

@@ -3,7 +3,7 @@ use Rattle.std.proofs.Common.{List, [], ◌∷◌}
 use Rattle.command_ends.specs.Causes.{Text}
 use Rattle.command_ends.specs.Names.{refused_names}
 use Rattle.command_ends.proofs.ReadingLemmas.{RefusesWordsFirst, asked_first, unless_first}
-use Rattle.store_input.proofs.StoreLemmas.{judges_store}
+use Rattle.store_files.proofs.StoreLemmas.{judges_store}
 use Rattle.command_stores.specs.Matching.{MatchJob, match_job_of, match_reading, match_words}
 use Rattle.command_stores.specs.Migrating.{MigrateJob, migrate_inputs, migrate_job_of, migrate_reading, migrate_words}
 use Rattle.command_stores.specs.Recording.{RecordJob, record_inputs, record_job_of, record_reading, record_words}

@@ -1,7 +1,7 @@
 pub mod NameLemmas
-pub mod FileLemmas
 pub mod RequestLemmas
 pub mod RecordLemmas
 pub mod MigrateLemmas
 pub mod MatchLemmas
+pub mod ReplayLemmas
 pub mod FirstLemmas

@@ -14,8 +14,8 @@ use Rattle.command_ends.specs.Stops.{IsInput, StopsReading}
 use Rattle.command_ends.specs.declared.cause.Cause.{Cause}
 use Rattle.command_ends.proofs.EndLemmas.{finishes_only}
 use Rattle.command_ends.proofs.ReadingLemmas.{judged_stops_before, leads_judged_text, leads_then, stops_later}
-use Rattle.store_input.specs.Stores.{reading_store}
-use Rattle.store_input.proofs.StoreLemmas.{leads_store, store_stops}
+use Rattle.store_files.specs.Stores.{reading_store}
+use Rattle.store_files.proofs.StoreLemmas.{leads_store, store_stops}
 use Rattle.command_stores.specs.Matching.{GivesMatch, HasNumber, MatchJob, MatchTask, match_reading, number_text}
 use Rattle.command_stores.specs.Requests.{IsOneRequest, RequestVerdict, reading_request}
 

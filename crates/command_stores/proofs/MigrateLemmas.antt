@@ -10,10 +10,10 @@ use Rattle.command_ends.specs.Readings.{Reading, Done}
 use Rattle.command_ends.specs.Stops.{IsInput, StopsReading}
 use Rattle.command_ends.specs.declared.cause.Cause.{Cause}
 use Rattle.command_ends.proofs.EndLemmas.{finishes_only}
-use Rattle.store_input.specs.Stores.{reading_store}
-use Rattle.store_input.proofs.StoreLemmas.{leads_store, store_stops}
+use Rattle.store_files.specs.Stores.{reading_store}
+use Rattle.store_files.proofs.StoreLemmas.{leads_store, store_stops}
 use Rattle.command_stores.specs.Migrating.{GivesMigrate, MigrateJob, MigrateTask, migrate_inputs}
-use Rattle.command_stores.specs.Written.{store_file}
+use Rattle.store_files.specs.Written.{store_file}
 
 abbrev after_old : MigrateJob → List ℕ → Reading MigrateTask
 after_old job store = Done (record { job = job; store = store })

@@ -24,7 +24,7 @@ use Rattle.command_ends.proofs.EndLemmas.{finishes_only}
 use Rattle.command_ends.proofs.ReadingLemmas.{AreAlike, IsJudgement, judged_stop, leads_judged, leads_past, leads_then}
 use Rattle.command_ends.proofs.ReadingLemmas.{stops_at, stops_later}
 use Rattle.command_stores.specs.Recording.{GivesRecord, PairVerdict, RecordJob, RecordTask, record_inputs, stream_named}
-use Rattle.command_stores.specs.Written.{store_file}
+use Rattle.store_files.specs.Written.{store_file}
 
 pair_status : (job : RecordJob) (client server : List ℕ) (refusal : Refusal)
     → PairVerdict job client server (Some refusal) → status_of_refusal refusal ≡ 4

@@ -9,7 +9,7 @@ use Rattle.option_words.specs.Givens.{◌>>=◌}
 use Rattle.command_ends.specs.Causes.{Text}
 use Rattle.command_ends.specs.Outputs.{Output, prints}
 use Rattle.command_ends.specs.Readings.{Reading, Done, asked}
-use Rattle.store_input.specs.Stores.{reading_store}
+use Rattle.store_files.specs.Stores.{reading_store}
 use Rattle.command_stores.specs.Ports.{given_port}
 use Rattle.command_stores.specs.Requests.{IsOneRequest, reading_request}
 

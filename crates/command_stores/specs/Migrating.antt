@@ -8,8 +8,8 @@ use Rattle.command_ends.specs.Causes.{Text}
 use Rattle.command_ends.specs.Names.{refused_names}
 use Rattle.command_ends.specs.Outputs.{Output, writes}
 use Rattle.command_ends.specs.Readings.{Reading, Done, asked, unless}
-use Rattle.store_input.specs.Stores.{reading_store}
-use Rattle.command_stores.specs.Written.{store_file}
+use Rattle.store_files.specs.Stores.{reading_store}
+use Rattle.store_files.specs.Written.{store_file}
 
 -- the names of the files of a store in either form, and of the same store in form 2
 pub record MigrateJob : Type 0 where

@@ -14,7 +14,7 @@ use Rattle.command_ends.specs.Readings.{Reading, Done, Reads, Judges, asked, unl
 use Rattle.command_ends.specs.declared.cause.Refusal.{Refusal}
 use Rattle.command_ends.specs.declared.cause.Refusal.TheVariants.{BadInput}
 use Rattle.command_stores.specs.Ports.{given_port}
-use Rattle.command_stores.specs.Written.{store_file}
+use Rattle.store_files.specs.Written.{store_file}
 
 -- the names of the files of the two streams and of the store, and the port that each record gets, which is that of the
 -- server, or 0 for any

@@ -24,7 +24,7 @@ use option_words::{MatchWords, parse_match};
 use record_store::Store;
 use request_match::best;
 use std::alloc::Global;
-use store_input::load_store;
+use store_files::load_store;
 use text_base::{Bytes, OutOfMemory, write_decimal};
 
 // The job of `match`: the names of the files of a store and of a request, and the port that the request is asked at, if

@@ -15,16 +15,15 @@ ghost use Rattle.command_ends.specs.Works.{only};
 ghost use Rattle.command_stores.specs.Migrating.{GivesMigrate, migrate_inputs, migrate_job_of, migrate_reading};
 ghost use Rattle.command_stores.specs.Migrating.{migrate_words};
 ghost use Rattle.command_stores.specs.inside.Values.{migrate_values};
-ghost use Rattle.command_stores.specs.Written.{store_file};
+ghost use Rattle.store_files.specs.Written.{store_file};
 
 use crate::names::check_names;
-use crate::store_file::write_store;
 use command_ends::Cause;
 use mm_base::Disk;
 use option_words::parse_migrate;
 use record_store::Store;
 use std::alloc::Global;
-use store_input::load_store;
+use store_files::{load_store, write_store};
 use text_base::OutOfMemory;
 
 // The job of `migrate`: the names of the files of a store in either form, and of the same store in form 2.

@@ -18,16 +18,16 @@ ghost use Rattle.command_stores.specs.Recording.{GivesRecord, PairVerdict, recor
 ghost use Rattle.command_stores.specs.Recording.{record_reading};
 ghost use Rattle.command_stores.specs.Recording.{record_with, record_words, stream_named};
 ghost use Rattle.command_stores.specs.inside.Values.{record_values};
-ghost use Rattle.command_stores.specs.Written.{store_file};
+ghost use Rattle.store_files.specs.Written.{store_file};
 
 use crate::names::check_names;
 use crate::port::given_port;
-use crate::store_file::write_store;
 use command_ends::{Cause, Refusal, read_input};
 use mm_base::Disk;
 use option_words::{RecordWords, parse_record};
 use record_store::{PairError, Store, pair};
 use std::alloc::Global;
+use store_files::write_store;
 use text_base::{OutOfMemory, Text};
 
 // The job of `record`: the names of the files of the two streams and of the store, and the port that each record gets,

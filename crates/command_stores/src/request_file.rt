@@ -11,7 +11,6 @@ use command_ends::{Cause, Refusal, read_input};
 use http_frame::{FrameError, FrameFault, RequestFrames, RequestHead, Step};
 use mm_base::Disk;
 use std::alloc::Global;
-/// Out of memory; the text wasn't refused.
 use text_base::{OutOfMemory, Text};
 
 /// Why a text isn't accepted as a request.
@@ -21,6 +20,7 @@ pub(crate) enum RequestError {
     Frame(FrameError),
     /// The text lacks bytes of a request, or has bytes behind one. The number is 9.
     NotOne,
+    /// Out of memory. The text wasn't refused.
     OutOfMemory,
 }
 

@@ -1,6 +1,7 @@
-//! Tests of whole command lines over files and a port in memory, of calls that fail, of threads whose turns are held or counted,
-//! and of option words, through the public calls of the crates below. They stand apart from these, so that each of
-//! these is proved once, without tests. What a command does with files alone is tried by the cases of `checks/case`.
+//! Tests of whole command lines over files and a port in memory, of calls that fail, of threads whose turns are held or
+//! counted, and of option words, through the public calls of the crates below. They stand apart from these, so that
+//! each of these is proved once, without tests. What a command does with files alone is tried by the cases of
+//! `checks/case`.
 #![tactic(auto)]
 
 #[cfg(test)]

@@ -3,7 +3,7 @@ mod paced;
 mod streamed;
 
 use crate::case::{Case, is_left, outside_of};
-use command_ends::{Cause, conclude};
+use command_ends::{Cause, Host, conclude};
 use command_run::answer_run;
 use mm_base::{Disk, MemSink, Pace};
 use std::alloc::{AllocError, Global};
@@ -22,7 +22,7 @@ fn answered<R: Threads + Wait + Sync, D: Disk, Q: Pace + Sync>(
     disk: &mut D,
     pace: &Q,
 ) -> Result<(), Cause> {
-    answer_run(rt, alloc, words, disk, pace)
+    answer_run(&Host { threads: rt, alloc }, words, disk, pace)
 }
 
 // Whether an answer has this status, and this line on `out`.

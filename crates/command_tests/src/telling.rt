@@ -9,8 +9,8 @@ use std::thread::Threads;
 use test_outside::{TestOutside, words_of};
 use text_base::OutOfMemory;
 
-// A schedule, and inputs that are refused: for a size, a moment, a word, a carriage return, bytes that aren't printable,
-// a line of 61 bytes, and a last line that no line feed ends.
+// A schedule, and inputs that are refused: for a size, a moment, a word, a carriage return, bytes that aren't
+// printable, a line of 61 bytes, and a last line that no line feed ends.
 const FILES: &[(&str, &str)] = &[
     ("s", "5 up 100\n"),
     ("t", "1\n"),

@@ -68,8 +68,8 @@ impl<'a, K: Clock + Copy + Drop> EndedLink<'a, K> {
         })
     }
 
-    /// Ends the connection. Where its output wasn't closed before, it is closed first and the peer heard out, unless the
-    /// watch can end and nothing was given that the peer might lose.
+    /// Ends the connection. Where its output wasn't closed before, it is closed first and the peer heard out, unless
+    /// the watch can end and nothing was given that the peer might lose.
     pub fn end(self) {
         if self.is_given || !self.ending.can_end() {
             self.link.end();

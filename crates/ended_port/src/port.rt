@@ -35,8 +35,8 @@ fn is_shortage(error: &io::Error) -> bool {
 /// A port of TCP at the address 127.0.0.1, as `TcpPort` is one, which is drained once its watch is at its end. It tells
 /// no content. Each error other than out of memory is counted as a fault: a port that can't be had, an `accept` before
 /// `listen`, or one more connection than a `u64` counts. A client that goes away before it is accepted is passed over.
-/// Where its watch can end, an `accept` for which the system has no descriptor or no buffer is tried again after a tenth
-/// of a second. After an `accept` that was refused, or that found it drained, it doesn't listen any more, so that
+/// Where its watch can end, an `accept` for which the system has no descriptor or no buffer is tried again after a
+/// tenth of a second. After an `accept` that was refused, or that found it drained, it doesn't listen any more, so that
 /// whoever connects then is refused and doesn't wait.
 #[derive(Drop)]
 pub struct EndedPort<

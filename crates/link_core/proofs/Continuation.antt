@@ -34,7 +34,7 @@ goes_on_then xs ys zs a b =
 -- departures, drops and log of one link, and later; what departs later does so at this moment or later
 pub record GoesOnWhole (low : ℕ) (q : QueueSpec) (opps : List Opportunity) (arrivals : List Timed)
     (opps' : List Opportunity) (arrivals' : List Timed) : Type 0 where
-  pub left : Extends (departures (keep q opps' arrivals') opps') (departures (keep q opps arrivals) opps) low
+  pub departed : Extends (departures (keep q opps' arrivals') opps') (departures (keep q opps arrivals) opps) low
   pub lost : GoesOn (losses q opps arrivals) (losses q opps' arrivals')
   pub log : GoesOn (log_of q opps arrivals) (log_of q opps' arrivals')
 
@@ -52,7 +52,7 @@ goes_then : (low : ℕ) (q : QueueSpec) (os os' os'' : List Opportunity) (ts ts'
     → GoesOnWhole low q os ts os' ts' → GoesOnWhole low q os' ts' os'' ts''
     → GoesOnWhole low q os ts os'' ts''
 goes_then low q os os' os'' ts ts' ts'' a b = record {
-  left = extends_on low _ _ _ a.left b.left;
+  departed = extends_on low _ _ _ a.departed b.departed;
   lost = goes_on_then _ _ _ a.lost b.lost;
   log = goes_on_then _ _ _ a.log b.log;
 }
@@ -68,7 +68,7 @@ tied_now : (q : QueueSpec) (opps : List Opportunity) (arrivals : List Timed) →
 tied_now q opps arrivals f g = record {
   inside_is = refl;
   used_is = refl;
-  left_is = refl;
+  departed_is = refl;
   lost_is = refl;
   log_is = refl;
   arrivals_fall = f;
@@ -83,7 +83,7 @@ pub extends_burn : (low : ℕ) (q : QueueSpec) (o : Opportunity) (opps : List Op
 extends_burn low q o opps arrivals f g a b le =
     let new = tied_burn q o opps arrivals _ _ _ _ true _ (tied_now q opps arrivals f g) a b in
     record {
-      left = record { more = _; is = new.left_is; later = moved_from low o.moment _ le };
+      departed = record { more = _; is = new.departed_is; later = moved_from low o.moment _ le };
       lost = goes_on_same _ _ new.lost_is;
       log = record { more = _; is = new.log_is };
     }
@@ -96,7 +96,7 @@ pub extends_arrive : (low : ℕ) (q : QueueSpec) (t : Timed) (opps : List Opport
 extends_arrive low q t opps arrivals f g a b =
     let new = tied_arrive q t opps arrivals _ _ _ _ true _ _ _ (tied_now q opps arrivals f g) refl refl a b in
     record {
-      left = extends_same low _ _ new.left_is;
+      departed = extends_same low _ _ new.departed_is;
       lost = record { more = _; is = new.lost_is };
       log = record { more = _; is = new.log_is };
     }
@@ -159,7 +159,7 @@ come_arrive low t ts arrivals opps os c a = record {
 only_opps : (low : ℕ) (q : QueueSpec) (os opps : List Opportunity) (arrivals : List Timed)
     → MayCome low opps arrivals os [] → GoesOnWhole low q opps arrivals (onto os opps) arrivals
 only_opps low q [] opps arrivals c = record {
-  left = extends_same low _ _ refl;
+  departed = extends_same low _ _ refl;
   lost = goes_on_same _ _ refl;
   log = goes_on_same _ _ refl;
 }

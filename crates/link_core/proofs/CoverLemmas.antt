@@ -58,14 +58,14 @@ within_after h old new t (Ok u) B up le is err = subst (AreUpTo h) (sym is) (up_
 within_after h old new t (Err e) B up le is err = subst (AreUpTo h) (sym err.1) up
 
 pub sound_rises : (q : QueueSpec) (os : List Opportunity) (b : ℕ) (arrivals : List Timed) (packet : Option Timed)
-    (used : ℕ) (queue left lost : List Timed) (logged : Bool) (log : List Entry)
-    → Sound q os b arrivals packet used queue left lost logged log → Rise arrivals
-sound_rises q os b arrivals packet used queue left lost logged log s = rise_now arrivals s.tied.arrivals_fall
+    (used : ℕ) (queue departed lost : List Timed) (logged : Bool) (log : List Entry)
+    → Sound q os b arrivals packet used queue departed lost logged log → Rise arrivals
+sound_rises q os b arrivals packet used queue departed lost logged log s = rise_now arrivals s.tied.arrivals_fall
 
 pub sound_covered : (q : QueueSpec) (os : List Opportunity) (b : ℕ) (arrivals : List Timed) (packet : Option Timed)
-    (used : ℕ) (queue left lost : List Timed) (logged : Bool) (log : List Entry)
-    → Sound q os b arrivals packet used queue left lost logged log → AreCovered os b arrivals
-sound_covered q os b arrivals packet used queue left lost logged log s =
+    (used : ℕ) (queue departed lost : List Timed) (logged : Bool) (log : List Entry)
+    → Sound q os b arrivals packet used queue departed lost logged log → AreCovered os b arrivals
+sound_covered q os b arrivals packet used queue departed lost logged log s =
     let late = turn_each (reverse arrivals) (drop b os) s.later in
     covered_by os b arrivals s.order
     (subst (λ (ts : List Timed). Each (λ o. Each (λ t. t.moment < o.moment) ts) (drop b os)) (reverse-reverse arrivals)

@@ -16,18 +16,18 @@ entries_back m (e ∷ front) es a = entries_back m front es a.1
 
 pub log_behind_burn : (front : List Entry) (q : QueueSpec) (opps : List Opportunity) (b : ℕ) (arrivals : List Timed)
     (packet : Option Timed) (used : ℕ)
-    (queue left lost : List Timed) (logged : Bool) (log : List Entry) (o : Opportunity)
-    → Sound q opps b arrivals packet used queue left lost logged (front ++ log) → slice_get opps b ≡ Some o
+    (queue departed lost : List Timed) (logged : Bool) (log : List Entry) (o : Opportunity)
+    → Sound q opps b arrivals packet used queue departed lost logged (front ++ log) → slice_get opps b ≡ Some o
     → EntriesUpTo o.moment log
-log_behind_burn front q opps b arrivals packet used queue left lost logged log o s get =
-    entries_back o.moment front log (log_before_burn q opps b arrivals packet used queue left lost logged
+log_behind_burn front q opps b arrivals packet used queue departed lost logged log o s get =
+    entries_back o.moment front log (log_before_burn q opps b arrivals packet used queue departed lost logged
     (front ++ log) o s get)
 
 pub log_behind_enter : (front : List Entry) (q : QueueSpec) (opps : List Opportunity) (b : ℕ) (arrivals : List Timed)
     (packet : Option Timed) (used : ℕ)
-    (queue left lost : List Timed) (logged : Bool) (log : List Entry) (t : Timed)
-    → Sound q opps b arrivals packet used queue left lost logged (front ++ log)
+    (queue departed lost : List Timed) (logged : Bool) (log : List Entry) (t : Timed)
+    → Sound q opps b arrivals packet used queue departed lost logged (front ++ log)
     → AreUpTo t.moment arrivals → Each (λ o. o.moment ≤ t.moment) (take b opps) → EntriesUpTo t.moment log
-log_behind_enter front q opps b arrivals packet used queue left lost logged log t s all early =
-    entries_back t.moment front log (log_before_enter q opps b arrivals packet used queue left lost logged
+log_behind_enter front q opps b arrivals packet used queue departed lost logged log t s all early =
+    entries_back t.moment front log (log_before_enter q opps b arrivals packet used queue departed lost logged
     (front ++ log) t s all early)

@@ -20,7 +20,7 @@ abbrev pub onto_some : Option ℕ → Timed → List Timed → List Timed
 onto_some None t ts = ts
 onto_some (Some m) t ts = moved_to m t ∷ ts
 
--- each packet at the first moment with which it and all before it are sent; those without one are left out
+-- each packet at the first moment with which it and all before it are sent; those without one are departed out
 abbrev pub departing : List Timed → List Opportunity → ℕ → List Timed → List Timed
 departing kept opps before [] = []
 departing kept opps before (t ∷ ts) = onto_some (moment_sent kept opps (before + t.packet.size)) t

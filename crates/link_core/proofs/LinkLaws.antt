@@ -229,9 +229,9 @@ in_order : (low : ℕ) (q : QueueSpec) (os os' : List Opportunity) (ts ts' : Lis
     → GoesOnWhole low q (reverse os) (reverse ts) (reverse os') (reverse ts') → LinkGoesOn low q os ts os' ts'
 in_order low q os os' ts ts' r r' s s' g = record {
   out = record {
-    more = g.left.more;
-    is = out_is q os' ts' r' ∙ g.left.is ∙ ap (λ (l : List Timed). l ++ g.left.more) (sym (out_is q os ts r));
-    later = g.left.later;
+    more = g.departed.more;
+    is = out_is q os' ts' r' ∙ g.departed.is ∙ ap (λ (l : List Timed). l ++ g.departed.more) (sym (out_is q os ts r));
+    later = g.departed.later;
   };
   lost = record {
     more = g.lost.more;

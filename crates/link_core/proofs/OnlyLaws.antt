@@ -29,9 +29,9 @@ pub record IsReady (os : List Opportunity) (b : ℕ) (l : List Timed) : Type 0 w
   pub later : Each (λ o. Each (λ t. t.moment < o.moment) (reverse l)) (drop b os)
 
 pub ready : (q : QueueSpec) (os : List Opportunity) (b : ℕ) (arrivals : List Timed) (packet : Option Timed) (used : ℕ)
-    (queue left lost : List Timed) (logged : Bool) (log : List Entry)
-    → Sound q os b arrivals packet used queue left lost logged log → IsReady os b arrivals
-ready q os b arrivals packet used queue left lost logged log s =
+    (queue departed lost : List Timed) (logged : Bool) (log : List Entry)
+    → Sound q os b arrivals packet used queue departed lost logged log → IsReady os b arrivals
+ready q os b arrivals packet used queue departed lost logged log s =
     record { order = s.order; falls = s.tied.arrivals_fall; later = s.later }
 
 pub up_to_each : (m : ℕ) (ts : List Timed) → Each (λ u. u.moment ≤ m) ts → AreUpTo m ts

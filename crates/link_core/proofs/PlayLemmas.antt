@@ -78,15 +78,15 @@ come_burnt os b come (t ∷ ts) r s i = opps_le (take b os) (t ∷ ts) t.moment 
 
 -- what was let go, what is in hand and what is still to come are the whole log
 whole_is : (q : QueueSpec) (os : List Opportunity) (h last b : ℕ) (come coming : List Timed) (packet : Option Timed)
-    (used : ℕ) (queue left lost : List Timed) (front es : List Entry)
-    → Sound q os b come packet used queue left lost true (front ++ es) → IsPlayable os h last b come coming
+    (used : ℕ) (queue departed lost : List Timed) (front es : List Entry)
+    → Sound q os b come packet used queue departed lost true (front ++ es) → IsPlayable os h last b come coming
     → front ++ (es ++ rest_from q os last b come coming) ≡ link_log q (take last os) (come ++ coming)
-whole_is q os h last b come coming packet used queue left lost front es s p =
+whole_is q os h last b come coming packet used queue departed lost front es s p =
     let past = link_log q (take b os) come in
     let rest = rest_from q os last b come coming in
     let g = (goes_on q os 0 b last come coming s.order p.so_far p.rises s.later (come_order come coming p.rises)
     (come_burnt os b come coming s.order p.rises p.in_time)).log in
-    let was : front ++ es ≡ past = seen_log q os b come packet used queue left lost true (front ++ es) s in
+    let was : front ++ es ≡ past = seen_log q os b come packet used queue departed lost true (front ++ es) s in
     let rest_is : rest ≡ g.more = ap (λ (l : List Entry). drop (length past) l) g.is
     ∙ drop_at past g.more (length past) refl in
     sym (append_assoc front es rest) ∙ ap (λ (l : List Entry). l ++ rest) was
@@ -94,11 +94,11 @@ whole_is q os h last b come coming packet used queue left lost front es s p =
 
 all_is_of : (gone : Gone) (last : ℕ) (c : Parts) → IsSoundAfter gone c → c.log.kept ≡ true → CanPlay last c
     → gone.log ++ (c.log.entries ++ rest_of last c)
-    ≡ link_log c.line.queue.spec (take last (span_opps c.opportunities)) (all_arrivals c)
+    ≡ link_log c.buffer.queue.spec (take last (span_opps c.opportunities)) (all_arrivals c)
 all_is_of gone last c s kept p =
     let Now : Bool → Type 0 = λ k.
-    Sound c.line.queue.spec (span_opps c.opportunities) c.burnt c.arrived.come c.line.packet c.line.used
-    c.line.queue.packets (gone.left ++ c.left.items) c.line.queue.lost k
+    Sound c.buffer.queue.spec (span_opps c.opportunities) c.burnt c.arrived.come c.buffer.packet c.buffer.used
+    c.buffer.queue.packets (gone.departed ++ c.departed.items) c.buffer.queue.lost k
     (gone.log ++ c.log.entries)
     in
     whole_is _ _ _ last _ _ _ _ _ _ _ _ gone.log c.log.entries (subst Now kept s) p
@@ -114,23 +114,23 @@ module _ (gone : Gone) (c : Parts) (s : IsSoundAfter gone c) (kept : c.log.kept 
   -- the log goes on from what is in hand
   pub same_rest : (last : ℕ) (c' : Parts) → IsSoundAfter gone c' → c'.log.kept ≡ true → CanPlay last c → CanPlay last c'
       → c'.opportunities ≡ c.opportunities
-      → c'.line.queue.spec ≡ c.line.queue.spec → all_arrivals c' ≡ all_arrivals c → c'.log.entries
+      → c'.buffer.queue.spec ≡ c.buffer.queue.spec → all_arrivals c' ≡ all_arrivals c → c'.log.entries
       ++ rest_of last c' ≡ c.log.entries ++ rest_of last c
   same_rest last c' s' kept' p p' opps_e spec_e all_e =
       append_cancel_left gone.log (c'.log.entries ++ rest_of last c') (c.log.entries ++ rest_of last c)
       (all_is_of gone last c' s' kept' p'
       ∙ ap (λ q. link_log q (take last (span_opps c'.opportunities)) (all_arrivals c')) spec_e
-      ∙ ap (λ (v : Span). link_log c.line.queue.spec (take last (span_opps v)) (all_arrivals c')) opps_e
-      ∙ ap (λ (ts : List Timed). link_log c.line.queue.spec (take last (span_opps c.opportunities)) ts) all_e
+      ∙ ap (λ (v : Span). link_log c.buffer.queue.spec (take last (span_opps v)) (all_arrivals c')) opps_e
+      ∙ ap (λ (ts : List Timed). link_log c.buffer.queue.spec (take last (span_opps c.opportunities)) ts) all_e
       ∙ sym (all_is_of gone last c s kept p))
 
   -- something is to come of the log where something is left to do
   pub rest_some : (last : ℕ) → CanPlay last c → 0 < work last c → 0 < length (rest_of last c)
   rest_some last p more =
       let os = span_opps c.opportunities in
-      let past = link_log c.line.queue.spec (take c.burnt os) c.arrived.come in
+      let past = link_log c.buffer.queue.spec (take c.burnt os) c.arrived.come in
       let was : gone.log ++ c.log.entries ≡ past = seen_log _ _ _ _ _ _ _ _ _ _ _ s ∙ ap (λ k. written k past) kept in
-      more_log c.line.queue.spec os last c.burnt c.arrived.come c.arrived.coming (rest_of last c)
+      more_log c.buffer.queue.spec os last c.burnt c.arrived.come c.arrived.coming (rest_of last c)
       (ap (λ (l : List Entry). l ++ rest_of last c) (sym was) ∙ append_assoc gone.log c.log.entries (rest_of last c)
       ∙ all_is_of gone last c s kept p)
       p.so_far p.few more
@@ -139,14 +139,14 @@ module _ (gone : Gone) (c : Parts) (s : IsSoundAfter gone c) (kept : c.log.kept 
   pub sound_gone : IsSoundAfter (gone_of c) c
   sound_gone =
       let os = take c.burnt (span_opps c.opportunities) in
-      let left_e : gone.left ++ c.left.items ≡ link_out c.line.queue.spec os c.arrived.come =
+      let left_e : gone.departed ++ c.departed.items ≡ link_out c.buffer.queue.spec os c.arrived.come =
       seen_out _ _ _ _ _ _ _ _ _ _ _ s in
-      let log_e : gone.log ++ c.log.entries ≡ link_log c.line.queue.spec os c.arrived.come =
-      seen_log _ _ _ _ _ _ _ _ _ _ _ s ∙ ap (λ k. written k (link_log c.line.queue.spec os c.arrived.come)) kept
+      let log_e : gone.log ++ c.log.entries ≡ link_log c.buffer.queue.spec os c.arrived.come =
+      seen_log _ _ _ _ _ _ _ _ _ _ _ s ∙ ap (λ k. written k (link_log c.buffer.queue.spec os c.arrived.come)) kept
       in
-      let left_is : gone.left ≡ (gone_of c).left = sym (front_is gone.left c.left.items _ left_e) in
+      let departed_is : gone.departed ≡ (gone_of c).departed = sym (front_is gone.departed c.departed.items _ left_e) in
       let log_is : gone.log ≡ (gone_of c).log = sym (front_is gone.log c.log.entries _ log_e) in
-      let one : IsSoundAfter (record { left = (gone_of c).left; log = gone.log }) c =
-      subst (λ (l : List Timed). IsSoundAfter (record { left = l; log = gone.log }) c) left_is s
+      let one : IsSoundAfter (record { departed = (gone_of c).departed; log = gone.log }) c =
+      subst (λ (l : List Timed). IsSoundAfter (record { departed = l; log = gone.log }) c) departed_is s
       in
-      subst (λ (l : List Entry). IsSoundAfter (record { left = (gone_of c).left; log = l }) c) log_is one
+      subst (λ (l : List Entry). IsSoundAfter (record { departed = (gone_of c).departed; log = l }) c) log_is one

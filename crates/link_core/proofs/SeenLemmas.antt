@@ -21,28 +21,28 @@ pub rising_take : (b : ℕ) (opps : List Opportunity) → AreRising opps → Are
 rising_take b opps r = rising_front (take b opps) (drop b opps) (subst AreRising (sym (take-append-drop b opps)) r)
 
 pub seen_out : (q : QueueSpec) (opps : List Opportunity) (b : ℕ) (arrivals : List Timed) (packet : Option Timed)
-    (used : ℕ) (queue left lost : List Timed) (logged : Bool) (log : List Entry)
-    → Sound q opps b arrivals packet used queue left lost logged log → left ≡ link_out q (take b opps) arrivals
-seen_out q opps b arrivals packet used queue left lost logged log s = sym s.tied.left_is
+    (used : ℕ) (queue departed lost : List Timed) (logged : Bool) (log : List Entry)
+    → Sound q opps b arrivals packet used queue departed lost logged log → departed ≡ link_out q (take b opps) arrivals
+seen_out q opps b arrivals packet used queue departed lost logged log s = sym s.tied.departed_is
     ∙ sym (out_is q (take b opps) arrivals (rising_take b opps s.order))
 
 pub seen_lost : (q : QueueSpec) (opps : List Opportunity) (b : ℕ) (arrivals : List Timed) (packet : Option Timed)
-    (used : ℕ) (queue left lost : List Timed) (logged : Bool) (log : List Entry)
-    → Sound q opps b arrivals packet used queue left lost logged log → lost ≡ link_lost q (take b opps) arrivals
-seen_lost q opps b arrivals packet used queue left lost logged log s = sym s.tied.lost_is
+    (used : ℕ) (queue departed lost : List Timed) (logged : Bool) (log : List Entry)
+    → Sound q opps b arrivals packet used queue departed lost logged log → lost ≡ link_lost q (take b opps) arrivals
+seen_lost q opps b arrivals packet used queue departed lost logged log s = sym s.tied.lost_is
     ∙ sym (lost_is q (take b opps) arrivals)
 
 pub seen_log : (q : QueueSpec) (opps : List Opportunity) (b : ℕ) (arrivals : List Timed) (packet : Option Timed)
-    (used : ℕ) (queue left lost : List Timed) (logged : Bool) (log : List Entry)
-    → Sound q opps b arrivals packet used queue left lost logged log
+    (used : ℕ) (queue departed lost : List Timed) (logged : Bool) (log : List Entry)
+    → Sound q opps b arrivals packet used queue departed lost logged log
     → log ≡ written logged (link_log q (take b opps) arrivals)
-seen_log q opps b arrivals packet used queue left lost logged log s =
+seen_log q opps b arrivals packet used queue departed lost logged log s =
     sym s.tied.log_is ∙ ap (written logged)
     (sym (log_is q (take b opps) arrivals (rising_take b opps s.order) s.tied.arrivals_fall))
 
 pub seen_inside : (q : QueueSpec) (opps : List Opportunity) (b : ℕ) (arrivals : List Timed) (packet : Option Timed)
-    (used : ℕ) (queue left lost : List Timed) (logged : Bool) (log : List Entry)
-    → Sound q opps b arrivals packet used queue left lost logged log
+    (used : ℕ) (queue departed lost : List Timed) (logged : Bool) (log : List Entry)
+    → Sound q opps b arrivals packet used queue departed lost logged log
     → pending packet queue ≡ link_inside q (take b opps) arrivals
-seen_inside q opps b arrivals packet used queue left lost logged log s = sym s.tied.inside_is
+seen_inside q opps b arrivals packet used queue departed lost logged log s = sym s.tied.inside_is
     ∙ sym (inside_is q (take b opps) arrivals (rising_take b opps s.order))

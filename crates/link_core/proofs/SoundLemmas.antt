@@ -56,16 +56,16 @@ rising_split (x ∷ xs) ys o r = ((each_back (λ p. x.moment ≤ p.moment) xs (o
 
 pub sound_burn : (q : QueueSpec) (opps : List Opportunity) (b : ℕ) (arrivals : List Timed)
     (packet packet' : Option Timed) (used used' : ℕ)
-    (queue queue' left left' lost : List Timed) (logged : Bool) (log log' : List Entry) (o : Opportunity)
-    → Sound q opps b arrivals packet used queue left lost logged log
+    (queue queue' departed departed' lost : List Timed) (logged : Bool) (log log' : List Entry) (o : Opportunity)
+    → Sound q opps b arrivals packet used queue departed lost logged log
     → slice_get opps b ≡ Some o
     → IsPart packet' used'
     → pending packet' queue' ≡ rest (used + o.bytes) (pending packet queue)
     → used' ≡ begun (used + o.bytes) (pending packet queue)
-    → left' ≡ left ++ map (moved_to o.moment) (carried (used + o.bytes) (pending packet queue))
+    → departed' ≡ departed ++ map (moved_to o.moment) (carried (used + o.bytes) (pending packet queue))
     → log' ≡ log ++ written logged (served_lines o (carried (used + o.bytes) (pending packet queue)))
-    → Sound q opps (b + 1) arrivals packet' used' queue' left' lost logged log'
-sound_burn q opps b arrivals packet packet' used used' queue queue' left left' lost logged log log' o s get part
+    → Sound q opps (b + 1) arrivals packet' used' queue' departed' lost logged log'
+sound_burn q opps b arrivals packet packet' used used' queue queue' departed departed' lost logged log log' o s get part
     inside_e used_e left_e log_e =
     let one : take (b + 1) opps ≡ take b opps ++ o ∷ [] = ap (λ n. take n opps) (add-one b) ∙ take_one opps b o get in
     let front : reverse (take (b + 1) opps) ≡ o ∷ reverse (take b opps) = ap reverse one
@@ -78,7 +78,7 @@ sound_burn q opps b arrivals packet packet' used used' queue queue' left left' l
     let ahead : Each (λ p. Each (λ t. t.moment < p.moment) (reverse arrivals)) (o ∷ drop (suc b) opps)
     = subst (Each (λ p. Each (λ t. t.moment < p.moment) (reverse arrivals))) back s.later
     in
-    let new = tied_burn q o (reverse (take b opps)) (reverse arrivals) (pending packet queue) used left lost logged
+    let new = tied_burn q o (reverse (take b opps)) (reverse arrivals) (pending packet queue) used departed lost logged
     log s.tied ahead.0
     (each_reverse (λ p. p.moment ≤ o.moment) (take b opps) before)
     in
@@ -89,7 +89,7 @@ sound_burn q opps b arrivals packet packet' used used' queue queue' left left' l
             (keep q os (reverse arrivals))) front ∙ new.inside_is ∙ sym inside_e;
         used_is = ap (λ (os : List Opportunity). begun (sent (keep q os (reverse arrivals)) os)
             (keep q os (reverse arrivals))) front ∙ new.used_is ∙ sym used_e;
-        left_is = ap (λ (os : List Opportunity). departures (keep q os (reverse arrivals)) os) front ∙ new.left_is
+        departed_is = ap (λ (os : List Opportunity). departures (keep q os (reverse arrivals)) os) front ∙ new.departed_is
             ∙ sym left_e;
         lost_is = ap (λ (os : List Opportunity). losses q os (reverse arrivals)) front ∙ new.lost_is;
         log_is = ap (λ (os : List Opportunity). written logged (log_of q os (reverse arrivals))) front ∙ new.log_is
@@ -127,19 +127,19 @@ each_both t arrivals (o ∷ opps) a b = ((a.0, b.0), each_both t arrivals opps a
 
 pub sound_enter : (q : QueueSpec) (opps : List Opportunity) (b : ℕ) (arrivals : List Timed) (packet : Option Timed)
     (used : ℕ)
-    (queue left lost : List Timed) (logged : Bool) (log : List Entry) (t : Timed)
-    → Sound q opps b arrivals packet used queue left lost logged log
+    (queue departed lost : List Timed) (logged : Bool) (log : List Entry) (t : Timed)
+    → Sound q opps b arrivals packet used queue departed lost logged log
     → AreUpTo t.moment arrivals
     → Each (λ o. o.moment ≤ t.moment) (take b opps)
     → Each (λ o. t.moment < o.moment) (drop b opps)
-    → Sound q opps b (arrivals ++ t ∷ []) packet used (enqueued q queue t) left
+    → Sound q opps b (arrivals ++ t ∷ []) packet used (enqueued q queue t) departed
     (lost ++ map (moved_to t.moment) (dropped q queue t))
     logged (log ++ written logged (entries.Arrival t.moment t.packet.size ∷ drop_line t.moment (dropped q queue t)))
-sound_enter q opps b arrivals packet used queue left lost logged log t s all early late =
+sound_enter q opps b arrivals packet used queue departed lost logged log t s all early late =
     let es = reverse arrivals in
     let os = reverse (take b opps) in
     let back : t ∷ es ≡ reverse (arrivals ++ t ∷ []) = sym (reverse_push arrivals t) in
-    let new = tied_arrival q t os es packet used queue left lost logged log s.tied s.part
+    let new = tied_arrival q t os es packet used queue departed lost logged log s.tied s.part
     (each_reverse (λ u. u.moment ≤ t.moment) arrivals (each_up_to t.moment arrivals all))
     (each_reverse (λ o. o.moment ≤ t.moment) (take b opps) early)
     in
@@ -147,7 +147,7 @@ sound_enter q opps b arrivals packet used queue left lost logged log t s all ear
     let log' = log ++ written logged (entries.Arrival t.moment t.packet.size ∷ drop_line t.moment (dropped q queue t))
     in
     record {
-      tied = subst (λ (xs : List Timed). Tied q os xs (pending packet (enqueued q queue t)) used left lost' logged
+      tied = subst (λ (xs : List Timed). Tied q os xs (pending packet (enqueued q queue t)) used departed lost' logged
           log') back new;
       part = s.part;
       few = s.few;
@@ -159,10 +159,10 @@ sound_enter q opps b arrivals packet used queue left lost logged log t s all ear
 -- the log before the next opportunity, and before an arrival
 pub log_before_burn : (q : QueueSpec) (opps : List Opportunity) (b : ℕ) (arrivals : List Timed)
     (packet : Option Timed) (used : ℕ)
-    (queue left lost : List Timed) (logged : Bool) (log : List Entry) (o : Opportunity)
-    → Sound q opps b arrivals packet used queue left lost logged log → slice_get opps b ≡ Some o
+    (queue departed lost : List Timed) (logged : Bool) (log : List Entry) (o : Opportunity)
+    → Sound q opps b arrivals packet used queue departed lost logged log → slice_get opps b ≡ Some o
     → EntriesUpTo o.moment log
-log_before_burn q opps b arrivals packet used queue left lost logged log o s get =
+log_before_burn q opps b arrivals packet used queue departed lost logged log o s get =
     let back : drop b opps ≡ o ∷ drop (suc b) opps = drop_one opps b o get in
     let whole : opps ≡ take b opps ++ o ∷ drop (suc b) opps = sym (take-append-drop b opps)
     ∙ ap (λ (xs : List Opportunity). take b opps ++ xs) back in
@@ -179,10 +179,10 @@ log_before_burn q opps b arrivals packet used queue left lost logged log o s get
 
 pub log_before_enter : (q : QueueSpec) (opps : List Opportunity) (b : ℕ) (arrivals : List Timed)
     (packet : Option Timed) (used : ℕ)
-    (queue left lost : List Timed) (logged : Bool) (log : List Entry) (t : Timed)
-    → Sound q opps b arrivals packet used queue left lost logged log
+    (queue departed lost : List Timed) (logged : Bool) (log : List Entry) (t : Timed)
+    → Sound q opps b arrivals packet used queue departed lost logged log
     → AreUpTo t.moment arrivals → Each (λ o. o.moment ≤ t.moment) (take b opps) → EntriesUpTo t.moment log
-log_before_enter q opps b arrivals packet used queue left lost logged log t s all early =
+log_before_enter q opps b arrivals packet used queue departed lost logged log t s all early =
     subst (EntriesUpTo t.moment) s.tied.log_is
     (written_up_to t.moment logged _
     (log_up_to t.moment q (reverse (take b opps)) (reverse arrivals)

@@ -50,13 +50,13 @@ ended_burn q o opps arrivals inside used a r b =
     ∙ ap (λ (xs : List Timed). carried (used + o.bytes) xs) r
 
 pub tied_burn : (q : QueueSpec) (o : Opportunity) (opps : List Opportunity) (arrivals inside : List Timed) (used : ℕ)
-    (left lost : List Timed) (logged : Bool) (log : List Entry)
-    → Tied q opps arrivals inside used left lost logged log
+    (departed lost : List Timed) (logged : Bool) (log : List Entry)
+    → Tied q opps arrivals inside used departed lost logged log
     → Each (λ t. t.moment < o.moment) arrivals → Each (λ p. p.moment ≤ o.moment) opps
     → Tied q (o ∷ opps) arrivals (rest (used + o.bytes) inside) (begun (used + o.bytes) inside)
-    (left ++ map (moved_to o.moment) (carried (used + o.bytes) inside)) lost logged
+    (departed ++ map (moved_to o.moment) (carried (used + o.bytes) inside)) lost logged
     (log ++ written logged (served_lines o (carried (used + o.bytes) inside)))
-tied_burn q o opps arrivals inside used left lost logged log tied a b =
+tied_burn q o opps arrivals inside used departed lost logged log tied a b =
     let kept = keep q opps arrivals in
     let same : keep q (o ∷ opps) arrivals ≡ kept = keep_burn q o opps arrivals a in
     let n = sent kept opps in
@@ -77,10 +77,10 @@ tied_burn q o opps arrivals inside used left lost logged log tied a b =
           ∙ sym (begun_more n o.bytes kept le)
           ∙ ap (λ u. begun (u + o.bytes) (rest n kept)) tied.used_is
           ∙ ap (λ (xs : List Timed). begun (used + o.bytes) xs) tied.inside_is;
-      left_is =
+      departed_is =
           ap (λ (ks : List Timed). departures ks (o ∷ opps)) same
           ∙ ap (λ (xs : List Timed). departures kept opps ++ map (moved_to o.moment) xs) out
-          ∙ ap (λ (xs : List Timed). xs ++ map (moved_to o.moment) (carried (used + o.bytes) inside)) tied.left_is;
+          ∙ ap (λ (xs : List Timed). xs ++ map (moved_to o.moment) (carried (used + o.bytes) inside)) tied.departed_is;
       lost_is = losses_burn q o opps arrivals a ∙ tied.lost_is;
       log_is =
           ap (written logged) (ap (λ (ks : List Timed). in_order
@@ -100,15 +100,15 @@ tied_burn q o opps arrivals inside used left lost logged log tied a b =
 
 -- by what waited
 pub tied_arrive : (q : QueueSpec) (t : Timed) (opps : List Opportunity) (arrivals inside : List Timed) (used : ℕ)
-    (left lost : List Timed) (logged : Bool) (log : List Entry) (queue inside' : List Timed)
-    → Tied q opps arrivals inside used left lost logged log
+    (departed lost : List Timed) (logged : Bool) (log : List Entry) (queue inside' : List Timed)
+    → Tied q opps arrivals inside used departed lost logged log
     → waiting (sent (keep q opps arrivals) opps) (keep q opps arrivals) ≡ queue
     → rest (sent (keep q opps arrivals) opps) (ahead (sent (keep q opps arrivals) opps) (keep q opps arrivals)
     ++ enqueued q queue t) ≡ inside'
     → Each (λ u. u.moment ≤ t.moment) arrivals → Each (λ o. o.moment ≤ t.moment) opps
-    → Tied q opps (t ∷ arrivals) inside' used left (lost ++ map (moved_to t.moment) (dropped q queue t))
+    → Tied q opps (t ∷ arrivals) inside' used departed (lost ++ map (moved_to t.moment) (dropped q queue t))
     logged (log ++ written logged (entries.Arrival t.moment t.packet.size ∷ drop_line t.moment (dropped q queue t)))
-tied_arrive q t opps arrivals inside used left lost logged log queue inside' tied w r a b =
+tied_arrive q t opps arrivals inside used departed lost logged log queue inside' tied w r a b =
     let kept = keep q opps arrivals in
     let n = sent kept opps in
     let ts = ahead n kept in
@@ -139,11 +139,11 @@ tied_arrive q t opps arrivals inside used left lost logged log queue inside' tie
           ∙ ap (λ m. begun m (ts ++ vs)) sent_is
           ∙ begun_ahead n kept vs le
           ∙ tied.used_is;
-      left_is =
+      departed_is =
           ap (λ (ks : List Timed). departures ks opps) after
           ∙ same_departures ts us vs opps rising tied.opps_fall behind low
           ∙ ap (λ (ks : List Timed). departures ks opps) split
-          ∙ tied.left_is;
+          ∙ tied.departed_is;
       lost_is =
           ap (λ (xs : List Timed). losses q opps arrivals ++ map (moved_to t.moment) xs) drops
           ∙ ap (λ (xs : List Timed). xs ++ map (moved_to t.moment) (dropped q queue t)) tied.lost_is;
@@ -171,23 +171,23 @@ tied_arrive q t opps arrivals inside used left lost logged log queue inside' tie
     }
 
 pub tied_arrival : (q : QueueSpec) (t : Timed) (opps : List Opportunity) (arrivals : List Timed)
-    (packet : Option Timed) (used : ℕ) (queue left lost : List Timed) (logged : Bool) (log : List Entry)
-    → Tied q opps arrivals (pending packet queue) used left lost logged log → IsPart packet used
+    (packet : Option Timed) (used : ℕ) (queue departed lost : List Timed) (logged : Bool) (log : List Entry)
+    → Tied q opps arrivals (pending packet queue) used departed lost logged log → IsPart packet used
     → Each (λ u. u.moment ≤ t.moment) arrivals → Each (λ o. o.moment ≤ t.moment) opps
-    → Tied q opps (t ∷ arrivals) (pending packet (enqueued q queue t)) used left
+    → Tied q opps (t ∷ arrivals) (pending packet (enqueued q queue t)) used departed
     (lost ++ map (moved_to t.moment) (dropped q queue t))
     logged (log ++ written logged (entries.Arrival t.moment t.packet.size ∷ drop_line t.moment (dropped q queue t)))
-tied_arrival q t opps arrivals None used queue left lost logged log tied part a b =
+tied_arrival q t opps arrivals None used queue departed lost logged log tied part a b =
     let kept = keep q opps arrivals in
     let n = sent kept opps in
     let clean : begun n kept ≡ 0 = tied.used_is ∙ part in
-    tied_arrive q t opps arrivals queue used left lost logged log queue (enqueued q queue t) tied
+    tied_arrive q t opps arrivals queue used departed lost logged log queue (enqueued q queue t) tied
     (waiting_clean n kept clean ∙ tied.inside_is)
     (rest_ahead_clean n kept (enqueued q queue t) (sent_le kept opps) clean) a b
-tied_arrival q t opps arrivals (Some p) used queue left lost logged log tied part a b =
+tied_arrival q t opps arrivals (Some p) used queue departed lost logged log tied part a b =
     let kept = keep q opps arrivals in
     let n = sent kept opps in
     let some : 0 < begun n kept = let h = tied.used_is in let k = part.0 in omega arith in
-    tied_arrive q t opps arrivals (p ∷ queue) used left lost logged log queue (p ∷ enqueued q queue t) tied
+    tied_arrive q t opps arrivals (p ∷ queue) used departed lost logged log queue (p ∷ enqueued q queue t) tied
     (waiting_part n kept p queue some tied.inside_is)
     (rest_ahead_part n kept (enqueued q queue t) p queue some tied.inside_is) a b

@@ -14,7 +14,7 @@ use Rattle.link_core.proofs.SeenLemmas.{seen_log}
 
 module _ (last : ℕ) (c : Parts) (sound : IsSound c) (played : IsPlayed last c) (q : QueueSpec) (os : List Opportunity)
     (ts : List Timed)
-    (spec : c.line.queue.spec ≡ q) (opps : span_opps c.opportunities ≡ os) (arrivals : all_arrivals c ≡ ts) where
+    (spec : c.buffer.queue.spec ≡ q) (opps : span_opps c.opportunities ≡ os) (arrivals : all_arrivals c ≡ ts) where
   burnt_is : take c.burnt (span_opps c.opportunities) ≡ take last os
   burnt_is = ap (λ b. take b (span_opps c.opportunities)) played.all_burnt ∙ ap (take last) opps
 
@@ -23,7 +23,7 @@ module _ (last : ℕ) (c : Parts) (sound : IsSound c) (played : IsPlayed last c)
       ∙ arrivals
 
   pub along : {X : Type 0} (f : QueueSpec → List Opportunity → List Timed → X)
-      → f c.line.queue.spec (take c.burnt (span_opps c.opportunities)) c.arrived.come ≡ f q (take last os) ts
+      → f c.buffer.queue.spec (take c.burnt (span_opps c.opportunities)) c.arrived.come ≡ f q (take last os) ts
   along f =
       ap (λ r. f r (take c.burnt (span_opps c.opportunities)) c.arrived.come) spec
       ∙ ap (λ (xs : List Opportunity). f q xs c.arrived.come) burnt_is
@@ -31,7 +31,7 @@ module _ (last : ℕ) (c : Parts) (sound : IsSound c) (played : IsPlayed last c)
 
   -- where these are all
   pub throughout : {X : Type 0} (f : QueueSpec → List Opportunity → List Timed → X) → length os ≤ last
-      → f c.line.queue.spec (take c.burnt (span_opps c.opportunities)) c.arrived.come ≡ f q os ts
+      → f c.buffer.queue.spec (take c.burnt (span_opps c.opportunities)) c.arrived.come ≡ f q os ts
   throughout f all = along f ∙ ap (λ (xs : List Opportunity). f q xs ts) (take_all last os all)
 
   pub whole_log : c.log.entries ≡ written c.log.kept (link_log q (take last os) ts)

@@ -6,7 +6,6 @@ ghost use Prim.Native.Nat.{min};
 ghost use Rattle.packet_record.specs.Moments.{AreUpTo};
 ghost use Rattle.trace_reader.specs.Opps.{opps};
 ghost use Rattle.link_core.specs.Promises.{count_to};
-ghost use Rattle.link_core.specs.inside.Sound.{IsSound};
 ghost use Rattle.link_core.specs.View.{Link, opps_of, out_of, lost_of, log_of, inside_of, OnlyGoesOn};
 
 use crate::link_log::LinkLog;
@@ -32,9 +31,7 @@ pub struct LinkCore {
 }
 
 impl Model for LinkCore {
-    ghost use Rattle.std.specs.Prelude.{◌≡◌, []};
-    ghost use Rattle.packet_record.specs.Moments.{AreUpTo};
-    ghost use Rattle.link_core.specs.inside.Sound.{IsSound};
+    ghost use Rattle.link_core.specs.inside.Moves.{IsSettled};
     ghost use Rattle.link_core.specs.View.{Link};
 
     ghost Value = { Link };
@@ -42,14 +39,13 @@ impl Model for LinkCore {
     ghost view = { λ c. record {
       trace = c.parts.opportunities.trace;
       once = c.parts.opportunities.once;
-      queue = c.parts.line.queue.spec;
+      queue = c.parts.buffer.queue.spec;
       horizon = c.parts.opportunities.horizon;
       burnt = c.parts.burnt;
       arrivals = c.parts.arrived.come;
     } };
 
-    ghost invariant = { λ c. IsSound c.parts × (c.parts.arrived.coming ≡ [])
-        × AreUpTo c.parts.opportunities.horizon c.parts.arrived.come };
+    ghost invariant = { λ c. IsSettled c.parts };
 }
 
 impl LinkCore {
@@ -112,14 +108,14 @@ impl LinkCore {
     pub fn departed(&self) -> &[Timed]
         ensures { result.now ≡ out_of self.now }
     {
-        self.parts.left.as_slice()
+        self.parts.departed.as_slice()
     }
 
     /// The packets that the queue dropped, in order, each at the moment of the arrival that dropped it.
     pub fn lost(&self) -> &[Timed]
         ensures { result.now ≡ lost_of self.now }
     {
-        self.parts.line.queue.lost()
+        self.parts.buffer.queue.lost()
     }
 
     /// The log, of all that arrived and of the opportunities that are burnt. It isn't written out: it keeps a copy of
@@ -129,7 +125,7 @@ impl LinkCore {
     {
         let arrivals = Vec::from_slice(self.alloc, self.parts.arrived.come())?;
         let opportunities = self.parts.opportunities.copy()?;
-        let queue = self.parts.line.queue.spec();
+        let queue = self.parts.buffer.queue.spec();
         Ok(LinkLog::of(self.alloc, opportunities, queue, self.parts.burnt, arrivals))
     }
 
@@ -137,7 +133,7 @@ impl LinkCore {
     pub fn inside(&self) -> Result<Vec<u32>, OutOfMemory>
         ensures { IfOk result (λ ids. ids.items ≡ map (λ t. t.packet.id) (inside_of self.now)) }
     {
-        self.parts.line.ids(self.alloc)
+        self.parts.buffer.ids(self.alloc)
     }
 
     /// The moment of the next opportunity. Returns `None` exactly where all up to the horizon are burnt.

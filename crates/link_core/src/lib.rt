@@ -3,10 +3,10 @@
 #![tactic(auto)]
 
 mod arrivals;
+mod buffer;
 mod direction;
 mod journal;
 mod lap;
-mod line;
 mod link_log;
 mod opportunities;
 mod parts;

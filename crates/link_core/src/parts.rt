@@ -1,19 +1,17 @@
 // The parts of a link, and what it does with them: it burns an opportunity, or lets a packet in.
 ghost use Rattle.std.specs.Prelude.{◌≡◌, ◌+◌, ◌-◌, ◌<◌, ◌≤◌, ◌++◌, ◌∷◌, [], length, take, drop, IfOk, OnOk, OnErr};
-ghost use Rattle.std.specs.Prelude.{vec_len, vec_capacity};
 ghost use Prim.Native.Nat.{min};
-ghost use Rattle.packet_queue.specs.View.{Queue};
-ghost use Rattle.link_core.specs.inside.State.{IsPart, inside_line};
+ghost use Rattle.link_core.specs.inside.State.{inside_buffer};
 ghost use Rattle.trace_reader.specs.Opps.{up_to};
-ghost use Rattle.trace_reader.specs.Orders.{Each};
 ghost use Rattle.packet_record.specs.Moments.{AreUpTo};
 ghost use Rattle.link_core.specs.views.Span.{Span, span_opps};
 ghost use Rattle.link_core.specs.inside.Sound.{Gone, IsSoundAfter, IsSound};
+ghost use Rattle.link_core.specs.inside.Moves.{IsSettled, HasRoomTo, CanEnter};
 ghost use Rattle.link_core.specs.inside.Same.{IsSameLink};
 
 use crate::arrivals::Arrivals;
+use crate::buffer::Buffer;
 use crate::journal::Journal;
-use crate::line::Line;
 use crate::opportunities::Opportunities;
 use crate::serving::{note, serve};
 use packet_queue::{PacketQueue, QueueSpec};
@@ -25,9 +23,9 @@ use text_base::OutOfMemory;
 pub struct Parts {
     pub opportunities: Opportunities,
     pub burnt: u32,
-    pub line: Line,
+    pub buffer: Buffer,
     pub arrived: Arrivals,
-    pub left: Vec<Timed>,
+    pub departed: Vec<Timed>,
     pub log: Journal,
 }
 
@@ -41,52 +39,28 @@ impl Parts {
         arrivals: Vec<Timed>,
     ) -> Self
         ensures sound { IsSound result }
-        ensures spec { result.line.queue.spec ≡ queue }
+        ensures spec { result.buffer.queue.spec ≡ queue }
         ensures opportunities { result.opportunities ≡ opportunities }
         ensures logged { result.log.kept ≡ logged }
         ensures burnt { result.burnt ≡ 0 }
         ensures come { result.arrived.come ≡ [] }
         ensures coming { result.arrived.coming ≡ arrivals.items }
-        ensures left { result.left.items ≡ [] }
+        ensures departed { result.departed.items ≡ [] }
         ensures entries { result.log.entries ≡ [] }
     {
         let _all = opportunities.count_to(0);
         Parts {
             opportunities,
             burnt: 0,
-            line: Line {
+            buffer: Buffer {
                 packet: None,
                 used: 0,
                 queue: PacketQueue::new(alloc, queue),
             },
             arrived: Arrivals::new(arrivals),
-            left: Vec::new(alloc),
+            departed: Vec::new(alloc),
             log: Journal::new(alloc, logged),
         }
-    }
-
-    /// Burns the next opportunity. There is one.
-    pub fn burn_next(&mut self)
-        ghost gone: { Gone }
-        requires sound { IsSoundAfter gone self.old }
-        requires next { self.old.burnt < length (span_opps self.old.opportunities) }
-        requires room { length (inside_line self.old.line) + vec_len self.old.left ≤ vec_capacity self.old.left }
-        requires spare { 1 + length (inside_line self.old.line) ≤ self.old.log.spare }
-        ensures sound { IsSoundAfter gone self.new }
-        ensures opportunities { self.new.opportunities ≡ self.old.opportunities }
-        ensures logged { self.new.log.kept ≡ self.old.log.kept }
-        ensures burnt { self.new.burnt ≡ self.old.burnt + 1 }
-        ensures arrived { self.new.arrived ≡ self.old.arrived }
-        ensures queue { self.new.line.queue ≡ record self.old.line.queue { packets = self.new.line.queue.packets } }
-        ensures room { length (inside_line self.new.line) + vec_len self.new.left ≡ length (inside_line self.old.line)
-            + vec_len self.old.left }
-        ensures keeps { vec_capacity self.old.left ≤ vec_capacity self.new.left }
-        ensures spare { self.old.log.spare + length (inside_line self.new.line) ≤ self.new.log.spare + 1 + length
-            (inside_line self.old.line) }
-    {
-        let o = self.opportunities.take(self.burnt);
-        self.burnt += 1;
-        serve(&mut self.line, o, &mut self.left, &mut self.log);
     }
 
     // Burns the next opportunity. Where nothing is inside and no log is kept, it burns all until `end` are burnt.
@@ -95,23 +69,20 @@ impl Parts {
         requires sound { IsSoundAfter gone self.old }
         requires end { end ≤ length (span_opps self.old.opportunities) }
         requires start { self.old.burnt < end }
-        requires room { length (inside_line self.old.line) + vec_len self.old.left ≤ vec_capacity self.old.left }
-        requires spare { 1 + length (inside_line self.old.line) ≤ self.old.log.spare }
+        requires room { HasRoomTo end self.old }
         ensures sound { IsSoundAfter gone self.new }
-        ensures opportunities { self.new.opportunities ≡ self.old.opportunities }
-        ensures logged { self.new.log.kept ≡ self.old.log.kept }
+        ensures link { IsSameLink self.old self.new }
         ensures burnt { (self.old.burnt < self.new.burnt) × (self.new.burnt ≤ end) }
         ensures arrived { self.new.arrived ≡ self.old.arrived }
-        ensures queue { self.new.line.queue ≡ record self.old.line.queue { packets = self.new.line.queue.packets } }
-        ensures room { length (inside_line self.new.line) + vec_len self.new.left ≤ vec_capacity self.new.left }
-        ensures spare { self.old.log.spare + self.old.burnt + length (inside_line self.new.line) ≤
-            self.new.log.spare + self.new.burnt + length (inside_line self.old.line) }
+        ensures room { HasRoomTo end self.new }
     {
-        if !self.log.is_kept() && self.line.len() == 0 {
+        if !self.log.is_kept() && self.buffer.len() == 0 {
             self.burnt = end;
             return;
         }
-        self.burn_next();
+        let o = self.opportunities.take(self.burnt);
+        self.burnt += 1;
+        serve(&mut self.buffer, o, &mut self.departed, &mut self.log);
     }
 
     /// Burns opportunities until `end` of them are burnt.
@@ -120,16 +91,12 @@ impl Parts {
         requires sound { IsSoundAfter gone self.old }
         requires end { end ≤ length (span_opps self.old.opportunities) }
         requires start { self.old.burnt ≤ end }
-        requires room { length (inside_line self.old.line) + vec_len self.old.left ≤ vec_capacity self.old.left }
-        requires spare { end + length (inside_line self.old.line) ≤ self.old.log.spare + self.old.burnt }
+        requires room { HasRoomTo end self.old }
         ensures sound { IsSoundAfter gone self.new }
-        ensures opportunities { self.new.opportunities ≡ self.old.opportunities }
-        ensures logged { self.new.log.kept ≡ self.old.log.kept }
+        ensures link { IsSameLink self.old self.new }
         ensures burnt { self.new.burnt ≡ end }
         ensures arrived { self.new.arrived ≡ self.old.arrived }
-        ensures queue { self.new.line.queue ≡ record self.old.line.queue { packets = self.new.line.queue.packets } }
-        ensures spare { self.old.log.spare + self.old.burnt + length (inside_line self.new.line) ≤
-            self.new.log.spare + end + length (inside_line self.old.line) }
+        ensures room { HasRoomTo end self.new }
     {
         'burning: while self.burnt < end {
             self.burn_some(end);
@@ -141,13 +108,8 @@ impl Parts {
     pub fn enter(&mut self, t: Timed)
         ghost gone: { Gone }
         requires sound { IsSoundAfter gone self.old }
-        requires short { t.moment ≤ 9999999999 }
-        requires order { AreUpTo t.moment self.old.arrived.come }
-        requires burnt { Each (λ o. o.moment ≤ t.moment) (take self.old.burnt (span_opps self.old.opportunities)) }
-        requires later { Each (λ o. t.moment < o.moment) (drop self.old.burnt (span_opps self.old.opportunities)) }
-        requires queue { 1 ≤ self.old.line.queue.spare }
-        requires next { self.old.arrived.coming ≡ t ∷ drop 1 self.old.arrived.coming }
-        requires spare { 2 ≤ self.old.log.spare }
+        requires next { CanEnter t self.old }
+        requires room { HasRoomTo self.old.burnt self.old }
         ensures sound { IsSoundAfter gone self.new }
         ensures link { IsSameLink self.old self.new }
         ensures burnt { self.new.burnt ≡ self.old.burnt }
@@ -155,7 +117,7 @@ impl Parts {
         ensures coming { self.new.arrived.coming ≡ drop 1 self.old.arrived.coming }
     {
         self.arrived.enter();
-        let dropped = self.line.queue.enqueue(t);
+        let dropped = self.buffer.queue.enqueue(t);
         note(&mut self.log, t, dropped);
     }
 
@@ -168,29 +130,24 @@ impl Parts {
         ensures sound { IsSoundAfter gone self.new }
         ensures link { IsSameLink self.old self.new }
         ensures burnt { self.new.burnt ≡ self.old.burnt }
-        ensures line { inside_line self.new.line ≡ inside_line self.old.line }
+        ensures buffer { inside_buffer self.new.buffer ≡ inside_buffer self.old.buffer }
         ensures arrived { self.new.arrived ≡ self.old.arrived }
-        ensures queue { OnOk result (1 ≤ self.new.line.queue.spare) }
-        ensures room { OnOk result (length (inside_line self.new.line) + vec_len self.new.left ≤ vec_capacity
-            self.new.left) }
-        ensures spare { OnOk result (more + length (inside_line self.new.line) + 2 ≤ self.new.log.spare) }
+        ensures room { OnOk result (HasRoomTo (self.old.burnt + more) self.new) }
     {
-        let held = self.line.len();
-        self.line.queue.reserve(1)?;
-        self.left.reserve(held)?;
+        let held = self.buffer.len();
+        self.buffer.queue.reserve(1)?;
+        self.departed.reserve(held)?;
         self.log.reserve(more + held + 2)?;
         Ok(())
     }
 
     /// Burns every opportunity up to the packet's moment, and then lets the packet in. No other packet was to come.
     pub fn arrive(&mut self, t: Timed) -> Result<(), OutOfMemory>
-        requires sound { IsSound self.old }
-        requires none { self.old.arrived.coming ≡ [] }
+        requires settled { IsSettled self.old }
         requires within { t.moment ≤ self.old.opportunities.horizon }
         requires order { AreUpTo t.moment self.old.arrived.come }
         requires burnt { self.old.burnt ≤ length (up_to t.moment (span_opps self.old.opportunities)) }
-        ensures sound { IsSound self.new }
-        ensures none { self.new.arrived.coming ≡ [] }
+        ensures settled { IsSettled self.new }
         ensures link { IsSameLink self.old self.new }
         ensures burnt { OnOk result (self.new.burnt ≡ length (up_to t.moment (span_opps self.old.opportunities))) }
         ensures arrived { OnOk result (self.new.arrived.come ≡ self.old.arrived.come ++ t ∷ []) }

@@ -5,7 +5,6 @@ ghost use Rattle.link_core.specs.inside.Sound.{Gone, IsSoundAfter};
 ghost use Rattle.link_core.specs.inside.Same.{IsSameLink};
 ghost use Rattle.link_core.specs.inside.Play.{CanPlay, IsPlayed, all_arrivals, work, gone_with};
 ghost use Rattle.link_core.specs.views.Play.{rest_of};
-ghost use Rattle.link_core.specs.views.Span.{span_opps};
 
 use crate::parts::Parts;
 use packet_record::Timed;
@@ -57,13 +56,12 @@ impl Parts {
     fn burn_rest(&mut self, last: u32) -> Result<bool, OutOfMemory>
         ghost gone: { Gone }
         requires sound { IsSoundAfter gone self.old }
-        requires few { last ≤ length (span_opps self.old.opportunities) }
-        requires so_far { self.old.burnt ≤ last }
+        requires playable { CanPlay last self.old }
         requires none { self.old.arrived.coming ≡ [] }
         ensures sound { IsSoundAfter gone self.new }
+        ensures playable { CanPlay last self.new }
         ensures link { IsSameLink self.old self.new }
         ensures arrived { self.new.arrived ≡ self.old.arrived }
-        ensures so_far { self.new.burnt ≤ last }
         ensures done { IfOk result (λ more. ¬ IsTrue more → IsPlayed last self.new) }
         ensures less { IfOk result (λ more. IsTrue more → work last self.new < work last self.old) }
         ensures err { OnErr result (0 < work last self.new) }
@@ -110,7 +108,7 @@ impl Parts {
         ensures arrivals { all_arrivals self.new ≡ all_arrivals self.old }
         ensures played { OnOk result (IsPlayed last self.new) }
     {
-        self.left.reserve(departures)?;
+        self.departed.reserve(departures)?;
         'finishing: loop {
             if !self.step(last)? {
                 return Ok(());
@@ -128,9 +126,9 @@ impl Parts {
         ensures opportunities { self.new.opportunities ≡ self.old.opportunities }
         ensures burnt { self.new.burnt ≡ self.old.burnt }
         ensures arrived { self.new.arrived ≡ self.old.arrived }
-        ensures line { self.new.line ≡ self.old.line }
+        ensures buffer { self.new.buffer ≡ self.old.buffer }
     {
-        self.left.clear();
+        self.departed.clear();
         self.log.clear();
     }
 

@@ -6,6 +6,7 @@ ghost use Rattle.link_core.specs.Links.{link_out, link_lost, link_log, link_insi
 ghost use Rattle.link_core.specs.Promises.{AreCovered};
 ghost use Rattle.link_core.specs.views.Span.{span_opps};
 ghost use Rattle.link_core.specs.inside.Sound.{IsSound};
+ghost use Rattle.link_core.specs.inside.Moves.{IsSettled};
 ghost use Rattle.link_core.specs.inside.Play.{IsPlayed, all_arrivals};
 
 use crate::link_log::LinkLog;
@@ -34,7 +35,7 @@ pub(crate) fn played(
     ensures sound { IfOk result (λ parts. IsSound parts) }
     ensures played { IfOk result (λ parts. IsPlayed last parts) }
     ensures opportunities { IfOk result (λ parts. parts.opportunities ≡ opportunities) }
-    ensures spec { IfOk result (λ parts. parts.line.queue.spec ≡ queue) }
+    ensures spec { IfOk result (λ parts. parts.buffer.queue.spec ≡ queue) }
     ensures logged { IfOk result (λ parts. parts.log.kept ≡ logged) }
     ensures arrivals { IfOk result (λ parts. all_arrivals parts ≡ arrivals.items) }
 {
@@ -48,20 +49,18 @@ impl Parts {
     /// Gives a link's parts up for their lists, none of which is copied. The log isn't written out: it keeps the
     /// arrivals. Memory may run out for the numbers of the packets inside.
     pub fn into_passage(self, alloc: Global) -> Result<Passage, OutOfMemory>
-        requires sound { IsSound self }
-        requires none { self.arrived.coming ≡ [] }
-        requires within { AreUpTo self.opportunities.horizon self.arrived.come }
-        ensures departed { IfOk result (λ p. p.departed.items ≡ link_out self.line.queue.spec
+        requires { IsSettled self }
+        ensures departed { IfOk result (λ p. p.departed.items ≡ link_out self.buffer.queue.spec
             (take self.burnt (span_opps self.opportunities)) self.arrived.come) }
-        ensures lost { IfOk result (λ p. p.lost.items ≡ link_lost self.line.queue.spec
+        ensures lost { IfOk result (λ p. p.lost.items ≡ link_lost self.buffer.queue.spec
             (take self.burnt (span_opps self.opportunities)) self.arrived.come) }
         ensures held { IfOk result (λ p. p.held.items ≡ map (λ t. t.packet.id)
-            (link_inside self.line.queue.spec (take self.burnt (span_opps self.opportunities)) self.arrived.come)) }
+            (link_inside self.buffer.queue.spec (take self.burnt (span_opps self.opportunities)) self.arrived.come)) }
         ensures log { IfOk result (λ p. p.log ≡ Some
-            (link_log self.line.queue.spec (take self.burnt (span_opps self.opportunities)) self.arrived.come)) }
+            (link_log self.buffer.queue.spec (take self.burnt (span_opps self.opportunities)) self.arrived.come)) }
     {
-        let held = self.line.ids(alloc)?;
-        let queue = self.line.queue.spec();
+        let held = self.buffer.ids(alloc)?;
+        let queue = self.buffer.queue.spec();
         let log = LinkLog::of(
             alloc,
             self.opportunities,
@@ -70,8 +69,8 @@ impl Parts {
             self.arrived.into_list(),
         );
         Ok(Passage {
-            departed: self.left,
-            lost: self.line.queue.into_lost(),
+            departed: self.departed,
+            lost: self.buffer.queue.into_lost(),
             held,
             log: Some(log),
         })

@@ -2,7 +2,7 @@
 ghost use Rattle.std.specs.Prelude.{◌≡◌, ◌↔◌, Contains, IsTrue};
 ghost use Rattle.mm_base.specs.Counts.{one_more};
 
-// Counts a call, and answers whether it is to fail. The calls are counted from 1.
+// Counts a call, and returns whether it is to fail. The calls are counted from 1.
 pub(crate) fn is_failing(calls: &mut u64, fails: &[u64]) -> bool
     ensures counted { calls.new ≡ one_more calls.old }
     ensures failing { IsTrue result ↔ Contains fails.now calls.new }

@@ -1,4 +1,4 @@
-// A clock in memory, which answers a list.
+// A clock in memory, which returns the moments of a list.
 ghost use Rattle.std.specs.Prelude.{◌≡◌, ◌≤◌, ◌∷◌, [], length};
 ghost use Rattle.mm_base.specs.Counts.{one_more};
 ghost use Rattle.live_relay.specs.Clocks.{Reads};
@@ -8,7 +8,7 @@ use crate::Clock;
 use std::alloc::Global;
 use std::marker::Model;
 
-/// A clock in memory. It answers the moments of its list in turn, and then the last one again and again. It tells its
+/// A clock in memory. It returns the moments of its list in turn, and then the last one again and again. It tells its
 /// answers, until its count of calls stands at the last value of a `u64`.
 #[derive(Drop)]
 pub struct MemClock {

@@ -118,7 +118,7 @@ fn put_into(answer: Option<&Option<(Side, Bytes)>>, buf: &mut [u8]) -> Option<(S
     Some((*side, count))
 }
 
-// A copy of what a receive answers.
+// A copy of what a receive returns.
 fn copy_of(
     alloc: Global,
     got: Option<(Side, usize)>,

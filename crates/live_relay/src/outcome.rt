@@ -1,4 +1,4 @@
-// What a relay answers.
+// What a relay returns.
 ghost use Rattle.std.specs.Prelude.{◌≡◌};
 ghost use Rattle.live_relay.specs.declared.outcome.RelayError.TheVariants as errors;
 ghost use Rattle.live_relay.specs.Errors.{relay_error};

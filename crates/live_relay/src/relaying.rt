@@ -20,8 +20,8 @@ const ROOM: usize = MOST + 1;
 /// at this moment, up from the client and down from the server, and another is counted as refused. Then what departs at
 /// moments up to this one, and wasn't sent yet, is sent, up before down.
 ///
-/// `WireFault` comes only where a fault of the wire was counted, and `OutOfMemory` means out of memory. After either what
-/// was sent is a front of what is due for the datagrams received so far, and what was received isn't given back.
+/// `WireFault` comes only where a fault of the wire was counted, and `OutOfMemory` means out of memory. After either
+/// what was sent is a front of what is due for the datagrams received so far, and what was received isn't given back.
 pub fn relay<C: Clock, W: Wire>(
     alloc: Global,
     nest: &Nest,

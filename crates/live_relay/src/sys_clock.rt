@@ -23,18 +23,18 @@ const SILENCE: u64 = 1_000;
 // How long the clock waits for a datagram in a silence, in milliseconds.
 const WAIT: i32 = 5;
 
-// What the clock answers once the user has ended: it is past every horizon.
+// What the clock returns once the user has ended: it is past every horizon.
 const PAST: u64 = u64::MAX;
 
 /// The machine's monotonic clock, in whole milliseconds since it was made. It tells no answers but the last. Where the
-/// system has no time to give, it answers the last one again.
+/// system has no time to give, it returns the last one again.
 ///
 /// It rests before it is read. Where the wire of its pulse has just received a datagram, there is no rest. Otherwise,
 /// if something came or left within the last second, it rests until a datagram is there or the next millisecond begins,
 /// and looks for datagrams every fifth of a millisecond. After a silent second it waits five milliseconds, and the next
 /// datagram ends the wait at once.
 ///
-/// It may watch a descriptor, at which it looks once in a millisecond. From the end of that one on it answers a moment
+/// It may watch a descriptor, at which it looks once in a millisecond. From the end of that one on it returns a moment
 /// that is past every horizon.
 #[derive(Drop)]
 pub struct SysClock<'a, R: Time + Drop> {

@@ -42,7 +42,7 @@ fn item_at(direction: Direction, moment: u64, row: Option<Row>) -> Item
     }
 }
 
-// Sends these packets to a side, in order. Their bytes go. It answers `OutOfMemory` also where the bytes of one aren't
+// Sends these packets to a side, in order. Their bytes go. It returns `OutOfMemory` also where the bytes of one aren't
 // kept, which no nest leads to: each packet leaves a direction once at most, and none that was lost leaves it.
 fn send_packets<W: Wire>(
     wire: &mut W,

@@ -11,10 +11,12 @@ mod channel;
 mod feeds;
 mod receiver;
 mod rule;
+mod run;
 mod sender;
 
 pub use begun::Begun;
 pub use channel::{open, settle};
 pub use feeds::{FeedEnd, Feeds};
 pub use receiver::Receiver;
+pub use run::Run;
 pub use sender::Sender;

@@ -9,10 +9,9 @@ use crate::bells::EndBells;
 use crate::rule::{Got, InOrder, View};
 use crossbeam_channel::{Pass, RuledReceiver};
 use packet_record::Item;
-use std::hint::spin_loop;
 use std::marker::Model;
 use std::sync::Wait;
-use wake_bell::LOOKS;
+use wake_bell::{LOOKS, pause};
 
 /// The receiving end of a channel. Contracts see the stream of what was received, its items, the horizon and the
 /// channel.
@@ -49,11 +48,11 @@ impl Receiver {
         ensures items { self.new.items ≡ self.old.items ++ result ∷ [] }
         ensures same { IsSameEnd self.old self.new }
     {
-        for _ in 0..LOOKS {
+        for look in 0..LOOKS {
             if let Some(item) = self.receive_at_once(rt) {
                 return item;
             }
-            spin_loop();
+            pause(look);
         }
         for _ in rt.forever() {
             if let Some(item) = self.receive_or_sleep(rt) {

@@ -8,10 +8,9 @@ use crate::bells::EndBells;
 use crate::rule::{InOrder, Sent, View};
 use crossbeam_channel::{Pass, RuledSender};
 use packet_record::Item;
-use std::hint::spin_loop;
 use std::marker::Model;
 use std::sync::Wait;
-use wake_bell::LOOKS;
+use wake_bell::{LOOKS, pause};
 
 /// The sending end of a channel. Contracts see the stream of what was sent, its items, the horizon and the channel.
 #[derive(Drop)]
@@ -47,11 +46,11 @@ impl Sender {
         ensures items { self.new.items ≡ self.old.items ++ item ∷ [] }
         ensures same { IsSameEnd self.old self.new }
     {
-        for _ in 0..LOOKS {
+        for look in 0..LOOKS {
             if self.send_at_once(rt, item) {
                 return;
             }
-            spin_loop();
+            pause(look);
         }
         for _ in rt.forever() {
             if self.send_or_sleep(rt, item) {

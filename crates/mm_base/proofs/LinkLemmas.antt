@@ -3,7 +3,7 @@ use Rattle.std.proofs.Common.{◌≡◌, ℕ, ◌+◌, ◌++◌, List, take, dro
 use Rattle.std.proofs.lemmas.List.{drop-drop}
 use Rattle.mm_base.specs.declared.read_start.ReadStart.{ReadStart}
 use Rattle.mm_base.specs.Link.{LinkBytes, moved}
-use Rattle.mm_base.proofs.Pieces.{take-append-take}
+use Rattle.mm_base.proofs.ListPieces.{take-append-take}
 
 abbrev pub bytes_at : List ℕ → ℕ → List ℕ → List ReadStart → LinkBytes
 bytes_at input at given reads = record { taken = take at input; rest = drop at input; given = given; reads = reads }

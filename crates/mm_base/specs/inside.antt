@@ -1,2 +1,3 @@
 -- What proofs and the clauses of inner functions cite, and no caller needs.
 pub mod EntryPlaces
+pub mod Pieces

@@ -13,7 +13,7 @@ pub trait Link {
     /// What the link tells, and its count of faults.
     ghost view: { Self → LinkView };
 
-    /// Takes bytes into the front of `buf`, and answers how many. None are taken only where `buf` is empty or the
+    /// Takes bytes into the front of `buf`, and returns how many. None are taken only where `buf` is empty or the
     /// input is at its end. The call may wait for the peer.
     ///
     /// `Failed` is counted as a fault. After a refusal no byte was taken.
@@ -26,7 +26,7 @@ pub trait Link {
         ensures counts { CountsLinkFaults (view self.old) (view self.new) }
         ensures failed_cause { IsErrOf result EndError.Failed → Rose (view self.old).faults (view self.new).faults };
 
-    /// Gives bytes of the front of `piece`, and answers how many: at least one, where `piece` isn't empty. The call
+    /// Gives bytes of the front of `piece`, and returns how many: at least one, where `piece` isn't empty. The call
     /// may wait for the peer.
     ///
     /// `Failed` is counted as a fault. After a refusal nothing was given.

@@ -4,13 +4,12 @@ ghost use Rattle.std.specs.Io.KnownBytes.{Appends, Keeps};
 ghost use Rattle.mm_base.specs.Counts.{Rose};
 ghost use Rattle.mm_base.specs.Sink.{sending, writer_view, CountsSinkFaults};
 
-use crate::{EndError, Sink};
-use interrupted_calls::write_once;
+use crate::{EndError, Sink, write_once};
 use std::io::{ErrorKind, Write};
 
 /// The standard output, or another writer of std. It tells no content, and adds to what its writer holds, where that is
-/// known, exactly what it answers. Each error of its writer other than out of memory is counted as a fault, and so is a write
-/// that takes nothing of a piece. A call that a signal interrupted is made again.
+/// known, exactly what it returns. Each error of its writer other than out of memory is counted as a fault, and so is a
+/// write that takes nothing of a piece. A call that a signal interrupted is made again.
 #[derive(Drop)]
 pub struct StdSink<W: Write + Drop> {
     writer: W,

@@ -3,8 +3,7 @@ ghost use Rattle.std.specs.Prelude.{◌≡◌, ◌≤◌, ◌<◌, length, None,
 ghost use Rattle.mm_base.specs.Counts.{Rose};
 
 use crate::tcp_limits::TcpLimits;
-use crate::{EndError, Link};
-use interrupted_calls::{read_once, write_once};
+use crate::{EndError, Link, read_once, write_once};
 use std::io::{self, ErrorKind};
 use std::net::{Shutdown, TcpStream};
 use std::time::{Clock, Duration, Instant};
@@ -18,9 +17,9 @@ const MOST_LAST_BYTES: usize = 67_108_864;
 
 const LAST_PIECE: usize = 16_384;
 
-/// A connection over TCP. It tells no content. Each error other than out of memory is counted as a fault: a peer that resets
-/// the connection, one that takes nothing within the limit while there is something to be given, and one that says
-/// nothing within the limit, where there is one.
+/// A connection over TCP. It tells no content. Each error other than out of memory is counted as a fault: a peer that
+/// resets the connection, one that takes nothing within the limit while there is something to be given, and one that
+/// says nothing within the limit, where there is one.
 ///
 /// Closing its output hears the peer out, until it has ended its side, for at most 67,108,864 bytes and the limit of
 /// leaving: what it still says is let go, since a socket that is closed with bytes unread takes back what the peer
@@ -118,7 +117,7 @@ impl<K: Clock + Drop> TcpLink<K> {
     }
 
     /// Gives bytes of the front of `piece`, as `write` does, but waits for room for one of the `GIVING_WAITS` waits
-    /// alone, and answers how many. None: there was no room, and nothing was given. After a refusal nothing was given.
+    /// alone, and returns how many. None: there was no room, and nothing was given. After a refusal nothing was given.
     pub fn write_in_one_wait(&mut self, piece: &[u8]) -> Result<Option<usize>, EndError>
         ensures within { IfOk result (λ given. IfSome given (λ n. n ≤ length piece.now)) }
         ensures some { IfOk result (λ given. IfSome given (λ n. 0 < length piece.now → 0 < n)) }

@@ -12,10 +12,10 @@ use std::time::Clock;
 // How many connections in a row may break before they are accepted. No run meets it.
 const TRIES: u64 = u64::MAX;
 
-/// A port of TCP at the address 127.0.0.1. It tells no content, and is never drained. Each error other than out of memory is
-/// counted as a fault: a port that can't be had, an `accept` before `listen`, or one more connection than a `u64`
-/// counts. A client that goes away before it is accepted is passed over. After an `accept` that was refused it doesn't
-/// listen any more, so that whoever connects then is refused and doesn't wait.
+/// A port of TCP at the address 127.0.0.1. It tells no content, and is never drained. Each error other than out of
+/// memory is counted as a fault: a port that can't be had, an `accept` before `listen`, or one more connection than a
+/// `u64` counts. A client that goes away before it is accepted is passed over. After an `accept` that was refused it
+/// doesn't listen any more, so that whoever connects then is refused and doesn't wait.
 #[derive(Drop)]
 pub struct TcpPort<R: Net<Stream = TcpStream, Listener = TcpListener> + Clock + Copy + Drop> {
     rt: R,

@@ -12,8 +12,8 @@ use Rattle.command_make.specs.Make.{make_words}
 use Rattle.command_make.proofs.MakeLemmas.{make_words_first}
 use Rattle.command_merge.specs.MergeReading.{merge_words}
 use Rattle.command_merge.proofs.MergeLemmas.{merge_one}
-use Rattle.command_replay.specs.Replay.{replay_words}
-use Rattle.command_replay.proofs.ReplayLemmas.{replay_words_first}
+use Rattle.command_stores.specs.Replaying.{replay_words}
+use Rattle.command_stores.proofs.ReplayLemmas.{replay_words_first}
 use Rattle.command_report.specs.ReportReading.{report_words}
 use Rattle.command_report.proofs.ReportLemmas.{report_words_first}
 use Rattle.command_run.specs.RunReading.{run_words}

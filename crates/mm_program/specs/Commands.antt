@@ -5,7 +5,7 @@ use Rattle.command_ends.specs.Causes.{Text}
 use Rattle.command_ends.specs.Readings.{Reading, map_reading, usage}
 use Rattle.command_make.specs.Make.{make_words}
 use Rattle.command_merge.specs.MergeReading.{merge_words}
-use Rattle.command_replay.specs.Replay.{replay_words}
+use Rattle.command_stores.specs.Replaying.{replay_words}
 use Rattle.command_report.specs.ReportReading.{report_words}
 use Rattle.command_run.specs.RunReading.{run_words}
 use Rattle.command_stores.specs.Matching.{match_words}

@@ -1,11 +1,12 @@
 -- What the commands do once their inputs are read: a task for each, and its work.
 use Rattle.std.specs.Prelude.{ℕ, List}
 use Rattle.mm_base.specs.Link.{LinkView}
-use Rattle.mm_base.specs.Port.{PortView}
+use Rattle.mm_base.specs.Port.{PortView, KeepsPort}
+use Rattle.command_ends.specs.TopCalls.{NetCounts}
 use Rattle.command_ends.specs.Works.{Work, only}
 use Rattle.command_make.specs.Make.{MakeJob, GivesMake}
 use Rattle.command_merge.specs.Merge.{MergeTask, GivesMerge}
-use Rattle.command_replay.specs.Replay.{ReplayTask, serve_work}
+use Rattle.command_stores.specs.Replaying.{ReplayTask, serve_work}
 use Rattle.command_report.specs.Report.{GivesReport}
 use Rattle.command_run.specs.Run.{RunTask, GivesRun}
 use Rattle.command_stores.specs.Matching.{MatchTask, GivesMatch}
@@ -33,3 +34,10 @@ work view (ToMatch task) = only GivesMatch task
 work view (ToMigrate task) = only GivesMigrate task
 work view (ToMerge task) = only GivesMerge task
 work view (ToReplay task) = serve_work view task
+
+-- what a port counts and keeps
+abbrev pub port_counts : {C : Type 0} → NetCounts (PortView C)
+port_counts {C} = record {
+  faults = λ (port : PortView C). port.faults;
+  keeps = λ (old : PortView C) (new : PortView C). KeepsPort old new;
+}

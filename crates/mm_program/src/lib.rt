@@ -1,4 +1,4 @@
-//! The top call: what the words of a command line make of the files of a disk and of a port, and what it answers.
+//! The top call: what the words of a command line make of the files of a disk and of a port, and what it returns.
 #![tactic(auto)]
 
 mod command;

@@ -1,28 +1,21 @@
 // The top call.
-ghost use Rattle.std.specs.Prelude.{◌≡◌, ◌≢◌, ◌⊎◌, Some, None, map, string_bytes};
-ghost use Rattle.mm_base.specs.Counts.{Rose};
-ghost use Rattle.mm_base.specs.Files.{Files};
+ghost use Rattle.std.specs.Prelude.{◌≡◌, ◌≢◌, Some, map, string_bytes};
 ghost use Rattle.mm_base.specs.Port.{KeepsPort};
 ghost use Rattle.mm_base.specs.Sink.{CountsSinkFaults};
 ghost use Rattle.command_ends.specs.Alone.{IsLeftAlone};
-ghost use Rattle.command_ends.specs.Answers.{Answers, CountsDisk, IsFaultless, StopsShort, cause_in};
-ghost use Rattle.command_ends.specs.Causes.{status_of_refusal};
-ghost use Rattle.command_ends.specs.Ends.{Ends, IsDone, KeepsFiles, outside};
-ghost use Rattle.command_ends.specs.Readings.{Reaches, AtRefusal, AtTask, refused_first};
-ghost use Rattle.command_ends.specs.declared.cause.Refusal.{Refusal};
-ghost use Rattle.command_ends.specs.declared.cause.Refusal.TheVariants.{Words};
-ghost use Rattle.command_ends.specs.declared.cause.WordsRefusal.{WordsRefusal};
+ghost use Rattle.command_ends.specs.Answers.{CountsDisk, cause_in};
+ghost use Rattle.command_ends.specs.Ends.{Ends, outside};
+ghost use Rattle.command_ends.specs.TopCalls.{RefusesByWords, TopCall};
 ghost use Rattle.mm_program.specs.Commands.{named_command, reading_of};
-ghost use Rattle.mm_program.specs.Tasks.{Task, work};
+ghost use Rattle.mm_program.specs.Tasks.{port_counts, work};
 
 use crate::command::{Command, read_command};
-use command_ends::{Cause, conclude};
+use command_ends::{Cause, Host, conclude};
 use command_make::answer_make;
 use command_merge::answer_merge;
-use command_replay::answer_replay;
 use command_report::answer_report;
 use command_run::answer_run;
-use command_stores::{answer_match, answer_migrate, answer_record};
+use command_stores::{Threading, answer_match, answer_migrate, answer_record, answer_replay};
 use mm_base::{Disk, Pace, Port, Sink};
 use std::alloc::Global;
 use std::marker::{Send, Sync};
@@ -31,8 +24,7 @@ use std::thread::Threads;
 
 // Does what the words say.
 pub(crate) fn answer<R: Threads + Wait + Sync, D: Disk, O: Sink, P: Port + Send, Q: Pace + Sync>(
-    rt: &R,
-    alloc: Global,
+    host: &Host<'_, R>,
     words: &[String],
     disk: &mut D,
     out: &mut O,
@@ -55,19 +47,25 @@ pub(crate) fn answer<R: Threads + Wait + Sync, D: Disk, O: Sink, P: Port + Send,
         return Err(Cause::usage());
     };
     match read_command(word.as_str()) {
-        Command::Run => answer_run(rt, alloc, words, disk, pace),
-        Command::Report => answer_report(alloc, words, disk, out),
-        Command::Make => answer_make(alloc, words, out),
-        Command::Replay => answer_replay(rt, alloc, words, disk, out, port, pace),
-        Command::Record => answer_record(alloc, words, disk),
-        Command::Match => answer_match(alloc, words, disk, out),
-        Command::Migrate => answer_migrate(alloc, words, disk),
-        Command::Merge => answer_merge(rt, alloc, words, disk, pace),
+        Command::Run => answer_run(host, words, disk, pace),
+        Command::Report => answer_report(host.alloc, words, disk, out),
+        Command::Make => answer_make(host.alloc, words, out),
+        Command::Replay => {
+            let threading = Threading {
+                rt: host.threads,
+                pace,
+            };
+            answer_replay(threading, host.alloc, words, disk, out, port)
+        }
+        Command::Record => answer_record(host.alloc, words, disk),
+        Command::Match => answer_match(host.alloc, words, disk, out),
+        Command::Migrate => answer_migrate(host.alloc, words, disk),
+        Command::Merge => answer_merge(host, words, disk, pace),
         Command::Unknown => Err(Cause::usage()),
     }
 }
 
-/// Does what the words after the program's name say, and answers the exit status.
+/// Does what the words after the program's name say, and returns the exit status.
 ///
 /// `run --until MS --schedule FILE --out FILE [--seed N] [--plain] [--order FILE] -- SHELLS` passes the packets of a
 /// schedule through a nest of 1 to 8 shells up to the horizon `MS` in milliseconds, and writes the logs that the
@@ -102,61 +100,20 @@ pub fn mm_main<R: Threads + Wait + Sync, D: Disk + Send, O: Sink, P: Port + Send
     port: &mut P,
     pace: &Q,
 ) -> u8
-    // 0: the output is written and printed whole, and nothing else is changed.
-    ensures done { result ≡ 0 → IsDone (work P.Conn.view) (reading_of (map string_bytes words.now))
-        (outside (D.view disk.old) (O.view out.old) (P.view port.old))
-        (outside (D.view disk.new) (O.view out.new) (P.view port.new)) }
-
-    // Each status has its cause, what it leaves of the files and of the port, and its line.
-    ensures answered { result ≢ 9 → Answers (work P.Conn.view) (reading_of (map string_bytes words.now))
+    ensures top { TopCall port_counts (work P.Conn.view) (reading_of (map string_bytes words.now))
         (outside (D.view disk.old) (O.view out.old) (P.view port.old))
         (outside (D.view disk.new) (O.view out.new) (P.view port.new)) result }
-    ensures stopped { result ≡ 9 → StopsShort (work P.Conn.view) (reading_of (map string_bytes words.now))
-        (outside (D.view disk.old) (O.view out.old) (P.view port.old))
-        (outside (D.view disk.new) (O.view out.new) (P.view port.new)) }
 
-    // 2 comes by the words alone, but of `merge` also by a name on its list. 3, 6, 7 and 8 only where the disk, `out`
-    // or the port counted it. At 2 to 6 and at 8 no file is changed. No other command than `replay` touches the port,
-    // and `make` asks the disk for nothing.
-    ensures usage { named_command (map string_bytes words.now) ≢ Some Command.Merge → result ≡ 2
-        → ((w : WordsRefusal) × (refused_first (reading_of (map string_bytes words.now)) ≡ Some (Words w))) }
-    ensures words { result ≡ 2 → ((w : WordsRefusal)
-        × Reaches (D.view disk.old).files (reading_of (map string_bytes words.now)) (AtRefusal (Words w))) }
-    ensures absent { result ≡ 3 → Rose (D.view disk.old).absences (D.view disk.new).absences }
-    ensures read_fault { result ≡ 6 → Rose (D.view disk.old).read_faults (D.view disk.new).read_faults }
-    ensures write_fault { result ≡ 7 → Rose (D.view disk.old).write_faults (D.view disk.new).write_faults
-        ⊎ Rose (O.view out.old).faults (O.view out.new).faults }
-    ensures net_fault { result ≡ 8 → Rose (P.view port.old).faults (P.view port.new).faults }
-    ensures keeps { result ≢ 0 → result ≢ 7 → result ≢ 9 → KeepsFiles (D.view disk.old) (D.view disk.new) }
+    // 2 comes by the words alone, but of `merge` also by a name on its list. No other command than `replay` touches the
+    // port, and `make` asks the disk for nothing.
+    ensures usage { named_command (map string_bytes words.now) ≢ Some Command.Merge
+        → RefusesByWords (reading_of (map string_bytes words.now)) result }
     ensures port { named_command (map string_bytes words.now) ≢ Some Command.Replay
         → P.view port.new ≡ P.view port.old }
     ensures make { named_command (map string_bytes words.now) ≡ Some Command.Make
         → D.view disk.new ≡ D.view disk.old }
-
-    // Where the words have no job, or are refused before any file is read, the disk isn't asked, and neither is the
-    // port.
-    ensures disk_alone { IsLeftAlone (reading_of (map string_bytes words.now)) (D.view disk.old) (D.view disk.new) }
-    ensures port_alone { IsLeftAlone (reading_of (map string_bytes words.now)) (P.view port.old) (P.view port.new) }
-
-    // Words that refuse give their status, and so do files that are told, unless reading fails. Nothing refused gives
-    // 0, unless a fault is counted: of `out` where the task prints, of the port where it serves.
-    ensures by_words { (refusal : Refusal) → refused_first (reading_of (map string_bytes words.now)) ≡ Some refusal
-        → (result ≡ status_of_refusal refusal) ⊎ (result ≡ 9) }
-    ensures by_files { (m : Files) (refusal : Refusal) → (D.view disk.old).files ≡ Some m
-        → Reaches (Some m) (reading_of (map string_bytes words.now)) (AtRefusal refusal)
-        → ¬ Rose (D.view disk.old).read_faults (D.view disk.new).read_faults → (result ≡ status_of_refusal refusal)
-        ⊎ (result ≡ 9) }
-    ensures complete { (m : Files) (task : Task) → (D.view disk.old).files ≡ Some m
-        → Reaches (Some m) (reading_of (map string_bytes words.now)) (AtTask task)
-        → IsFaultless (work P.Conn.view) task (outside (D.view disk.old) (O.view out.old) (P.view port.old))
-        (outside (D.view disk.new) (O.view out.new) (P.view port.new))
-        → (result ≡ 0) ⊎ (result ≡ 9) }
-
-    // No count falls, and those of a disk, an `out` or a port that never fails stand still.
-    ensures counts { CountsDisk (D.view disk.old) (D.view disk.new) }
-    ensures out_counts { CountsSinkFaults (O.view out.old) (O.view out.new) }
-    ensures port_counts { KeepsPort (P.view port.old) (P.view port.new) }
 {
-    let answer = answer(rt, alloc, words, disk, out, port, pace);
+    let host = Host { threads: rt, alloc };
+    let answer = answer(&host, words, disk, out, port, pace);
     conclude(&answer, out)
 }

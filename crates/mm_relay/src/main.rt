@@ -2,46 +2,17 @@
 //! and its UDP ports, given to the top call.
 #![tactic(auto)]
 
-ghost use Rattle.std.specs.Prelude.{◌≡◌, IfOk, OnErr};
-ghost use Rattle.std.specs.Process.{exit_status};
-
+use command_ends::{exit_code, read_end, read_words};
 use command_relay::relay_main_told;
 use live_relay::{Pulse, SysClock, UdpWire, drops_at};
-use mm_base::{FileDisk, Sink, StdSink};
-use refusal_lines::{
-    Ending, Reason, reason_of, show_line, system_reason, tell_commit, tell_reason,
-};
+use mm_base::{FileDisk, StdSink};
+use refusal_lines::{tell_files, tell_outside};
 use refusal_words::Program;
 use std::process::ExitCode;
-use std::{env, fs, io};
-
-// The exit status where memory runs out.
-const OUT_OF_MEMORY: u8 = 9;
-
-// The variable of the environment that names a descriptor, whose end is the user's word to end.
-const END: &str = "MM_END_FD";
+use std::{fs, io};
 
 // Where the system tells what it dropped at each UDP socket.
 const SOCKETS: &str = "/proc/net/udp";
-
-// The words after the program's name. Words of which one isn't UTF-8 have no job, as no words have none.
-fn read_words(rt: &HostRuntime) -> io::Result<Vec<String>> {
-    match env::args(rt) {
-        Ok(words) => Ok(words.skip(1).collect(rt.alloc())?),
-        Err(error) if error.kind() == io::ErrorKind::InvalidData => Ok(Vec::new(rt.alloc())),
-        Err(error) => Err(error),
-    }
-}
-
-// The descriptor whose end is the user's word to end, where the environment names one.
-fn read_end(rt: &HostRuntime) -> Option<i32> {
-    let text = env::var(rt, END).ok()?;
-    let descriptor = text.parse::<i32>().ok()?;
-    if descriptor < 0 {
-        return None;
-    }
-    Some(descriptor)
-}
 
 // How many datagrams the system dropped at a port; 0 where it doesn't tell.
 fn drops_of(rt: &HostRuntime, port: Option<u16>) -> u64 {
@@ -96,30 +67,8 @@ fn report(
     let _ = say_lost(rt, wire);
 }
 
-// Why the outside refused the call for which the program ends with this status, if that is known.
-fn reason_at(
-    status: u8,
-    disk: &FileDisk<HostRuntime>,
-    wire: &UdpWire<'_, HostRuntime>,
-) -> Option<Reason> {
-    match status {
-        6 | 7 => reason_of(disk.last_error()?),
-        8 => system_reason(wire.last_error()?),
-        _ => None,
-    }
-}
-
-// Says what the machine's files add to what was told: the line for which an input was refused, or the commit of the
-// program. Where they can't be read, nothing more is said.
-fn tell_more<O: Sink>(rt: &HostRuntime, words: &[String], ending: &Ending, told: &mut O) {
-    let _ = tell_commit(rt, words, told);
-    if let Ok(files) = rt.clone() {
-        let mut disk = FileDisk::new(files);
-        let _ = show_line(rt.alloc(), words, &ending.answer, &mut disk, told);
-    }
-}
-
-// What the words make of the machine's files, its clock and its ports. An error means out of memory before the top call.
+// What the words make of the machine's files, its clock and its ports. An error means out of memory before the top
+// call.
 fn run(rt: &HostRuntime) -> io::Result<u8> {
     let words = read_words(rt)?;
     let pulse = Pulse::new();
@@ -139,25 +88,11 @@ fn run(rt: &HostRuntime) -> io::Result<u8> {
     );
     wire.finish();
     report(rt, ending.status, &clock, &wire);
-    if let Some(reason) = reason_at(ending.status, &disk, &wire) {
-        let input = disk.met_input().unwrap_or("");
-        let _ = tell_reason(Program::Relay, reason, input, &mut told);
-    }
-    tell_more(rt, &words, &ending, &mut told);
+    tell_outside(Program::Relay, &ending, &disk, wire.last_error(), &mut told);
+    tell_files(rt, &words, &ending, &mut told);
     Ok(ending.status)
 }
 
-// Ends the program with the status of the top call, or with that of running out of memory before it.
-fn ended(status: io::Result<u8>) -> ExitCode
-    ensures status { IfOk status (λ status. exit_status result ≡ status) }
-    ensures wanted { OnErr status (exit_status result ≡ 9) }
-{
-    match status {
-        Ok(status) => ExitCode::from(status),
-        Err(_) => ExitCode::from(OUT_OF_MEMORY),
-    }
-}
-
 fn main(rt: HostRuntime) -> ExitCode {
-    ended(run(&rt))
+    exit_code(run(&rt))
 }

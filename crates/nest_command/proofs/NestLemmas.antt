@@ -3,7 +3,8 @@ use Rattle.std.proofs.Common.{◌≡◌, ◌≢◌, inr, ℕ, ◌<◌, ◌≤◌
 use Rattle.std.proofs.Common.{None, Result, MatchResult, refl, ap, subst, sym, ◌∙◌, rules, tests, arith}
 use Rattle.trace_reader.specs.Traces.{TraceView}
 use Rattle.nest_spec.specs.Nests.{opportunities_of}
-use Rattle.nest_spec.specs.declared.shell_words.ShellWords.{ShellWords}
+use Rattle.nest_spec.specs.declared.shell.Shell.{Shell}
+use Rattle.nest_spec.specs.declared.shell_words.LinkSide.{LinkSide}
 use Rattle.command_ends.specs.Causes.{Text, status_of_refusal}
 use Rattle.command_ends.specs.Names.{first_taken, refused_name, refused_names}
 use Rattle.command_ends.specs.Stops.{RefusesText}
@@ -16,32 +17,32 @@ use Rattle.command_ends.specs.declared.cause.WordsRefusal.TheVariants.{Name}
 use Rattle.command_ends.proofs.ReadingLemmas.{IsOfText}
 use Rattle.nest_command.specs.NestReading.{refused_count, refused_horizon}
 
-pub horizon_over : (until : ℕ) (cause : Cause) → 3600000 < until → cause ≡ Refused (Limit Horizon)
-    → RefusesText (refused_horizon until) cause
+pub horizon_over : (horizon : ℕ) (cause : Cause) → 3600000 < horizon → cause ≡ Refused (Limit Horizon)
+    → RefusesText (refused_horizon horizon) cause
 unfolding refused_horizon
-horizon_over until cause lt is =
-    let over : nat_lt 3600000 until ≡ true = search (rules, tests) in
+horizon_over horizon cause lt is =
+    let over : nat_lt 3600000 horizon ≡ true = search (rules, tests) in
     inr (Limit Horizon, is, ap (λ b. cond b (Some (Limit Horizon)) None) over)
 
-pub horizon_within : (until : ℕ) → until ≤ 3600000 → refused_horizon until ≡ None
+pub horizon_within : (horizon : ℕ) → horizon ≤ 3600000 → refused_horizon horizon ≡ None
 unfolding refused_horizon
-horizon_within until le =
-    let within : nat_lt 3600000 until ≡ false = search (rules, tests) in
+horizon_within horizon le =
+    let within : nat_lt 3600000 horizon ≡ false = search (rules, tests) in
     ap (λ b. cond b (Some (Limit Horizon)) None) within
 
-pub count_over : (until : ℕ) (shells : List ShellWords) (traces : List TraceView) (cause : Cause)
-    → 16000000 < opportunities_of until shells traces → cause ≡ Refused (Limit Opportunities)
-    → RefusesText (refused_count until shells traces) cause
+pub count_over : (horizon : ℕ) (shells : List (Shell LinkSide)) (traces : List TraceView) (cause : Cause)
+    → 16000000 < opportunities_of horizon shells traces → cause ≡ Refused (Limit Opportunities)
+    → RefusesText (refused_count horizon shells traces) cause
 unfolding refused_count
-count_over until shells traces cause lt is =
-    let over : nat_lt 16000000 (opportunities_of until shells traces) ≡ true = search (rules, tests) in
+count_over horizon shells traces cause lt is =
+    let over : nat_lt 16000000 (opportunities_of horizon shells traces) ≡ true = search (rules, tests) in
     inr (Limit Opportunities, is, ap (λ b. cond b (Some (Limit Opportunities)) None) over)
 
-pub count_within : (until : ℕ) (shells : List ShellWords) (traces : List TraceView)
-    → opportunities_of until shells traces ≤ 16000000 → refused_count until shells traces ≡ None
+pub count_within : (horizon : ℕ) (shells : List (Shell LinkSide)) (traces : List TraceView)
+    → opportunities_of horizon shells traces ≤ 16000000 → refused_count horizon shells traces ≡ None
 unfolding refused_count
-count_within until shells traces le =
-    let within : nat_lt 16000000 (opportunities_of until shells traces) ≡ false = search (rules, tests) in
+count_within horizon shells traces le =
+    let within : nat_lt 16000000 (opportunities_of horizon shells traces) ≡ false = search (rules, tests) in
     ap (λ b. cond b (Some (Limit Opportunities)) None) within
 
 five : (limit : Refusal) (refusal : Refusal) (b : Bool) → status_of_refusal limit ≡ 5
@@ -52,15 +53,15 @@ five limit refusal true is e =
     record { not_words = λ h. omega arith; not_absent = λ h. omega arith }
 five limit refusal false is e = absurd (cc e)
 
-pub horizon_text : (until : ℕ) (refusal : Refusal) → refused_horizon until ≡ Some refusal → IsOfText refusal
+pub horizon_text : (horizon : ℕ) (refusal : Refusal) → refused_horizon horizon ≡ Some refusal → IsOfText refusal
 unfolding refused_horizon
-horizon_text until refusal e = five (Limit Horizon) refusal (nat_lt 3600000 until) refl e
+horizon_text horizon refusal e = five (Limit Horizon) refusal (nat_lt 3600000 horizon) refl e
 
-pub count_text : (until : ℕ) (shells : List ShellWords) (traces : List TraceView) (refusal : Refusal)
-    → refused_count until shells traces ≡ Some refusal → IsOfText refusal
+pub count_text : (horizon : ℕ) (shells : List (Shell LinkSide)) (traces : List TraceView) (refusal : Refusal)
+    → refused_count horizon shells traces ≡ Some refusal → IsOfText refusal
 unfolding refused_count
-count_text until shells traces refusal e = five (Limit Opportunities) refusal
-    (nat_lt 16000000 (opportunities_of until shells traces)) refl e
+count_text horizon shells traces refusal e = five (Limit Opportunities) refusal
+    (nat_lt 16000000 (opportunities_of horizon shells traces)) refl e
 
 name_status : (found : Option Text) (refusal : Refusal) → refused_name found ≡ Some refusal
     → status_of_refusal refusal ≢ 3

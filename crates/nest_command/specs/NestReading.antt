@@ -5,7 +5,8 @@ use Rattle.nest_spec.specs.NestFaults.{number_of, place_of, inner_of}
 use Rattle.nest_spec.specs.Nests.{opportunities_of}
 use Rattle.nest_spec.specs.Words.{NestPlan}
 use Rattle.nest_spec.specs.declared.error.NestError.{NestError}
-use Rattle.nest_spec.specs.declared.shell_words.ShellWords.{ShellWords}
+use Rattle.nest_spec.specs.declared.shell.Shell.{Shell}
+use Rattle.nest_spec.specs.declared.shell_words.LinkSide.{LinkSide}
 use Rattle.command_ends.specs.Readings.{Reading, Refuses}
 use Rattle.command_ends.specs.declared.cause.Limit.TheVariants.{Horizon, Opportunities}
 use Rattle.command_ends.specs.declared.cause.Refusal.{Refusal}
@@ -23,9 +24,9 @@ with_nest (Ok plan) next = next plan
 
 -- a horizon past an hour is refused
 unfoldable pub refused_horizon : ℕ → Option Refusal
-refused_horizon until = if nat_lt 3600000 until then Some (Limit Horizon) else None
+refused_horizon horizon = if nat_lt 3600000 horizon then Some (Limit Horizon) else None
 
 -- more than 16,000,000 opportunities up to the horizon are refused, both directions together
-unfoldable pub refused_count : ℕ → List ShellWords → List TraceView → Option Refusal
-refused_count until shells traces = if nat_lt 16000000 (opportunities_of until shells traces)
+unfoldable pub refused_count : ℕ → List (Shell LinkSide) → List TraceView → Option Refusal
+refused_count horizon shells traces = if nat_lt 16000000 (opportunities_of horizon shells traces)
     then Some (Limit Opportunities) else None

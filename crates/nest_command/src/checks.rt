@@ -60,26 +60,26 @@ pub fn check_outputs(alloc: Global, inputs: &[&str], outputs: &[&str]) -> Result
     }
 }
 
-/// Refuses a horizon `until` past an hour, 3,600,000 milliseconds.
-pub fn check_horizon(until: u64) -> Result<(), Cause>
-    ensures refused { MatchResult result (λ _. refused_horizon until ≡ None)
-        (λ cause. RefusesText (refused_horizon until) cause) }
-    ensures small { OnOk result (until ≤ 3600000) }
+/// Refuses a horizon past an hour, 3,600,000 milliseconds.
+pub fn check_horizon(horizon: u64) -> Result<(), Cause>
+    ensures refused { MatchResult result (λ _. refused_horizon horizon ≡ None)
+        (λ cause. RefusesText (refused_horizon horizon) cause) }
+    ensures small { OnOk result (horizon ≤ 3600000) }
 {
-    if until > HOUR {
+    if horizon > HOUR {
         return Err(Cause::limit(Limit::Horizon));
     }
     Ok(())
 }
 
-/// Refuses traces with more than 16,000,000 opportunities up to the horizon `until`, in both directions together.
-pub fn check_count(until: u64, words: &NestWords, traces: &[Trace]) -> Result<(), Cause>
-    requires horizon { until ≤ 3600000 }
+/// Refuses traces with more than 16,000,000 opportunities up to the horizon, in both directions together.
+pub fn check_count(horizon: u64, words: &NestWords, traces: &[Trace]) -> Result<(), Cause>
+    requires hour { horizon ≤ 3600000 }
     requires count { length traces.now ≡ length words.now.traces }
-    ensures few { OnOk result (opportunities_of until words.now.shells traces.now ≤ 16000000) }
-    ensures refused { IfErr result (λ cause. RefusesText (refused_count until words.now.shells traces.now) cause) }
+    ensures few { OnOk result (opportunities_of horizon words.now.shells traces.now ≤ 16000000) }
+    ensures refused { IfErr result (λ cause. RefusesText (refused_count horizon words.now.shells traces.now) cause) }
 {
-    if words.opportunities(traces, until) > MOST_OPPORTUNITIES {
+    if words.opportunities(traces, horizon) > MOST_OPPORTUNITIES {
         return Err(Cause::limit(Limit::Opportunities));
     }
     Ok(())

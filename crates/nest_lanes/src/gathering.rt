@@ -41,9 +41,7 @@ fn gather_shell(
     shell: ShellDirection,
     state: ShellState,
 ) -> Result<(Vec<Timed>, Option<UnwrittenLog>), OutOfMemory>
-    requires spec { state.spec ≡ shell.spec }
-    requires ended { state.taken.end ≡ Ended }
-    requires short { state.horizon ≤ 3600000 }
+    requires state { (state.spec ≡ shell.spec) × (state.taken.end ≡ Ended) × (state.horizon ≤ 3600000) }
     requires link { IsSome shell.log → IsLink shell.spec }
     ensures rows { marking.new.rows ≡ marking.old.rows }
     ensures fates { OnOk result ((f : RowValue → FateValue) → marking.old.fates ≡ fated f marking.old.rows

@@ -13,12 +13,9 @@ use Rattle.packet_record.proofs.MomentsLemmas.{from_lower, up_to_higher, rise-ap
 use Rattle.packet_record.specs.Packets.{number}
 use Rattle.link_core.specs.Promises.{count_to}
 use Rattle.link_core.specs.inside.Promises.{Extends}
-use Rattle.shell_core.specs.declared.spec.DirSpec.{DirSpec}
-use Rattle.shell_core.specs.declared.spec.DirSpec.TheVariants.{Pass, Delay, Loss, Link}
-use Rattle.shell_core.specs.Shells.{out, whole_out, opportunities}
+use Rattle.shell_core.specs.Shells.{whole_out}
 use Rattle.shell_core.specs.Wholes.{IsLink}
-use Rattle.shell_core.proofs.Once.{number_once}
-use Rattle.shell_core.proofs.Laws.{out_fed, out_rises, floor_from, floor_grows}
+use Rattle.shell_core.proofs.Laws.{out_fed, out_rises, floor_from, floor_grows, number_once, link_or_not, none_of}
 use Rattle.shell_state.specs.States.{State, opps_of, departures, ready, floor_of}
 use Rattle.shell_state.specs.Steps.{licensed}
 use Rattle.shell_state.specs.Causes.{Waits}
@@ -32,26 +29,12 @@ use Rattle.nest_line.specs.Lines.{IsFront, last_out, number_all, up_to}
 use Rattle.nest_line.specs.inside.Meeting.{IsSound, Rests, Meet}
 use Rattle.nest_line.specs.views.Meeting.{last_taken, lost_of, specs_of}
 
-link_or_not : (c : DirSpec) → (IsLink c) ⊎ (IsLink c → ⊥)
-link_or_not Pass = inr (λ link. link)
-link_or_not (Delay ms) = inr (λ link. link)
-link_or_not (Loss rate seed stream) = inr (λ link. link)
-link_or_not (Link trace once queue) = inl tt
-
 le_or_lt : (m n : ℕ) → (m ≤ n) ⊎ (n < m)
 le_or_lt m n = by (nat_le m n) refl
   where
     by : (b : Bool) → nat_le m n ≡ b → (m ≤ n) ⊎ (n < m)
     by true e = inl (search (rules, tests))
     by false e = inr (search (rules, tests))
-
--- only links have opportunities
-none_of : (c : DirSpec) (h n : ℕ) → (IsLink c → ⊥) → count_to (opportunities c h) n ≡ 0
-unfolding opportunities
-none_of Pass h n not = refl
-none_of (Delay ms) h n not = refl
-none_of (Loss rate seed stream) h n not = refl
-none_of (Link trace once queue) h n not = absurd (not tt)
 
 -- all is what was taken, and others that are after this moment and not before the bound of what was taken
 pub record Later (s : State) (m : ℕ) (all : List Timed) : Type 0 where

@@ -20,9 +20,8 @@ use text_base::OutOfMemory;
 /// One direction of a nest. It is fed items, and lets each pass all shells as far as it can before the next.
 ///
 /// Contracts see what its shells do, the horizon, the stream that was fed, what each shell has dropped, and the packets
-/// that have departed from the last shell. Some of these may have moments after the stream's bound, where no packet that
-/// may still come can change
-/// them.
+/// that have departed from the last shell. Some of these may have moments after the stream's bound, where no packet
+/// that may still come can change them.
 #[derive(Drop)]
 pub struct Line {
     horizon: u64,
@@ -81,8 +80,8 @@ impl Line {
         last_departed(self.states.as_slice(), &[])
     }
 
-    /// Returns the packets that shell `shell` has dropped so far, in order. Shells are counted from 0, in passing order;
-    /// past the last one there are none.
+    /// Returns the packets that shell `shell` has dropped so far, in order. Shells are counted from 0, in passing
+    /// order; past the last one there are none.
     pub fn lost(&self, shell: usize) -> &[Timed]
         ensures { result.now ≡ get_or self.now.lost shell [] }
     {

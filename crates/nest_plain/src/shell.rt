@@ -33,9 +33,8 @@ fn run_shell(
     shell: ShellDirection,
     arrived: Vec<Timed>,
 ) -> Result<(Vec<Timed>, Option<UnwrittenLog>), OutOfMemory>
-    requires range { IsInRange shell.spec }
+    requires fit { IsInRange shell.spec × (length (opportunities shell.spec horizon) ≤ 16000000) }
     requires horizon { horizon ≤ 3600000 }
-    requires few { length (opportunities shell.spec horizon) ≤ 16000000 }
     requires link { IsSome shell.log → IsLink shell.spec }
     requires rises { Rise arrived.items }
     requires within { AreUpTo horizon arrived.items }

@@ -1,1 +1,2 @@
+pub mod BothLanes
 pub mod Streamed

@@ -6,6 +6,7 @@ use Rattle.text_base.specs.Lines.{lines_of}
 use Rattle.mm_base.specs.declared.errors.DiskError.{DiskError}
 use Rattle.mm_base.specs.declared.errors.DiskError.TheVariants as disk_errors
 use Rattle.packet_record.specs.declared.packet.Direction.{Direction}
+use Rattle.packet_record.specs.declared.packet.Direction.TheVariants.{Up, Down}
 use Rattle.packet_record.specs.declared.packet.Row.{Row}
 use Rattle.packet_record.specs.declared.reading.ScheduleError.{ScheduleError}
 use Rattle.packet_record.specs.declared.reading.ScheduleError.TheVariants as schedule_errors
@@ -14,7 +15,10 @@ use Rattle.packet_record.specs.Rows.{entering}
 use Rattle.packet_record.specs.Schedules.{first_fault}
 use Rattle.row_source.specs.StreamParts.{AllSent, IsStreamed}
 use Rattle.nest_lanes.specs.declared.lane.Lane.{Lane}
+use Rattle.mark_channel.specs.Boths.{ByDirection, OfBoth}
 use Rattle.nest_lanes.specs.Lanes.{HasCarried, IsDonePath}
+use Rattle.nest_runner.specs.declared.lanes.Lanes.{Lanes}
+use Rattle.nest_runner.specs.inside.Lanes.{lanes_of}
 use Rattle.nest_runner.specs.Streaming.{HasStreamCause, of_disk, of_schedule}
 
 pub ok_has : {T E : Type 0} (result : Result T E) (value : T) (P : Type 0) → result ≡ Ok value → OnOk result P → P
@@ -67,3 +71,12 @@ streamed_lane d h sent rows lane is all done = record {
   over = all.over;
   done = done;
 }
+
+-- the same of both directions
+pub streamed_lanes : (h : ℕ) (sent rows : List Row) (lanes : Lanes) → rows ≡ sent
+    → ByDirection (λ d head. AllSent d h sent head) lanes.heads → OfBoth IsDonePath lanes.paths
+    → ByDirection (λ d lane. HasCarried (entering d h rows) lane) (lanes_of lanes)
+streamed_lanes h sent rows lanes is all done = (
+  streamed_lane Up h sent rows (lanes_of lanes).up is all.0 done.0,
+  streamed_lane Down h sent rows (lanes_of lanes).down is all.1 done.1,
+)

@@ -6,6 +6,7 @@
 #![tactic(auto)]
 
 mod feeds;
+mod lanes;
 mod run;
 mod stream;
 mod stream_error;

@@ -1,24 +1,27 @@
 // Runs of a nest over threads, whose schedule is in memory.
 ghost use Rattle.std.specs.Prelude.{◌≡◌, ◌≢◌, ◌≤◌, length, OnOk, IfOk};
 ghost use Rattle.std.specs.Thread.{IsSync};
-ghost use Rattle.packet_record.specs.declared.item.FlowEnd.TheVariants.{Open, Ended as IsOver};
-ghost use Rattle.packet_record.specs.declared.packet.Direction.TheVariants.{Up, Down};
+ghost use Rattle.packet_record.specs.declared.item.FlowEnd.TheVariants.{Open};
 ghost use Rattle.packet_record.specs.Rows.{Rises, entering};
 ghost use Rattle.packet_record.specs.Streams.{no_items};
+ghost use Rattle.mark_channel.specs.Boths.{BothKeep, ByDirection, OfBoth};
 ghost use Rattle.mark_channel.specs.Ends.{IsSameEnd};
+ghost use Rattle.mark_channel.specs.Feedings.{HasSentRows};
 ghost use Rattle.nest_spec.specs.Nests.{result_of};
 ghost use Rattle.nest_spec.specs.Once.{HaveOneFate};
 ghost use Rattle.shell_workers.specs.Ends.{IfEnded};
 ghost use Rattle.nest_lanes.specs.Lanes.{HasCarried, HasRun, IsDonePath, IsFreshLane, IsFreshPath, IsSamePath};
 ghost use Rattle.nest_lanes.specs.inside.Lanes.{HasEnded, IsSameLane};
+ghost use Rattle.nest_runner.specs.inside.Lanes.{lanes_of};
 
-use mark_channel::{Begun, Sender};
+use crate::lanes::Lanes;
+use mark_channel::{Run, Sender};
 use mm_base::Pace;
 use nest_lanes::{Lane, gather_lanes, none_begun, run_paths};
 use nest_plain::NestRun;
 use nest_spec::{Nest, RunResult};
-use packet_record::{Direction, Row, Schedule};
-use row_source::source;
+use packet_record::{Both, Row, Schedule};
+use row_source::source_rows;
 use shell_workers::WorkEnd;
 use std::alloc::Global;
 use std::marker::Sync;
@@ -44,7 +47,7 @@ pub fn run_nest_threads<Q: Pace + Sync, R: Threads + Wait + Sync>(
     ensures once { OnOk result (HaveOneFate nest.now schedule.now) }
 {
     let rows = schedule.rows();
-    let (up, down) = run_rows(rt, alloc, nest, rows, pace)?;
+    let Both { up, down } = run_rows(rt, alloc, nest, rows, pace)?;
     gather_lanes(alloc, nest, schedule, up, down)
 }
 
@@ -62,105 +65,91 @@ pub fn run_threads<Q: Pace + Sync, R: Threads + Wait + Sync>(
     run_nest_threads(rt, alloc, nest, schedule, pace)?.into_result()
 }
 
-// Runs rows through both directions of a nest. Returns the lanes up and down, in which every stream came to its end.
-// Returns `OutOfMemory` where a stream was broken off.
+// Runs rows through both directions of a nest. Returns the lanes, in which every stream came to its end. Returns
+// `OutOfMemory` where a stream was broken off.
 fn run_rows<Q: Pace + Sync, R: Threads + Wait + Sync>(
     rt: &R,
     alloc: Global,
     nest: &Nest,
     rows: &[Row],
     pace: &Q,
-) -> Result<(Lane, Lane), OutOfMemory>
+) -> Result<Both<Lane>, OutOfMemory>
     requires rises { Rises 0 rows.now }
-    ensures ended { IfOk result (λ lanes. HasEnded lanes.0 × HasEnded lanes.1) }
-    ensures up { IfOk result (λ lanes. HasRun Up nest.now rows.now lanes.0) }
-    ensures down { IfOk result (λ lanes. HasRun Down nest.now rows.now lanes.1) }
+    ensures ended { IfOk result (λ lanes. OfBoth HasEnded lanes) }
+    ensures ran { IfOk result (λ lanes. ByDirection (λ d lane. HasRun d nest.now rows.now lane) lanes) }
 {
-    let mut up = Lane::open(alloc, nest, Direction::Up)?;
-    let mut down = Lane::open(alloc, nest, Direction::Down)?;
+    let mut lanes = Lanes::open(alloc, nest)?;
     let shells = nest.shells();
-    let end = run_lanes(rt, rows, nest.horizon(), &mut up, &mut down, shells, pace);
+    let begun = none_begun(shells);
+    let run = Run {
+        rt,
+        pace,
+        begun: &begun,
+    };
+    let end = run_lanes(&run, rows, nest.horizon(), &mut lanes, shells);
     let WorkEnd::Ended = end else {
         return Err(OutOfMemory);
     };
-    Ok((up, down))
+    Ok(lanes.into_both())
 }
 
 // Runs the source beside the paths of both directions. `shells` is how many shells the nest has. Returns the worse of
 // their ends.
 fn run_lanes<Q: Pace + Sync, R: Threads + Wait + Sync>(
-    rt: &R,
+    run: &Run<'_, Q, R>,
     rows: &[Row],
     horizon: u64,
-    up: &mut Lane,
-    down: &mut Lane,
+    lanes: &mut Lanes,
     shells: u32,
-    pace: &Q,
 ) -> WorkEnd
-    requires fresh { IsFreshLane horizon up.old × IsFreshLane horizon down.old }
-    requires few { (length up.old.path.stages.items ≤ 8) × (length down.old.path.stages.items ≤ 8) }
+    requires fresh { OfBoth (IsFreshLane horizon) (lanes_of lanes.old) }
+    requires few { OfBoth (λ path. length path.stages.items ≤ 8) lanes.old.paths }
     requires rises { Rises 0 rows.now }
-    ensures up { IfEnded result (HasCarried (entering Up horizon rows.now) up.new) }
-    ensures down { IfEnded result (HasCarried (entering Down horizon rows.now) down.new) }
-    ensures same { IsSameLane up.old up.new × IsSameLane down.old down.new }
+    ensures carried { IfEnded result
+        (ByDirection (λ d lane. HasCarried (entering d horizon rows.now) lane) (lanes_of lanes.new)) }
+    ensures same { BothKeep IsSameLane (lanes_of lanes.old) (lanes_of lanes.new) }
 {
-    let Lane {
-        head: up_head,
-        path: up_path,
-    } = up;
-    let Lane {
-        head: down_head,
-        path: down_path,
-    } = down;
-    let begun = none_begun(shells);
+    let Lanes { heads, paths } = lanes;
     // The paths stand first, since they go on only once the source does.
     let (passed, sent) = join_mut(
-        rt,
+        run.rt,
         &mut || -> WorkEnd
-            requires { IsFreshPath up_path.now × IsFreshPath down_path.now
-                × (length up_path.now.stages.items ≤ 8) × (length down_path.now.stages.items ≤ 8)
+            requires { OfBoth IsFreshPath paths.now × OfBoth (λ path. length path.stages.items ≤ 8) paths.now
                 × IsSync R.row × IsSync Q.row }
-            ensures done { IfEnded result (IsDonePath up_path.exit.now × IsDonePath down_path.exit.now) }
-            ensures same { IsSamePath up_path.entry.now up_path.exit.now
-                × IsSamePath down_path.entry.now down_path.exit.now }
-        { run_paths(rt, up_path, down_path, shells, pace, &begun) },
+            ensures done { IfEnded result (OfBoth IsDonePath paths.exit.now) }
+            ensures same { BothKeep IsSamePath paths.entry.now paths.exit.now }
+        { run_paths(run, paths, shells) },
         &mut || -> WorkEnd
-            requires { (up_head.now.flow ≡ no_items) × (down_head.now.flow ≡ no_items)
-                × (up_head.now.horizon ≡ horizon) × (down_head.now.horizon ≡ horizon)
+            requires { OfBoth (λ head. head.flow ≡ no_items) heads.now
+                × OfBoth (λ head. head.horizon ≡ horizon) heads.now
                 × Rises 0 rows.now × IsSync R.row × IsSync Q.row }
-            ensures up { IfEnded result ((up_head.exit.now.flow.packets ≡ entering Up horizon rows.entry.now)
-                × (up_head.exit.now.flow.end ≡ IsOver)) }
-            ensures down { IfEnded result ((down_head.exit.now.flow.packets ≡ entering Down horizon rows.entry.now)
-                × (down_head.exit.now.flow.end ≡ IsOver)) }
-            ensures same { IsSameEnd up_head.entry.now up_head.exit.now
-                × IsSameEnd down_head.entry.now down_head.exit.now }
-        { run_source(rt, rows, horizon, up_head, down_head, pace, &begun) },
+            ensures sent { IfEnded result
+                (ByDirection (λ d head. HasSentRows d horizon rows.entry.now head.flow) heads.exit.now) }
+            ensures same { BothKeep IsSameEnd heads.entry.now heads.exit.now }
+        { run_source(run, rows, horizon, heads) },
     );
     sent.worse(passed)
 }
 
 // Runs the source once all other workers have begun. Breaks both directions off where they can't.
 fn run_source<Q: Pace, R: Wait>(
-    rt: &R,
+    run: &Run<'_, Q, R>,
     rows: &[Row],
     horizon: u64,
-    up: &mut Sender,
-    down: &mut Sender,
-    pace: &Q,
-    begun: &Begun,
+    heads: &mut Both<Sender>,
 ) -> WorkEnd
-    requires empty { (up.old.flow ≡ no_items) × (down.old.flow ≡ no_items) }
-    requires horizon { (up.old.horizon ≡ horizon) × (down.old.horizon ≡ horizon) }
+    requires empty { OfBoth (λ head. head.flow ≡ no_items) heads.old }
+    requires horizon { OfBoth (λ head. head.horizon ≡ horizon) heads.old }
     requires rises { Rises 0 rows.now }
-    ensures up { IfEnded result ((up.new.flow.packets ≡ entering Up horizon rows.now) × (up.new.flow.end ≡ IsOver)) }
-    ensures down { IfEnded result ((down.new.flow.packets ≡ entering Down horizon rows.now)
-        × (down.new.flow.end ≡ IsOver)) }
-    ensures over { (up.new.flow.end ≢ Open) × (down.new.flow.end ≢ Open) }
-    ensures same { IsSameEnd up.old up.new × IsSameEnd down.old down.new }
+    ensures sent { IfEnded result
+        (ByDirection (λ d head. HasSentRows d horizon rows.now head.flow) heads.new) }
+    ensures over { OfBoth (λ head. head.flow.end ≢ Open) heads.new }
+    ensures same { BothKeep IsSameEnd heads.old heads.new }
 {
-    if begun.wait(rt, up, down).is_err() {
+    let Both { up, down } = heads;
+    if run.begun.wait(run.rt, up, down).is_err() {
         return WorkEnd::OutOfMemory;
     }
-    source(rt, rows, horizon, up, down, pace);
+    source_rows(run, rows, horizon, heads);
     WorkEnd::Ended
 }

@@ -1,28 +1,28 @@
 // Runs of a nest over threads, whose schedule is read while its packets pass.
-ghost use Rattle.std.specs.Prelude.{◌≡◌, ◌≤◌, ◌<◌, [], None, length, IfErr, IfOk, OnOk, IsErrOf};
+ghost use Rattle.std.specs.Prelude.{◌≡◌, ◌≤◌, None, length, IfErr, IfOk, OnOk};
 ghost use Rattle.std.specs.Thread.{IsSync};
-ghost use Rattle.mm_base.specs.Disk.{HasReadCause, OnlyReads};
-ghost use Rattle.mm_base.specs.Files.{IsAbsent};
-ghost use Rattle.file_pieces.specs.Pieces.{HasSize};
-ghost use Rattle.packet_record.specs.declared.packet.Direction.TheVariants.{Up, Down};
-ghost use Rattle.packet_record.specs.PartsRead.{HasRead};
-ghost use Rattle.packet_record.specs.Rows.{entering};
-ghost use Rattle.packet_record.specs.Streams.{no_items};
+ghost use Rattle.mm_base.specs.Disk.{OnlyReads};
+ghost use Rattle.mm_base.specs.Pieces.{HasSize};
+ghost use Rattle.mark_channel.specs.Boths.{BothKeep, ByDirection, OfBoth};
 ghost use Rattle.mark_channel.specs.Ends.{IsSameEnd};
 ghost use Rattle.shell_workers.specs.Ends.{IfEnded};
-ghost use Rattle.nest_lanes.specs.Lanes.{HasCarried, HasRun, IsDonePath, IsFreshLane, IsFreshPath, IsSamePath};
-ghost use Rattle.nest_lanes.specs.inside.Lanes.{HasEnded, IsSameLane};
-ghost use Rattle.nest_runner.specs.Streaming.{HasStreamCause, IsScheduleOf, StreamsTo};
+ghost use Rattle.row_source.specs.Reading.{IsUnread, ReadsFile};
+ghost use Rattle.row_source.specs.Sending.{IsUnsent};
 ghost use Rattle.row_source.specs.StreamParts.{AllSent, IsStreamed};
+ghost use Rattle.nest_lanes.specs.Lanes.{HasRun, IsDonePath, IsFreshLane, IsFreshPath, IsSamePath};
+ghost use Rattle.nest_lanes.specs.inside.Lanes.{HasEnded, IsSameLane};
+ghost use Rattle.nest_runner.specs.inside.Lanes.{lanes_of};
+ghost use Rattle.nest_runner.specs.Streaming.{HasStreamCause, IsScheduleOf, StreamsTo};
 
 use crate::StreamError;
-use file_pieces::{piece_buffer, size_within};
-use mm_base::{Disk, DiskError, Pace};
+use crate::lanes::Lanes;
+use mark_channel::Run;
+use mm_base::{Disk, DiskError, FilePlace, Pace, piece_buffer, size_within};
 use nest_lanes::{Lane, gather_lanes, none_begun, run_paths};
 use nest_plain::NestRun;
 use nest_spec::{Nest, RunResult};
-use packet_record::{Direction, Schedule, ScheduleText};
-use row_source::stream_source;
+use packet_record::{Both, Schedule, ScheduleText};
+use row_source::{ScheduleFile, stream_source};
 use shell_workers::WorkEnd;
 use std::alloc::Global;
 use std::marker::Sync;
@@ -52,7 +52,9 @@ pub fn run_nest_stream<D: Disk, Q: Pace + Sync, R: Threads + Wait + Sync>(
     ensures only_reads { OnlyReads (D.view disk.old) (D.view disk.new) }
 {
     let size = size_within(disk, name)?;
-    let (schedule, up, down) = run_file(rt, alloc, nest, disk, name, size, pace)?;
+    let place = FilePlace { name, at: 0, size };
+    let (schedule, lanes) = run_file(rt, alloc, nest, disk, &place, pace)?;
+    let Both { up, down } = lanes;
     Ok(gather_lanes(alloc, nest, &schedule, up, down)?)
 }
 
@@ -73,145 +75,95 @@ pub fn run_stream<D: Disk, Q: Pace + Sync, R: Threads + Wait + Sync>(
     Ok(run.into_result()?)
 }
 
-// Runs the schedule in a file of `size` bytes through both directions of a nest. Returns the schedule, and the lanes up
-// and down, in which every stream came to its end.
+// Reads the schedule at `place` from its first byte on, and runs its rows through both directions of a nest meanwhile.
+// Returns the schedule, and the lanes, in which every stream came to its end. An error of reading comes first, then a
+// refusal of the text, then out of memory in another worker.
 fn run_file<D: Disk, Q: Pace + Sync, R: Threads + Wait + Sync>(
     rt: &R,
     alloc: Global,
     nest: &Nest,
     disk: &mut D,
-    name: &str,
-    size: u64,
+    place: &FilePlace<'_>,
     pace: &Q,
-) -> Result<(Schedule, Lane, Lane), StreamError>
-    requires size { HasSize (D.view disk.old).files name.now size }
-    ensures ended { IfOk result (λ r. HasEnded r.1 × HasEnded r.2) }
-    ensures schedule { IfOk result (λ r. IsScheduleOf (D.view disk.old).files name.now r.0) }
-    ensures up { IfOk result (λ r. HasRun Up nest.now r.0 r.1) }
-    ensures down { IfOk result (λ r. HasRun Down nest.now r.0 r.2) }
-    ensures stopped { IfErr result (λ e. HasStreamCause (D.view disk.old) (D.view disk.new) name.now e) }
+) -> Result<(Schedule, Both<Lane>), StreamError>
+    requires size { HasSize (D.view disk.old).files place.now.name.now place.now.size }
+    requires start { place.now.at ≡ 0 }
+    ensures ended { IfOk result (λ r. OfBoth HasEnded r.1) }
+    ensures schedule { IfOk result (λ r. IsScheduleOf (D.view disk.old).files place.now.name.now r.0) }
+    ensures ran { IfOk result (λ r. ByDirection (λ d lane. HasRun d nest.now r.0 lane) r.1) }
+    ensures stopped { IfErr result (λ e. HasStreamCause (D.view disk.old) (D.view disk.new) place.now.name.now e) }
     ensures only_reads { OnlyReads (D.view disk.old) (D.view disk.new) }
 {
-    let mut up = Lane::open(alloc, nest, Direction::Up)?;
-    let mut down = Lane::open(alloc, nest, Direction::Down)?;
-    let horizon = nest.horizon();
+    let mut lanes = Lanes::open(alloc, nest)?;
+    let text = ScheduleText::new(alloc, place.size as usize)?;
+    let piece = piece_buffer(alloc, place.size)?;
+    let mut file = ScheduleFile {
+        place: *place,
+        piece,
+        text,
+    };
     let shells = nest.shells();
-    let schedule = carry_file(
-        rt, alloc, disk, name, size, horizon, &mut up, &mut down, shells, pace,
-    )?;
-    Ok((schedule, up, down))
-}
-
-// Reads the schedule in a file of `size` bytes, and carries its rows through both lanes meanwhile. Returns the schedule
-// where every stream in the lanes came to its end. An error of reading comes first, then a refusal of the text, then
-// out of memory in another worker.
-fn carry_file<D: Disk, Q: Pace + Sync, R: Threads + Wait + Sync>(
-    rt: &R,
-    alloc: Global,
-    disk: &mut D,
-    name: &str,
-    size: u64,
-    horizon: u64,
-    up: &mut Lane,
-    down: &mut Lane,
-    shells: u32,
-    pace: &Q,
-) -> Result<Schedule, StreamError>
-    requires size { HasSize (D.view disk.old).files name.now size }
-    requires fresh { IsFreshLane horizon up.old × IsFreshLane horizon down.old }
-    requires few { (length up.old.path.stages.items ≤ 8) × (length down.old.path.stages.items ≤ 8) }
-    ensures schedule { IfOk result (λ s. IsScheduleOf (D.view disk.old).files name.now s) }
-    ensures up { IfOk result (λ s. HasCarried (entering Up horizon s) up.new) }
-    ensures down { IfOk result (λ s. HasCarried (entering Down horizon s) down.new) }
-    ensures same { OnOk result (IsSameLane up.old up.new × IsSameLane down.old down.new) }
-    ensures stopped { IfErr result (λ e. HasStreamCause (D.view disk.old) (D.view disk.new) name.now e) }
-    ensures only_reads { OnlyReads (D.view disk.old) (D.view disk.new) }
-{
-    let mut text = ScheduleText::new(alloc, size as usize)?;
-    let mut piece = piece_buffer(alloc, size)?;
-    let piece = piece.as_mut_slice();
-    let (end, read) = stream_lanes(
-        rt, disk, name, size, piece, &mut text, horizon, up, down, shells, pace,
-    );
+    let begun = none_begun(shells);
+    let run = Run {
+        rt,
+        pace,
+        begun: &begun,
+    };
+    let (end, read) = stream_lanes(&run, disk, &mut file, nest.horizon(), &mut lanes, shells);
     read?;
+    let ScheduleFile {
+        text,
+        place: _,
+        piece: _,
+    } = file;
     let schedule = text.into_schedule()?;
     let WorkEnd::Ended = end else {
         return Err(StreamError::OutOfMemory);
     };
-    Ok(schedule)
+    Ok((schedule, lanes.into_both()))
 }
 
 // Runs the source of the schedule in a file beside the paths of both directions. `shells` is how many shells the nest
 // has. Returns how the paths ended, and what the source returned.
 fn stream_lanes<D: Disk, Q: Pace + Sync, R: Threads + Wait + Sync>(
-    rt: &R,
+    run: &Run<'_, Q, R>,
     disk: &mut D,
-    name: &str,
-    size: u64,
-    piece: &mut [u8],
-    text: &mut ScheduleText,
+    file: &mut ScheduleFile<'_>,
     horizon: u64,
-    up: &mut Lane,
-    down: &mut Lane,
+    lanes: &mut Lanes,
     shells: u32,
-    pace: &Q,
 ) -> (WorkEnd, Result<(), DiskError>)
-    requires size { HasSize (D.view disk.old).files name.now size }
-    requires some { 0 < length piece.old }
-    requires unread { HasRead [] text.old × (text.old.gathered.rows ≡ []) }
-    requires fresh { IsFreshLane horizon up.old × IsFreshLane horizon down.old }
-    requires few { (length up.old.path.stages.items ≤ 8) × (length down.old.path.stages.items ≤ 8) }
-    ensures done { IfEnded result.0 (IsDonePath up.new.path × IsDonePath down.new.path) }
-    ensures text { OnOk result.1 (IsStreamed (D.view disk.old).files name.now text.new) }
-    ensures sent { OnOk result.1 (text.new.gathered.refused ≡ None
-        → AllSent Up horizon text.new.gathered.rows up.new.head
-        × AllSent Down horizon text.new.gathered.rows down.new.head) }
-    ensures same { IsSameLane up.old up.new × IsSameLane down.old down.new }
-    ensures absent { IsErrOf result.1 DiskError.Absent → IsAbsent (D.view disk.old).files name.now }
-    ensures only_reads { OnlyReads (D.view disk.old) (D.view disk.new) }
-    ensures cause { HasReadCause name.now (D.view disk.old) (D.view disk.new) result.1 }
+    requires size { HasSize (D.view disk.old).files file.old.place.name.now file.old.place.size }
+    requires unread { IsUnread file.old }
+    requires fresh { OfBoth (IsFreshLane horizon) (lanes_of lanes.old) }
+    requires few { OfBoth (λ path. length path.stages.items ≤ 8) lanes.old.paths }
+    ensures done { IfEnded result.0 (OfBoth IsDonePath lanes.new.paths) }
+    ensures text { OnOk result.1 (IsStreamed (D.view disk.old).files file.old.place.name.now file.new.text) }
+    ensures sent { OnOk result.1 (file.new.text.gathered.refused ≡ None
+        → ByDirection (λ d head. AllSent d horizon file.new.text.gathered.rows head) lanes.new.heads) }
+    ensures same { BothKeep IsSameLane (lanes_of lanes.old) (lanes_of lanes.new) }
+    ensures reads { ReadsFile (D.view disk.old) (D.view disk.new) file.old.place.name.now result.1 }
 {
-    let Lane {
-        head: up_head,
-        path: up_path,
-    } = up;
-    let Lane {
-        head: down_head,
-        path: down_path,
-    } = down;
-    let begun = none_begun(shells);
+    let Lanes { heads, paths } = lanes;
     // The paths stand first, since they go on only once the source does.
     join_mut(
-        rt,
+        run.rt,
         &mut || -> WorkEnd
-            requires { IsFreshPath up_path.now × IsFreshPath down_path.now
-                × (length up_path.now.stages.items ≤ 8) × (length down_path.now.stages.items ≤ 8)
+            requires { OfBoth IsFreshPath paths.now × OfBoth (λ path. length path.stages.items ≤ 8) paths.now
                 × IsSync R.row × IsSync Q.row }
-            ensures done { IfEnded result (IsDonePath up_path.exit.now × IsDonePath down_path.exit.now) }
-            ensures same { IsSamePath up_path.entry.now up_path.exit.now
-                × IsSamePath down_path.entry.now down_path.exit.now }
-        { run_paths(rt, up_path, down_path, shells, pace, &begun) },
+            ensures done { IfEnded result (OfBoth IsDonePath paths.exit.now) }
+            ensures same { BothKeep IsSamePath paths.entry.now paths.exit.now }
+        { run_paths(run, paths, shells) },
         &mut || -> Result<(), DiskError>
-            requires { HasSize (D.view disk.now).files name.now size × (0 < length piece.now)
-                × HasRead [] text.now × (text.now.gathered.rows ≡ [])
-                × (up_head.now.flow ≡ no_items) × (down_head.now.flow ≡ no_items)
-                × (up_head.now.items ≡ []) × (down_head.now.items ≡ [])
-                × (up_head.now.horizon ≡ horizon) × (down_head.now.horizon ≡ horizon)
-                × IsSync R.row × IsSync Q.row }
-            ensures text { OnOk result (IsStreamed (D.view disk.entry.now).files name.entry.now text.exit.now) }
-            ensures sent { OnOk result (text.exit.now.gathered.refused ≡ None
-                → AllSent Up horizon text.exit.now.gathered.rows up_head.exit.now
-                × AllSent Down horizon text.exit.now.gathered.rows down_head.exit.now) }
-            ensures same { IsSameEnd up_head.entry.now up_head.exit.now
-                × IsSameEnd down_head.entry.now down_head.exit.now }
-            ensures absent { IsErrOf result DiskError.Absent
-                → IsAbsent (D.view disk.entry.now).files name.entry.now }
-            ensures only_reads { OnlyReads (D.view disk.entry.now) (D.view disk.exit.now) }
-            ensures cause { HasReadCause name.entry.now (D.view disk.entry.now) (D.view disk.exit.now) result }
-        {
-            stream_source(
-                rt, disk, name, size, piece, text, horizon, up_head, down_head, pace, &begun,
-            )
-        },
+            requires { HasSize (D.view disk.now).files file.now.place.name.now file.now.place.size
+                × IsUnread file.now × OfBoth (IsUnsent horizon) heads.now × IsSync R.row × IsSync Q.row }
+            ensures text { OnOk result
+                (IsStreamed (D.view disk.entry.now).files file.entry.now.place.name.now file.exit.now.text) }
+            ensures sent { OnOk result (file.exit.now.text.gathered.refused ≡ None
+                → ByDirection (λ d head. AllSent d horizon file.exit.now.text.gathered.rows head) heads.exit.now) }
+            ensures same { BothKeep IsSameEnd heads.entry.now heads.exit.now }
+            ensures reads { ReadsFile (D.view disk.entry.now) (D.view disk.exit.now)
+                file.entry.now.place.name.now result }
+        { stream_source(run, disk, file, horizon, heads) },
     )
 }

@@ -6,17 +6,15 @@ use Rattle.packet_queue.specs.declared.spec.QueueSpec.{QueueSpec}
 use Rattle.trace_reader.specs.declared.trace.Trace.{Trace}
 use Rattle.trace_reader.specs.Opps.{opps}
 use Rattle.nest_spec.specs.declared.shell.Shell.{Shell}
-use Rattle.nest_spec.specs.declared.shell.Shell.TheVariants as shells
-use Rattle.nest_spec.specs.declared.shell.Side.{Side}
-use Rattle.nest_spec.specs.declared.shell_words.ShellWords.{ShellWords}
-use Rattle.nest_spec.specs.declared.shell_words.ShellWords.TheVariants.{Delay, Loss, Link}
+use Rattle.nest_spec.specs.declared.shell.LinkDirection.{LinkDirection}
 use Rattle.nest_spec.specs.declared.shell_words.LinkSide.{LinkSide}
+use Rattle.nest_spec.specs.declared.shell.Shell.TheVariants.{Delay, Loss, Link}
 use Rattle.nest_spec.specs.Plans.{AreShells, trace_count, log_in, IsPlan}
 use Rattle.nest_spec.specs.Words.{Text, NestPlan}
-use Rattle.nest_spec.specs.Nests.{built, shells_of, side_with, AreInRange, all_opportunities, opportunities_of, IsNest}
+use Rattle.nest_spec.specs.Nests.{built, shells_of, side_with, all_opportunities, opportunities_of, IsNest}
 
 -- a side that takes the next trace, and the next name where it is logged
-pub record Takes (words : LinkSide) (traces traces' : List Trace) (names names' : List Text) (side : Side) : Type 0
+pub record Takes (words : LinkSide) (traces traces' : List Trace) (names names' : List Text) (side : LinkDirection) : Type 0
   where
     pub trace : traces ≡ side.trace ∷ traces'
     pub queue : side.queue ≡ words.queue
@@ -37,60 +35,60 @@ names_after None false names e = refl
 names_after (Some name) true names e = refl
 names_after (Some name) false names e = absurd cc
 
-side_made : (queue : QueueSpec) (trace : Trace) (log log' : Option Text) (side : Side) → trace ≡ side.trace
+side_made : (queue : QueueSpec) (trace : Trace) (log log' : Option Text) (side : LinkDirection) → trace ≡ side.trace
     → queue ≡ side.queue → log ≡ side.log
-    → (let made : Side = record { trace = trace; queue = queue; log = log } in made) ≡ side
+    → (let made : LinkDirection = record { trace = trace; queue = queue; log = log } in made) ≡ side
 side_made queue trace log log' side t q l =
-    ap (λ x. let made : Side = record { trace = x; queue = queue; log = log } in made) t
-    ∙ ap (λ x. let made : Side = record { trace = side.trace; queue = x; log = log } in made) q
-    ∙ ap (λ x. let made : Side = record { trace = side.trace; queue = side.queue; log = x } in made) l
+    ap (λ x. let made : LinkDirection = record { trace = x; queue = queue; log = log } in made) t
+    ∙ ap (λ x. let made : LinkDirection = record { trace = side.trace; queue = x; log = log } in made) q
+    ∙ ap (λ x. let made : LinkDirection = record { trace = side.trace; queue = side.queue; log = x } in made) l
 
-side_taken : (words : LinkSide) (t : Trace) (traces traces' : List Trace) (names names' : List Text) (side : Side)
+side_taken : (words : LinkSide) (t : Trace) (traces traces' : List Trace) (names names' : List Text) (side : LinkDirection)
     → Takes words (t ∷ traces) traces' names names' side → side_with words t names ≡ side
 side_taken words t traces traces' names names' side takes =
     side_made words.queue t (cond words.logged (slice_get names 0) None) None side (let e = takes.trace in cc)
     (sym takes.queue)
     (ap (λ ns. cond words.logged (slice_get ns 0) None) takes.log ∙ side_log side.log words.logged names' takes.logged)
 
-left_after : (words : LinkSide) (traces traces' : List Trace) (names names' : List Text) (side : Side)
+left_after : (words : LinkSide) (traces traces' : List Trace) (names names' : List Text) (side : LinkDirection)
     → Takes words traces traces' names names' side → drop (log_in words) names ≡ names'
 left_after words traces traces' names names' side takes = ap (drop (cond words.logged 1 0)) takes.log
     ∙ names_after side.log words.logged names' takes.logged
 
 -- a link takes the traces and names of both sides
-pub link_built : (once : Bool) (up down : LinkSide) (more : List ShellWords) (traces traces' traces'' : List Trace)
-    (names names' names'' : List Text) (a b : Side)
+pub link_built : (once : Bool) (up down : LinkSide) (more : List (Shell LinkSide)) (traces traces' traces'' : List Trace)
+    (names names' names'' : List Text) (a b : LinkDirection)
     → Takes up traces traces' names names' a → Takes down traces' traces'' names' names'' b
-    → shells_of (Link once up down ∷ more) traces names ≡ shells.Link once a b ∷ shells_of more traces'' names''
+    → shells_of (Link once up down ∷ more) traces names ≡ Link once a b ∷ shells_of more traces'' names''
 link_built once up down more traces traces' traces'' names names' names'' a b first second =
     ap (λ ts. shells_of (Link once up down ∷ more) ts names) (first.trace ∙ ap (λ ts. a.trace ∷ ts) second.trace)
-    ∙ ap (λ x. shells.Link once x (side_with down b.trace (drop (log_in up) names)) ∷ rest (drop (log_in up) names))
+    ∙ ap (λ x. Link once x (side_with down b.trace (drop (log_in up) names)) ∷ rest (drop (log_in up) names))
     (side_taken up a.trace traces' traces' names names' a (along first))
-    ∙ ap (λ ns. shells.Link once a (side_with down b.trace ns) ∷ rest ns)
+    ∙ ap (λ ns. Link once a (side_with down b.trace ns) ∷ rest ns)
     (left_after up traces traces' names names' a first)
-    ∙ ap (λ x. shells.Link once a x ∷ rest names')
+    ∙ ap (λ x. Link once a x ∷ rest names')
     (side_taken down b.trace traces'' traces'' names' names'' b
     (record { trace = refl; queue = second.queue; log = second.log; logged = second.logged }))
-    ∙ ap (λ ns. shells.Link once a b ∷ shells_of more traces'' ns)
+    ∙ ap (λ ns. Link once a b ∷ shells_of more traces'' ns)
     (left_after down traces' traces'' names' names'' b second)
   where
-    rest : List Text → List Shell
+    rest : List Text → List (Shell LinkDirection)
     rest ns = shells_of more traces'' (drop (log_in down) ns)
 
     along : Takes up traces traces' names names' a → Takes up (a.trace ∷ traces') traces' names names' a
     along takes = record { trace = refl; queue = takes.queue; log = takes.log; logged = takes.logged }
 
 -- what is true of words is true of the nest
-built_range : (words : List ShellWords) (traces : List Trace) (names : List Text) → AreShells words
-    → AreInRange (shells_of words traces names)
+built_range : (words : List (Shell LinkSide)) (traces : List Trace) (names : List Text) → AreShells words
+    → AreShells (shells_of words traces names)
 built_range [] traces names are = tt
 built_range (Delay ms ∷ words) traces names are = (are.0, built_range words traces names are.1)
-built_range (Loss d rate ∷ words) traces names are = built_range words traces names are.1
+built_range (Loss d rate ∷ words) traces names are = (tt, built_range words traces names are.1)
 built_range (Link once up down ∷ words) [] names are = tt
 built_range (Link once up down ∷ words) (t ∷ []) names are = tt
-built_range (Link once up down ∷ words) (t ∷ u ∷ traces) names are = built_range words traces _ are.1
+built_range (Link once up down ∷ words) (t ∷ u ∷ traces) names are = (tt, built_range words traces _ are.1)
 
-built_long : (words : List ShellWords) (traces : List Trace) (names : List Text) → length traces ≡ trace_count words
+built_long : (words : List (Shell LinkSide)) (traces : List Trace) (names : List Text) → length traces ≡ trace_count words
     → length (shells_of words traces names) ≡ length words
 built_long [] traces names e = refl
 built_long (Delay ms ∷ words) traces names e = ap suc (built_long words traces names (omega arith))
@@ -100,7 +98,7 @@ built_long (Link once up down ∷ words) (t ∷ []) names e = absurd (let no : 1
 built_long (Link once up down ∷ words) (t ∷ u ∷ traces) names e =
     ap suc (built_long words traces _ (let long : length (t ∷ u ∷ traces) ≡ 2 + trace_count words = e in omega arith))
 
-unnamed : (h : ℕ) (words : List ShellWords) (traces : List Trace) (names names' : List Text)
+unnamed : (h : ℕ) (words : List (Shell LinkSide)) (traces : List Trace) (names names' : List Text)
     → all_opportunities h (shells_of words traces names) ≡ all_opportunities h (shells_of words traces names')
 unnamed h [] traces names names' = refl
 unnamed h (Delay ms ∷ words) traces names names' = unnamed h words traces names names'
@@ -125,7 +123,7 @@ nest_built plan traces seed h is long within few =
     }
 
 -- how many opportunities one link more has
-pub counts_link : (h : ℕ) (once : Bool) (up down : LinkSide) (words : List ShellWords) (traces rest : List Trace)
+pub counts_link : (h : ℕ) (once : Bool) (up down : LinkSide) (words : List (Shell LinkSide)) (traces rest : List Trace)
     (t u : Trace) (n : ℕ) → traces ≡ t ∷ u ∷ rest
     → n ≡ opportunities_of h words rest
     → length (opps t.opportunities once h) + length (opps u.opportunities once h) + n ≡ opportunities_of h

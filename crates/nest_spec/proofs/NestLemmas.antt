@@ -12,10 +12,11 @@ use Rattle.shell_core.specs.Shells.{IsInRange, opportunities}
 use Rattle.shell_core.specs.Wholes.{IsLink}
 use Rattle.nest_spec.specs.declared.shell.Shell.{Shell}
 use Rattle.nest_spec.specs.declared.shell.Shell.TheVariants.{Delay, Loss, Link}
-use Rattle.nest_spec.specs.declared.shell.Side.{Side}
+use Rattle.nest_spec.specs.declared.shell.LinkDirection.{LinkDirection}
 use Rattle.nest_spec.specs.declared.shell.ShellDirection.{ShellDirection}
 use Rattle.nest_spec.specs.Links.{NamedAreLinks, specs_in}
-use Rattle.nest_spec.specs.Nests.{NestParts, IsNest, AllFit, AreInRange, all_opportunities, side_opportunities, spec_in}
+use Rattle.nest_spec.specs.Plans.{AreShells}
+use Rattle.nest_spec.specs.Nests.{NestParts, IsNest, AllFit, all_opportunities, side_opportunities, spec_in}
 use Rattle.nest_spec.specs.Nests.{all_in_direction, in_passing_order, shells_in}
 use Rattle.nest_spec.specs.Walk.{walk}
 
@@ -39,7 +40,7 @@ unfolding opportunities
 loss_few true rate seed stream h = omega arith
 loss_few false rate seed stream h = omega arith
 
-link_few : (d : Direction) (seed number h : ℕ) (once : Bool) (up down : Side)
+link_few : (d : Direction) (seed number h : ℕ) (once : Bool) (up down : LinkDirection)
     → side_opportunities h once up + side_opportunities h once down ≤ 16000000
     → length (opportunities (spec_in d seed number (Link once up down)) h) ≤ 16000000
 unfolding opportunities
@@ -50,7 +51,7 @@ delay_few : (ms h : ℕ) → length (opportunities (specs.Delay ms) h) ≤ 16000
 unfolding opportunities
 delay_few ms h = omega arith
 
-all_fit : (d : Direction) (seed n h : ℕ) (shells : List Shell) → AreInRange shells
+all_fit : (d : Direction) (seed n h : ℕ) (shells : List (Shell LinkDirection)) → AreShells shells
     → all_opportunities h shells ≤ 16000000 → AreFit h (all_in_direction d seed n shells)
 all_fit d seed n h [] are le = tt
 all_fit d seed n h (Delay ms ∷ shells) are le = (
@@ -63,11 +64,11 @@ all_fit d seed n h (Loss named rate ∷ shells) are le = (
     few = loss_few (goes d named) rate seed _ h;
     link = λ no. absurd (cc no);
   },
-  all_fit d seed (n + 1) h shells are le,
+  all_fit d seed (n + 1) h shells are.1 le,
 )
 all_fit d seed n h (Link once up down ∷ shells) are le = (
   record { range = tt; few = link_few d seed n h once up down (omega arith); link = λ _. tt },
-  all_fit d seed (n + 1) h shells are (omega arith),
+  all_fit d seed (n + 1) h shells are.1 (omega arith),
 )
 
 fit-append : (h : ℕ) (list more : List ShellDirection) → AreFit h list → AreFit h more → AreFit h (list ++ more)
@@ -95,7 +96,7 @@ pub named_links : (h : ℕ) (list : List ShellDirection) → AreFit h list → N
 named_links h [] fit = tt
 named_links h (s ∷ list) fit = (fit.0.link, named_links h list fit.1)
 
-all_long : (d : Direction) (seed n : ℕ) (shells : List Shell)
+all_long : (d : Direction) (seed n : ℕ) (shells : List (Shell LinkDirection))
     → length (all_in_direction d seed n shells) ≡ length shells
 all_long d seed n [] = refl
 all_long d seed n (shell ∷ shells) = ap suc (all_long d seed (n + 1) shells)

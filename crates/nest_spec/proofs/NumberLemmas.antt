@@ -8,7 +8,7 @@ use Rattle.packet_record.specs.Packets.{number}
 use Rattle.shell_core.specs.declared.spec.DirSpec.{DirSpec}
 use Rattle.shell_core.specs.Shells.{IsBuilt, opportunities, whole_out, whole_lost}
 use Rattle.shell_core.specs.Shells.{whole_inside}
-use Rattle.shell_core.proofs.Once.{number_once}
+use Rattle.shell_core.proofs.Laws.{number_once}
 use Rattle.nest_spec.specs.Fates.{find_id}
 use Rattle.nest_spec.specs.inside.Marks.{ids_of}
 

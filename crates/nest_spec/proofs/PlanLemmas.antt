@@ -17,8 +17,9 @@ use Rattle.nest_spec.specs.declared.error.NestError.TheVariants as errors
 use Rattle.nest_spec.specs.declared.shell_words.ShellKind.{ShellKind}
 use Rattle.nest_spec.specs.declared.shell_words.ShellKind.TheVariants.{Delay as AnyDelay, Loss as AnyLoss}
 use Rattle.nest_spec.specs.declared.shell_words.ShellKind.TheVariants.{Link as AnyLink}
-use Rattle.nest_spec.specs.declared.shell_words.ShellWords.{ShellWords}
-use Rattle.nest_spec.specs.declared.shell_words.ShellWords.TheVariants.{Delay, Loss, Link}
+use Rattle.nest_spec.specs.declared.shell.Shell.{Shell}
+use Rattle.nest_spec.specs.declared.shell_words.LinkSide.{LinkSide}
+use Rattle.nest_spec.specs.declared.shell.Shell.TheVariants.{Delay, Loss, Link}
 
 -- what a step gave, where the whole went well
 pub and_then_ok : {A B : Type 0} (r : Result A NestError) (f : A → Result B NestError) (b : B) → and_then r f ≡ Ok b
@@ -116,17 +117,17 @@ shell_fits AnyDelay shell place words read e = delay_fits shell place words read
 shell_fits AnyLoss shell place words read e = loss_fits shell place words read e
 shell_fits AnyLink shell place words read e = link_fits shell place words read e
 
-are-push : (shells : List ShellWords) (shell : ShellWords) → AreShells shells → IsShell shell
+are-push : (shells : List (Shell LinkSide)) (shell : Shell LinkSide) → AreShells shells → IsShell shell
     → AreShells (shells ++ shell ∷ [])
 are-push [] shell are is = (is, tt)
 are-push (s ∷ shells) shell are is = (are.0, are-push shells shell are.1 is)
 
-traces-push : (shells : List ShellWords) (shell : ShellWords)
+traces-push : (shells : List (Shell LinkSide)) (shell : Shell LinkSide)
     → trace_count (shells ++ shell ∷ []) ≡ trace_count shells + traces_in shell
 traces-push [] shell = omega arith
 traces-push (s ∷ shells) shell = ap (λ n. traces_in s + n) (traces-push shells shell) ∙ omega arith
 
-logs-push : (shells : List ShellWords) (shell : ShellWords)
+logs-push : (shells : List (Shell LinkSide)) (shell : Shell LinkSide)
     → log_count (shells ++ shell ∷ []) ≡ log_count shells + logs_in shell
 logs-push [] shell = omega arith
 logs-push (s ∷ shells) shell = ap (λ n. logs_in s + n) (logs-push shells shell) ∙ omega arith

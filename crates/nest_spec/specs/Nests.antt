@@ -14,39 +14,37 @@ use Rattle.shell_core.specs.Shells.{IsInRange, opportunities}
 use Rattle.nest_spec.specs.declared.fate.Fate.{Fate}
 use Rattle.nest_spec.specs.declared.fate.Fate.TheVariants as fates
 use Rattle.nest_spec.specs.declared.fate.FateRow.{FateRow}
-use Rattle.nest_spec.specs.declared.shell_words.ShellWords.{ShellWords}
-use Rattle.nest_spec.specs.declared.shell_words.ShellWords.TheVariants as words
 use Rattle.nest_spec.specs.declared.shell_words.LinkSide.{LinkSide}
 use Rattle.nest_spec.specs.declared.shell.Shell.{Shell}
 use Rattle.nest_spec.specs.declared.shell.Shell.TheVariants.{Delay, Loss, Link}
-use Rattle.nest_spec.specs.declared.shell.Side.{Side}
+use Rattle.nest_spec.specs.declared.shell.LinkDirection.{LinkDirection}
 use Rattle.nest_spec.specs.declared.shell.ShellDirection.{ShellDirection}
 use Rattle.nest_spec.specs.Words.{Text, NestPlan}
-use Rattle.nest_spec.specs.Plans.{log_in}
+use Rattle.nest_spec.specs.Plans.{AreShells, log_in}
 use Rattle.nest_spec.specs.Walk.{Step, walk, named_log, in_nest_order}
 use Rattle.nest_spec.specs.Fates.{fate_in, fated}
 pub use Rattle.nest_spec.specs.Walk.{NamedEntries}
 
 -- The shells, the outermost first, the seed of their losses, and the horizon in milliseconds.
 pub record NestParts : Type 0 where
-  pub shells : List Shell
+  pub shells : List (Shell LinkDirection)
   pub seed : ℕ
   pub horizon : ℕ
 
 -- One direction of a link, with its trace. Its log, where it has one, has the first of `names` as its name.
-abbrev pub side_with : LinkSide → Trace → List Text → Side
+abbrev pub side_with : LinkSide → Trace → List Text → LinkDirection
 side_with side trace names =
     record { trace = trace; queue = side.queue; log = if side.logged then slice_get names 0 else None }
 
 -- The shells of their words. Each link takes the next two traces, and each of its directions that is logged the next
 -- name, up before down.
-abbrev pub shells_of : List ShellWords → List Trace → List Text → List Shell
+abbrev pub shells_of : List (Shell LinkSide) → List Trace → List Text → List (Shell LinkDirection)
 shells_of [] traces names = []
-shells_of (words.Delay ms ∷ more) traces names = Delay ms ∷ shells_of more traces names
-shells_of (words.Loss d rate ∷ more) traces names = Loss d rate ∷ shells_of more traces names
-shells_of (words.Link once up down ∷ more) [] names = []
-shells_of (words.Link once up down ∷ more) (t ∷ []) names = []
-shells_of (words.Link once up down ∷ more) (t ∷ u ∷ traces) names =
+shells_of (Delay ms ∷ more) traces names = Delay ms ∷ shells_of more traces names
+shells_of (Loss d rate ∷ more) traces names = Loss d rate ∷ shells_of more traces names
+shells_of (Link once up down ∷ more) [] names = []
+shells_of (Link once up down ∷ more) (t ∷ []) names = []
+shells_of (Link once up down ∷ more) (t ∷ u ∷ traces) names =
     Link once (side_with up t names) (side_with down u (drop (log_in up) names))
     ∷ shells_of more traces (drop (log_in down) (drop (log_in up) names))
 
@@ -59,11 +57,11 @@ built plan traces seed horizon = record {
 }
 
 -- How many opportunities one direction of a link has up to the horizon `h`. With `once` the trace doesn't begin again.
-abbrev pub side_opportunities : ℕ → Bool → Side → ℕ
+abbrev pub side_opportunities : ℕ → Bool → LinkDirection → ℕ
 side_opportunities h once side = length (opps side.trace.opportunities once h)
 
 -- How many opportunities all links have up to the horizon `h`, in both directions together.
-abbrev pub all_opportunities : ℕ → List Shell → ℕ
+abbrev pub all_opportunities : ℕ → List (Shell LinkDirection) → ℕ
 all_opportunities h [] = 0
 all_opportunities h (Delay ms ∷ shells) = all_opportunities h shells
 all_opportunities h (Loss d rate ∷ shells) = all_opportunities h shells
@@ -71,7 +69,7 @@ all_opportunities h (Link once up down ∷ shells) =
     side_opportunities h once up + side_opportunities h once down + all_opportunities h shells
 
 -- How many opportunities the links of words have with `traces`, in both directions together.
-abbrev pub opportunities_of : ℕ → List ShellWords → List Trace → ℕ
+abbrev pub opportunities_of : ℕ → List (Shell LinkSide) → List Trace → ℕ
 opportunities_of h shells traces = all_opportunities h (shells_of shells traces [])
 
 -- The stream of random words that the loss of shell `number` draws from: twice the number for up, one more for down.
@@ -86,20 +84,20 @@ side_in Down up down = down
 
 -- What the shell `number` does in the direction `d`. A loss drops packets in the direction that it names, and passes
 -- every packet in the other.
-abbrev pub spec_in : Direction → ℕ → ℕ → Shell → DirSpec
+abbrev pub spec_in : Direction → ℕ → ℕ → Shell LinkDirection → DirSpec
 spec_in d seed number (Delay ms) = specs.Delay ms
 spec_in d seed number (Loss named rate) =
     if goes d named then specs.Loss rate seed (stream_of number d) else specs.Pass
 spec_in d seed number (Link once up down) = specs.Link (side_in d up down).trace once (side_in d up down).queue
 
 -- The name of a shell's log in the direction `d`, if it has one.
-abbrev pub log_name : Direction → Shell → Option Text
+abbrev pub log_name : Direction → Shell LinkDirection → Option Text
 log_name d (Delay ms) = None
 log_name d (Loss named rate) = None
 log_name d (Link once up down) = (side_in d up down).log
 
 -- The shell `number` in the direction `d`: its number, what it does there, and the name of its log there.
-abbrev pub in_direction : Direction → ℕ → ℕ → Shell → ShellDirection
+abbrev pub in_direction : Direction → ℕ → ℕ → Shell LinkDirection → ShellDirection
 in_direction d seed number shell = record {
   number = number;
   spec = spec_in d seed number shell;
@@ -107,7 +105,7 @@ in_direction d seed number shell = record {
 }
 
 -- Shells in the direction `d`, in the order of the nest. The first has the number `number`.
-abbrev pub all_in_direction : Direction → ℕ → ℕ → List Shell → List ShellDirection
+abbrev pub all_in_direction : Direction → ℕ → ℕ → List (Shell LinkDirection) → List ShellDirection
 all_in_direction d seed number [] = []
 all_in_direction d seed number (shell ∷ shells) = in_direction d seed number shell ∷ all_in_direction d seed
     (number + 1) shells
@@ -130,19 +128,12 @@ abbrev pub AllFit : ℕ → List DirSpec → Type 0
 AllFit h [] = Unit {0}
 AllFit h (c ∷ specs) = IsInRange c × (length (opportunities c h) ≤ 16000000) × AllFit h specs
 
--- Each delay is at most an hour.
-abbrev pub AreInRange : List Shell → Type 0
-AreInRange [] = Unit {0}
-AreInRange (Delay ms ∷ shells) = (ms ≤ 3600000) × AreInRange shells
-AreInRange (Loss d rate ∷ shells) = AreInRange shells
-AreInRange (Link once up down ∷ shells) = AreInRange shells
-
 -- What is true of every nest: it has 1 to 8 shells, delays and a horizon of at most an hour, and at most 16,000,000
 -- opportunities up to the horizon.
 pub record IsNest (nest : NestParts) : Type 0 where
   pub some : 1 ≤ length nest.shells
   pub few : length nest.shells ≤ 8
-  pub shells : AreInRange nest.shells
+  pub shells : AreShells nest.shells
   pub horizon : nest.horizon ≤ 3600000
   pub opportunities : all_opportunities nest.horizon nest.shells ≤ 16000000
 

@@ -20,8 +20,8 @@ use Rattle.nest_spec.specs.declared.shell_words.ShellKind.{ShellKind}
 use Rattle.nest_spec.specs.declared.shell_words.ShellKind.TheVariants.{Delay as AnyDelay, Loss as AnyLoss}
 use Rattle.nest_spec.specs.declared.shell_words.ShellKind.TheVariants.{Link as AnyLink}
 use Rattle.nest_spec.specs.declared.shell_words.LinkSide.{LinkSide}
-use Rattle.nest_spec.specs.declared.shell_words.ShellWords.{ShellWords}
-use Rattle.nest_spec.specs.declared.shell_words.ShellWords.TheVariants.{Delay, Loss, Link}
+use Rattle.nest_spec.specs.declared.shell.Shell.{Shell}
+use Rattle.nest_spec.specs.declared.shell.Shell.TheVariants.{Delay, Loss, Link}
 use Rattle.nest_spec.specs.declared.link_words.LinkOption.{LinkOption}
 use Rattle.nest_spec.specs.declared.link_words.LinkOption.TheVariants.{Log, Queue, Args}
 
@@ -41,14 +41,14 @@ and_then (Err e) f = Err e
 -- What was read of one shell: what it says, the names of its traces and logs, and the words that follow, the first of
 -- which is at `place`.
 pub record ShellRead : Type 0 where
-  pub shell : ShellWords
+  pub shell : Shell LinkSide
   pub traces : List Text
   pub logs : List Text
   pub place : ℕ
   pub rest : List Text
 
 -- What was read of one shell, of its parts.
-abbrev pub shell_read : ShellWords → List Text → List Text → ℕ → List Text → ShellRead
+abbrev pub shell_read : Shell LinkSide → List Text → List Text → ℕ → List Text → ShellRead
 shell_read shell traces logs place rest = record {
   shell = shell;
   traces = traces;
@@ -298,7 +298,7 @@ shell_words AnyLink shell place words = link_words shell place words
 -- A nest as its words state it: its shells, the outermost first, and the names of traces and logs in that order, up
 -- before down.
 pub record NestPlan : Type 0 where
-  pub shells : List ShellWords
+  pub shells : List (Shell LinkSide)
   pub traces : List Text
   pub logs : List Text
 

@@ -1,11 +1,12 @@
 // Builds the shells of a nest from its words: each link gets its traces and the names of its logs.
 ghost use Rattle.std.specs.Prelude.{◌≡◌, ◌≤◌, ◌<◌, ◌+◌, ◌∷◌, ◌++◌, List, is_some, length, option_to_list, OnOk, IfOk};
 ghost use Rattle.std.specs.Vec.Iter.{into_iter_items};
-ghost use Rattle.nest_spec.specs.declared.shell_words.ShellWords.{ShellWords as WordsValue};
+ghost use Rattle.nest_spec.specs.declared.shell.Shell.{Shell as ShellValue};
+ghost use Rattle.nest_spec.specs.declared.shell_words.LinkSide.{LinkSide as SideValue};
 ghost use Rattle.nest_spec.specs.Nests.{shells_of};
 ghost use Rattle.nest_spec.specs.Plans.{IsPlan, log_in, traces_in, logs_in, trace_count, log_count};
 
-use crate::{LinkSide, NestWords, Shell, ShellWords, Side};
+use crate::{LinkDirection, LinkSide, NestWords, Shell};
 use std::alloc::Global;
 use std::vec::IntoIter;
 use text_base::{OutOfMemory, Text};
@@ -16,7 +17,7 @@ pub(crate) fn build_shells(
     alloc: Global,
     words: NestWords,
     traces: Vec<Trace>,
-) -> Result<Vec<Shell>, OutOfMemory>
+) -> Result<Vec<Shell<LinkDirection>>, OutOfMemory>
     requires { length traces.items ≡ length words.traces }
     ensures shells { IfOk result (λ shells. shells.items ≡ shells_of words.shells traces.items words.logs) }
     ensures plan { IsPlan words }
@@ -34,8 +35,8 @@ pub(crate) fn build_shells(
 
 // Adds the shells of `words`, which take the next of `traces` and `names`.
 fn push_shells(
-    shells: &mut Vec<Shell>,
-    words: &[ShellWords],
+    shells: &mut Vec<Shell<LinkDirection>>,
+    words: &[Shell<LinkSide>],
     mut traces: IntoIter<Trace>,
     mut names: IntoIter<Text>,
 ) -> Result<(), OutOfMemory>
@@ -53,19 +54,23 @@ fn push_shells(
 }
 
 // Returns the shell of `words`, and takes the traces and names that it needs.
-fn shell_of(words: ShellWords, traces: &mut IntoIter<Trace>, names: &mut IntoIter<Text>) -> Shell
+fn shell_of(
+    words: Shell<LinkSide>,
+    traces: &mut IntoIter<Trace>,
+    names: &mut IntoIter<Text>,
+) -> Shell<LinkDirection>
     requires traces { traces_in words ≤ length (into_iter_items traces.old) }
     requires names { logs_in words ≤ length (into_iter_items names.old) }
-    ensures shell { (more : List WordsValue)
+    ensures shell { (more : List (ShellValue SideValue))
         → shells_of (words ∷ more) (into_iter_items traces.old) (into_iter_items names.old)
         ≡ result ∷ shells_of more (into_iter_items traces.new) (into_iter_items names.new) }
     ensures traces { length (into_iter_items traces.old) ≡ traces_in words + length (into_iter_items traces.new) }
     ensures names { length (into_iter_items names.old) ≡ logs_in words + length (into_iter_items names.new) }
 {
     match words {
-        ShellWords::Delay { ms } => Shell::Delay { ms },
-        ShellWords::Loss { direction, rate } => Shell::Loss { direction, rate },
-        ShellWords::Link { once, up, down } => {
+        Shell::Delay { ms } => Shell::Delay { ms },
+        Shell::Loss { direction, rate } => Shell::Loss { direction, rate },
+        Shell::Link { once, up, down } => {
             let up = side_of(up, traces, names);
             let down = side_of(down, traces, names);
             Shell::Link { once, up, down }
@@ -74,7 +79,11 @@ fn shell_of(words: ShellWords, traces: &mut IntoIter<Trace>, names: &mut IntoIte
 }
 
 // Returns one direction of a link. It takes the next trace, and the next name where it is logged.
-fn side_of(words: LinkSide, traces: &mut IntoIter<Trace>, names: &mut IntoIter<Text>) -> Side
+fn side_of(
+    words: LinkSide,
+    traces: &mut IntoIter<Trace>,
+    names: &mut IntoIter<Text>,
+) -> LinkDirection
     requires traces { 0 < length (into_iter_items traces.old) }
     requires names { log_in words ≤ length (into_iter_items names.old) }
     ensures trace { into_iter_items traces.old ≡ result.trace ∷ into_iter_items traces.new }
@@ -82,7 +91,7 @@ fn side_of(words: LinkSide, traces: &mut IntoIter<Trace>, names: &mut IntoIter<T
     ensures log { into_iter_items names.old ≡ option_to_list result.log ++ into_iter_items names.new }
     ensures logged { is_some result.log ≡ words.logged }
 {
-    Side {
+    LinkDirection {
         trace: traces.next().unwrap(),
         queue: words.queue,
         log: if words.logged { names.next() } else { None },

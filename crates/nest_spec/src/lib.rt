@@ -30,5 +30,5 @@ pub use nest::{Nest, build};
 pub use nest_words::{NestWords, read_nest};
 pub use packed_fate::{PackedFate, unpack_fates};
 pub use run_result::{Named, NamedLog, RunResult};
-pub use shell::{Shell, ShellDirection, Side};
+pub use shell::{LinkDirection, Shell, ShellDirection};
 pub use shell_words::{LinkSide, ShellKind, ShellWords};

@@ -5,7 +5,7 @@ ghost use Rattle.nest_spec.specs.Nests.{all_in_direction, directions_of, in_pass
 ghost use Rattle.nest_spec.specs.Links.{NamedAreLinks, specs_in};
 
 use crate::build_shells::build_shells;
-use crate::{NestWords, Shell, ShellDirection};
+use crate::{LinkDirection, NestWords, Shell, ShellDirection};
 use packet_record::Direction;
 use shell_core::DirSpec;
 use std::alloc::Global;
@@ -16,7 +16,7 @@ use trace_reader::Trace;
 /// 1 to 8 shells, the outermost first, with the seed of their losses and the horizon in milliseconds.
 #[derive(Drop)]
 pub struct Nest {
-    shells: Vec<Shell>,
+    shells: Vec<Shell<LinkDirection>>,
     seed: u64,
     horizon: u64,
 }
@@ -119,7 +119,7 @@ fn push_directions(
     direction: Direction,
     seed: u64,
     number: u32,
-    shells: &[Shell],
+    shells: &[Shell<LinkDirection>],
 ) -> Result<(), OutOfMemory>
     requires { number + length shells.now ≤ 9 }
     ensures { OnOk result (list.new.items ≡ list.old.items ++ all_in_direction direction seed number shells.now) }

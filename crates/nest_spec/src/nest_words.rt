@@ -11,7 +11,7 @@ ghost use Rattle.nest_spec.specs.inside.Draft.{draft_plan, place_and_words};
 
 use crate::shell_reading::{ShellRead, read_shell};
 use crate::shell_words::{kind_of, next};
-use crate::{NestError, ShellWords};
+use crate::{LinkSide, NestError, Shell, ShellWords};
 use std::alloc::Global;
 use std::marker::Model;
 use text_base::{OutOfMemory, Text};
@@ -21,7 +21,7 @@ use trace_reader::Trace;
 /// before down.
 #[derive(Drop)]
 pub struct NestWords {
-    shells: Vec<ShellWords>,
+    shells: Vec<Shell<LinkSide>>,
     traces: Vec<Text>,
     logs: Vec<Text>,
 }
@@ -77,7 +77,7 @@ impl NestWords {
     }
 
     // Returns the shells, and the names of the logs.
-    pub(crate) fn into_parts(self) -> (Vec<ShellWords>, Vec<Text>)
+    pub(crate) fn into_parts(self) -> (Vec<Shell<LinkSide>>, Vec<Text>)
         ensures shells { result.0.items ≡ self.shells }
         ensures logs { result.1.items ≡ self.logs }
         ensures plan { IsPlan self }
@@ -92,7 +92,7 @@ impl NestWords {
 }
 
 // Returns how many opportunities the links of `shells` have up to `horizon`.
-fn count_opportunities(shells: &[ShellWords], traces: &[Trace], horizon: u64) -> u64
+fn count_opportunities(shells: &[Shell<LinkSide>], traces: &[Trace], horizon: u64) -> u64
     requires traces { length traces.now ≡ trace_count shells.now }
     requires horizon { horizon ≤ 3600000 }
     requires few { length shells.now ≤ 8 }
@@ -102,7 +102,7 @@ fn count_opportunities(shells: &[ShellWords], traces: &[Trace], horizon: u64) ->
     let Some((words, shells)) = shells.split_first() else {
         return 0;
     };
-    let ShellWords::Link { once, .. } = *words else {
+    let Shell::Link { once, .. } = *words else {
         return count_opportunities(shells, traces, horizon);
     };
     count_in(&traces[0], once, horizon)
@@ -123,7 +123,7 @@ fn count_in(trace: &Trace, once: bool, horizon: u64) -> u64
 // A nest whose words are being read.
 #[derive(Drop)]
 pub(crate) struct Draft {
-    pub shells: Vec<ShellWords>,
+    pub shells: Vec<Shell<LinkSide>>,
     pub traces: Vec<Text>,
     pub logs: Vec<Text>,
 }

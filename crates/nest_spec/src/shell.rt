@@ -10,9 +10,9 @@ use std::alloc::Global;
 use text_base::{OutOfMemory, Text};
 use trace_reader::Trace;
 
-/// One direction of a link.
+/// One direction of a link, with all that its words name.
 #[derive(Drop)]
-pub struct Side {
+pub struct LinkDirection {
     /// The opportunities.
     pub trace: Trace,
     /// What is dropped of packets that wait.
@@ -21,15 +21,17 @@ pub struct Side {
     pub log: Option<Text>,
 }
 
-/// A shell of a nest, with all that its words name.
-#[derive(Drop)]
-pub enum Shell {
-    /// Packets depart `ms` milliseconds after they arrive.
+/// A shell of a nest. `S` is what a link has in each direction: what its words say (`LinkSide`), or what it was built
+/// with (`LinkDirection`).
+#[derive(Clone, Copy, Drop)]
+pub enum Shell<S> {
+    /// `mm-delay D`: packets depart `ms` milliseconds after they arrive.
     Delay { ms: u64 },
-    /// Packets in `direction` are dropped at `rate`.
+    /// `mm-loss DIRECTION RATE`: packets in `direction` are dropped at `rate`.
     Loss { direction: Direction, rate: Rate },
-    /// Packets depart when a trace lets them. With `once` neither trace begins again at its end.
-    Link { once: bool, up: Side, down: Side },
+    /// `mm-link UPTRACE DOWNTRACE` with its options: packets depart when a trace lets them. With `once` neither trace
+    /// begins again at its end.
+    Link { once: bool, up: S, down: S },
 }
 
 /// A shell in one direction.
@@ -43,7 +45,7 @@ pub struct ShellDirection {
     pub log: Option<Text>,
 }
 
-impl Shell {
+impl Shell<LinkDirection> {
     // Returns the shell in a direction. `number` is its number, and `seed` that of the nest's losses.
     pub(crate) fn in_direction(
         &self,
@@ -108,7 +110,11 @@ impl Shell {
 }
 
 // Returns the direction of a link.
-fn side_in<'a>(direction: Direction, up: &'a Side, down: &'a Side) -> &'a Side
+fn side_in<'a>(
+    direction: Direction,
+    up: &'a LinkDirection,
+    down: &'a LinkDirection,
+) -> &'a LinkDirection
     ensures { result.now ≡ side_in direction up.now down.now }
 {
     match direction {

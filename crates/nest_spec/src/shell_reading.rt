@@ -11,7 +11,7 @@ ghost use Rattle.nest_spec.specs.inside.ShellWords.{shell_given};
 
 use crate::link_words::{LinkRest, LinkWords, SideWords, read_link_words};
 use crate::shell_words::next;
-use crate::{LinkSide, NestError, ShellKind, ShellWords};
+use crate::{LinkSide, NestError, Shell, ShellKind};
 use loss_core::{Rate, read_rate};
 use packet_queue::{QueueSpec, read_queue};
 use packet_record::Direction;
@@ -22,7 +22,7 @@ use text_base::read_decimal;
 // which is at `place`.
 #[derive(Clone, Copy)]
 pub(crate) struct ShellRead<'a> {
-    pub shell: ShellWords,
+    pub shell: Shell<LinkSide>,
     pub up_trace: Option<&'a str>,
     pub down_trace: Option<&'a str>,
     pub up_log: Option<&'a str>,
@@ -32,7 +32,7 @@ pub(crate) struct ShellRead<'a> {
 }
 
 // Returns what was read of a shell that has no traces and logs.
-fn bare<'a>(shell: ShellWords, place: u32, rest: &'a [String]) -> ShellRead<'a>
+fn bare<'a>(shell: Shell<LinkSide>, place: u32, rest: &'a [String]) -> ShellRead<'a>
     ensures { shell_given result ≡ shell_read shell [] [] place (map string_bytes rest.now) }
 {
     ShellRead {
@@ -65,7 +65,7 @@ fn read_delay<'a>(shell: u32, place: u32, words: &'a [String]) -> Result<ShellRe
         return Err(NestError::MissingWord { shell });
     };
     let ms = read_ms(shell, word.as_str())?;
-    Ok(bare(ShellWords::Delay { ms }, next(place), rest))
+    Ok(bare(Shell::Delay { ms }, next(place), rest))
 }
 
 // Reads the direction of a loss.
@@ -103,7 +103,7 @@ fn read_rate_word<'a>(
         return Err(NestError::MissingWord { shell });
     };
     let rate = read_shell_rate(shell, word.as_str())?;
-    Ok(bare(ShellWords::Loss { direction, rate }, next(place), rest))
+    Ok(bare(Shell::Loss { direction, rate }, next(place), rest))
 }
 
 // Reads the words after `mm-loss`.
@@ -169,7 +169,7 @@ fn read_link_end<'a>(shell: u32, read: LinkRest<'a>) -> Result<ShellRead<'a>, Ne
     let up = read_side_queue(shell, read.given.up)?;
     let down = read_side_queue(shell, read.given.down)?;
     Ok(ShellRead {
-        shell: ShellWords::Link {
+        shell: Shell::Link {
             once: read.given.once,
             up: link_side(up, read.given.up),
             down: link_side(down, read.given.down),

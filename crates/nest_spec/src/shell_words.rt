@@ -2,11 +2,10 @@
 ghost use Rattle.std.specs.Prelude.{◌≡◌, ◌+◌, min};
 ghost use Rattle.nest_spec.specs.Words.{next, kind_of};
 
-use loss_core::Rate;
+use crate::Shell;
 use packet_queue::QueueSpec;
-use packet_record::Direction;
 
-/// The three kinds of shells.
+/// The three kinds of shells, by the words that begin them.
 #[derive(Clone, Copy, PartialEq, Eq)]
 pub enum ShellKind {
     /// `mm-delay`
@@ -27,24 +26,7 @@ pub struct LinkSide {
 }
 
 /// What the words of a shell say, without the names of its traces and logs.
-#[derive(Clone, Copy, PartialEq, Eq)]
-pub enum ShellWords {
-    /// `mm-delay D`, in milliseconds.
-    Delay {
-        ms: u64,
-    },
-    /// `mm-loss DIRECTION RATE`.
-    Loss {
-        direction: Direction,
-        rate: Rate,
-    },
-    /// `mm-link UPTRACE DOWNTRACE` with its options. `once` is for both directions.
-    Link {
-        once: bool,
-        up: LinkSide,
-        down: LinkSide,
-    },
-}
+pub type ShellWords = Shell<LinkSide>;
 
 // Returns the kind of shell that a word begins, if it begins one.
 pub(crate) fn kind_of(word: &str) -> Option<ShellKind>

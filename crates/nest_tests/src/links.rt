@@ -267,14 +267,16 @@ fn are_first(entries: &[Entry], log: &[Entry]) -> bool {
     entries.len() <= log.len() && entries == &log[..entries.len()]
 }
 
-// Returns whether the log of a link so far is what the slow program's begins with, with the opportunities that are burnt.
+// Returns whether the log of a link so far is what the slow program's begins with, with the opportunities that are
+// burnt.
 fn agrees_so_far(rt: &impl Abort, alloc: Global, link: &LinkCore, slow: &Slow) -> bool {
     let pieces = put_together(rt, alloc, link.log().expect(rt, "memory"));
     are_first(&pieces.entries, &slow.log)
         && count_opportunities(&pieces.entries) == link.burnt() as usize
 }
 
-// Returns whether the logs of a trial after its last packet, and after one more opportunity, are as the slow program says.
+// Returns whether the logs of a trial after its last packet, and after one more opportunity, are as the slow program
+// says.
 fn agrees_in_the_middle(rt: &impl Abort, alloc: Global, trial: &Trial, slow: &Slow) -> bool {
     let mut link = feed_singly(rt, alloc, trial);
     let fed = agrees_so_far(rt, alloc, &link, slow);

@@ -5,7 +5,7 @@ ghost use Rattle.std.specs.VecDeque.{deque_len, deque_capacity};
 ghost use Rattle.packet_record.specs.Packets.{bytes, moved_to};
 ghost use Rattle.packet_queue.specs.Queues.{is_within, fits, fitting, excess, enqueued, dropped};
 ghost use Rattle.packet_queue.specs.View.{Queue};
-ghost use Rattle.packet_queue.specs.inside.Kept.{AreKept};
+ghost use Rattle.packet_queue.specs.inside.Kept.{AreKept, CanBeShed};
 
 use crate::spec::{QueueKind, QueueSpec};
 use packet_record::Timed;
@@ -268,6 +268,7 @@ fn within(limit: Option<u64>, n: u64) -> bool
     }
 }
 
+// Whether as many packets and bytes are within both limits.
 fn fits_now(spec: &QueueSpec, packets: u64, size: u64) -> bool
     ensures { result ≡ (is_within spec.now.packets packets && is_within spec.now.bytes size) }
 {
@@ -283,9 +284,7 @@ fn shed(
     size: &mut u64,
     gone: &mut Vec<Timed>,
 ) -> Dropped
-    requires size { size.old ≡ bytes waiting.old.items }
-    requires few { length waiting.old.items ≤ 2 ^ 40 }
-    requires room { length waiting.old.items + vec_len gone.old ≤ vec_capacity gone.old }
+    requires { CanBeShed waiting.old.items size.old (vec_len gone.old) (vec_capacity gone.old) }
     ensures waiting { waiting.new.items ≡ fitting spec.now waiting.old.items }
     ensures capacity { deque_capacity waiting.new ≡ deque_capacity waiting.old }
     ensures size { size.new ≡ bytes waiting.new.items }

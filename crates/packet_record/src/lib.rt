@@ -1,6 +1,7 @@
 //! Packets, rows and schedules, and the items and flows that pass between shells.
 #![tactic(auto)]
 
+mod both;
 mod cut;
 mod draws;
 mod flow;
@@ -16,6 +17,7 @@ mod rows;
 mod source;
 mod text;
 
+pub use both::Both;
 pub use draws::Draws;
 pub use flow::Flow;
 pub use item::{FlowEnd, Item, Stream};

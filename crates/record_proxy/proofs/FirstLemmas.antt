@@ -8,12 +8,12 @@ use Rattle.record_proxy.specs.Exchanges.{Exchange, IsExchange, closes}
 use Rattle.record_proxy.specs.Courses.{course}
 use Rattle.record_proxy.specs.Links.{Links, IsStored}
 use Rattle.record_proxy.specs.inside.Progress.{Stands, Progress, taken_of}
-use Rattle.record_proxy.specs.declared.talk.Talk.{Talk}
+use Rattle.record_proxy.specs.declared.proxy_state.ProxyState.{ProxyState}
 use Rattle.record_proxy.proofs.HistoryLemmas.{side, history_start}
 use Rattle.record_proxy.proofs.StandLemmas.{stored_cut, progress_idle}
 
-abbrev pub first_talk : Talk
-first_talk = record {
+abbrev pub first_state : ProxyState
+first_state = record {
   requests = record { unread = []; ended = false; failed = None };
   responses = record { unread = []; ended = false; failed = None };
   due = None;
@@ -22,7 +22,7 @@ first_talk = record {
   server_ended = false;
 }
 
-pub stands_first : (told : Links) → Stands told told (course [] None) (taken_of first_talk)
+pub stands_first : (told : Links) → Stands told told (course [] None) (taken_of first_state)
 stands_first told = record {
   client = side [] [];
   server = side [] [];
@@ -44,9 +44,9 @@ stands_first told = record {
 }
 
 pub progress_first : (port : ℕ) (told : Links) (records : List Record)
-    → Progress port told told records records first_talk
+    → Progress port told told records records first_state
 progress_first port told records =
-    progress_idle first_talk [] (sym (append-nil records)) refl (stands_first told)
+    progress_idle first_state [] (sym (append-nil records)) refl (stands_first told)
 
 -- no memory is found for the first read
 pub no_memory_at_first : (port : ℕ) (told : Links) (records : List Record) (error : OutOfMemory)

@@ -1,4 +1,3 @@
-pub mod BreakLemmas
 pub mod HistoryLemmas
 pub mod TextLemmas
 pub mod PairLemmas

@@ -14,14 +14,15 @@ use Rattle.replay_server.specs.declared.ends.Served.{Served}
 use Rattle.record_proxy.specs.Dialers.{DialerView}
 use Rattle.record_proxy.specs.Servings.{GivenUp, IsDialed, IsJoined, IsServed, Joined, Net, NotDialed, Passage}
 use Rattle.record_proxy.specs.Servings.{RisesFor, Serves, added_of, counted_as, dials_of, end_of, finished_with}
-use Rattle.record_proxy.specs.Servings.{most_recorded, net, no_ends, servers_of}
+use Rattle.replay_server.specs.Servings.{no_ends}
+use Rattle.record_proxy.specs.Servings.{most_recorded, net, servers_of}
 use Rattle.record_proxy.specs.Links.{HasFaultCause, IsStored, links}
 use Rattle.record_proxy.specs.inside.Passing.{EndsWith, plus}
 use Rattle.record_proxy.specs.inside.Pools.{InPool, MovesPool}
 use Rattle.record_proxy.specs.declared.ends.ProxyEnd.{ProxyEnd}
 use Rattle.record_proxy.specs.declared.ends.ProxyEnd.TheVariants.{ClientFault, ServerFault}
 use Rattle.record_proxy.specs.declared.ends.ProxyError.{ProxyError}
-use Rattle.record_proxy.specs.declared.standing.Standing.{Standing}
+use Rattle.record_proxy.specs.declared.standing.RecordingStanding.{RecordingStanding}
 use Rattle.record_proxy.proofs.ServingLemmas.{keeps_then, rises_later, risen, same_finished, serves_next, serves_none}
 use Rattle.record_proxy.proofs.ServingLemmas.{serves_same, tally_push}
 
@@ -62,7 +63,7 @@ pub keeps_same : {C : Type 0} (p : PortView C) → KeepsPort p p
 keeps_same p = record { counts = record { grows = omega arith; steady = λ never. (never, refl) }; stays = λ h. h }
 
 module _ {C X : Type 0} (site : ℕ) (client_view : C → LinkView) (server_view : X → LinkView) where
-  abbrev Stands : Net C X → Net C X → Standing → Type 0
+  abbrev Stands : Net C X → Net C X → RecordingStanding → Type 0
   Stands = InPool site client_view server_view
 
   abbrev at : Net C X → ℕ → ℕ → ℕ → Net C X
@@ -70,7 +71,7 @@ module _ {C X : Type 0} (site : ℕ) (client_view : C → LinkView) (server_view
       net (record n.port { accepted = accepted }) (record n.dialer { dialed = dialed; faults = faults })
 
   -- it listens
-  pub pool_none : (old new : PortView C) (dialer : DialerView X) (s : Standing) → KeepsPort old new
+  pub pool_none : (old new : PortView C) (dialer : DialerView X) (s : RecordingStanding) → KeepsPort old new
       → new.finished ≡ old.finished → new.accepted ≡ old.accepted → s.records ≡ [] → s.served ≡ no_ends
       → s.begun ≡ 0 → s.away ≡ 0 → Stands (net old dialer) (net new dialer) s
   pool_none old new dialer s keeps finished accepted records served begun away = record {
@@ -89,7 +90,8 @@ module _ {C X : Type 0} (site : ℕ) (client_view : C → LinkView) (server_view
   }
 
   -- a client was accepted, dialed for, and sent away
-  pub pool_sent : (start old : Net C X) (s : Standing) (port : PortView C) (dialer : DialerView X) (s' : Standing)
+  pub pool_sent : (start old : Net C X) (s : RecordingStanding) (port : PortView C) (dialer : DialerView X)
+      (s' : RecordingStanding)
       → Stands start old s → port.accepted ≡ old.port.accepted + 1 → port.finished ≡ old.port.finished
       → KeepsPort old.port port → dialer.dialed ≡ old.dialer.dialed + 1 → dialer.finished ≡ old.dialer.finished
       → old.dialer.faults ≤ dialer.faults → s'.records ≡ s.records → s'.served ≡ s.served
@@ -114,7 +116,7 @@ module _ {C X : Type 0} (site : ℕ) (client_view : C → LinkView) (server_view
       }
 
   -- one passage more
-  module _ (start old new : Net C X) (s s' : Standing) (p : Passage C X) (x : Stands start old s)
+  module _ (start old new : Net C X) (s s' : RecordingStanding) (p : Passage C X) (x : Stands start old s)
       (is : ∥ IsDialed site server_view (client_view p.client) p.dialed ∥₁)
       (finished : new.port.finished ≡ finished_with (p.client ∷ []) old.port.finished)
       (keeps : KeepsPort old.port new.port)
@@ -144,7 +146,8 @@ module _ {C X : Type 0} (site : ℕ) (client_view : C → LinkView) (server_view
     }
 
   -- a client was accepted for which the dialer failed, and finished
-  pub pool_lost : (start old : Net C X) (s : Standing) (port : PortView C) (new : Net C X) (s' : Standing) (client : C)
+  pub pool_lost : (start old : Net C X) (s : RecordingStanding) (port : PortView C) (new : Net C X)
+      (s' : RecordingStanding) (client : C)
       → Stands start old s → IsFresh (client_view client) → port.accepted ≡ old.port.accepted + 1
       → port.finished ≡ old.port.finished → KeepsPort old.port port → new.port.accepted ≡ port.accepted
       → new.port.finished ≡ finished_with (client ∷ []) port.finished → KeepsPort port new.port
@@ -163,7 +166,7 @@ module _ {C X : Type 0} (site : ℕ) (client_view : C → LinkView) (server_view
       (let a = x.many in omega (arith, a, begun, away))
 
   -- one that was away came back and was finished
-  module _ (start old new : Net C X) (s s' : Standing) (client : C) (server : X) (records : List Record)
+  module _ (start old new : Net C X) (s s' : RecordingStanding) (client : C) (server : X) (records : List Record)
       (end : ProxyEnd) (x : Stands start old s)
       (joined : ∥ IsJoined site (client_view client) (server_view server) records end ∥₁)
       (some : 0 < s.away) (dialed : new.dialer.dialed ≡ old.dialer.dialed)
@@ -195,7 +198,7 @@ module _ {C X : Type 0} (site : ℕ) (client_view : C → LinkView) (server_view
     pool_back (Err NoMemory) counted is dials_finished rose served = absurd is
 
   -- nobody is away, and nobody is accepted any more
-  pub pool_ends : (start new : Net C X) (s : Standing) → Stands start new s → s.away ≡ 0
+  pub pool_ends : (start new : Net C X) (s : RecordingStanding) → Stands start new s → s.away ≡ 0
       → (new.port.drained ≡ true) ⊎ (s.begun ≡ most_recorded) → s.begun ≤ most_recorded
       → IsServed site client_view server_view true most_recorded start new [] s.records s.served
   pool_ends start new s x none stopped few = record {
@@ -215,7 +218,8 @@ module _ {C X : Type 0} (site : ℕ) (client_view : C → LinkView) (server_view
   }
 
   -- all that were away came back after the last was accepted
-  pub served_after : (start mid new : Net C X) (s : Standing) (r : Result Standing ProxyError) → Stands start mid s
+  pub served_after : (start mid new : Net C X) (s : RecordingStanding) (r : Result RecordingStanding ProxyError)
+      → Stands start mid s
       → (mid.port.drained ≡ true) ⊎ (s.begun ≡ most_recorded) → s.begun ≤ most_recorded → KeepsPort mid.port new.port
       → IfOk r (λ next. MovesPool site client_view server_view mid s new next) → IfOk r (λ next. next.away ≡ 0)
       → IfOk r (λ next. next.begun ≡ s.begun)

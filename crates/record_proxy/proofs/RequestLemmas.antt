@@ -15,7 +15,7 @@ use Rattle.record_proxy.specs.Exchanges.{Exchange, IsInterimTo, recorded}
 use Rattle.record_proxy.specs.Courses.{IsBegun, course, sent, got, IsCut}
 use Rattle.record_proxy.specs.Ends.{EndsShort}
 use Rattle.record_proxy.specs.Links.{Links, links, IsStored}
-use Rattle.record_proxy.specs.inside.Giving.{Breaks}
+use Rattle.replay_server.specs.Giving.{Breaks}
 use Rattle.record_proxy.specs.inside.Progress.{Taken, Stands, IsEndAt}
 use Rattle.record_proxy.specs.declared.ends.ProxyEnd.{ProxyEnd}
 use Rattle.record_proxy.specs.declared.ends.ProxyEnd.TheVariants.{ServerFault}

@@ -17,7 +17,7 @@ use Rattle.record_proxy.specs.Exchanges.{Exchange, IsExchange, IsInterimTo, Last
 use Rattle.record_proxy.specs.Courses.{Side, course, sent, got, IsCut}
 use Rattle.record_proxy.specs.Ends.{EndsShort}
 use Rattle.record_proxy.specs.Links.{Links, links, IsStored}
-use Rattle.record_proxy.specs.inside.Giving.{Breaks}
+use Rattle.replay_server.specs.Giving.{Breaks}
 use Rattle.record_proxy.specs.inside.Progress.{Taken, Stands, IsEndAt}
 use Rattle.record_proxy.specs.declared.ends.ProxyEnd.{ProxyEnd}
 use Rattle.record_proxy.specs.declared.ends.ProxyEnd.TheVariants.{Closed, ClientFault}

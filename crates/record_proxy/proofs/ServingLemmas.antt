@@ -23,7 +23,8 @@ use Rattle.record_proxy.specs.Links.{IsStored, HasFaultCause, links}
 use Rattle.record_proxy.specs.inside.Passing.{Dials, EndsWith, Joins, ServesOne, plus}
 use Rattle.record_proxy.specs.Servings.{IsJoined, IsDialed, Dialed, NotDialed, GivenUp, Joined, Passage, Net, Serves}
 use Rattle.record_proxy.specs.Servings.{Rises, RisesFor, tally, counted_as, end_of, lost_of, dials_of, servers_of}
-use Rattle.record_proxy.specs.Servings.{Known, added_of}
+use Rattle.replay_server.specs.Servings.{Known}
+use Rattle.record_proxy.specs.Servings.{added_of}
 use Rattle.record_proxy.specs.Servings.{finished_with, net}
 use Rattle.record_proxy.specs.declared.ends.ProxyEnd.{ProxyEnd}
 use Rattle.record_proxy.specs.declared.ends.ProxyEnd.TheVariants.{ClientFault, ServerFault}

@@ -23,7 +23,7 @@ use Rattle.record_proxy.specs.Ends.{EndsAs, EndsShort, ClientReady, ServerReady}
 use Rattle.record_proxy.specs.Links.{Links, Adds, IsStored}
 use Rattle.record_proxy.specs.inside.Progress.{History, Taken, Stands, Progress, IsEndAt, begun_with, taken_of}
 use Rattle.record_proxy.specs.declared.ends.ProxyEnd.{ProxyEnd}
-use Rattle.record_proxy.specs.declared.talk.Talk.{Talk}
+use Rattle.record_proxy.specs.declared.proxy_state.ProxyState.{ProxyState}
 use Rattle.record_proxy.proofs.HistoryLemmas.{history_used}
 use Rattle.record_proxy.proofs.TextLemmas.{begun}
 use Rattle.record_proxy.proofs.PairLemmas.{are_pairs}
@@ -140,56 +140,56 @@ module _ {start now : Links} {x : Course} {t : Taken} (s : Stands start now x t)
 
 -- ---- what is due
 
-module _ {port : ℕ} {start now : Links} {before records : List Record} {talk : Talk}
-    (p : Progress port start now before records talk) where
-  pub idle_stands : talk.due ≡ None → Stands start now (course p.whole None) (taken_of talk)
+module _ {port : ℕ} {start now : Links} {before records : List Record} {state : ProxyState}
+    (p : Progress port start now before records state) where
+  pub idle_stands : state.due ≡ None → Stands start now (course p.whole None) (taken_of state)
   idle_stands e =
-      subst (λ d. Stands start now (course p.whole (begun_with d p.interim)) (taken_of talk)) e p.stands
+      subst (λ d. Stands start now (course p.whole (begun_with d p.interim)) (taken_of state)) e p.stands
 
-  pub due_stands : (m : Request) → talk.due ≡ Some m
-      → Stands start now (course p.whole (Some (begun m p.interim))) (taken_of talk)
+  pub due_stands : (m : Request) → state.due ≡ Some m
+      → Stands start now (course p.whole (Some (begun m p.interim))) (taken_of state)
   due_stands m e =
-      subst (λ d. Stands start now (course p.whole (begun_with d p.interim)) (taken_of talk)) e p.stands
+      subst (λ d. Stands start now (course p.whole (begun_with d p.interim)) (taken_of state)) e p.stands
 
-module _ {port : ℕ} {start now : Links} {before records : List Record} (talk : Talk) (whole : List Exchange)
+module _ {port : ℕ} {start now : Links} {before records : List Record} (state : ProxyState) (whole : List Exchange)
     (are : records ≡ before ++ map (recorded port) whole) where
-  pub progress_idle : talk.due ≡ None → Stands start now (course whole None) (taken_of talk)
-      → Progress port start now before records talk
+  pub progress_idle : state.due ≡ None → Stands start now (course whole None) (taken_of state)
+      → Progress port start now before records state
   progress_idle e x = record {
     whole = whole;
     interim = [];
-    stands = subst (λ d. Stands start now (course whole (begun_with d [])) (taken_of talk)) (sym e) x;
+    stands = subst (λ d. Stands start now (course whole (begun_with d [])) (taken_of state)) (sym e) x;
     records_are = are;
   }
 
-  pub progress_due : (m : Request) (ms : List Response) → talk.due ≡ Some m
-      → Stands start now (course whole (Some (begun m ms))) (taken_of talk)
-      → Progress port start now before records talk
+  pub progress_due : (m : Request) (ms : List Response) → state.due ≡ Some m
+      → Stands start now (course whole (Some (begun m ms))) (taken_of state)
+      → Progress port start now before records state
   progress_due m ms e x = record {
     whole = whole;
     interim = ms;
-    stands = subst (λ d. Stands start now (course whole (begun_with d ms)) (taken_of talk)) (sym e) x;
+    stands = subst (λ d. Stands start now (course whole (begun_with d ms)) (taken_of state)) (sym e) x;
     records_are = are;
   }
 
 -- the reader of requests has taken one off, or is as it was
-pub still_progress : {port : ℕ} {start now : Links} {before records : List Record} (talk : Talk)
-    → Progress port start now before records talk → (new : Frames) → new.failed ≡ None
-    → new.ended ≡ talk.requests.ended
+pub still_progress : {port : ℕ} {start now : Links} {before records : List Record} (state : ProxyState)
+    → Progress port start now before records state → (new : Frames) → new.failed ≡ None
+    → new.ended ≡ state.requests.ended
     → Progress port start now before records
-    (record talk { requests = record new { unread = talk.requests.unread } })
-still_progress {port} {start} {now} talk p new running last = record {
+    (record state { requests = record new { unread = state.requests.unread } })
+still_progress {port} {start} {now} state p new running last = record {
   whole = p.whole;
   interim = p.interim;
   stands = with_requests p.stands new.failed new.ended running (last ∙ p.stands.requests_last);
   records_are = p.records_are;
 }
   where
-    with_requests : {x : Course} → Stands start now x (taken_of talk) → (failed : Option FrameError) (ended : Bool)
+    with_requests : {x : Course} → Stands start now x (taken_of state) → (failed : Option FrameError) (ended : Bool)
         → failed ≡ None → ended ≡ false
         → Stands start now x
-        (record (taken_of talk) {
-          requests = record { unread = talk.requests.unread; ended = ended; failed = failed };
+        (record (taken_of state) {
+          requests = record { unread = state.requests.unread; ended = ended; failed = failed };
         })
     with_requests s failed ended running last = record {
       client = s.client;
@@ -211,23 +211,23 @@ still_progress {port} {start} {now} talk p new running last = record {
       short = s.short;
     }
 
-pub still_answering : {port : ℕ} {start now : Links} {before records : List Record} (talk : Talk)
-    → Progress port start now before records talk → (new : Frames) → new.failed ≡ None
-    → new.ended ≡ talk.responses.ended
+pub still_answering : {port : ℕ} {start now : Links} {before records : List Record} (state : ProxyState)
+    → Progress port start now before records state → (new : Frames) → new.failed ≡ None
+    → new.ended ≡ state.responses.ended
     → Progress port start now before records
-    (record talk { responses = record new { unread = talk.responses.unread } })
-still_answering {port} {start} {now} talk p new running last = record {
+    (record state { responses = record new { unread = state.responses.unread } })
+still_answering {port} {start} {now} state p new running last = record {
   whole = p.whole;
   interim = p.interim;
   stands = with_responses p.stands new.failed new.ended running (last ∙ p.stands.responses_last);
   records_are = p.records_are;
 }
   where
-    with_responses : {x : Course} → Stands start now x (taken_of talk) → (failed : Option FrameError) (ended : Bool)
-        → failed ≡ None → ended ≡ talk.server_ended
+    with_responses : {x : Course} → Stands start now x (taken_of state) → (failed : Option FrameError) (ended : Bool)
+        → failed ≡ None → ended ≡ state.server_ended
         → Stands start now x
-        (record (taken_of talk) {
-          responses = record { unread = talk.responses.unread; ended = ended; failed = failed };
+        (record (taken_of state) {
+          responses = record { unread = state.responses.unread; ended = ended; failed = failed };
         })
     with_responses s failed ended running last = record {
       client = s.client;

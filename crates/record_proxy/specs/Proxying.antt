@@ -4,6 +4,7 @@ use Rattle.std.specs.Prelude.{if◌then◌else◌}
 use Rattle.std.specs.Option.{option_map}
 use Rattle.mm_base.specs.Counts.{Rose}
 use Rattle.mm_base.specs.Link.{LinkView}
+use Rattle.mm_base.specs.Port.{KeepsPort}
 use Rattle.record_store.specs.declared.record.Record.{Record}
 use Rattle.replay_server.specs.declared.ends.Served.{Served}
 use Rattle.option_words.specs.Commands.{ProxyTexts, proxy_texts}
@@ -12,11 +13,12 @@ use Rattle.option_words.specs.Numbers.{number_within, port_of}
 use Rattle.command_ends.specs.Causes.{Text}
 use Rattle.command_ends.specs.Outputs.{NamedText, Output}
 use Rattle.command_ends.specs.Readings.{Reading, Done, asked}
+use Rattle.command_ends.specs.TopCalls.{NetCounts}
 use Rattle.command_ends.specs.Works.{Work}
 use Rattle.command_ends.specs.declared.cause.Cause.{Cause}
 use Rattle.command_ends.specs.declared.cause.Cause.TheVariants.{NetFault, OutOfMemory}
-use Rattle.command_replay.specs.Replay.{served_line}
-use Rattle.command_stores.specs.Written.{store_file}
+use Rattle.store_files.specs.ServedLine.{served_line}
+use Rattle.store_files.specs.Written.{store_file}
 use Rattle.record_proxy.specs.Asking.{ListensAt, OnlyAsks}
 use Rattle.record_proxy.specs.Servings.{Net, ServingSays, most_recorded}
 use Rattle.record_proxy.specs.declared.ends.ProxyError.{ProxyError}
@@ -115,6 +117,13 @@ proxy_work client_view server_view job = record {
   gives = λ old new output. GivesProxy client_view server_view job old new output;
   stops = λ old new cause. StopsProxy client_view server_view job old new cause;
   faulted = λ old new. Rose old.port.faults new.port.faults;
+}
+
+-- what is counted of the net is what the port counts
+abbrev pub net_counts : {C X : Type 0} → NetCounts (Net C X)
+net_counts {C} {X} = record {
+  faults = λ (n : Net C X). n.port.faults;
+  keeps = λ (old : Net C X) (new : Net C X). KeepsPort old.port new.port;
 }
 
 -- the statuses of the program

@@ -1,5 +1,5 @@
 -- What a proxy does to its port and its dialer.
-use Rattle.std.specs.Prelude.{◌≡◌, ◌⊎◌, ◌<◌, ◌≤◌, ℕ, ◌+◌, ◌-◌, ◌^◌, ◌++◌, Bool, true, false, List, [], ◌∷◌, length}
+use Rattle.std.specs.Prelude.{◌≡◌, ◌⊎◌, ◌<◌, ◌≤◌, ℕ, ◌+◌, ◌-◌, ◌^◌, ◌++◌, Bool, true, List, [], ◌∷◌, length}
 use Rattle.std.specs.Prelude.{map}
 use Rattle.std.specs.Prelude.{All, Option, Some, None, Result, Ok, Err, sum_by}
 use Rattle.std.specs.List.{flat_map}
@@ -8,6 +8,7 @@ use Rattle.mm_base.specs.Counts.{Rose}
 use Rattle.mm_base.specs.Link.{LinkView, IsFresh}
 use Rattle.mm_base.specs.Port.{PortView, KeepsPort}
 use Rattle.record_store.specs.declared.record.Record.{Record}
+use Rattle.replay_server.specs.Servings.{Known, no_ends}
 use Rattle.replay_server.specs.declared.ends.Served.{Served}
 use Rattle.record_proxy.specs.Dialers.{DialerView}
 use Rattle.record_proxy.specs.Links.{IsProxied, links}
@@ -42,9 +43,6 @@ pub data Dialed (X : Type 0) : Type 0 where
 pub record Passage (C X : Type 0) : Type 0 where
   pub client : C
   pub dialed : Dialed X
-
-abbrev pub no_ends : Served
-no_ends = record { closed = 0; bad = 0; broken = 0; full = 0 }
 
 -- under which number an end is counted
 abbrev pub counted_end : ProxyEnd → Served
@@ -95,12 +93,13 @@ module _ {X : Type 0} where
   RisesFor (GivenUp added) old new = (old ≤ new) × Rose old new
   RisesFor (Joined server added end) old new = old ≤ new
 
-  module _ (site : ℕ) (server_view : X → LinkView) where
+  module _ (site_port : ℕ) (server_view : X → LinkView) where
     -- From a client for which nothing was dialed nothing was taken, and nothing was given to it.
     abbrev pub IsDialed : LinkView → Dialed X → Type 0
     IsDialed client NotDialed = IsFresh client
-    IsDialed client (GivenUp added) = (server : LinkView) × (end : ProxyEnd) × IsJoined site client server added end
-    IsDialed client (Joined server added end) = IsJoined site client (server_view server) added end
+    IsDialed client (GivenUp added) =
+        (server : LinkView) × (end : ProxyEnd) × IsJoined site_port client server added end
+    IsDialed client (Joined server added end) = IsJoined site_port client (server_view server) added end
 
 module _ {C X : Type 0} where
   -- how many connections ended in each way
@@ -129,18 +128,13 @@ net port dialer = record { port = port; dialer = dialer }
 abbrev pub finished_with : {C : Type 0} → List C → Option (List C) → Option (List C)
 finished_with conns told = option_map (λ finished. finished ++ conns) told
 
--- What holds, and by which links it does. Where it comes from another thread it's known that it holds, and no more.
-abbrev pub Known : Bool → Type 0 → Type 0
-Known false T = T
-Known true T = ∥ T ∥₁
-
 -- how many clients a proxy accepts at most that has no limit of its own
 abbrev pub most_recorded : ℕ
 most_recorded = 4294967295
 
-module _ {C X : Type 0} (site : ℕ) (client_view : C → LinkView) (server_view : X → LinkView) where
+module _ {C X : Type 0} (site_port : ℕ) (client_view : C → LinkView) (server_view : X → LinkView) where
   abbrev pub IsPassage : Passage C X → Type 0
-  IsPassage p = IsDialed site server_view (client_view p.client) p.dialed
+  IsPassage p = IsDialed site_port server_view (client_view p.client) p.dialed
 
   -- These clients were accepted, and each was finished, in this order: that of their acceptance, or where they are
   -- served beside each other that in which they ended. The store has the records of all, in this order. Those for which

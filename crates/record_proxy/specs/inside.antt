@@ -1,5 +1,4 @@
 -- What proofs and the clauses of inner functions cite, and no caller needs.
-pub mod Giving
 pub mod Passing
 pub mod Pools
 pub mod Progress

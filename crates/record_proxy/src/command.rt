@@ -1,20 +1,14 @@
 // The program `mm-record`: its words, the clients that it serves, the store that it writes and the line that it prints.
-ghost use Rattle.std.specs.Prelude.{◌≡◌, ◌≢◌, ◌⊎◌, [], Some, Ok, IfOk, IfErr, OnErr, OnOk, map, string_bytes};
-ghost use Rattle.mm_base.specs.Counts.{Rose};
-ghost use Rattle.mm_base.specs.Files.{Files};
+ghost use Rattle.std.specs.Prelude.{◌≡◌, [], Ok, IfOk, IfErr, OnErr, OnOk, map, string_bytes};
 ghost use Rattle.mm_base.specs.Port.{KeepsPort};
 ghost use Rattle.mm_base.specs.Sink.{CountsSinkFaults};
 ghost use Rattle.command_ends.specs.Alone.{IsLeftAlone};
-ghost use Rattle.command_ends.specs.Answers.{Answers, CountsDisk, IsFaultless, StopsShort, cause_in};
-ghost use Rattle.command_ends.specs.Causes.{status_of_refusal};
-ghost use Rattle.command_ends.specs.Ends.{Ends, IsDone, KeepsFiles, outside};
+ghost use Rattle.command_ends.specs.Answers.{CountsDisk, cause_in};
+ghost use Rattle.command_ends.specs.Ends.{Ends, outside};
 ghost use Rattle.command_ends.specs.Outputs.{holding_all};
-ghost use Rattle.command_ends.specs.Readings.{Reaches, AtTask, refused_first};
 ghost use Rattle.command_ends.specs.Stops.{StopsWriting};
-ghost use Rattle.command_ends.specs.declared.cause.Refusal.{Refusal};
-ghost use Rattle.command_ends.specs.declared.cause.Refusal.TheVariants.{Words};
-ghost use Rattle.command_ends.specs.declared.cause.WordsRefusal.{WordsRefusal};
-ghost use Rattle.record_proxy.specs.Proxying.{AsksAt, ProxyJob as JobValue, ServesJob, StopsProxy, cause_of, proxy_reading};
+ghost use Rattle.command_ends.specs.TopCalls.{RefusesByWords, TopCall};
+ghost use Rattle.record_proxy.specs.Proxying.{AsksAt, ServesJob, StopsProxy, cause_of, net_counts, proxy_reading};
 ghost use Rattle.record_proxy.specs.Proxying.{IsProxyStatus, proxy_files, proxy_words, proxy_work};
 ghost use Rattle.record_proxy.specs.Servings.{net};
 ghost use Rattle.record_proxy.specs.inside.Values.{proxy_values};
@@ -25,9 +19,7 @@ use crate::job::ProxyJob;
 use crate::pool::serve_until_ended;
 use crate::serving::serve;
 use crate::words::read_proxy;
-use command_ends::{Cause, conclude};
-use command_replay::print_served;
-use command_stores::write_store;
+use command_ends::{Cause, Host, conclude};
 use mm_base::{Disk, Port, Sink};
 use record_store::Store;
 use replay_server::Served;
@@ -35,6 +27,7 @@ use std::alloc::Global;
 use std::marker::{Send, Sync};
 use std::sync::Wait;
 use std::thread::Threads;
+use store_files::{print_served, write_store};
 
 // Why a serving stopped.
 fn cause_of(error: ProxyError) -> Cause
@@ -48,8 +41,7 @@ fn cause_of(error: ProxyError) -> Cause
 
 // Serves the clients of a job, and adds the records of what they say to the store.
 fn serve_job<P: Port + Send, X: Dialer + Send, R: Threads + Wait + Sync>(
-    rt: &R,
-    alloc: Global,
+    host: &Host<'_, R>,
     job: &ProxyJob<'_>,
     port: &mut P,
     dialer: &mut X,
@@ -65,9 +57,9 @@ fn serve_job<P: Port + Send, X: Dialer + Send, R: Threads + Wait + Sync>(
     ensures keeps { KeepsPort (P.view port.old) (P.view port.new) }
 {
     let served = if job.until_ended {
-        serve_until_ended(rt, alloc, job, port, dialer, store)
+        serve_until_ended(host.threads, host.alloc, job, port, dialer, store)
     } else {
-        serve(alloc, job, port, dialer, store)
+        serve(host.alloc, job, port, dialer, store)
     };
     match served {
         Ok(served) => Ok(served),
@@ -98,8 +90,7 @@ fn write_recorded<D: Disk>(
 
 // Does the job: its clients are served, the records are written, and then it is printed how they ended.
 fn record<D: Disk, O: Sink, P: Port + Send, X: Dialer + Send, R: Threads + Wait + Sync>(
-    rt: &R,
-    alloc: Global,
+    host: &Host<'_, R>,
     job: &ProxyJob<'_>,
     disk: &mut D,
     out: &mut O,
@@ -113,16 +104,15 @@ fn record<D: Disk, O: Sink, P: Port + Send, X: Dialer + Send, R: Threads + Wait 
     ensures counts { CountsDisk (D.view disk.old) (D.view disk.new) }
     ensures out_counts { CountsSinkFaults (O.view out.old) (O.view out.new) }
 {
-    let mut store = Store::new(alloc);
-    let served = serve_job(rt, alloc, job, port, dialer, &mut store)?;
-    write_recorded(alloc, job, disk, &store)?;
-    print_served(alloc, served, out)
+    let mut store = Store::new(host.alloc);
+    let served = serve_job(host, job, port, dialer, &mut store)?;
+    write_recorded(host.alloc, job, disk, &store)?;
+    print_served(host.alloc, served, out)
 }
 
 // Does what the words say.
 pub(crate) fn answer<D: Disk, O: Sink, P: Port + Send, X: Dialer + Send, R: Threads + Wait + Sync>(
-    rt: &R,
-    alloc: Global,
+    host: &Host<'_, R>,
     words: &[String],
     disk: &mut D,
     out: &mut O,
@@ -137,13 +127,13 @@ pub(crate) fn answer<D: Disk, O: Sink, P: Port + Send, X: Dialer + Send, R: Thre
     ensures counts { CountsDisk (D.view disk.old) (D.view disk.new) }
     ensures out_counts { CountsSinkFaults (O.view out.old) (O.view out.new) }
 {
-    match read_proxy(alloc, words)? {
-        Some(job) => record(rt, alloc, &job, disk, out, port, dialer),
+    match read_proxy(host.alloc, words)? {
+        Some(job) => record(host, &job, disk, out, port, dialer),
         None => Err(Cause::usage()),
     }
 }
 
-/// Does what the words after the program's name say, and answers the exit status.
+/// Does what the words after the program's name say, and returns the exit status.
 ///
 /// `--port N --to N --connections N --out FILE [--until-ended]` listens at a port of 1 to 65,535, accepts 0 to 64
 /// clients one after the other, dials the site's port for each, passes what the two say unchanged, and finishes both.
@@ -169,52 +159,15 @@ pub fn proxy_main<D: Disk, O: Sink, P: Port + Send, X: Dialer + Send, R: Threads
     port: &mut P,
     dialer: &mut X,
 ) -> u8
-    // 0: the store is written, unless nothing was recorded until ended, and the line printed; nothing else is changed.
-    ensures done { result ≡ 0 → IsDone (proxy_work P.Conn.view X.Conn.view) (proxy_words (map string_bytes words.now))
-        (outside (D.view disk.old) (O.view out.old) (net (P.view port.old) (X.view dialer.old)))
-        (outside (D.view disk.new) (O.view out.new) (net (P.view port.new) (X.view dialer.new))) }
-
-    // Each status has its cause, what it leaves of the file, and its line.
-    ensures answered { result ≢ 9 → Answers (proxy_work P.Conn.view X.Conn.view)
-        (proxy_words (map string_bytes words.now))
+    ensures top { TopCall net_counts (proxy_work P.Conn.view X.Conn.view) (proxy_words (map string_bytes words.now))
         (outside (D.view disk.old) (O.view out.old) (net (P.view port.old) (X.view dialer.old)))
         (outside (D.view disk.new) (O.view out.new) (net (P.view port.new) (X.view dialer.new))) result }
-    ensures stopped { result ≡ 9 → StopsShort (proxy_work P.Conn.view X.Conn.view)
-        (proxy_words (map string_bytes words.now))
-        (outside (D.view disk.old) (O.view out.old) (net (P.view port.old) (X.view dialer.old)))
-        (outside (D.view disk.new) (O.view out.new) (net (P.view port.new) (X.view dialer.new))) }
 
-    // 2 comes by the words alone, 7 and 8 only where the disk, `out` or the port counted it. At 2 and at 8 no file is
-    // changed. No other status comes but 0 and 9.
-    ensures usage { result ≡ 2 → ((w : WordsRefusal)
-        × (refused_first (proxy_words (map string_bytes words.now)) ≡ Some (Words w))) }
-    ensures write_fault { result ≡ 7 → Rose (D.view disk.old).write_faults (D.view disk.new).write_faults
-        ⊎ Rose (O.view out.old).faults (O.view out.new).faults }
-    ensures net_fault { result ≡ 8 → Rose (P.view port.old).faults (P.view port.new).faults }
-    ensures keeps { result ≢ 0 → result ≢ 7 → result ≢ 9 → KeepsFiles (D.view disk.old) (D.view disk.new) }
-
+    // 2 comes by the words alone, and no other status comes but 0, 7, 8 and 9.
+    ensures usage { RefusesByWords (proxy_words (map string_bytes words.now)) result }
     ensures statuses { IsProxyStatus result }
-
-    // Where the words have no job the disk isn't asked, and neither are the port and the dialer.
-    ensures disk_alone { IsLeftAlone (proxy_words (map string_bytes words.now)) (D.view disk.old) (D.view disk.new) }
-    ensures net_alone { IsLeftAlone (proxy_words (map string_bytes words.now)) (net (P.view port.old) (X.view dialer.old))
-        (net (P.view port.new) (X.view dialer.new)) }
-
-    // Words that refuse give their status. A job gives 0, unless a fault is counted.
-    ensures by_words { (refusal : Refusal)
-        → refused_first (proxy_words (map string_bytes words.now)) ≡ Some refusal
-        → (result ≡ status_of_refusal refusal) ⊎ (result ≡ 9) }
-    ensures complete { (m : Files) (job : JobValue) → (D.view disk.old).files ≡ Some m
-        → Reaches (Some m) (proxy_words (map string_bytes words.now)) (AtTask job)
-        → IsFaultless (proxy_work P.Conn.view X.Conn.view) job
-        (outside (D.view disk.old) (O.view out.old) (net (P.view port.old) (X.view dialer.old)))
-        (outside (D.view disk.new) (O.view out.new) (net (P.view port.new) (X.view dialer.new)))
-        → (result ≡ 0) ⊎ (result ≡ 9) }
-
-    ensures port_counts { KeepsPort (P.view port.old) (P.view port.new) }
-    ensures counts { CountsDisk (D.view disk.old) (D.view disk.new) }
-    ensures out_counts { CountsSinkFaults (O.view out.old) (O.view out.new) }
 {
-    let answer = answer(rt, alloc, words, disk, out, port, dialer);
+    let host = Host { threads: rt, alloc };
+    let answer = answer(&host, words, disk, out, port, dialer);
     conclude(&answer, out)
 }

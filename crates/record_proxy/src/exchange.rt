@@ -9,12 +9,12 @@ ghost use Rattle.record_proxy.specs.Links.{Links, HasFaultCause, links};
 ghost use Rattle.record_proxy.specs.inside.Progress.{Progress, GoesOn, to_do};
 
 use crate::ends::ProxyEnd;
-use crate::giving::give;
+use crate::proxy_state::ProxyState;
 use crate::taking::{refused, take_of_client, take_of_server};
-use crate::talk::Talk;
 use http_frame::{FrameFault, Request, Step};
 use mm_base::Link;
 use record_store::{Record, Store};
+use replay_server::give;
 use text_base::OutOfMemory;
 
 fn either(request: bool, response: bool) -> bool
@@ -25,17 +25,17 @@ fn either(request: bool, response: bool) -> bool
 
 /// Passes a whole request on to the server.
 fn pass_request<L: Link>(
-    talk: &mut Talk,
+    state: &mut ProxyState,
     server: &mut L,
     request: Request,
 ) -> Option<Result<ProxyEnd, OutOfMemory>>
     ensures goes_on { (port : ℕ) (start : Links) (client : Option LinkBytes) (before records : List RecordValue)
         (unread : List ℕ)
-        → IsRequestOf request → talk.old.due ≡ None → unread ≡ request.bytes ++ talk.old.requests.unread
+        → IsRequestOf request → state.old.due ≡ None → unread ≡ request.bytes ++ state.old.requests.unread
         → Progress port start (links client (L.view server.old).told) before records
-        (record talk.old { requests = record talk.old.requests { unread = unread } })
-        → GoesOn port start (links client (L.view server.new).told) before records talk.new result }
-    ensures same { talk.new ≡ record talk.old { due = talk.new.due } }
+        (record state.old { requests = record state.old.requests { unread = unread } })
+        → GoesOn port start (links client (L.view server.new).told) before records state.new result }
+    ensures same { state.new ≡ record state.old { due = state.new.due } }
     ensures counts { CountsLinkFaults (L.view server.old) (L.view server.new) }
     ensures cause { IfSome result (HasFaultCause ProxyEnd.ServerFault (L.view server.old) (L.view server.new)) }
     ensures client_cause { IfSome result (λ r. r ≢ Ok ProxyEnd.ClientFault) }
@@ -43,31 +43,31 @@ fn pass_request<L: Link>(
     if let Err(error) = give(server, request.bytes.as_slice()) {
         return Some(refused(ProxyEnd::ServerFault, error));
     }
-    talk.due = Some(request);
+    state.due = Some(request);
     None
 }
 
 /// Passes the next whole request on, or takes more bytes of the client.
 fn ask<A: Link, B: Link>(
-    talk: &mut Talk,
+    state: &mut ProxyState,
     client: &mut A,
     server: &mut B,
     buf: &mut [u8],
 ) -> Option<Result<ProxyEnd, OutOfMemory>>
     requires { 0 < length buf.old }
     ensures goes_on { (port : ℕ) (start : Links) (before records : List RecordValue)
-        → Progress port start (links (A.view client.old).told (B.view server.old).told) before records talk.old
-        → talk.old.due ≡ None
-        → GoesOn port start (links (A.view client.new).told (B.view server.new).told) before records talk.new result }
-    ensures less { IfNone result (to_do talk.new < to_do talk.old) }
+        → Progress port start (links (A.view client.old).told (B.view server.old).told) before records state.old
+        → state.old.due ≡ None
+        → GoesOn port start (links (A.view client.new).told (B.view server.new).told) before records state.new result }
+    ensures less { IfNone result (to_do state.new < to_do state.old) }
     ensures client_counts { CountsLinkFaults (A.view client.old) (A.view client.new) }
     ensures server_counts { CountsLinkFaults (B.view server.old) (B.view server.new) }
     ensures client_cause { IfSome result (HasFaultCause ProxyEnd.ClientFault (A.view client.old) (A.view client.new)) }
     ensures server_cause { IfSome result (HasFaultCause ProxyEnd.ServerFault (B.view server.old) (B.view server.new)) }
 {
-    match talk.requests.next() {
-        Ok(Step::Message(request)) => pass_request(talk, server, request),
-        Ok(Step::More) => take_of_client(talk, client, buf),
+    match state.requests.next() {
+        Ok(Step::Message(request)) => pass_request(state, server, request),
+        Ok(Step::More) => take_of_client(state, client, buf),
         Err(FrameFault::Frame(_)) => Some(Ok(ProxyEnd::BadRequest)),
         Err(FrameFault::OutOfMemory) => Some(Err(OutOfMemory)),
     }
@@ -75,7 +75,7 @@ fn ask<A: Link, B: Link>(
 
 /// Passes a whole response on to the client, and adds the record where it is final.
 fn pass_response<L: Link>(
-    talk: &mut Talk,
+    state: &mut ProxyState,
     client: &mut L,
     exchange: Record,
     store: &mut Store,
@@ -85,12 +85,12 @@ fn pass_response<L: Link>(
     requires response { IsResponseOf exchange.request.head.head_only exchange.response }
     ensures goes_on { (start : Links) (server : Option LinkBytes) (before : List RecordValue) (unread : List ℕ)
         (is : IsResponseOf exchange.request.head.head_only exchange.response)
-        → MayStop is.is.framing talk.old.server_ended talk.old.responses.unread
-        → talk.old.due ≡ None → unread ≡ exchange.response.bytes ++ talk.old.responses.unread
+        → MayStop is.is.framing state.old.server_ended state.old.responses.unread
+        → state.old.due ≡ None → unread ≡ exchange.response.bytes ++ state.old.responses.unread
         → Progress exchange.port start (links (L.view client.old).told server) before store.old
-        (record talk.old { due = Some exchange.request; responses = record talk.old.responses { unread = unread } })
-        → GoesOn exchange.port start (links (L.view client.new).told server) before store.new talk.new result }
-    ensures same { talk.new ≡ record talk.old { due = talk.new.due } }
+        (record state.old { due = Some exchange.request; responses = record state.old.responses { unread = unread } })
+        → GoesOn exchange.port start (links (L.view client.new).told server) before store.new state.new result }
+    ensures same { state.new ≡ record state.old { due = state.new.due } }
     ensures counts { CountsLinkFaults (L.view client.old) (L.view client.new) }
     ensures cause { IfSome result (HasFaultCause ProxyEnd.ClientFault (L.view client.old) (L.view client.new)) }
     ensures server_cause { IfSome result (λ r. r ≢ Ok ProxyEnd.ServerFault) }
@@ -99,7 +99,7 @@ fn pass_response<L: Link>(
         return Some(refused(ProxyEnd::ClientFault, error));
     }
     if exchange.response.head.status < 200 {
-        talk.due = Some(exchange.request);
+        state.due = Some(exchange.request);
         return None;
     }
     let closes = either(exchange.request.head.closes, exchange.response.head.closes);
@@ -112,43 +112,50 @@ fn pass_response<L: Link>(
     None
 }
 
+// A request to which a response is due, and the site's port, which its record gets.
+#[derive(Drop)]
+struct DueRequest {
+    request: Request,
+    site_port: u16,
+}
+
 /// Passes the next whole response to a request on, or takes more bytes of the server.
 fn answer<A: Link, B: Link>(
-    talk: &mut Talk,
+    state: &mut ProxyState,
     client: &mut A,
     server: &mut B,
     buf: &mut [u8],
-    request: Request,
-    port: u16,
+    asked: DueRequest,
     store: &mut Store,
 ) -> Option<Result<ProxyEnd, OutOfMemory>>
     requires room { 0 < length buf.old }
-    requires request { IsRequestOf request }
-    requires tied { talk.old.responses.ended ≡ talk.old.server_ended }
+    requires request { IsRequestOf asked.request }
+    requires tied { state.old.responses.ended ≡ state.old.server_ended }
     ensures goes_on { (start : Links) (before : List RecordValue)
-        → Progress port start (links (A.view client.old).told (B.view server.old).told) before store.old
-        (record talk.old { due = Some request })
-        → talk.old.due ≡ None
-        → GoesOn port start (links (A.view client.new).told (B.view server.new).told) before store.new talk.new
-        result }
-    ensures less { IfNone result (to_do talk.new < to_do talk.old) }
+        → Progress asked.site_port start (links (A.view client.old).told (B.view server.old).told) before store.old
+        (record state.old { due = Some asked.request })
+        → state.old.due ≡ None
+        → GoesOn asked.site_port start (links (A.view client.new).told (B.view server.new).told) before store.new
+        state.new result }
+    ensures less { IfNone result (to_do state.new < to_do state.old) }
     ensures client_counts { CountsLinkFaults (A.view client.old) (A.view client.new) }
     ensures server_counts { CountsLinkFaults (B.view server.old) (B.view server.new) }
     ensures client_cause { IfSome result (HasFaultCause ProxyEnd.ClientFault (A.view client.old) (A.view client.new)) }
     ensures server_cause { IfSome result (HasFaultCause ProxyEnd.ServerFault (B.view server.old) (B.view server.new)) }
 {
-    match talk.responses.next(request.head.head_only) {
+    let DueRequest { request, site_port } = asked;
+    match state.responses.next(request.head.head_only) {
         Ok(Step::Message(response)) => {
             let exchange = Record {
-                port,
+                port: site_port,
                 request,
                 response,
             };
-            pass_response(talk, client, exchange, store)
+            pass_response(state, client, exchange, store)
         }
         Ok(Step::More) => {
-            talk.due = Some(request);
-            take_of_server(talk, server, buf)
+            state.due = Some(request);
+            take_of_server(state, server, buf)
         }
         Err(FrameFault::Frame(_)) => Some(Ok(ProxyEnd::BadResponse)),
         Err(FrameFault::OutOfMemory) => Some(Err(OutOfMemory)),
@@ -158,28 +165,35 @@ fn answer<A: Link, B: Link>(
 /// Passes the next message on that is due; or ends the connection, where there is none and never will be; or takes more
 /// bytes.
 pub fn step<A: Link, B: Link>(
-    talk: &mut Talk,
+    state: &mut ProxyState,
     client: &mut A,
     server: &mut B,
     buf: &mut [u8],
-    port: u16,
+    site_port: u16,
     store: &mut Store,
 ) -> Option<Result<ProxyEnd, OutOfMemory>>
     requires room { 0 < length buf.old }
-    requires due { IfSome talk.old.due IsRequestOf }
-    requires tied { talk.old.responses.ended ≡ talk.old.server_ended }
+    requires due { IfSome state.old.due IsRequestOf }
+    requires tied { state.old.responses.ended ≡ state.old.server_ended }
     ensures goes_on { (start : Links) (before : List RecordValue)
-        → Progress port start (links (A.view client.old).told (B.view server.old).told) before store.old talk.old
-        → GoesOn port start (links (A.view client.new).told (B.view server.new).told) before store.new talk.new
+        → Progress site_port start (links (A.view client.old).told (B.view server.old).told) before store.old state.old
+        → GoesOn site_port start (links (A.view client.new).told (B.view server.new).told) before store.new state.new
         result }
-    ensures less { IfNone result (to_do talk.new < to_do talk.old) }
+    ensures less { IfNone result (to_do state.new < to_do state.old) }
     ensures client_counts { CountsLinkFaults (A.view client.old) (A.view client.new) }
     ensures server_counts { CountsLinkFaults (B.view server.old) (B.view server.new) }
     ensures client_cause { IfSome result (HasFaultCause ProxyEnd.ClientFault (A.view client.old) (A.view client.new)) }
     ensures server_cause { IfSome result (HasFaultCause ProxyEnd.ServerFault (B.view server.old) (B.view server.new)) }
 {
-    match talk.due.take() {
-        None => ask(talk, client, server, buf),
-        Some(request) => answer(talk, client, server, buf, request, port, store),
+    match state.due.take() {
+        None => ask(state, client, server, buf),
+        Some(request) => answer(
+            state,
+            client,
+            server,
+            buf,
+            DueRequest { request, site_port },
+            store,
+        ),
     }
 }

@@ -1,5 +1,6 @@
 // A dialer in memory, which fails by a list.
 ghost use Rattle.std.specs.Prelude.{◌≡◌, ◌⊎◌, ◌≤◌, ◌+◌, ◌∷◌, [], Some, IfOk, OnErr, IsErrOf, IsOk, Contains};
+ghost use Rattle.std.specs.Prelude.{MatchResult};
 ghost use Rattle.mm_base.specs.Counts.{Rose, one_more};
 ghost use Rattle.mm_base.specs.Link.{IsFresh};
 ghost use Rattle.mm_base.specs.Listened.{never};
@@ -17,8 +18,8 @@ use mm_base::{EndError, MemLink, MemPort, Port};
 use std::alloc::Global;
 use std::marker::Model;
 
-/// A dialer in memory, which gives links in memory in their order. It tells its finished links and at which
-/// ports it was asked, counts its calls from 1, and fails those that its list names, and a `dial` where no link is left.
+/// A dialer in memory, which gives links in memory in their order. It tells its finished links and at which ports it
+/// was asked, counts its calls from 1, and fails those that its list names, and a `dial` where no link is left.
 #[derive(Drop)]
 pub struct MemDialer {
     asked: Asked,
@@ -79,12 +80,12 @@ impl Dialer for MemDialer {
 
     fn dial(&mut self, number: u16) -> Result<MemLink, EndError>
         ensures counted { self.new.links.calls ≡ one_more self.old.links.calls }
-        ensures named { Contains self.old.links.fails self.new.links.calls → IsErrOf result EndError.Failed }
-        ensures failed { IsErrOf result EndError.Failed
-            → Contains self.old.links.fails self.new.links.calls ⊎ (self.old.links.waiting ≡ []) }
-        ensures next { IfOk result (λ link. self.old.links.waiting ≡ link ∷ self.new.links.waiting) }
+        ensures failed { (Contains self.old.links.fails self.new.links.calls → IsErrOf result EndError.Failed)
+            × (IsErrOf result EndError.Failed
+            → Contains self.old.links.fails self.new.links.calls ⊎ (self.old.links.waiting ≡ [])) }
+        ensures next { MatchResult result (λ link. self.old.links.waiting ≡ link ∷ self.new.links.waiting)
+            (λ _. self.new.links.waiting ≡ self.old.links.waiting) }
         ensures none_left { self.old.links.waiting ≡ [] → ¬ IsOk result }
-        ensures kept { OnErr result (self.new.links.waiting ≡ self.old.links.waiting) }
         ensures ok { IfOk result (λ conn. (self.new.links.accepted ≡ self.old.links.accepted + 1)
             × IsFresh (mem_link_view conn)) }
         ensures err { OnErr result (self.new.links.accepted ≡ self.old.links.accepted) }

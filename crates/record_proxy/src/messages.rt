@@ -8,13 +8,13 @@ use mm_base::Link;
 use record_store::Store;
 use std::marker::{Brand, PhantomData};
 
-/// The number of the site's port. Each serving picks its own.
+/// The site's port. Each serving picks its own.
 pub(crate) trait Site {
-    ghost number: { ℕ };
+    ghost port: { ℕ };
 }
 
 impl Site for Brand {
-    ghost number = { 0 };
+    ghost port = { 0 };
 }
 
 /// A client and the connection that was dialed for it. Nothing was taken from either or given to it.
@@ -34,5 +34,5 @@ pub(crate) struct Passed<K: Site, A: Link, B: Link> {
     pub records: Store,
     pub end: ProxyEnd,
     pub site: PhantomData<K>,
-    pub ghost joined: { ∥ IsJoined K.number (A.view client) (B.view server) records end ∥₁ },
+    pub ghost joined: { ∥ IsJoined K.port (A.view client) (B.view server) records end ∥₁ },
 }

@@ -5,7 +5,7 @@ ghost use Rattle.record_proxy.specs.Links.{IsStored, HasFaultCause, links};
 
 use crate::ends::ProxyEnd;
 use crate::exchange::step;
-use crate::talk::Talk;
+use crate::proxy_state::ProxyState;
 use mm_base::Link;
 use record_store::Store;
 use std::alloc::Global;
@@ -31,9 +31,9 @@ fn converse<A: Link, B: Link>(
     ensures client_cause { HasFaultCause ProxyEnd.ClientFault (A.view client.old) (A.view client.new) result }
     ensures server_cause { HasFaultCause ProxyEnd.ServerFault (B.view server.old) (B.view server.new) result }
 {
-    let mut talk = Talk::new(alloc);
+    let mut state = ProxyState::new(alloc);
     'steps: loop {
-        if let Some(end) = step(&mut talk, client, server, buf, port, store) {
+        if let Some(end) = step(&mut state, client, server, buf, port, store) {
             return end;
         }
     }
@@ -54,8 +54,8 @@ fn zeros(alloc: Global, count: usize) -> Result<Vec<u8>, OutOfMemory>
 /// `Closed`: the client's input ended between requests, or an answer was given whose request or response closes
 /// (RFC 9112, section 9.3). `BadRequest`, `BadResponse`: that side's rest is refused, or its input ended within a
 /// message, or before a response that is due. `ClientFault`, `ServerFault`: only where that link's faults rose. `Full`:
-/// more bytes are needed of a side from which 67,108,864 were taken. After `OutOfMemory`, which means out of memory, the
-/// store has the records of the exchanges before.
+/// more bytes are needed of a side from which 67,108,864 were taken. After `OutOfMemory`, which means out of memory,
+/// the store has the records of the exchanges before.
 pub fn proxy_conn<A: Link, B: Link>(
     alloc: Global,
     client: &mut A,

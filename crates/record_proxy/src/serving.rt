@@ -7,7 +7,7 @@ ghost use Rattle.replay_server.specs.inside.Tallies.{total};
 ghost use Rattle.record_proxy.specs.Asking.{ListensAt, OnlyAsks, asked_at};
 ghost use Rattle.record_proxy.specs.Dialers.{CountsDials};
 ghost use Rattle.record_proxy.specs.inside.Passing.{Dials, EndsWith, Joins, ServesOne, plus};
-ghost use Rattle.record_proxy.specs.Servings.{ServingSays, counted_as, net, no_ends};
+ghost use Rattle.record_proxy.specs.Servings.{ServingSays, counted_as, net};
 
 use crate::dialer::Dialer;
 use crate::ends::{ProxyEnd, ProxyError};
@@ -18,18 +18,6 @@ use record_store::Store;
 use replay_server::Served;
 use std::alloc::Global;
 use text_base::OutOfMemory;
-
-/// No connection.
-pub(crate) fn nothing() -> Served
-    ensures { result ≡ no_ends }
-{
-    Served {
-        closed: 0,
-        bad: 0,
-        broken: 0,
-        full: 0,
-    }
-}
 
 /// One end more. None: the dialer failed.
 pub(crate) fn with_end(end: Option<ProxyEnd>, n: Served) -> Served
@@ -98,7 +86,7 @@ pub(crate) fn finish_dialed<X: Dialer>(dialer: &mut X, server: X::Conn) -> Resul
 /// Passes what a client and a dialed connection say, and finishes that one. None: the dialer failed.
 fn join<A: Link, X: Dialer>(
     alloc: Global,
-    site: u16,
+    site_port: u16,
     client: &mut A,
     server: X::Conn,
     dialer: &mut X,
@@ -106,12 +94,12 @@ fn join<A: Link, X: Dialer>(
 ) -> Result<Option<ProxyEnd>, OutOfMemory>
     requires client_fresh { IsFresh (A.view client.old) }
     requires server_fresh { IsFresh (X.Conn.view server) }
-    ensures joins { IfOk result (λ end. Joins site X.Conn.view (A.view client.new) (X.view dialer.old)
+    ensures joins { IfOk result (λ end. Joins site_port X.Conn.view (A.view client.new) (X.view dialer.old)
         (X.view dialer.new) store.old store.new end) }
     ensures asked { (X.view dialer.new).asked ≡ (X.view dialer.old).asked }
 {
     let mut server = server;
-    let end = proxy_conn(alloc, client, &mut server, site, store);
+    let end = proxy_conn(alloc, client, &mut server, site_port, store);
     part(client, &mut server);
     let done = finish_dialed(dialer, server);
     ended(end, done)
@@ -120,18 +108,18 @@ fn join<A: Link, X: Dialer>(
 /// Dials for a client, and passes what the two say. None: the dialer failed.
 fn pass<A: Link, X: Dialer>(
     alloc: Global,
-    site: u16,
+    site_port: u16,
     client: &mut A,
     dialer: &mut X,
     store: &mut Store,
 ) -> Result<Option<ProxyEnd>, OutOfMemory>
     requires { IsFresh (A.view client.old) }
-    ensures dials { IfOk result (λ end. Dials site X.Conn.view (A.view client.new) (X.view dialer.old)
+    ensures dials { IfOk result (λ end. Dials site_port X.Conn.view (A.view client.new) (X.view dialer.old)
         (X.view dialer.new) store.old store.new end) }
-    ensures asks { (X.view dialer.new).asked ≡ asked_at site (X.view dialer.old).asked }
+    ensures asks { (X.view dialer.new).asked ≡ asked_at site_port (X.view dialer.old).asked }
 {
-    match dialer.dial(site) {
-        Ok(server) => join(alloc, site, client, server, dialer, store),
+    match dialer.dial(site_port) {
+        Ok(server) => join(alloc, site_port, client, server, dialer, store),
         Err(EndError::Failed) => Ok(None),
         Err(EndError::OutOfMemory) => Err(OutOfMemory),
     }
@@ -157,22 +145,23 @@ fn served(
 /// Serves a client that was accepted, and finishes it.
 fn serve_client<P: Port, X: Dialer>(
     alloc: Global,
-    site: u16,
+    site_port: u16,
     client: P::Conn,
     port: &mut P,
     dialer: &mut X,
     store: &mut Store,
 ) -> Result<Option<ProxyEnd>, ProxyError>
     requires { IsFresh (P.Conn.view client) }
-    ensures one { IfOk result (λ end. ServesOne site P.Conn.view X.Conn.view (net (P.view port.old) (X.view dialer.old))
-        (net (P.view port.new) (X.view dialer.new)) store.old store.new end) }
+    ensures one { IfOk result (λ end. ServesOne site_port P.Conn.view X.Conn.view
+        (net (P.view port.old) (X.view dialer.old)) (net (P.view port.new) (X.view dialer.new)) store.old store.new
+        end) }
     ensures heard { (P.view port.new).listened ≡ (P.view port.old).listened }
-    ensures asks { (X.view dialer.new).asked ≡ asked_at site (X.view dialer.old).asked }
+    ensures asks { (X.view dialer.new).asked ≡ asked_at site_port (X.view dialer.old).asked }
     ensures keeps { KeepsPort (P.view port.old) (P.view port.new) }
     ensures cause { result ≡ Err ProxyError.Port → Rose (P.view port.old).faults (P.view port.new).faults }
 {
     let mut client = client;
-    let end = pass(alloc, site, &mut client, dialer, store);
+    let end = pass(alloc, site_port, &mut client, dialer, store);
     let done = port.finish(client);
     served(end, done)
 }
@@ -200,7 +189,7 @@ pub fn serve<P: Port, X: Dialer>(
     if let Err(error) = port.listen(job.port) {
         return Err(refused(error));
     }
-    let mut served = nothing();
+    let mut served = Served::none();
     let mut left = job.connections;
     'clients: while left > 0 {
         match port.accept() {

@@ -11,7 +11,7 @@ ghost use Rattle.record_proxy.specs.inside.Progress.{Progress, GoesOn, IsEndAt, 
 ghost use Rattle.http_frame.specs.declared.messages.Request.{Request as RequestValue};
 
 use crate::ends::ProxyEnd;
-use crate::talk::Talk;
+use crate::proxy_state::ProxyState;
 use mm_base::{EndError, Link};
 use text_base::OutOfMemory;
 use text_base::limits::MOST_CONNECTION_BYTES;
@@ -43,26 +43,26 @@ fn left(rest: &[u8]) -> ProxyEnd
 
 /// Takes more bytes of the client into `piece`.
 fn read_client<L: Link>(
-    talk: &mut Talk,
+    state: &mut ProxyState,
     client: &mut L,
     piece: &mut [u8],
 ) -> Option<Result<ProxyEnd, OutOfMemory>>
     requires room { 0 < length piece.old }
-    requires few { talk.old.client_taken + length piece.old ≤ most }
+    requires few { state.old.client_taken + length piece.old ≤ most }
     ensures goes_on { (port : ℕ) (start : Links) (server : Option LinkBytes) (before records : List RecordValue)
-        → Progress port start (links (L.view client.old).told server) before records talk.old
-        → talk.old.due ≡ None → BeginsWithNone talk.old.requests.unread → MayGoOn talk.old.requests.unread
-        → GoesOn port start (links (L.view client.new).told server) before records talk.new result }
-    ensures less { IfNone result (to_do talk.new < to_do talk.old) }
+        → Progress port start (links (L.view client.old).told server) before records state.old
+        → state.old.due ≡ None → BeginsWithNone state.old.requests.unread → MayGoOn state.old.requests.unread
+        → GoesOn port start (links (L.view client.new).told server) before records state.new result }
+    ensures less { IfNone result (to_do state.new < to_do state.old) }
     ensures counts { CountsLinkFaults (L.view client.old) (L.view client.new) }
     ensures cause { IfSome result (HasFaultCause ProxyEnd.ClientFault (L.view client.old) (L.view client.new)) }
     ensures server_cause { IfSome result (λ r. r ≢ Ok ProxyEnd.ServerFault) }
 {
     match client.read(piece) {
-        Ok(0) => Some(Ok(left(talk.requests.unread()))),
-        Ok(count) => match talk.requests.feed(&piece[..count]) {
+        Ok(0) => Some(Ok(left(state.requests.unread()))),
+        Ok(count) => match state.requests.feed(&piece[..count]) {
             Ok(()) => {
-                talk.client_taken += count;
+                state.client_taken += count;
                 None
             }
             Err(error) => Some(Err(error)),
@@ -73,57 +73,57 @@ fn read_client<L: Link>(
 
 /// Takes more bytes of the client, where all is passed on that is due, and no request is there.
 pub fn take_of_client<L: Link>(
-    talk: &mut Talk,
+    state: &mut ProxyState,
     client: &mut L,
     buf: &mut [u8],
 ) -> Option<Result<ProxyEnd, OutOfMemory>>
     requires { 0 < length buf.old }
     ensures goes_on { (port : ℕ) (start : Links) (server : Option LinkBytes) (before records : List RecordValue)
-        → Progress port start (links (L.view client.old).told server) before records talk.old
-        → talk.old.due ≡ None → BeginsWithNone talk.old.requests.unread → MayGoOn talk.old.requests.unread
-        → GoesOn port start (links (L.view client.new).told server) before records talk.new result }
-    ensures less { IfNone result (to_do talk.new < to_do talk.old) }
+        → Progress port start (links (L.view client.old).told server) before records state.old
+        → state.old.due ≡ None → BeginsWithNone state.old.requests.unread → MayGoOn state.old.requests.unread
+        → GoesOn port start (links (L.view client.new).told server) before records state.new result }
+    ensures less { IfNone result (to_do state.new < to_do state.old) }
     ensures counts { CountsLinkFaults (L.view client.old) (L.view client.new) }
     ensures cause { IfSome result (HasFaultCause ProxyEnd.ClientFault (L.view client.old) (L.view client.new)) }
     ensures server_cause { IfSome result (λ r. r ≢ Ok ProxyEnd.ServerFault) }
 {
-    if talk.client_taken >= MOST {
+    if state.client_taken >= MOST {
         return Some(Ok(ProxyEnd::Full));
     }
-    let room = buf.len().min(MOST - talk.client_taken);
-    read_client(talk, client, &mut buf[..room])
+    let room = buf.len().min(MOST - state.client_taken);
+    read_client(state, client, &mut buf[..room])
 }
 
 /// Takes more bytes of the server into `piece`, or learns that there are no more.
 fn read_server<L: Link>(
-    talk: &mut Talk,
+    state: &mut ProxyState,
     server: &mut L,
     piece: &mut [u8],
 ) -> Option<Result<ProxyEnd, OutOfMemory>>
     requires room { 0 < length piece.old }
-    requires few { talk.old.server_taken + length piece.old ≤ most }
-    requires running { talk.old.server_ended ≡ false }
-    requires open { talk.old.responses.ended ≡ false }
+    requires few { state.old.server_taken + length piece.old ≤ most }
+    requires running { state.old.server_ended ≡ false }
+    requires open { state.old.responses.ended ≡ false }
     ensures goes_on { (port : ℕ) (start : Links) (client : Option LinkBytes) (before records : List RecordValue)
         (request : RequestValue)
-        → Progress port start (links client (L.view server.old).told) before records talk.old
-        → talk.old.due ≡ Some request
-        → NeedsMore request.head.head_only talk.old.server_ended talk.old.responses.unread
-        → GoesOn port start (links client (L.view server.new).told) before records talk.new result }
-    ensures less { IfNone result (to_do talk.new < to_do talk.old) }
+        → Progress port start (links client (L.view server.old).told) before records state.old
+        → state.old.due ≡ Some request
+        → NeedsMore request.head.head_only state.old.server_ended state.old.responses.unread
+        → GoesOn port start (links client (L.view server.new).told) before records state.new result }
+    ensures less { IfNone result (to_do state.new < to_do state.old) }
     ensures counts { CountsLinkFaults (L.view server.old) (L.view server.new) }
     ensures cause { IfSome result (HasFaultCause ProxyEnd.ServerFault (L.view server.old) (L.view server.new)) }
     ensures client_cause { IfSome result (λ r. r ≢ Ok ProxyEnd.ClientFault) }
 {
     match server.read(piece) {
         Ok(0) => {
-            talk.responses.end();
-            talk.server_ended = true;
+            state.responses.end();
+            state.server_ended = true;
             None
         }
-        Ok(count) => match talk.responses.feed(&piece[..count]) {
+        Ok(count) => match state.responses.feed(&piece[..count]) {
             Ok(()) => {
-                talk.server_taken += count;
+                state.server_taken += count;
                 None
             }
             Err(error) => Some(Err(error)),
@@ -134,29 +134,29 @@ fn read_server<L: Link>(
 
 /// Takes more bytes of the server, where a response is due and not there; or learns that there are no more.
 pub fn take_of_server<L: Link>(
-    talk: &mut Talk,
+    state: &mut ProxyState,
     server: &mut L,
     buf: &mut [u8],
 ) -> Option<Result<ProxyEnd, OutOfMemory>>
     requires room { 0 < length buf.old }
-    requires tied { talk.old.responses.ended ≡ talk.old.server_ended }
+    requires tied { state.old.responses.ended ≡ state.old.server_ended }
     ensures goes_on { (port : ℕ) (start : Links) (client : Option LinkBytes) (before records : List RecordValue)
         (request : RequestValue)
-        → Progress port start (links client (L.view server.old).told) before records talk.old
-        → talk.old.due ≡ Some request
-        → NeedsMore request.head.head_only talk.old.server_ended talk.old.responses.unread
-        → GoesOn port start (links client (L.view server.new).told) before records talk.new result }
-    ensures less { IfNone result (to_do talk.new < to_do talk.old) }
+        → Progress port start (links client (L.view server.old).told) before records state.old
+        → state.old.due ≡ Some request
+        → NeedsMore request.head.head_only state.old.server_ended state.old.responses.unread
+        → GoesOn port start (links client (L.view server.new).told) before records state.new result }
+    ensures less { IfNone result (to_do state.new < to_do state.old) }
     ensures counts { CountsLinkFaults (L.view server.old) (L.view server.new) }
     ensures cause { IfSome result (HasFaultCause ProxyEnd.ServerFault (L.view server.old) (L.view server.new)) }
     ensures client_cause { IfSome result (λ r. r ≢ Ok ProxyEnd.ClientFault) }
 {
-    if talk.server_ended {
+    if state.server_ended {
         return Some(Ok(ProxyEnd::BadResponse));
     }
-    if talk.server_taken >= MOST {
+    if state.server_taken >= MOST {
         return Some(Ok(ProxyEnd::Full));
     }
-    let room = buf.len().min(MOST - talk.server_taken);
-    read_server(talk, server, &mut buf[..room])
+    let room = buf.len().min(MOST - state.server_taken);
+    read_server(state, server, &mut buf[..room])
 }

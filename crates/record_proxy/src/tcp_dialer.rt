@@ -17,10 +17,10 @@ use std::time::{Clock, Duration};
 // How long it waits for a site that has no room for one more connection, in seconds.
 const DIAL_LIMIT: u64 = 10;
 
-/// A dialer of TCP at the address 127.0.0.1. It tells no content, but at which ports it was asked. Each error other than
-/// out of memory is counted as a fault: a port at which nobody listens, a site that has no room for one more connection
-/// for ten seconds, or one more connection than a `u64` counts. A connection that it gives waits for a byte no longer
-/// than a minute; then its read is a fault of that connection.
+/// A dialer of TCP at the address 127.0.0.1. It tells no content, but at which ports it was asked. Each error other
+/// than out of memory is counted as a fault: a port at which nobody listens, a site that has no room for one more
+/// connection for ten seconds, or one more connection than a `u64` counts. A connection that it gives waits for a byte
+/// no longer than a minute; then its read is a fault of that connection.
 #[derive(Drop)]
 pub struct TcpDialer<'a, R: Net<Stream = TcpStream, Listener = TcpListener> + Clock + Copy + Drop> {
     rt: R,

@@ -1,2 +1,3 @@
 pub mod PieceLemmas
 pub mod ShownLemmas
+pub mod TellLemmas

@@ -7,11 +7,11 @@ use Rattle.refusal_words.specs.Parts.{five, seven, three}
 use Rattle.refusal_words.specs.Shells.{link_value}
 use Rattle.refusal_lines.specs.InputTexts.{place_text, rule_of}
 use Rattle.refusal_lines.specs.Roles.{gives, role_digit, role_of, role_text}
-use Rattle.refusal_lines.specs.declared.roles.Role.{Role}
-use Rattle.refusal_lines.specs.declared.roles.Role.TheVariants.{Trace, Schedule, Senders, Store}
-use Rattle.refusal_lines.specs.declared.roles.Role.TheVariants.{Request, StoreOrRequest, Output, Other}
+use Rattle.refusal_lines.specs.declared.roles.FileRole.{FileRole}
+use Rattle.refusal_lines.specs.declared.roles.FileRole.TheVariants.{Trace, Schedule, Senders, Store}
+use Rattle.refusal_lines.specs.declared.roles.FileRole.TheVariants.{Request, StoreOrRequest, Output, Other}
 
-abbrev pub taken_by : Text → Role → List Text
+abbrev pub taken_by : Text → FileRole → List Text
 taken_by name Output = three (codes "'") name (codes "' is to be written twice")
 taken_by name Other = three (codes "'") name
     (codes "' is to be written, and it is the schedule of a sender, or another output, too")
@@ -23,7 +23,7 @@ taken_by name role = seven
 abbrev pub taken_parts : Text → List Text → List Text
 taken_parts name words = taken_by name (role_of name words)
 
-abbrev pub absent_by : Text → Role → List Text
+abbrev pub absent_by : Text → FileRole → List Text
 absent_by name role = five name (codes ": no such file (") (role_text role) (role_digit role) (codes ")")
 
 -- an input isn't there
@@ -32,19 +32,19 @@ absent_parts name words = absent_by name (role_of name words)
 
 -- A file may be two inputs. A trace, or a list of senders, with the number 1 and a line is refused as a schedule. A
 -- store that is the request too (`asked`) and has no place is refused as a request, or with the number 1 as either.
-abbrev pub real_role : Role → Bool → ℕ → ℕ → Role
+abbrev pub real_role : FileRole → Bool → ℕ → ℕ → FileRole
 real_role (Trace trace) asked number place = if (number == 1) && not (place == 0) then Schedule else Trace trace
 real_role Senders asked number place = if (number == 1) && not (place == 0) then Other else Senders
 real_role Store asked number place = if asked && (place == 0)
     then (if number == 1 then StoreOrRequest else Request) else Store
 real_role role asked number place = role
 
-abbrev pub input_by : Role → Text → ℕ → ℕ → Text → List Text
+abbrev pub input_by : FileRole → Text → ℕ → ℕ → Text → List Text
 input_by role name number place digits = if place == 0 then three name (codes ": ") (rule_of role number)
     else five name (place_text role number) digits (codes ": ") (rule_of role number)
 
 -- what the file of this name is that is refused by this number at this place
-abbrev pub role_at : Text → ℕ → ℕ → List Text → Role
+abbrev pub role_at : Text → ℕ → ℕ → List Text → FileRole
 role_at name number place words = real_role (role_of name words) (gives (codes "--request") name words) number place
 
 -- an input doesn't meet its grammar

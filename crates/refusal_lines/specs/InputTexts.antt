@@ -1,9 +1,9 @@
 -- What is wrong with an input, by what it is and the number of its refusal.
 use Rattle.std.specs.Prelude.{ℕ, ◌==◌, codes, if◌then◌else◌}
 use Rattle.refusal_words.specs.Commands.{Text}
-use Rattle.refusal_lines.specs.declared.roles.Role.{Role}
-use Rattle.refusal_lines.specs.declared.roles.Role.TheVariants.{Trace, Schedule, Senders, Order, Log, Store, Client}
-use Rattle.refusal_lines.specs.declared.roles.Role.TheVariants.{Server, Request, StoreOrRequest, Output, Other}
+use Rattle.refusal_lines.specs.declared.roles.FileRole.{FileRole}
+use Rattle.refusal_lines.specs.declared.roles.FileRole.TheVariants.{Trace, Schedule, Senders, Order, Log, Store, Client}
+use Rattle.refusal_lines.specs.declared.roles.FileRole.TheVariants.{Server, Request, StoreOrRequest, Output, Other}
 
 -- the rule that a trace doesn't meet
 abbrev pub trace_rule : ℕ → Text
@@ -67,7 +67,7 @@ request_rule number =
     else codes "the file must hold exactly one request"
 
 -- the rule that an input doesn't meet
-abbrev pub rule_of : Role → ℕ → Text
+abbrev pub rule_of : FileRole → ℕ → Text
 rule_of (Trace trace) number = trace_rule number
 rule_of Schedule number = schedule_rule number
 rule_of Senders number = senders_rule number
@@ -82,7 +82,7 @@ rule_of Output number = schedule_rule number
 rule_of Other number = schedule_rule number
 
 -- what stands between a file's name and the place in it: its line, or what else the place counts
-abbrev pub place_text : Role → ℕ → Text
+abbrev pub place_text : FileRole → ℕ → Text
 place_text Store number = if number == 4 then codes ": record " else codes ": byte "
 place_text Client number = codes ": exchange "
 place_text Server number = codes ": exchange "

@@ -12,9 +12,9 @@ use Rattle.command_ends.specs.declared.cause.Cause.{Cause}
 use Rattle.command_ends.specs.declared.cause.Cause.TheVariants.{Refused}
 use Rattle.refusal_words.specs.Commands.{Text}
 use Rattle.refusal_lines.specs.FileTexts.{role_at}
-use Rattle.refusal_lines.specs.declared.roles.Role.{Role}
-use Rattle.refusal_lines.specs.declared.roles.Role.TheVariants.{Trace, Schedule, Senders, Order, Log, Store, Client}
-use Rattle.refusal_lines.specs.declared.roles.Role.TheVariants.{Server, Request, StoreOrRequest, Output, Other}
+use Rattle.refusal_lines.specs.declared.roles.FileRole.{FileRole}
+use Rattle.refusal_lines.specs.declared.roles.FileRole.TheVariants.{Trace, Schedule, Senders, Order, Log, Store, Client}
+use Rattle.refusal_lines.specs.declared.roles.FileRole.TheVariants.{Server, Request, StoreOrRequest, Output, Other}
 
 -- the hexadecimal digit of a number below 16
 abbrev pub hex_digit : ℕ → ℕ
@@ -58,7 +58,7 @@ quote behind number text = (if behind then shown_line (number - 1) (line_at (num
     ++ (shown_line number (line_at number text) ++ advice (line_at number text))
 
 -- the refusals of such a file name a line
-abbrev pub has_lines : Role → Bool
+abbrev pub has_lines : FileRole → Bool
 has_lines (Trace trace) = true
 has_lines Schedule = true
 has_lines Senders = true
@@ -72,19 +72,19 @@ has_lines StoreOrRequest = false
 has_lines Output = true
 has_lines Other = true
 
-abbrev pub is_list : Role → Bool
+abbrev pub is_list : FileRole → Bool
 is_list Senders = true
 is_list role = false
 
 -- a line of such a file is refused by this number for its moment, which is before that of the line above
-abbrev pub is_behind : Role → ℕ → Bool
+abbrev pub is_behind : FileRole → ℕ → Bool
 is_behind role number = not (is_list role) && (number == 3)
 
 abbrev pub quote_or : Bool → ℕ → Option Text → Text
 quote_or behind number None = []
 quote_or behind number (Some text) = quote behind number text
 
-abbrev pub quote_of : Role → ℕ → ℕ → Option Text → Text
+abbrev pub quote_of : FileRole → ℕ → ℕ → Option Text → Text
 quote_of role number place text = if has_lines role && not (place == 0)
     then quote_or (is_behind role number) place text else []
 

@@ -6,9 +6,9 @@ use Rattle.refusal_words.specs.Faults.{is_end}
 use Rattle.refusal_words.specs.Shells.{link_value}
 use Rattle.refusal_words.specs.Traces.{trace_named}
 use Rattle.refusal_words.specs.declared.traces.TraceAt.{TraceAt}
-use Rattle.refusal_lines.specs.declared.roles.Role.{Role}
-use Rattle.refusal_lines.specs.declared.roles.Role.TheVariants.{Trace, Schedule, Senders, Order, Log, Store, Client}
-use Rattle.refusal_lines.specs.declared.roles.Role.TheVariants.{Server, Request, StoreOrRequest, Output, Other}
+use Rattle.refusal_lines.specs.declared.roles.FileRole.{FileRole}
+use Rattle.refusal_lines.specs.declared.roles.FileRole.TheVariants.{Trace, Schedule, Senders, Order, Log, Store, Client}
+use Rattle.refusal_lines.specs.declared.roles.FileRole.TheVariants.{Server, Request, StoreOrRequest, Output, Other}
 
 -- the words of the shells: those after the first `--`
 abbrev pub shells_of : List Text → List Text
@@ -20,23 +20,23 @@ abbrev pub gives : Text → Text → List Text → Bool
 gives option name words = bytes_eq (link_value option [] words) name
 
 -- the trace of this name, or else another role
-abbrev pub trace_or : Role → Option TraceAt → Role
+abbrev pub trace_or : FileRole → Option TraceAt → FileRole
 trace_or otherwise None = otherwise
 trace_or otherwise (Some trace) = Trace trace
 
 -- what a file is that stands in no option but `--schedule`, and is no trace
-abbrev pub other_role : Text → List Text → Role
+abbrev pub other_role : Text → List Text → FileRole
 other_role name words =
     if gives (codes "--schedule") name words then Schedule
     else if gives (codes "--senders") [] words then Output
     else Other
 
 -- the trace of this name in a nest, or else what other file it is
-abbrev pub nest_role : Text → List Text → Role
+abbrev pub nest_role : Text → List Text → FileRole
 nest_role name words = trace_or (other_role name words) (trace_named name (shells_of words))
 
 -- what the file of this name is
-abbrev pub role_of : Text → List Text → Role
+abbrev pub role_of : Text → List Text → FileRole
 role_of name words =
     if gives (codes "--senders") name words then Senders
     else if gives (codes "--log") name words then Log
@@ -47,7 +47,7 @@ role_of name words =
     else if gives (codes "--order") name words then Order
     else nest_role name words
 
-abbrev pub role_text : Role → Text
+abbrev pub role_text : FileRole → Text
 role_text (Trace trace) = if trace.up then codes "the uplink trace of shell " else codes "the downlink trace of shell "
 role_text Schedule = codes "the schedule"
 role_text Senders = codes "the list of senders"
@@ -73,6 +73,6 @@ digit number =
     else codes "8"
 
 -- the number of the shell, after the text of a trace
-abbrev pub role_digit : Role → Text
+abbrev pub role_digit : FileRole → Text
 role_digit (Trace trace) = digit trace.shell
 role_digit role = []

@@ -10,8 +10,8 @@ use Rattle.refusal_words.specs.declared.command.Program.{Program}
 use Rattle.refusal_lines.specs.Explanations.{IsTold, explained}
 use Rattle.refusal_lines.specs.declared.ending.Ending.{Ending}
 
--- The command ended by the answer of `ending`, from which come the status, the line on `out` and what the standard error
--- was told.
+-- The command ended by the answer of `ending`, from which come the status, the line on `out` and what the standard
+-- error was told.
 pub record Tells (program : Program) (words : List Text) {A N : Type 0} (work : A → Work N) (reading : Reading A)
     (old new : Outside N) (told_before told_after : SinkView) (ending : Ending) : Type 0 where
   pub ended : SinkView

@@ -42,10 +42,10 @@ fn noted_commit<R: Files + Alloc<A = Global>>(rt: &R) -> Option<String> {
     None
 }
 
-/// Says on `told`, which is the standard error, of which commit the program that runs was built: where the words ask for
-/// the version, and a file in the program's folder, or in `../lib/mm` from there, names a commit and is no older than
-/// the program. Else it says nothing.
-pub fn tell_commit<R: Files + Alloc<A = Global>, O: Sink>(
+/// Says on `told`, which is the standard error, of which commit the program that runs was built: where the words ask
+/// for the version, and a file in the program's folder, or in `../lib/mm` from there, names a commit and is no older
+/// than the program. Else it says nothing.
+pub(crate) fn tell_commit<R: Files + Alloc<A = Global>, O: Sink>(
     rt: &R,
     words: &[String],
     told: &mut O,

@@ -5,7 +5,7 @@ ghost use Rattle.refusal_lines.specs.FileTexts.{net_parts, role_at};
 ghost use Rattle.refusal_lines.specs.FileTexts.{real_role, taken_parts};
 
 use crate::input_texts::{place_text, rule_of};
-use crate::roles::{Role, gives, role_of};
+use crate::roles::{FileRole, gives, role_of};
 use command_ends::Limit;
 use refusal_words::{five, option_value, seven, three};
 
@@ -14,8 +14,8 @@ pub(crate) fn taken_parts<'a>(name: &'a str, words: &[String]) -> [&'a str; 7]
     ensures { map (λ s. s.now) result ≡ taken_parts name.now (map string_bytes words.now) }
 {
     match role_of(name, words) {
-        Role::Output => three("'", name, "' is to be written twice"),
-        Role::Other => three(
+        FileRole::Output => three("'", name, "' is to be written twice"),
+        FileRole::Other => three(
             "'",
             name,
             "' is to be written, and it is the schedule of a sender, or another output, too",
@@ -43,17 +43,17 @@ pub(crate) fn absent_parts<'a>(name: &'a str, words: &[String]) -> [&'a str; 7]
 
 // A file may be two inputs. A trace, or a list of senders, with the number 1 and a line is refused as a schedule. A
 // store that is the request too (`asked`) and has no place is refused as a request, or with the number 1 as either.
-fn real_role(role: Role, asked: bool, number: u32, place: u64) -> Role
+fn real_role(role: FileRole, asked: bool, number: u32, place: u64) -> FileRole
     ensures { result ≡ real_role role asked number place }
 {
     match role {
-        Role::Trace(_) if number == 1 && place != 0 => Role::Schedule,
-        Role::Senders if number == 1 && place != 0 => Role::Other,
-        Role::Store if asked && place == 0 => {
+        FileRole::Trace(_) if number == 1 && place != 0 => FileRole::Schedule,
+        FileRole::Senders if number == 1 && place != 0 => FileRole::Other,
+        FileRole::Store if asked && place == 0 => {
             if number == 1 {
-                Role::StoreOrRequest
+                FileRole::StoreOrRequest
             } else {
-                Role::Request
+                FileRole::Request
             }
         }
         _ => role,
@@ -61,14 +61,20 @@ fn real_role(role: Role, asked: bool, number: u32, place: u64) -> Role
 }
 
 /// What the file of this name is that is refused by this number at this place.
-pub(crate) fn role_at(name: &str, number: u32, place: u64, words: &[String]) -> Role
+pub(crate) fn role_at(name: &str, number: u32, place: u64, words: &[String]) -> FileRole
     ensures { result ≡ role_at name.now number place (map string_bytes words.now) }
 {
     let asked = gives("--request", name, words);
     real_role(role_of(name, words), asked, number, place)
 }
 
-fn input_by<'a>(role: Role, name: &'a str, number: u32, place: u64, digits: &'a str) -> [&'a str; 7]
+fn input_by<'a>(
+    role: FileRole,
+    name: &'a str,
+    number: u32,
+    place: u64,
+    digits: &'a str,
+) -> [&'a str; 7]
     ensures { map (λ s. s.now) result ≡ input_by role name.now number place digits.now }
 {
     let rule = rule_of(role, number);

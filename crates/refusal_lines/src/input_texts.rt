@@ -4,7 +4,7 @@ ghost use Rattle.refusal_lines.specs.InputTexts.{log_rule, place_text, request_r
 ghost use Rattle.refusal_lines.specs.InputTexts.{senders_rule};
 ghost use Rattle.refusal_lines.specs.InputTexts.{store_rule, stream_rule, trace_rule};
 
-use crate::roles::Role;
+use crate::roles::FileRole;
 
 // The rule that a trace doesn't meet.
 fn trace_rule<'a>(number: u32) -> &'a str
@@ -97,28 +97,30 @@ fn request_rule<'a>(number: u32) -> &'a str
 }
 
 /// The rule that an input doesn't meet.
-pub(crate) fn rule_of<'a>(role: Role, number: u32) -> &'a str
+pub(crate) fn rule_of<'a>(role: FileRole, number: u32) -> &'a str
     ensures { result.now ≡ rule_of role number }
 {
     match role {
-        Role::Trace(_) => trace_rule(number),
-        Role::Senders => senders_rule(number),
-        Role::Log => log_rule(number),
-        Role::Store => store_rule(number),
-        Role::Client | Role::Server => stream_rule(number),
-        Role::Request => request_rule(number),
-        Role::StoreOrRequest => "this is no store, or no request",
-        Role::Schedule | Role::Order | Role::Output | Role::Other => schedule_rule(number),
+        FileRole::Trace(_) => trace_rule(number),
+        FileRole::Senders => senders_rule(number),
+        FileRole::Log => log_rule(number),
+        FileRole::Store => store_rule(number),
+        FileRole::Client | FileRole::Server => stream_rule(number),
+        FileRole::Request => request_rule(number),
+        FileRole::StoreOrRequest => "this is no store, or no request",
+        FileRole::Schedule | FileRole::Order | FileRole::Output | FileRole::Other => schedule_rule(
+            number,
+        ),
     }
 }
 
 /// What stands between a file's name and the place in it: its line, or what else the place counts.
-pub(crate) fn place_text<'a>(role: Role, number: u32) -> &'a str
+pub(crate) fn place_text<'a>(role: FileRole, number: u32) -> &'a str
     ensures { result.now ≡ place_text role number }
 {
     match role {
-        Role::Store => { if number == 4 { ": record " } else { ": byte " } }
-        Role::Client | Role::Server => ": exchange ",
+        FileRole::Store => { if number == 4 { ": record " } else { ": byte " } }
+        FileRole::Client | FileRole::Server => ": exchange ",
         _ => ":",
     }
 }

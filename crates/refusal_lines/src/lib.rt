@@ -7,13 +7,14 @@ mod ending;
 mod files;
 mod input_texts;
 mod lines;
+mod outside;
 mod quotes;
 mod reasons;
 mod roles;
 mod telling;
 
-pub use commit::tell_commit;
-pub use ending::Ending;
+pub use ending::{Ending, conclude_told};
+pub use outside::{tell_files, tell_outside};
 pub use quotes::show_line;
-pub use reasons::{Reason, reason_of, system_reason, tell_reason};
+pub use reasons::{Reason, system_reason, tell_reason};
 pub use telling::tell;

@@ -10,7 +10,7 @@ ghost use Rattle.refusal_lines.specs.Quotes.{IsShown, advice, has_lines, hex_dig
 ghost use Rattle.refusal_lines.specs.Quotes.{quote, quote_in, quote_of, shown_byte, shown_line};
 
 use crate::files::role_at;
-use crate::roles::Role;
+use crate::roles::FileRole;
 use command_ends::{Cause, Refusal};
 use itoa::Buffer;
 use mm_base::{Disk, EndError, LoadError, Sink, load, send_all};
@@ -121,27 +121,31 @@ fn quote(alloc: Global, behind: bool, number: u64, text: &[u8]) -> Result<Bytes,
 }
 
 // Whether the refusals of such a file name a line.
-fn has_lines(role: Role) -> bool
+fn has_lines(role: FileRole) -> bool
     ensures { result ≡ has_lines role }
 {
     match role {
-        Role::Store | Role::Client | Role::Server | Role::Request | Role::StoreOrRequest => false,
-        Role::Trace(_)
-        | Role::Schedule
-        | Role::Senders
-        | Role::Order
-        | Role::Log
-        | Role::Output
-        | Role::Other => true,
+        FileRole::Store
+        | FileRole::Client
+        | FileRole::Server
+        | FileRole::Request
+        | FileRole::StoreOrRequest => false,
+        FileRole::Trace(_)
+        | FileRole::Schedule
+        | FileRole::Senders
+        | FileRole::Order
+        | FileRole::Log
+        | FileRole::Output
+        | FileRole::Other => true,
     }
 }
 
 // Whether a line of such a file is refused by this number for its moment, which is before that of the line above.
-fn is_behind(role: Role, number: u32) -> bool
+fn is_behind(role: FileRole, number: u32) -> bool
     ensures { result ≡ is_behind role number }
 {
     match role {
-        Role::Senders => false,
+        FileRole::Senders => false,
         _ => number == 3,
     }
 }
@@ -149,7 +153,7 @@ fn is_behind(role: Role, number: u32) -> bool
 // What is shown of the file of this name, which is refused by this number at this place.
 fn quote_of<D: Disk>(
     alloc: Global,
-    role: Role,
+    role: FileRole,
     name: &str,
     number: u32,
     place: u64,

@@ -23,7 +23,7 @@ pub enum Reason {
 }
 
 /// The reason of a fault of the real files, if it is known.
-pub fn reason_of(fault: FileFault) -> Option<Reason>
+pub(crate) fn reason_of(fault: FileFault) -> Option<Reason>
     ensures input { fault ≡ faults.IsInput → result ≡ Some Reason.IsInput }
     ensures regular { fault ≡ faults.NotRegular → result ≡ Some Reason.NotRegular }
     ensures system { (n : ℕ) → fault ≡ faults.System (pos n) → result ≡ Some (Reason.System n) }

@@ -7,7 +7,7 @@ use refusal_words::{TraceAt, option_value, trace_named};
 
 /// What a file is to a command line.
 #[derive(Clone, Copy, PartialEq, Eq)]
-pub(crate) enum Role {
+pub(crate) enum FileRole {
     Trace(TraceAt),
     Schedule,
     Senders,
@@ -49,46 +49,46 @@ pub(crate) fn gives(option: &str, name: &str, words: &[String]) -> bool
 }
 
 // What a file is that stands in no option but `--schedule`, and is no trace.
-fn other_role(name: &str, words: &[String]) -> Role
+fn other_role(name: &str, words: &[String]) -> FileRole
     ensures { result ≡ other_role name.now (map string_bytes words.now) }
 {
     if gives("--schedule", name, words) {
-        Role::Schedule
+        FileRole::Schedule
     } else if gives("--senders", "", words) {
-        Role::Output
+        FileRole::Output
     } else {
-        Role::Other
+        FileRole::Other
     }
 }
 
 // The trace of this name in a nest, or else what other file it is.
-fn nest_role(name: &str, words: &[String]) -> Role
+fn nest_role(name: &str, words: &[String]) -> FileRole
     ensures { result ≡ nest_role name.now (map string_bytes words.now) }
 {
     match trace_named(name, shells_of(words)) {
-        Some(trace) => Role::Trace(trace),
+        Some(trace) => FileRole::Trace(trace),
         None => other_role(name, words),
     }
 }
 
 /// What the file of this name is to these words.
-pub(crate) fn role_of(name: &str, words: &[String]) -> Role
+pub(crate) fn role_of(name: &str, words: &[String]) -> FileRole
     ensures { result ≡ role_of name.now (map string_bytes words.now) }
 {
     if gives("--senders", name, words) {
-        Role::Senders
+        FileRole::Senders
     } else if gives("--log", name, words) {
-        Role::Log
+        FileRole::Log
     } else if gives("--store", name, words) {
-        Role::Store
+        FileRole::Store
     } else if gives("--client", name, words) {
-        Role::Client
+        FileRole::Client
     } else if gives("--server", name, words) {
-        Role::Server
+        FileRole::Server
     } else if gives("--request", name, words) {
-        Role::Request
+        FileRole::Request
     } else if gives("--order", name, words) {
-        Role::Order
+        FileRole::Order
     } else {
         nest_role(name, words)
     }
@@ -110,25 +110,25 @@ fn digit<'a>(number: u32) -> &'a str
     }
 }
 
-impl Role {
+impl FileRole {
     /// The role in words.
     pub(crate) fn text<'a>(self) -> &'a str
         ensures { result.now ≡ role_text self }
     {
         match self {
-            Role::Trace(TraceAt { up: true, .. }) => "the uplink trace of shell ",
-            Role::Trace(TraceAt { up: false, .. }) => "the downlink trace of shell ",
-            Role::Schedule => "the schedule",
-            Role::Senders => "the list of senders",
-            Role::Order => "the order",
-            Role::Log => "the log",
-            Role::Store => "the store",
-            Role::Client => "the client's bytes",
-            Role::Server => "the server's bytes",
-            Role::Request => "the request",
-            Role::StoreOrRequest => "the store and the request",
-            Role::Output => "another output",
-            Role::Other => "the schedule of a sender",
+            FileRole::Trace(TraceAt { up: true, .. }) => "the uplink trace of shell ",
+            FileRole::Trace(TraceAt { up: false, .. }) => "the downlink trace of shell ",
+            FileRole::Schedule => "the schedule",
+            FileRole::Senders => "the list of senders",
+            FileRole::Order => "the order",
+            FileRole::Log => "the log",
+            FileRole::Store => "the store",
+            FileRole::Client => "the client's bytes",
+            FileRole::Server => "the server's bytes",
+            FileRole::Request => "the request",
+            FileRole::StoreOrRequest => "the store and the request",
+            FileRole::Output => "another output",
+            FileRole::Other => "the schedule of a sender",
         }
     }
 
@@ -137,7 +137,7 @@ impl Role {
         ensures { result.now ≡ role_digit self }
     {
         match self {
-            Role::Trace(trace) => digit(trace.shell),
+            FileRole::Trace(trace) => digit(trace.shell),
             _ => "",
         }
     }

@@ -271,12 +271,12 @@ relay = joined (
 
 -- the version of `mm`, and the kit that it is proved with
 abbrev pub mm_version : Text
-mm_version = codes "mm 0.1.0 (rattle-kit-13b)\n"
+mm_version = codes "mm 0.1.0 (rattle-kit-13f)\n"
 
 -- the version of `mm-record`
 abbrev pub record_version : Text
-record_version = codes "mm-record 0.1.0 (rattle-kit-13b)\n"
+record_version = codes "mm-record 0.1.0 (rattle-kit-13f)\n"
 
 -- the version of `mm-relay`
 abbrev pub relay_version : Text
-relay_version = codes "mm-relay 0.1.0 (rattle-kit-13b)\n"
+relay_version = codes "mm-relay 0.1.0 (rattle-kit-13f)\n"

@@ -7,7 +7,7 @@ use std::process::Abort;
 use test_outside::{ABSENT, TestOutside, words_of};
 use text_base::{Bytes, OutOfMemory};
 
-// A datagram of the client, of so many bytes.
+// A datagram of the client, of `size` bytes.
 fn datagram(alloc: Global, size: usize) -> Result<Option<(Side, Bytes)>, OutOfMemory> {
     let bytes = Bytes::from_vec(vec![in alloc; 7u8; size]?);
     Ok(Some((Side::Client, bytes)))

@@ -17,10 +17,10 @@ mod passed;
 mod rests;
 mod stops;
 
-// What a receive answers: the side and how many bytes.
+// What a receive returns: the side and how many bytes.
 type Answer = Option<(Side, usize)>;
 
-// A datagram of so many bytes, all of this value.
+// A datagram of `size` bytes, all of them `value`.
 fn datagram(alloc: Global, size: usize, value: u8) -> Result<Bytes, OutOfMemory> {
     Ok(Bytes::from_vec(vec![in alloc; value; size]?))
 }
@@ -125,7 +125,7 @@ fn has_text(alloc: Global, run: &RunResult, text: &[u8]) -> Result<bool, OutOfMe
     Ok(said.as_slice() == text)
 }
 
-// Whether a relay has so many logs and rows, refused so many datagrams, and ended so, as a case says.
+// Whether a relay has as many logs and rows as a case says, refused as many datagrams, and ended as it says.
 fn is_end(relayed: &RelayResult, case: &Case) -> bool {
     relayed.run.logs().len() == case.logs
         && relayed.rows.as_slice().len() == case.rows

@@ -1,10 +1,11 @@
 -- Bytes that are given piece by piece.
-use Rattle.std.proofs.Common.{◌≡◌, ◌∙◌, ℕ, List, [], ◌++◌, take, drop, Option, Some, None, Ok, Err, refl, sym, ap}
-use Rattle.std.proofs.Common.{append_assoc, append-nil}
+use Rattle.std.proofs.Common.{◌≡◌, ◌∙◌, ◌<◌, ℕ, List, [], ◌++◌, length, take, drop, Option, Some, None, Ok, Err}
+use Rattle.std.proofs.Common.{refl, sym, ap, append_assoc, append-nil, arith, length-drop}
 use Rattle.std.specs.Prelude.{Result, OnOk, OnErr}
 use Rattle.std.specs.Option.{option_map}
 use Rattle.std.proofs.lemmas.List.{take-append-drop}
 use Rattle.mm_base.specs.Link.{LinkBytes, giving}
+use Rattle.replay_server.specs.Giving.{Breaks}
 use Rattle.replay_server.specs.inside.Giving.{Pours, Spills}
 
 pub giving_more : (a b : List ℕ) (told : Option LinkBytes)
@@ -29,13 +30,23 @@ on_ok_map (Ok x) f p = f p
 on_ok_map (Err e) f p = tt
 
 -- A front of a piece was given, and then a write was refused.
-pub spilt : (piece : List ℕ) (at : ℕ) (f : LinkBytes → LinkBytes) (old mid new : Option LinkBytes)
-    → mid ≡ option_map (giving (take at piece)) old
-    → ((l : LinkBytes) → f l ≡ l) → new ≡ option_map f mid → Spills old new piece
-spilt piece at f old mid new before same refused = record {
-  poured = take at piece;
+pub broken : (piece : List ℕ) (at : ℕ) (f : LinkBytes → LinkBytes) (old mid new : Option LinkBytes)
+    → at < length piece → mid ≡ option_map (giving (take at piece)) old
+    → ((l : LinkBytes) → f l ≡ l) → new ≡ option_map f mid → Breaks old new piece
+broken piece at f old mid new short before same refused = record {
+  given = take at piece;
+  more = drop at piece;
   told = refused ∙ kept f same mid ∙ before;
-  front = (drop at piece, sym (take-append-drop at piece));
+  split = sym (take-append-drop at piece);
+  some = omega (arith, short, length-drop at piece);
+}
+
+-- Where not all was given, a front was.
+pub spilt : (old new : Option LinkBytes) (whole : List ℕ) → Breaks old new whole → Spills old new whole
+spilt old new whole broke = record {
+  poured = broke.given;
+  told = broke.told;
+  front = (broke.more, broke.split);
 }
 
 -- What was gathered is given, and then a piece at once.

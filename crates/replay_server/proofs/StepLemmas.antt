@@ -17,15 +17,15 @@ use Rattle.replay_server.specs.Links.{IsServed}
 use Rattle.replay_server.specs.inside.Giving.{Pours, Spills}
 use Rattle.replay_server.specs.inside.Progress.{Stand, Progress, IsDue, end_of}
 use Rattle.replay_server.specs.declared.ends.ConnEnd.TheVariants.{Closed, BadRequest, Full, OutOfMemory}
-use Rattle.replay_server.specs.declared.talk.Talk.{Talk}
+use Rattle.replay_server.specs.declared.session_state.SessionState.{SessionState}
 use Rattle.replay_server.proofs.ReplyLemmas.{full_text-push, open_push, closes_push}
 use Rattle.replay_server.proofs.StandLemmas.{stand_start, stand_due, stand_reply, stand_pour, stand_open, stand_read}
 use Rattle.replay_server.proofs.StandLemmas.{stand_failed, served_cut, served_spilt, served_closed, served_bad}
 use Rattle.replay_server.proofs.StandLemmas.{served_full, served_ended}
 
 -- the same, with these bytes unread
-abbrev pub waiting : Talk → List ℕ → Talk
-waiting talk unread = record talk { frames = record talk.frames { unread = unread } }
+abbrev pub waiting : SessionState → List ℕ → SessionState
+waiting state unread = record state { frames = record state.frames { unread = unread } }
 
 abbrev pub reply_of : Request → List ℕ → Bool → Reply
 reply_of r bytes closes = record { request = r; answer = record { bytes = bytes; closes = closes } }
@@ -62,9 +62,9 @@ module _ {store : List Record} {site : Option ℕ} where
   }
 
   -- the reader of requests has taken one off
-  pub still : {start now : Option LinkBytes} {talk : Talk} → Progress store site start now talk → (new : Frames)
-      → new.failed ≡ None → new.ended ≡ talk.frames.ended
-      → Progress store site start now (record talk { frames = record new { unread = talk.frames.unread } })
+  pub still : {start now : Option LinkBytes} {state : SessionState} → Progress store site start now state
+      → (new : Frames) → new.failed ≡ None → new.ended ≡ state.frames.ended
+      → Progress store site start now (record state { frames = record new { unread = state.frames.unread } })
   still p new running ended = record {
     replies = p.replies;
     open_ones = p.open_ones;
@@ -73,63 +73,63 @@ module _ {store : List Record} {site : Option ℕ} where
     not_ended = ended ∙ p.not_ended;
   }
 
-  pub no_memory : {start now : Option LinkBytes} {talk : Talk} → Progress store site start now talk
+  pub no_memory : {start now : Option LinkBytes} {state : SessionState} → Progress store site start now state
       → IsServed store site start now OutOfMemory
   no_memory p = served_cut p.stand (inl (inl p.open_ones, refl)) NoMemory
 
   -- ---- an answer
 
-  answered : (start now : Option LinkBytes) (talk : Talk) (unread : List ℕ) (r : Request) (bytes : List ℕ)
+  answered : (start now : Option LinkBytes) (state : SessionState) (unread : List ℕ) (r : Request) (bytes : List ℕ)
       (closes : Bool) → IsRequestOf r
-      → IsAnswer store site r.head (reply_of r bytes closes).answer → unread ≡ r.bytes ++ talk.frames.unread
-      → (p : Progress store site start now (waiting talk unread))
-      → Stand store site start now (p.replies ++ reply_of r bytes closes ∷ []) talk.frames.unread
-      (full_text (p.replies ++ reply_of r bytes closes ∷ [])) (talk.gathered ++ bytes) talk.taken
-  answered start now talk unread r bytes closes is answer e p =
+      → IsAnswer store site r.head (reply_of r bytes closes).answer → unread ≡ r.bytes ++ state.frames.unread
+      → (p : Progress store site start now (waiting state unread))
+      → Stand store site start now (p.replies ++ reply_of r bytes closes ∷ []) state.frames.unread
+      (full_text (p.replies ++ reply_of r bytes closes ∷ [])) (state.gathered ++ bytes) state.taken
+  answered start now state unread r bytes closes is answer e p =
       let reply = reply_of r bytes closes in
-      let due : Stand store site start now (p.replies ++ reply ∷ []) talk.frames.unread (full_text p.replies ++ bytes)
-      (talk.gathered ++ bytes) talk.taken
-      = stand_reply (stand_due p.stand bytes) reply talk.frames.unread is answer e in
-      subst (λ text. Stand store site start now (p.replies ++ reply ∷ []) talk.frames.unread text (talk.gathered
-      ++ bytes) talk.taken) (sym (full_text-push p.replies reply)) due
+      let due : Stand store site start now (p.replies ++ reply ∷ []) state.frames.unread (full_text p.replies ++ bytes)
+      (state.gathered ++ bytes) state.taken
+      = stand_reply (stand_due p.stand bytes) reply state.frames.unread is answer e in
+      subst (λ text. Stand store site start now (p.replies ++ reply ∷ []) state.frames.unread text (state.gathered
+      ++ bytes) state.taken) (sym (full_text-push p.replies reply)) due
 
-  module _ (start now : Option LinkBytes) (talk : Talk) (unread : List ℕ) (r : Request) (bytes : List ℕ)
+  module _ (start now : Option LinkBytes) (state : SessionState) (unread : List ℕ) (r : Request) (bytes : List ℕ)
       (closes : Bool) (is : IsRequestOf r)
       (answer : IsAnswer store site r.head (reply_of r bytes closes).answer) (e : unread ≡ r.bytes
-      ++ talk.frames.unread)
-      (p : Progress store site start now (waiting talk unread)) where
-    pub answer_spilt : (new : Option LinkBytes) → Spills now new (talk.gathered ++ bytes) → (error : EndError)
+      ++ state.frames.unread)
+      (p : Progress store site start now (waiting state unread)) where
+    pub answer_spilt : (new : Option LinkBytes) → Spills now new (state.gathered ++ bytes) → (error : EndError)
         → IsServed store site start new (end_of error)
     answer_spilt new spill error =
-        served_spilt (answered start now talk unread r bytes closes is answer e p)
-        (due_push p.replies r bytes closes talk.frames.unread p.open_ones) new spill error
+        served_spilt (answered start now state unread r bytes closes is answer e p)
+        (due_push p.replies r bytes closes state.frames.unread p.open_ones) new spill error
 
-    pub answer_open : (new : Option LinkBytes) (gathered : List ℕ) → Pours now new talk.gathered gathered bytes
+    pub answer_open : (new : Option LinkBytes) (gathered : List ℕ) → Pours now new state.gathered gathered bytes
         → closes ≡ false
-        → Progress store site start new (record talk { gathered = gathered })
+        → Progress store site start new (record state { gathered = gathered })
     answer_open new gathered pours open_one = record {
       replies = p.replies ++ reply_of r bytes closes ∷ [];
       open_ones = open_push p.replies (reply_of r bytes closes) p.open_ones open_one;
-      stand = stand_pour (answered start now talk unread r bytes closes is answer e p) new pours.poured gathered
+      stand = stand_pour (answered start now state unread r bytes closes is answer e p) new pours.poured gathered
           pours.told pours.all;
       running = p.running;
       not_ended = p.not_ended;
     }
 
-    pub answer_left : (mid new : Option LinkBytes) (gathered : List ℕ) → Pours now mid talk.gathered gathered bytes
+    pub answer_left : (mid new : Option LinkBytes) (gathered : List ℕ) → Pours now mid state.gathered gathered bytes
         → Spills mid new gathered → (error : EndError)
         → IsServed store site start new (end_of error)
     answer_left mid new gathered pours spill error =
-        served_spilt (stand_pour (answered start now talk unread r bytes closes is answer e p) mid pours.poured
+        served_spilt (stand_pour (answered start now state unread r bytes closes is answer e p) mid pours.poured
         gathered pours.told pours.all)
-        (due_push p.replies r bytes closes talk.frames.unread p.open_ones) new spill error
+        (due_push p.replies r bytes closes state.frames.unread p.open_ones) new spill error
 
     pub answer_closes : (mid new : Option LinkBytes) (gathered last : List ℕ)
-        → Pours now mid talk.gathered gathered bytes → Pours mid new gathered last [] → last ≡ []
+        → Pours now mid state.gathered gathered bytes → Pours mid new gathered last [] → last ≡ []
         → closes ≡ true → IsServed store site start new Closed
     answer_closes mid new gathered last pours flushed empty closing =
         served_closed
-        (stand_pour (stand_pour (answered start now talk unread r bytes closes is answer e p) mid pours.poured
+        (stand_pour (stand_pour (answered start now state unread r bytes closes is answer e p) mid pours.poured
         gathered pours.told pours.all)
         new flushed.poured last flushed.told (sym (append-nil gathered) ∙ flushed.all))
         empty (closes_push p.replies (reply_of r bytes closes) p.open_ones closing)
@@ -166,35 +166,35 @@ module _ {store : List Record} {site : Option ℕ} where
 
   -- ---- a read
 
-  module _ (start now : Option LinkBytes) (talk : Talk) (p : Progress store site start now talk) where
-    pub flush_spilt : (new : Option LinkBytes) → Spills now new talk.gathered → (error : EndError)
+  module _ (start now : Option LinkBytes) (state : SessionState) (p : Progress store site start now state) where
+    pub flush_spilt : (new : Option LinkBytes) → Spills now new state.gathered → (error : EndError)
         → IsServed store site start new (end_of error)
     flush_spilt new spill error = served_spilt p.stand (inl (inl p.open_ones, refl)) new spill error
 
-    pub flushed_on : (new : Option LinkBytes) (last : List ℕ) (reads : ℕ) → Pours now new talk.gathered last []
-        → Progress store site start new (record talk { gathered = last; reads = reads })
+    pub flushed_on : (new : Option LinkBytes) (last : List ℕ) (reads : ℕ) → Pours now new state.gathered last []
+        → Progress store site start new (record state { gathered = last; reads = reads })
     flushed_on new last reads pours = record {
       replies = p.replies;
       open_ones = p.open_ones;
-      stand = stand_pour p.stand new pours.poured last pours.told (sym (append-nil talk.gathered) ∙ pours.all);
+      stand = stand_pour p.stand new pours.poured last pours.told (sym (append-nil state.gathered) ∙ pours.all);
       running = p.running;
       not_ended = p.not_ended;
     }
 
-    module _ (empty : talk.gathered ≡ []) (whole : BeginsWithNone talk.frames.unread)
-        (may : MayGoOn talk.frames.unread) where
-      pub is_full : most ≤ talk.taken → IsServed store site start now Full
+    module _ (empty : state.gathered ≡ []) (whole : BeginsWithNone state.frames.unread)
+        (may : MayGoOn state.frames.unread) where
+      pub is_full : most ≤ state.taken → IsServed store site start now Full
       is_full reached = let few = p.stand.few
           in served_full p.stand empty p.open_ones whole may (omega (arith, reached, few))
 
-      pub read_fails : talk.taken < most → (new : Option LinkBytes) (error : EndError)
+      pub read_fails : state.taken < most → (new : Option LinkBytes) (error : EndError)
           → new ≡ option_map (after_read (Err error)) now
           → IsServed store site start new (end_of error)
       read_fails room new error told =
           served_cut (stand_failed p.stand (stand_open p.stand empty p.open_ones whole may) room new error told)
           (inl (inl p.open_ones, refl)) error
 
-      pub read_ends : talk.taken < most → (new : Option LinkBytes) (n : ℕ) → n ≡ 0 → IfSome now (λ l. l.rest ≡ [])
+      pub read_ends : state.taken < most → (new : Option LinkBytes) (n : ℕ) → n ≡ 0 → IfSome now (λ l. l.rest ≡ [])
           → new ≡ option_map (after_read (Ok n)) now
           → IsServed store site start new Closed
       read_ends few new n none ended told =
@@ -207,17 +207,17 @@ module _ {store : List Record} {site : Option ℕ} where
       brought None n buf h = tt
       brought (Some l) n buf h = h.1
 
-      module _ (room : talk.taken < most) (new : Option LinkBytes) (n : ℕ) (within : talk.taken + n ≤ most)
+      module _ (room : state.taken < most) (new : Option LinkBytes) (n : ℕ) (within : state.taken + n ≤ most)
           (buf : List ℕ) (long : length (take n buf) ≡ n)
           (front : IfSome now (λ l. (n ≤ length l.rest) × (take n buf ≡ take n l.rest)))
           (told : new ≡ option_map (after_read (Ok n)) now) where
-        read_on : Stand store site start new p.replies (talk.frames.unread ++ take n buf) (full_text p.replies)
-            talk.gathered (talk.taken + n)
+        read_on : Stand store site start new p.replies (state.frames.unread ++ take n buf) (full_text p.replies)
+            state.gathered (state.taken + n)
         read_on = stand_read p.stand (stand_open p.stand empty p.open_ones whole may) room new n within
             (take n buf) long (brought now n buf front) told
 
         pub read_kept : Progress store site start new
-            (record (waiting talk (talk.frames.unread ++ take n buf)) { taken = talk.taken + n })
+            (record (waiting state (state.frames.unread ++ take n buf)) { taken = state.taken + n })
         read_kept = record {
           replies = p.replies;
           open_ones = p.open_ones;

@@ -34,6 +34,6 @@ missing q = record { bytes = not_found; closes = q.closes }
 -- The answer to a request, asked at a port or at none: that of the best of the agreeing records, or the missing one
 -- where none agrees.
 abbrev pub IsAnswer : List Record → Option ℕ → RequestHead → Answer → Type 0
-IsAnswer store site q answer =
-    ((place : ℕ) × (best : IsBest q site store place) × (answer ≡ recorded q best.best))
-    ⊎ (NoneAgrees q site store × (answer ≡ missing q))
+IsAnswer store site_port q answer =
+    ((place : ℕ) × (best : IsBest q site_port store place) × (answer ≡ recorded q best.best))
+    ⊎ (NoneAgrees q site_port store × (answer ≡ missing q))

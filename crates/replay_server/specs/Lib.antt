@@ -2,4 +2,5 @@ pub mod Answers
 pub mod Sessions
 pub mod Links
 pub mod Servings
+pub mod Giving
 pub mod inside

@@ -32,7 +32,8 @@ IsAtEnd told = IfSome told (λ l. l.rest ≡ [])
 
 -- When a read began, what had been given was all that was due for what had been taken, and fewer bytes had been taken
 -- than may be.
-pub record IsPrompt (store : List Record) (site : Option ℕ) (taken given : List ℕ) (start : ReadStart) : Type 0 where
+pub record IsPrompt (store : List Record) (site_port : Option ℕ) (taken given : List ℕ) (start : ReadStart) :
+    Type 0 where
   pub taken_then : List ℕ
   pub taken_later : List ℕ
   pub given_then : List ℕ
@@ -40,19 +41,20 @@ pub record IsPrompt (store : List Record) (site : Option ℕ) (taken given : Lis
   pub taken_is : taken ≡ taken_then ++ taken_later
   pub given_is : given ≡ given_then ++ given_later
   pub start_is : start ≡ record { taken = length taken_then; given = length given_then }
-  pub answered : IsOpen store site taken_then given_then
+  pub answered : IsOpen store site_port taken_then given_then
   pub room : length taken_then < most
 
 -- What a session that ends so has done to its link: it took bytes, no more than it may, and gave others, as it is due,
 -- and each of its reads began when what was due had been given.
-pub record IsServed (store : List Record) (site : Option ℕ) (old new : Option LinkBytes) (end : ConnEnd) : Type 0 where
+pub record IsServed (store : List Record) (site_port : Option ℕ) (old new : Option LinkBytes) (end : ConnEnd) :
+    Type 0 where
   pub taken : List ℕ
   pub given : List ℕ
   pub starts : List ReadStart
   pub passed : IfBothTold (Passed taken given starts) old new
   pub few : length taken ≤ most
-  pub session : Session store site taken (IsAtEnd new) given end
-  pub prompt : All (IsPrompt store site taken given) starts
+  pub session : Session store site_port taken (IsAtEnd new) given end
+  pub prompt : All (IsPrompt store site_port taken given) starts
 
 -- Such an end comes only where a fault of the link was counted.
 abbrev pub HasFaultCause : LinkView → LinkView → ConnEnd → Type 0

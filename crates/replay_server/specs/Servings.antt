@@ -17,10 +17,10 @@ use Rattle.replay_server.specs.declared.ends.ServeError.TheVariants as errors
 
 -- A connection of which nothing had been taken was served and ended so, and no more was taken than may be. Only at a
 -- fault of it is the end a fault.
-pub record IsConnServed (store : List Record) (site : Option ℕ) (link : LinkView) (end : ConnEnd) : Type 0 where
-  pub session : IfSome link.told (λ l. Session store site l.taken (l.rest ≡ []) l.given end)
+pub record IsConnServed (store : List Record) (site_port : Option ℕ) (link : LinkView) (end : ConnEnd) : Type 0 where
+  pub session : IfSome link.told (λ l. Session store site_port l.taken (l.rest ≡ []) l.given end)
   pub few : IfSome link.told (λ l. length l.taken ≤ most_bytes)
-  pub prompt : IfSome link.told (λ l. All (IsPrompt store site l.taken l.given) l.reads)
+  pub prompt : IfSome link.told (λ l. All (IsPrompt store site_port l.taken l.given) l.reads)
   pub fault : end ≡ LinkFault → 0 < link.faults
 
 -- how many connections a serving without a limit of its own accepts at most
@@ -63,7 +63,7 @@ abbrev pub finished_with : {C : Type 0} → List (C × ConnEnd) → List C → L
 finished_with [] finished = finished
 finished_with (c ∷ served) finished = finished_with served finished ++ c.0 ∷ []
 
-module _ {C : Type 0} (store : List Record) (site : Option ℕ) (view : C → LinkView) where
+module _ {C : Type 0} (store : List Record) (site_port : Option ℕ) (view : C → LinkView) where
   -- of at most `most` connections, what the answer says
   abbrev pub ServingSays : ℕ → PortView C → PortView C → List (C × ConnEnd) → Result Served ServeError → Type 0
   ServingSays most old new served (Ok n) =
@@ -84,7 +84,7 @@ module _ {C : Type 0} (store : List Record) (site : Option ℕ) (view : C → Li
   pub record IsServing (pooled : Bool) (most : ℕ) (old new : PortView C) (result : Result Served ServeError) : Type 0
     where
       pub served : List (C × ConnEnd)
-      pub each : All (λ (c : C × ConnEnd). Known pooled (IsConnServed store site (view c.0) c.1)) served
+      pub each : All (λ (c : C × ConnEnd). Known pooled (IsConnServed store site_port (view c.0) c.1)) served
       pub finished_is : new.finished ≡ option_map (finished_with served) old.finished
       pub keeps : KeepsPort old new
       pub says : ServingSays most old new served result

@@ -27,10 +27,10 @@ abbrev pub full_text : List Reply → List ℕ
 full_text replies = flat_map (λ (r : Reply). r.answer.bytes) replies
 
 -- The bytes are these requests and then the rest, and each request has its answer.
-pub record IsReplies (store : List Record) (site : Option ℕ) (bytes : List ℕ) (replies : List Reply) (rest : List ℕ)
-    : Type 0 where
+pub record IsReplies (store : List Record) (site_port : Option ℕ) (bytes : List ℕ) (replies : List Reply)
+    (rest : List ℕ) : Type 0 where
   pub requests : AreRequests bytes (map (λ (r : Reply). r.request) replies) rest
-  pub answers : All (λ (r : Reply). IsAnswer store site r.request.head r.answer) replies
+  pub answers : All (λ (r : Reply). IsAnswer store site_port r.request.head r.answer) replies
 
 -- no answer closes
 abbrev pub AllOpen : List Reply → Type 0
@@ -54,12 +54,12 @@ MayGoOn rest = (e : FrameError) → FaultCause request_form false rest e → (e 
 abbrev pub IsFront : List ℕ → List ℕ → Type 0
 IsFront bytes text = (more : List ℕ) × (text ≡ bytes ++ more)
 
-module _ (store : List Record) (site : Option ℕ) where
+module _ (store : List Record) (site_port : Option ℕ) where
   -- All the requests are answered, none of the answers closes, and the rest may go on.
   pub record IsOpen (bytes given : List ℕ) : Type 0 where
     pub replies : List Reply
     pub rest : List ℕ
-    pub are : IsReplies store site bytes replies rest
+    pub are : IsReplies store site_port bytes replies rest
     pub whole : BeginsWithNone rest
     pub open_ones : AllOpen replies
     pub may : MayGoOn rest
@@ -69,7 +69,7 @@ module _ (store : List Record) (site : Option ℕ) where
   pub record IsClosed (bytes given : List ℕ) : Type 0 where
     pub replies : List Reply
     pub rest : List ℕ
-    pub are : IsReplies store site bytes replies rest
+    pub are : IsReplies store site_port bytes replies rest
     pub last : LastCloses replies
     pub text : given ≡ full_text replies
 
@@ -77,7 +77,7 @@ module _ (store : List Record) (site : Option ℕ) where
   pub record IsBad (bytes given : List ℕ) : Type 0 where
     pub replies : List Reply
     pub rest : List ℕ
-    pub are : IsReplies store site bytes replies rest
+    pub are : IsReplies store site_port bytes replies rest
     pub whole : BeginsWithNone rest
     pub open_ones : AllOpen replies
     pub hopeless : IsHopeless rest
@@ -88,7 +88,7 @@ module _ (store : List Record) (site : Option ℕ) where
   pub record IsCut (bytes given : List ℕ) : Type 0 where
     pub replies : List Reply
     pub rest : List ℕ
-    pub are : IsReplies store site bytes replies rest
+    pub are : IsReplies store site_port bytes replies rest
     pub due : ((AllOpen replies ⊎ LastCloses replies) × IsFront given (full_text replies))
         ⊎ (BeginsWithNone rest × AllOpen replies × IsHopeless rest × IsFront given (full_text replies ++ bad_request))
 

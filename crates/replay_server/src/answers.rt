@@ -3,7 +3,7 @@ ghost use Rattle.std.specs.Prelude.{◌≡◌, ◌||◌};
 ghost use Rattle.request_match.specs.Match.{BestCause};
 ghost use Rattle.replay_server.specs.Answers.{IsAnswer, not_found, bad_request};
 
-use crate::source::Source;
+use crate::indexed_store::IndexedStore;
 use http_frame::RequestHead;
 
 /// The answer where no record agrees.
@@ -15,7 +15,7 @@ const BAD_REQUEST: &[u8] =
 
 /// The bytes of an answer, and whether the connection closes after them.
 #[derive(Drop)]
-pub struct Answer<'a> {
+pub struct ReplayAnswer<'a> {
     pub bytes: &'a [u8],
     pub closes: bool,
 }
@@ -40,7 +40,7 @@ fn either(request: bool, response: bool) -> bool
 }
 
 /// The place of the record that answers a request.
-fn place_for(source: &Source<'_>, head: &RequestHead) -> Option<usize>
+fn place_for(source: &IndexedStore<'_>, head: &RequestHead) -> Option<usize>
     ensures { BestCause head.now source.now.index.port source.now.store.now result }
 {
     source.index.best(head)
@@ -48,19 +48,19 @@ fn place_for(source: &Source<'_>, head: &RequestHead) -> Option<usize>
 
 /// The answer to a request: the recorded response of greatest score among those that agree, or the text that there is
 /// none.
-pub fn answer_to<'a>(source: &Source<'a>, head: &RequestHead) -> Answer<'a>
+pub fn answer_to<'a>(source: &IndexedStore<'a>, head: &RequestHead) -> ReplayAnswer<'a>
     ensures { IsAnswer source.now.store.now source.now.index.port head.now
         (record { bytes = result.bytes.now; closes = result.closes }) }
 {
     match place_for(source, head) {
         Some(place) => {
             let response = &source.store.records()[place].response;
-            Answer {
+            ReplayAnswer {
                 bytes: response.bytes.as_slice(),
                 closes: either(head.closes, response.head.closes),
             }
         }
-        None => Answer {
+        None => ReplayAnswer {
             bytes: missing(),
             closes: head.closes,
         },

@@ -24,6 +24,23 @@ pub struct Served {
     pub full: u32,
 }
 
+impl Served {
+    ghost use Rattle.std.specs.Prelude.{◌≡◌};
+    ghost use Rattle.replay_server.specs.Servings.{no_ends};
+
+    /// Returns the counts where no connection has ended.
+    pub fn none() -> Served
+        ensures { result ≡ no_ends }
+    {
+        Served {
+            closed: 0,
+            bad: 0,
+            broken: 0,
+            full: 0,
+        }
+    }
+}
+
 /// Why a serving stopped early.
 #[derive(Clone, Copy, Debug, PartialEq, Eq)]
 pub enum ServeError {

@@ -1,29 +1,15 @@
 // Answers that are given together.
-ghost use Rattle.std.specs.Prelude.{◌≡◌, [], ◌++◌, length, take, drop, OnOk, OnErr, IsErrOf};
-ghost use Rattle.std.specs.Option.{option_map};
+ghost use Rattle.std.specs.Prelude.{◌≡◌, [], ◌++◌, OnOk, OnErr, IsErrOf};
 ghost use Rattle.mm_base.specs.Counts.{Rose};
-ghost use Rattle.mm_base.specs.Link.{CountsLinkFaults, giving};
+ghost use Rattle.mm_base.specs.Link.{CountsLinkFaults};
 ghost use Rattle.replay_server.specs.inside.Giving.{Pours, Spills};
 
+use crate::giving::give;
 use mm_base::{EndError, Link};
 use text_base::Bytes;
 
 /// How many bytes are gathered at most before they are given.
 const MOST_GATHERED: usize = 65_536;
-
-/// Gives all of these bytes. After a refusal a front of them was given.
-fn give<L: Link>(link: &mut L, piece: &[u8]) -> Result<(), EndError>
-    ensures ok { OnOk result ((L.view link.new).told ≡ option_map (giving piece.now) (L.view link.old).told) }
-    ensures err { OnErr result (Spills (L.view link.old).told (L.view link.new).told piece.now) }
-    ensures counts { CountsLinkFaults (L.view link.old) (L.view link.new) }
-    ensures failed_cause { IsErrOf result EndError.Failed → Rose (L.view link.old).faults (L.view link.new).faults }
-{
-    let mut at = 0;
-    while at < piece.len() {
-        at += link.write(&piece[at..])?;
-    }
-    Ok(())
-}
 
 /// Gives what was gathered.
 pub fn flush<L: Link>(link: &mut L, gathered: &mut Bytes) -> Result<(), EndError>

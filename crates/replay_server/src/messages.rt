@@ -13,7 +13,7 @@ use std::marker::{Brand, PhantomData};
 pub(crate) trait Serving {
     ghost store: { List Record };
 
-    ghost site: { Option ℕ };
+    ghost site_port: { Option ℕ };
 }
 
 impl Serving for Brand {
@@ -21,14 +21,14 @@ impl Serving for Brand {
 
     ghost store = { [] };
 
-    ghost site = { None };
+    ghost site_port = { None };
 }
 
-/// A connection of which nothing was taken, and its number.
+/// A connection of which nothing was taken, and its ordinal.
 #[derive(Drop)]
 pub(crate) struct Fresh<C: Link> {
     pub conn: C,
-    pub number: u32,
+    pub ordinal: u32,
     pub ghost untouched: { IfSome (C.view conn).told
         (λ l. (length l.taken ≡ 0) × (length l.given ≡ 0) × (length l.reads ≡ 0)) } by { Prim.hlevel props },
     pub ghost faultless: { (C.view conn).faults ≡ 0 },
@@ -40,5 +40,5 @@ pub(crate) struct Ended<K: Serving, C: Link> {
     pub conn: C,
     pub end: ConnEnd,
     pub serving: PhantomData<K>,
-    pub ghost served: { ∥ IsConnServed K.store K.site (C.view conn) end ∥₁ },
+    pub ghost served: { ∥ IsConnServed K.store K.site_port (C.view conn) end ∥₁ },
 }

@@ -4,30 +4,20 @@ ghost use Rattle.std.specs.Thread.{IsSync};
 ghost use Rattle.mm_base.specs.Counts.{Rose};
 ghost use Rattle.mm_base.specs.Link.{IsFresh};
 ghost use Rattle.mm_base.specs.Port.{KeepsPort, after_finish};
-ghost use Rattle.replay_server.specs.Servings.{IsConnServed, IsServing, ListensAt, most_served, no_ends, with_end};
+ghost use Rattle.replay_server.specs.Servings.{IsConnServed, IsServing, ListensAt, most_served, with_end};
 ghost use Rattle.replay_server.specs.inside.Tallies.{IsTally, total, refusal_of, ended, tallied};
 
 use crate::ends::{ConnEnd, ServeError, Served};
+use crate::indexed_store::IndexedStore;
+use crate::messages::Fresh;
+use crate::server::Server;
 use crate::session::serve_link;
-use crate::source::Source;
 use mm_base::{EndError, Link, Pace, Port};
 use record_store::Store;
 use std::alloc::Global;
 use std::marker::{Send, Sync};
 use std::sync::Wait;
 use std::thread::{Threads, join_mut};
-
-/// No connection.
-pub(crate) fn nothing() -> Served
-    ensures { result ≡ no_ends }
-{
-    Served {
-        closed: 0,
-        bad: 0,
-        broken: 0,
-        full: 0,
-    }
-}
 
 /// What a refusal of the port in accepting or finishing is to a serving.
 fn refused(error: EndError) -> ServeError
@@ -76,7 +66,7 @@ pub(crate) fn count_end(
     }
 }
 
-/// What a serving answers where a connection was finished so.
+/// What a serving returns where a connection was finished so.
 pub(crate) fn tally(
     done: Result<(), EndError>,
     rest: Result<Served, ServeError>,
@@ -108,15 +98,14 @@ pub(crate) fn finish<P: Port>(port: &mut P, conn: P::Conn) -> Result<(), EndErro
 pub(crate) fn serve_fresh<C: Link, Q: Pace, R: Wait>(
     rt: &R,
     alloc: Global,
-    source: &Source<'_>,
+    server: &Server<'_, Q>,
     conn: &mut C,
-    number: u32,
-    pace: &Q,
+    ordinal: u32,
 ) -> ConnEnd
     requires { IsFresh (C.view conn.old) }
-    ensures { IsConnServed source.now.store.now source.now.index.port (C.view conn.new) result }
+    ensures { IsConnServed server.now.source.store.now server.now.source.index.port (C.view conn.new) result }
 {
-    serve_link(rt, alloc, source, conn, number, pace)
+    serve_link(rt, alloc, server, conn, ordinal)
 }
 
 /// Accepts up to `most` connections, and serves each beside accepting the next. They are finished in the other order.
@@ -124,29 +113,29 @@ pub(crate) fn serve_fresh<C: Link, Q: Pace, R: Wait>(
 fn serve_from<P: Port + Send, Q: Pace + Sync, R: Threads + Wait + Sync>(
     rt: &R,
     alloc: Global,
-    source: &Source<'_>,
+    server: &Server<'_, Q>,
     port: &mut P,
-    number: u32,
+    ordinal: u32,
     most: u32,
-    pace: &Q,
 ) -> Result<Served, ServeError>
     requires { most ≤ 64 }
-    ensures serving { IsServing source.now.store.now source.now.index.port P.Conn.view false most
+    ensures serving { IsServing server.now.source.store.now server.now.source.index.port P.Conn.view false most
         (P.view port.old) (P.view port.new) result }
     ensures listened { (P.view port.new).listened ≡ (P.view port.old).listened }
     ensures within { IsTally most result }
 {
     if most == 0 {
-        return Ok(nothing());
+        return Ok(Served::none());
     }
     let next = match port.accept() {
         Ok(next) => next,
         Err(error) => return Err(refused(error)),
     };
     let Some(conn) = next else {
-        return Ok(nothing());
+        return Ok(Served::none());
     };
-    let (conn, end, rest) = serve_beside(rt, alloc, source, port, conn, number, most - 1, pace);
+    let fresh = Fresh { conn, ordinal };
+    let (conn, end, rest) = serve_beside(rt, alloc, server, port, fresh, most - 1);
     let done = finish(port, conn);
     tally(done, count_end(end, rest, most - 1))
 }
@@ -157,46 +146,35 @@ fn serve_from<P: Port + Send, Q: Pace + Sync, R: Threads + Wait + Sync>(
 fn serve_beside<P: Port + Send, Q: Pace + Sync, R: Threads + Wait + Sync>(
     rt: &R,
     alloc: Global,
-    source: &Source<'_>,
+    server: &Server<'_, Q>,
     port: &mut P,
-    conn: P::Conn,
-    number: u32,
+    fresh: Fresh<P::Conn>,
     most: u32,
-    pace: &Q,
 ) -> (P::Conn, ConnEnd, Result<Served, ServeError>)
-    requires most { most < 64 }
-    requires fresh { IsFresh (P.Conn.view conn) }
-    ensures one { IsConnServed source.now.store.now source.now.index.port (P.Conn.view result.0) result.1 }
-    ensures rest { IsServing source.now.store.now source.now.index.port P.Conn.view false most
+    requires { most < 64 }
+    ensures one { IsConnServed server.now.source.store.now server.now.source.index.port (P.Conn.view result.0)
+        result.1 }
+    ensures rest { IsServing server.now.source.store.now server.now.source.index.port P.Conn.view false most
         (P.view port.old) (P.view port.new) result.2 }
     ensures listened { (P.view port.new).listened ≡ (P.view port.old).listened }
     ensures within { IsTally most result.2 }
 {
+    let Fresh { conn, ordinal } = fresh;
     let mut conn = conn;
     let (rest, end) = join_mut(
         rt,
         &mut || -> Result<Served, ServeError>
             requires { (most < 64) × IsSync R.row × IsSync Q.row }
-            ensures serving { IsServing source.entry.now.store.now source.entry.now.index.port P.Conn.view false most
-                (P.view port.entry.now) (P.view port.exit.now) result }
+            ensures serving { IsServing server.entry.now.source.store.now server.entry.now.source.index.port
+                P.Conn.view false most (P.view port.entry.now) (P.view port.exit.now) result }
             ensures listened { (P.view port.exit.now).listened ≡ (P.view port.entry.now).listened }
             ensures within { IsTally most result }
-        {
-            serve_from(
-                rt,
-                alloc,
-                source,
-                port,
-                number.saturating_add(1),
-                most,
-                pace,
-            )
-        },
+        { serve_from(rt, alloc, server, port, ordinal.saturating_add(1), most) },
         &mut || -> ConnEnd
             requires { IsFresh (P.Conn.view conn) × IsSync R.row × IsSync Q.row }
-            ensures { IsConnServed source.entry.now.store.now source.entry.now.index.port
+            ensures { IsConnServed server.entry.now.source.store.now server.entry.now.source.index.port
                 (P.Conn.view conn.exit) result }
-        { serve_fresh(rt, alloc, source, &mut conn, number, pace) },
+        { serve_fresh(rt, alloc, server, &mut conn, ordinal) },
     );
     (conn, end, rest)
 }
@@ -213,21 +191,22 @@ pub fn serve<P: Port + Send, Q: Pace + Sync, R: Threads + Wait + Sync>(
     store: &Store,
     port: &mut P,
     number: u16,
-    site: Option<u16>,
+    site_port: Option<u16>,
     connections: u32,
     pace: &Q,
 ) -> Result<Served, ServeError>
     requires some { 1 ≤ connections }
     requires few { connections ≤ 64 }
-    ensures serving { IsServing store.now site P.Conn.view false connections
+    ensures serving { IsServing store.now site_port P.Conn.view false connections
         (P.view port.old) (P.view port.new) result }
     ensures listens { ListensAt number (P.view port.old) (P.view port.new) result }
 {
-    let Ok(source) = Source::new(alloc, store, site) else {
+    let Ok(source) = IndexedStore::new(alloc, store, site_port) else {
         return Err(ServeError::OutOfMemory);
     };
+    let server = Server { source, pace };
     match port.listen(number) {
-        Ok(()) => serve_from(rt, alloc, &source, port, 1, connections, pace),
+        Ok(()) => serve_from(rt, alloc, &server, port, 1, connections),
         Err(EndError::Failed) => Err(ServeError::Listen),
         Err(EndError::OutOfMemory) => Err(ServeError::OutOfMemory),
     }

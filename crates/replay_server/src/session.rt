@@ -6,9 +6,10 @@ ghost use Rattle.replay_server.specs.inside.Progress.{Progress, GoesOn, to_do};
 
 use crate::answers::answer_to;
 use crate::ends::ConnEnd;
-use crate::source::Source;
+use crate::indexed_store::IndexedStore;
+use crate::server::Server;
+use crate::session_state::SessionState;
 use crate::steps::{give_answer, refuse, take_more};
-use crate::talk::Talk;
 use http_frame::{FrameFault, Step};
 use mm_base::{Link, Pace, Role};
 use record_store::Store;
@@ -23,28 +24,28 @@ const PIECE: usize = 65_536;
 /// bytes.
 fn step<L: Link, Q: Pace, R: Wait>(
     rt: &R,
-    source: &Source<'_>,
-    talk: &mut Talk,
+    server: &Server<'_, Q>,
+    state: &mut SessionState,
     link: &mut L,
     buf: &mut [u8],
     role: Role,
-    pace: &Q,
 ) -> Option<ConnEnd>
     requires { 0 < length buf.old }
     ensures goes_on { (start : Option LinkBytes)
-        → Progress source.now.store.now source.now.index.port start (L.view link.old).told talk.old
-        → GoesOn source.now.store.now source.now.index.port start (L.view link.new).told talk.new result }
-    ensures less { IfNone result (to_do talk.new < to_do talk.old) }
+        → Progress server.now.source.store.now server.now.source.index.port start (L.view link.old).told state.old
+        → GoesOn server.now.source.store.now server.now.source.index.port start (L.view link.new).told state.new
+        result }
+    ensures less { IfNone result (to_do state.new < to_do state.old) }
     ensures counts { CountsLinkFaults (L.view link.old) (L.view link.new) }
     ensures cause { IfSome result (HasFaultCause (L.view link.old) (L.view link.new)) }
 {
-    match talk.frames.next_head() {
+    match state.frames.next_head() {
         Ok(Step::Message(head)) => {
-            let answer = answer_to(source, &head);
-            give_answer(talk, link, answer.bytes, answer.closes)
+            let answer = answer_to(&server.source, &head);
+            give_answer(state, link, answer.bytes, answer.closes)
         }
-        Ok(Step::More) => take_more(rt, talk, link, buf, role, pace),
-        Err(FrameFault::Frame(_)) => Some(refuse(talk, link)),
+        Ok(Step::More) => take_more(rt, state, link, buf, role, server.pace),
+        Err(FrameFault::Frame(_)) => Some(refuse(state, link)),
         Err(FrameFault::OutOfMemory) => Some(ConnEnd::OutOfMemory),
     }
 }
@@ -53,21 +54,20 @@ fn step<L: Link, Q: Pace, R: Wait>(
 fn converse<L: Link, Q: Pace, R: Wait>(
     rt: &R,
     alloc: Global,
-    source: &Source<'_>,
+    server: &Server<'_, Q>,
     link: &mut L,
     buf: &mut [u8],
     role: Role,
-    pace: &Q,
 ) -> ConnEnd
     requires { 0 < length buf.old }
-    ensures served { IsServed source.now.store.now source.now.index.port
+    ensures served { IsServed server.now.source.store.now server.now.source.index.port
         (L.view link.old).told (L.view link.new).told result }
     ensures counts { CountsLinkFaults (L.view link.old) (L.view link.new) }
     ensures cause { HasFaultCause (L.view link.old) (L.view link.new) result }
 {
-    let mut talk = Talk::new(alloc);
+    let mut state = SessionState::new(alloc);
     'steps: loop {
-        if let Some(end) = step(rt, source, &mut talk, link, buf, role, pace) {
+        if let Some(end) = step(rt, server, &mut state, link, buf, role) {
             return end;
         }
     }
@@ -84,18 +84,17 @@ fn zeros(alloc: Global, count: usize) -> Result<Vec<u8>, OutOfMemory>
 fn hold<L: Link, Q: Pace, R: Wait>(
     rt: &R,
     alloc: Global,
-    source: &Source<'_>,
+    server: &Server<'_, Q>,
     link: &mut L,
     role: Role,
-    pace: &Q,
 ) -> ConnEnd
-    ensures served { IsServed source.now.store.now source.now.index.port
+    ensures served { IsServed server.now.source.store.now server.now.source.index.port
         (L.view link.old).told (L.view link.new).told result }
     ensures counts { CountsLinkFaults (L.view link.old) (L.view link.new) }
     ensures cause { HasFaultCause (L.view link.old) (L.view link.new) result }
 {
     match zeros(alloc, PIECE) {
-        Ok(mut buf) => converse(rt, alloc, source, link, buf.as_mut_slice(), role, pace),
+        Ok(mut buf) => converse(rt, alloc, server, link, buf.as_mut_slice(), role),
         Err(_) => ConnEnd::OutOfMemory,
     }
 }
@@ -112,23 +111,22 @@ fn leave<L: Link, Q: Pace, R: Wait>(rt: &R, link: &mut L, role: Role, pace: &Q)
 pub fn serve_link<L: Link, Q: Pace, R: Wait>(
     rt: &R,
     alloc: Global,
-    source: &Source<'_>,
+    server: &Server<'_, Q>,
     link: &mut L,
-    number: u32,
-    pace: &Q,
+    ordinal: u32,
 ) -> ConnEnd
-    ensures served { IsServed source.now.store.now source.now.index.port
+    ensures served { IsServed server.now.source.store.now server.now.source.index.port
         (L.view link.old).told (L.view link.new).told result }
     ensures counts { CountsLinkFaults (L.view link.old) (L.view link.new) }
     ensures cause { HasFaultCause (L.view link.old) (L.view link.new) result }
 {
-    let role = Role::Connection { number };
-    let end = hold(rt, alloc, source, link, role, pace);
-    leave(rt, link, role, pace);
+    let role = Role::Connection { number: ordinal };
+    let end = hold(rt, alloc, server, link, role);
+    leave(rt, link, role, server.pace);
     end
 }
 
-/// Serves one connection, with the number by which the pace knows it. Each whole request that comes is answered in
+/// Serves one connection, with the ordinal by which the pace knows it. Each whole request that comes is answered in
 /// order, before more bytes are taken: with the recorded response of greatest score among those that agree with it, or
 /// with the text that there is none. The pace is asked before each read, with the read's count, and with 0 when the
 /// connection has ended.
@@ -142,18 +140,18 @@ pub fn serve_conn<L: Link, Q: Pace, R: Wait>(
     alloc: Global,
     store: &Store,
     link: &mut L,
-    site: Option<u16>,
-    number: u32,
+    site_port: Option<u16>,
+    ordinal: u32,
     pace: &Q,
 ) -> ConnEnd
-    ensures served { IsServed store.now site (L.view link.old).told (L.view link.new).told result }
+    ensures served { IsServed store.now site_port (L.view link.old).told (L.view link.new).told result }
     ensures counts { CountsLinkFaults (L.view link.old) (L.view link.new) }
     ensures cause { HasFaultCause (L.view link.old) (L.view link.new) result }
 {
-    match Source::new(alloc, store, site) {
-        Ok(source) => serve_link(rt, alloc, &source, link, number, pace),
+    match IndexedStore::new(alloc, store, site_port) {
+        Ok(source) => serve_link(rt, alloc, &Server { source, pace }, link, ordinal),
         Err(_) => {
-            leave(rt, link, Role::Connection { number }, pace);
+            leave(rt, link, Role::Connection { number: ordinal }, pace);
             ConnEnd::OutOfMemory
         }
     }

@@ -13,7 +13,7 @@ ghost use Rattle.replay_server.specs.Sessions.{Reply, AllOpen, IsHopeless, MayGo
 use crate::answers::refusal;
 use crate::ends::ConnEnd;
 use crate::gathered::{flush, gather};
-use crate::talk::Talk;
+use crate::session_state::SessionState;
 use mm_base::{EndError, Link, Pace, Role};
 use std::sync::Wait;
 use text_base::limits::MOST_CONNECTION_BYTES;
@@ -33,7 +33,7 @@ fn refused(error: EndError) -> ConnEnd
 
 /// Gives the answer to the request that was taken off last, and ends the session where the answer closes.
 pub fn give_answer<L: Link>(
-    talk: &mut Talk,
+    state: &mut SessionState,
     link: &mut L,
     bytes: &[u8],
     closes: bool,
@@ -41,63 +41,63 @@ pub fn give_answer<L: Link>(
     ensures goes_on { (store : List Record) (site : Option ℕ) (start : Option LinkBytes)
         (unread : List ℕ) (r : Request)
         → IsRequestOf r → IsAnswer store site r.head (record { bytes = bytes.now; closes = closes })
-        → unread ≡ r.bytes ++ talk.old.frames.unread
+        → unread ≡ r.bytes ++ state.old.frames.unread
         → Progress store site start (L.view link.old).told
-        (record talk.old { frames = record talk.old.frames { unread = unread } })
-        → GoesOn store site start (L.view link.new).told talk.new result }
-    ensures same_frames { talk.new.frames ≡ talk.old.frames }
-    ensures same_taken { talk.new.taken ≡ talk.old.taken }
+        (record state.old { frames = record state.old.frames { unread = unread } })
+        → GoesOn store site start (L.view link.new).told state.new result }
+    ensures same_frames { state.new.frames ≡ state.old.frames }
+    ensures same_taken { state.new.taken ≡ state.old.taken }
     ensures counts { CountsLinkFaults (L.view link.old) (L.view link.new) }
     ensures cause { IfSome result (HasFaultCause (L.view link.old) (L.view link.new)) }
 {
-    if let Err(error) = gather(link, &mut talk.gathered, bytes) {
+    if let Err(error) = gather(link, &mut state.gathered, bytes) {
         return Some(refused(error));
     }
     if !closes {
         return None;
     }
-    if let Err(error) = flush(link, &mut talk.gathered) {
+    if let Err(error) = flush(link, &mut state.gathered) {
         return Some(refused(error));
     }
     Some(ConnEnd::Closed)
 }
 
 /// Says that there is no request, and ends the session.
-pub fn refuse<L: Link>(talk: &mut Talk, link: &mut L) -> ConnEnd
+pub fn refuse<L: Link>(state: &mut SessionState, link: &mut L) -> ConnEnd
     ensures ends { (store : List Record) (site : Option ℕ) (start : Option LinkBytes)
         (replies : List Reply) (rest : List ℕ) (count : ℕ)
-        → Stand store site start (L.view link.old).told replies rest (full_text replies) talk.old.gathered count
+        → Stand store site start (L.view link.old).told replies rest (full_text replies) state.old.gathered count
         → AllOpen replies → BeginsWithNone rest → IsHopeless rest
         → IsServed store site start (L.view link.new).told result }
     ensures counts { CountsLinkFaults (L.view link.old) (L.view link.new) }
     ensures cause { HasFaultCause (L.view link.old) (L.view link.new) result }
 {
-    if let Err(error) = gather(link, &mut talk.gathered, refusal()) {
+    if let Err(error) = gather(link, &mut state.gathered, refusal()) {
         return refused(error);
     }
-    if let Err(error) = flush(link, &mut talk.gathered) {
+    if let Err(error) = flush(link, &mut state.gathered) {
         return refused(error);
     }
     ConnEnd::BadRequest
 }
 
 /// Takes more bytes into `piece`, where all that is due was given.
-fn read_more<L: Link>(talk: &mut Talk, link: &mut L, piece: &mut [u8]) -> Option<ConnEnd>
+fn read_more<L: Link>(state: &mut SessionState, link: &mut L, piece: &mut [u8]) -> Option<ConnEnd>
     requires room { 0 < length piece.old }
-    requires few { talk.old.taken + length piece.old ≤ most }
+    requires few { state.old.taken + length piece.old ≤ most }
     ensures goes_on { (store : List Record) (site : Option ℕ) (start : Option LinkBytes)
-        → Progress store site start (L.view link.old).told talk.old → talk.old.gathered ≡ []
-        → BeginsWithNone talk.old.frames.unread → MayGoOn talk.old.frames.unread
-        → GoesOn store site start (L.view link.new).told talk.new result }
-    ensures less { IfNone result (to_do talk.new < to_do talk.old) }
+        → Progress store site start (L.view link.old).told state.old → state.old.gathered ≡ []
+        → BeginsWithNone state.old.frames.unread → MayGoOn state.old.frames.unread
+        → GoesOn store site start (L.view link.new).told state.new result }
+    ensures less { IfNone result (to_do state.new < to_do state.old) }
     ensures counts { CountsLinkFaults (L.view link.old) (L.view link.new) }
     ensures cause { IfSome result (HasFaultCause (L.view link.old) (L.view link.new)) }
 {
     match link.read(piece) {
         Ok(0) => Some(ConnEnd::Closed),
-        Ok(count) => match talk.frames.feed(&piece[..count]) {
+        Ok(count) => match state.frames.feed(&piece[..count]) {
             Ok(()) => {
-                talk.taken += count;
+                state.taken += count;
                 None
             }
             Err(_) => Some(ConnEnd::OutOfMemory),
@@ -109,7 +109,7 @@ fn read_more<L: Link>(talk: &mut Talk, link: &mut L, piece: &mut [u8]) -> Option
 /// Gives all that is due, and then takes more bytes.
 pub fn take_more<L: Link, Q: Pace, R: Wait>(
     rt: &R,
-    talk: &mut Talk,
+    state: &mut SessionState,
     link: &mut L,
     buf: &mut [u8],
     role: Role,
@@ -117,21 +117,21 @@ pub fn take_more<L: Link, Q: Pace, R: Wait>(
 ) -> Option<ConnEnd>
     requires { 0 < length buf.old }
     ensures goes_on { (store : List Record) (site : Option ℕ) (start : Option LinkBytes)
-        → Progress store site start (L.view link.old).told talk.old
-        → BeginsWithNone talk.old.frames.unread → MayGoOn talk.old.frames.unread
-        → GoesOn store site start (L.view link.new).told talk.new result }
-    ensures less { IfNone result (to_do talk.new < to_do talk.old) }
+        → Progress store site start (L.view link.old).told state.old
+        → BeginsWithNone state.old.frames.unread → MayGoOn state.old.frames.unread
+        → GoesOn store site start (L.view link.new).told state.new result }
+    ensures less { IfNone result (to_do state.new < to_do state.old) }
     ensures counts { CountsLinkFaults (L.view link.old) (L.view link.new) }
     ensures cause { IfSome result (HasFaultCause (L.view link.old) (L.view link.new)) }
 {
-    if let Err(error) = flush(link, &mut talk.gathered) {
+    if let Err(error) = flush(link, &mut state.gathered) {
         return Some(refused(error));
     }
-    if talk.taken >= MOST {
+    if state.taken >= MOST {
         return Some(ConnEnd::Full);
     }
-    talk.reads = talk.reads.saturating_add(1);
-    pace.turn(rt, role, talk.reads);
-    let room = buf.len().min(MOST - talk.taken);
-    read_more(talk, link, &mut buf[..room])
+    state.reads = state.reads.saturating_add(1);
+    pace.turn(rt, role, state.reads);
+    let room = buf.len().min(MOST - state.taken);
+    read_more(state, link, &mut buf[..room])
 }

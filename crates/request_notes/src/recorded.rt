@@ -3,7 +3,7 @@ use mm_base::Disk;
 use option_words::{parse_replay, read_port};
 use record_store::Store;
 use std::alloc::Global;
-use store_input::load_store;
+use store_files::load_store;
 
 // The command whose requests are noted.
 const COMMAND: &str = "replay";

@@ -8,11 +8,12 @@ use Rattle.packet_record.specs.declared.packet.Row.{Row}
 use Rattle.packet_record.specs.declared.item.Item.{Item}
 use Rattle.packet_record.specs.declared.item.Item.TheVariants.{End as Over}
 use Rattle.packet_record.specs.Rows.{Rises, entering}
-use Rattle.packet_record.specs.Sources.{items_from, sent_after, source_item, source_items}
+use Rattle.packet_record.specs.Sources.{items_from, source_item, source_items}
 use Rattle.packet_record.specs.Streams.{no_items}
 use Rattle.packet_record.proofs.RowsLemmas.{entering-append}
 use Rattle.mark_channel.specs.Ends.{End}
-use Rattle.row_source.specs.inside.Sent.{HasSent}
+use Rattle.row_source.specs.inside.Sent.{HasSent, SendsOn}
+use Rattle.row_source.specs.Sending.{SendsRow}
 
 -- rows that rise from `b` rise from an earlier `a`
 pub Rises-from : (a b : ℕ) (rows : List Row) → a ≤ b → Rises b rows → Rises a rows
@@ -27,30 +28,31 @@ none_sent d h to empty = record {
   rises = λ more rises. rises;
 }
 
--- from `old` to `new` what `row` gives was sent; `sent` and `next` are the greatest moments before and after
-pub record SendsOn (d : Direction) (h sent next : ℕ) (row : Row) (old new : End) : Type 0 where
-  pub after : next ≡ sent_after sent row (source_item d h sent row)
-  pub rises : next ≤ row.timed.moment
-  pub items : new.items ≡ old.items ++ option_to_list (source_item d h sent row)
-  pub packets : new.flow.packets ≡ old.flow.packets ++ entering d h (row ∷ [])
-
 -- what is sent with one row more
 pub one_sent : (d : Direction) (h sent next : ℕ) (first : List Item) (rows : List Row) (row : Row) (old new : End)
-    → SendsOn d h sent next row old new → HasSent d h first rows sent old
+    → SendsRow d h sent next row old new → HasSent d h first rows sent old
     → HasSent d h first (rows ++ row ∷ []) next new
 one_sent d h sent next first rows row old new on has = record {
-  packets = on.packets ∙ ap (λ l. l ++ entering d h (row ∷ [])) has.packets
-      ∙ sym (entering-append d h rows (row ∷ []));
+  packets = on.3 ∙ ap (λ l. l ++ entering d h (row ∷ [])) has.packets ∙ sym (entering-append d h rows (row ∷ []));
   items = λ more.
-      ap (λ (l : List Item). l ++ items_from d h next more) on.items
-      ∙ ap (λ (n : ℕ). (old.items ++ option_to_list (source_item d h sent row)) ++ items_from d h n more) on.after
+      ap (λ (l : List Item). l ++ items_from d h next more) on.2
+      ∙ ap (λ (n : ℕ). (old.items ++ option_to_list (source_item d h sent row)) ++ items_from d h n more) on.0
       ∙ append_assoc old.items (option_to_list (source_item d h sent row)) _
       ∙ has.items (row ∷ more)
       ∙ ap (λ (l : List Row). first ++ source_items d h l) (sym (append_assoc rows (row ∷ []) more));
   rises = λ more rises.
-      Rises-from next row.timed.moment more on.rises
+      Rises-from next row.timed.moment more on.1
       (has.rises (row ∷ more) (subst (Rises 0) (append_assoc rows (row ∷ []) more) rises)).1;
 }
+
+-- `front` was sent and then `row`, so `more` was
+pub row_on : (d : Direction) (h begun sent next : ℕ) (front more : List Row) (row : Row) (first old new : End)
+    → more ≡ front ++ row ∷ [] → SendsOn d h front begun sent first old → SendsRow d h sent next row old new
+    → SendsOn d h more begun next first new
+row_on d h begun sent next front more row first old new is sends on = λ items before has.
+    subst (λ l. HasSent d h items l next new)
+    (append_assoc before front (row ∷ []) ∙ ap (λ (l : List Row). before ++ l) (sym is))
+    (one_sent d h sent next items (before ++ front) row old new on (sends items before has))
 
 -- what is sent with no row more
 pub same_sent : (d : Direction) (h sent : ℕ) (first : List Item) (rows : List Row) (to : End)

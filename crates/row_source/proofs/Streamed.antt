@@ -7,11 +7,13 @@ use mathlib.Core.List.{IsPrefix}
 use Rattle.mm_base.specs.Files.{Files, file}
 use Rattle.text_base.specs.Lines.{lines_of}
 use Rattle.mm_base.proofs.FilesLemmas.{is_held}
-use Rattle.file_pieces.specs.Pieces.{FrontIsRead, HasSize}
-use Rattle.file_pieces.proofs.PieceLemmas.{whole_read}
+use Rattle.mm_base.specs.Pieces.{FrontIsRead, HasSize}
+use Rattle.mm_base.proofs.PieceLemmas.{whole_read}
 use Rattle.packet_record.specs.declared.item.Item.TheVariants.{End as Over}
 use Rattle.packet_record.specs.declared.item.FlowEnd.TheVariants.{Ended as IsOver}
+use Rattle.packet_record.specs.declared.both.Both.{Both}
 use Rattle.packet_record.specs.declared.packet.Direction.{Direction}
+use Rattle.packet_record.specs.declared.packet.Direction.TheVariants.{Up, Down}
 use Rattle.packet_record.specs.declared.packet.Row.{Row}
 use Rattle.packet_record.specs.declared.reading.ScheduleError.{ScheduleError}
 use Rattle.packet_record.specs.Orders.{IsSchedule}
@@ -20,7 +22,8 @@ use Rattle.packet_record.specs.Rows.{Rises}
 use Rattle.packet_record.proofs.PartLemmas.{awaits_any}
 use Rattle.packet_record.proofs.RowsLemmas.{rises-in_order}
 use Rattle.mark_channel.specs.Ends.{End}
-use Rattle.row_source.specs.inside.Sent.{HasSent}
+use Rattle.row_source.specs.inside.Sent.{HasSent, HaveSent, SendsOn}
+use Rattle.row_source.specs.declared.sourcing.Progress.{Progress}
 use Rattle.row_source.specs.StreamParts.{AllSent, IsStreamed}
 use Rattle.row_source.proofs.Sending.{all_sent, rest_of}
 
@@ -47,6 +50,25 @@ pub piece_sent : (d : Direction) (h sent : ℕ) (old new done rows : List Row) (
 piece_sent d h sent old new done rows to is_done is_new prefix has =
     subst (λ l. HasSent d h [] l sent to)
     (ap (λ (l : List Row). old ++ l) (after_is old new done rows is_done is_new) ∙ rest_of old new prefix) has
+
+-- the same of both directions
+pub pieces_rise : (h : ℕ) (sent : Progress) (old new done rows : List Row) (heads : Both End) → done ≡ old
+    → rows ≡ new → HaveSent h old sent heads → IsPrefix old new → IsSchedule new
+    → Rises sent.up (rows_after done rows) × Rises sent.down (rows_after done rows)
+pieces_rise h sent old new done rows heads is_done is_new have prefix schedule = (
+  piece_rises Up h sent.up old new done rows heads.up is_done is_new have.0 prefix schedule,
+  piece_rises Down h sent.down old new done rows heads.down is_done is_new have.1 prefix schedule,
+)
+
+pub pieces_sent : (h : ℕ) (sent next : Progress) (old new done rows : List Row) (before after : Both End) → done ≡ old
+    → rows ≡ new → IsPrefix old new → HaveSent h old sent before
+    → SendsOn Up h (rows_after done rows) sent.up next.up before.up after.up
+    × SendsOn Down h (rows_after done rows) sent.down next.down before.down after.down
+    → HaveSent h new next after
+pieces_sent h sent next old new done rows before after is_done is_new prefix have on = (
+  piece_sent Up h next.up old new done rows after.up is_done is_new prefix (on.0 [] old have.0),
+  piece_sent Down h next.down old new done rows after.down is_done is_new prefix (on.1 [] old have.1),
+)
 
 -- where all rows were sent and then the end, `AllSent` holds
 pub end_sent : (d : Direction) (h sent : ℕ) (rows : List Row) (old new : End) → HasSent d h [] rows sent old

@@ -2,8 +2,10 @@
 //! is read meanwhile.
 #![tactic(auto)]
 
+mod schedule_file;
 mod sourcing;
 mod streaming;
 
-pub use sourcing::{Sent, end_both, source, source_row};
+pub use schedule_file::ScheduleFile;
+pub use sourcing::{Progress, end_both, source, source_row, source_rows};
 pub use streaming::stream_source;

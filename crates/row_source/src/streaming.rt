@@ -1,236 +1,159 @@
 // The source whose schedule is read from a file while its packets pass the nest.
-ghost use Rattle.std.specs.Prelude.{◌≡◌, ◌≢◌, ◌≤◌, ◌<◌, ◌+◌, ◌++◌, ◌∷◌, ℕ, List, [], None, length, IfOk, OnErr, OnOk};
-ghost use Rattle.std.specs.Prelude.{IsErrOf};
-ghost use Rattle.mm_base.specs.Disk.{HasReadCause, OnlyReads};
-ghost use Rattle.mm_base.specs.Files.{IsAbsent};
-ghost use Rattle.file_pieces.specs.Pieces.{FrontIsRead, HasSize};
-ghost use Rattle.file_pieces.specs.inside.Pieces.{PieceIsRead};
+ghost use Rattle.std.specs.Prelude.{◌≡◌, ◌≢◌, ◌≤◌, ◌<◌, ℕ, List, [], None, IfOk, OnErr, OnOk};
+ghost use Rattle.mm_base.specs.Pieces.{HasSize};
 ghost use Rattle.packet_record.specs.declared.item.FlowEnd.TheVariants.{Open, Broken as IsCut};
-ghost use Rattle.packet_record.specs.declared.packet.Direction.TheVariants.{Up, Down};
 ghost use Rattle.packet_record.specs.PartsRead.{HasRead, HasReadAll};
-ghost use Rattle.packet_record.specs.Streams.{no_items};
+ghost use Rattle.mark_channel.specs.Boths.{BothKeep, ByDirection, OfBoth};
 ghost use Rattle.mark_channel.specs.Ends.{IsSameEnd};
-ghost use Rattle.row_source.specs.inside.Sent.{HasSent};
+ghost use Rattle.row_source.specs.inside.Reading.{HasReadFront, HasReadPiece, HasReadWhole, IsReading};
+ghost use Rattle.row_source.specs.inside.Sent.{HaveSent};
+ghost use Rattle.row_source.specs.Reading.{IsUnread, ReadsFile};
+ghost use Rattle.row_source.specs.Sending.{AreAt, IsUnsent};
 ghost use Rattle.row_source.specs.StreamParts.{AllSent, IsStreamed};
 
-use crate::sourcing::{Sent, end_both, send_rows};
-use file_pieces::read_piece;
-use mark_channel::{Begun, Sender};
+use crate::schedule_file::ScheduleFile;
+use crate::sourcing::{Progress, end_both, send_rows};
+use mark_channel::{Run, Sender};
 use mm_base::{Disk, DiskError, Pace};
-use packet_record::{Item, ScheduleText};
+use packet_record::{Both, Item, ScheduleText};
 use std::sync::Wait;
-use text_base::PieceReader;
 
 // Breaks the stream off in both directions.
-pub(crate) fn cut_both<R: Wait>(rt: &R, up: &mut Sender, down: &mut Sender)
-    requires open { (up.old.flow.end ≡ Open) × (down.old.flow.end ≡ Open) }
-    ensures broken { (up.new.flow.end ≡ IsCut) × (down.new.flow.end ≡ IsCut) }
-    ensures same { IsSameEnd up.old up.new × IsSameEnd down.old down.new }
+fn cut_both<R: Wait>(rt: &R, heads: &mut Both<Sender>)
+    requires open { OfBoth (λ head. head.flow.end ≡ Open) heads.old }
+    ensures broken { OfBoth (λ head. head.flow.end ≡ IsCut) heads.new }
+    ensures same { BothKeep IsSameEnd heads.old heads.new }
 {
-    up.send(rt, Item::Broken);
-    down.send(rt, Item::Broken);
+    heads.up.send(rt, Item::Broken);
+    heads.down.send(rt, Item::Broken);
 }
 
 // Reads the next piece of the file, and sends the rows of the lines that end in it. Returns how many bytes the piece
-// has, and what was sent then.
+// has, and how far the source has come then.
 fn stream_piece<D: Disk, Q: Pace, R: Wait>(
-    rt: &R,
+    run: &Run<'_, Q, R>,
     disk: &mut D,
-    name: &str,
-    at: u64,
-    size: u64,
-    piece: &mut [u8],
-    text: &mut ScheduleText,
+    file: &mut ScheduleFile<'_>,
     horizon: u64,
-    sent: Sent,
-    up: &mut Sender,
-    down: &mut Sender,
-    pace: &Q,
-) -> Result<(u64, Sent), DiskError>
-    requires room { at < size }
-    requires some { 0 < length piece.old }
-    requires open { (up.old.flow.end ≡ Open) × (down.old.flow.end ≡ Open) }
-    requires bound { (up.old.flow.bound ≡ sent.up) × (down.old.flow.bound ≡ sent.down) }
-    requires horizon { (up.old.horizon ≡ horizon) × (down.old.horizon ≡ horizon) }
-    requires up { HasSent Up horizon [] text.old.gathered.rows sent.up up.old }
-    requires down { HasSent Down horizon [] text.old.gathered.rows sent.down down.old }
-    ensures short { IfOk result (λ r. at + r.0 ≤ size) }
-    ensures piece { IfOk result (λ r. PieceIsRead HasRead (D.view disk.old).files name.now at r.0 text.old text.new) }
-    ensures open { (up.new.flow.end ≡ Open) × (down.new.flow.end ≡ Open) }
-    ensures bound { IfOk result (λ r. (up.new.flow.bound ≡ r.1.up) × (down.new.flow.bound ≡ r.1.down)) }
-    ensures up { IfOk result (λ r. HasSent Up horizon [] text.new.gathered.rows r.1.up up.new) }
-    ensures down { IfOk result (λ r. HasSent Down horizon [] text.new.gathered.rows r.1.down down.new) }
-    ensures same { IsSameEnd up.old up.new × IsSameEnd down.old down.new }
-    ensures absent { IsErrOf result DiskError.Absent → IsAbsent (D.view disk.old).files name.now }
-    ensures only_reads { OnlyReads (D.view disk.old) (D.view disk.new) }
-    ensures cause { HasReadCause name.now (D.view disk.old) (D.view disk.new) result }
+    sent: Progress,
+    heads: &mut Both<Sender>,
+) -> Result<(u64, Progress), DiskError>
+    requires reading { IsReading file.old × (file.old.place.at < file.old.place.size) }
+    requires at { AreAt horizon sent heads.old }
+    requires sent { HaveSent horizon file.old.text.gathered.rows sent heads.old }
+    ensures piece { IfOk result (λ r. HasReadPiece (D.view disk.old).files r.0 file.old file.new) }
+    ensures at { IfOk result (λ r. AreAt horizon r.1 heads.new) }
+    ensures sent { IfOk result (λ r. HaveSent horizon file.new.text.gathered.rows r.1 heads.new) }
+    ensures open { OfBoth (λ head. head.flow.end ≡ Open) heads.new }
+    ensures same { BothKeep IsSameEnd heads.old heads.new }
+    ensures reads { ReadsFile (D.view disk.old) (D.view disk.new) file.old.place.name.now result }
 {
-    let done = text.rows().len();
-    let read = read_piece(disk, name, at, size, piece)?;
-    text.push(&piece[..read]);
-    let rows = text.rows();
-    let sent = send_rows(rt, &rows[done..], horizon, sent, up, down, pace);
-    Ok((read as u64, sent))
+    let done = file.text.rows().len();
+    let read = file.read_on(disk)?;
+    let rows = file.text.rows();
+    let sent = send_rows(run, &rows[done..], horizon, sent, heads);
+    Ok((read, sent))
 }
 
-// Reads the file and sends its rows, until a line is refused or the file ends. Returns how many bytes were read, and
-// what was sent.
+// Reads the file and sends its rows, until a line is refused or the file ends. Returns how far the source has come.
 fn stream_pieces<D: Disk, Q: Pace, R: Wait>(
-    rt: &R,
+    run: &Run<'_, Q, R>,
     disk: &mut D,
-    name: &str,
-    size: u64,
-    piece: &mut [u8],
-    text: &mut ScheduleText,
+    file: &mut ScheduleFile<'_>,
     horizon: u64,
-    up: &mut Sender,
-    down: &mut Sender,
-    pace: &Q,
-) -> Result<(u64, Sent), DiskError>
-    requires some { 0 < length piece.old }
-    requires unread { text.old.gathered.rows ≡ [] }
-    requires empty { (up.old.flow ≡ no_items) × (down.old.flow ≡ no_items) }
-    requires none { (up.old.items ≡ []) × (down.old.items ≡ []) }
-    requires horizon { (up.old.horizon ≡ horizon) × (down.old.horizon ≡ horizon) }
-    ensures within { IfOk result (λ r. r.0 ≤ size) }
-    ensures front { IfOk result (λ r. FrontIsRead HasRead (D.view disk.old).files name.now r.0 text.old text.new) }
-    ensures whole { OnOk result (text.new.gathered.refused ≡ None
-        → FrontIsRead HasRead (D.view disk.old).files name.now size text.old text.new) }
-    ensures open { (up.new.flow.end ≡ Open) × (down.new.flow.end ≡ Open) }
-    ensures bound { IfOk result (λ r. (up.new.flow.bound ≡ r.1.up) × (down.new.flow.bound ≡ r.1.down)) }
-    ensures up { IfOk result (λ r. HasSent Up horizon [] text.new.gathered.rows r.1.up up.new) }
-    ensures down { IfOk result (λ r. HasSent Down horizon [] text.new.gathered.rows r.1.down down.new) }
-    ensures same { IsSameEnd up.old up.new × IsSameEnd down.old down.new }
-    ensures absent { IsErrOf result DiskError.Absent → IsAbsent (D.view disk.old).files name.now }
-    ensures only_reads { OnlyReads (D.view disk.old) (D.view disk.new) }
-    ensures cause { HasReadCause name.now (D.view disk.old) (D.view disk.new) result }
+    heads: &mut Both<Sender>,
+) -> Result<Progress, DiskError>
+    requires few { file.old.place.size ≤ 67108864 }
+    requires unread { IsUnread file.old }
+    requires unsent { OfBoth (IsUnsent horizon) heads.old }
+    ensures front { OnOk result (HasReadFront (D.view disk.old).files file.old file.new) }
+    ensures whole { OnOk result (file.new.text.gathered.refused ≡ None
+        → HasReadWhole (D.view disk.old).files file.old file.new) }
+    ensures at { IfOk result (λ sent. AreAt horizon sent heads.new) }
+    ensures sent { IfOk result (λ sent. HaveSent horizon file.new.text.gathered.rows sent heads.new) }
+    ensures open { OfBoth (λ head. head.flow.end ≡ Open) heads.new }
+    ensures same { BothKeep IsSameEnd heads.old heads.new }
+    ensures reads { ReadsFile (D.view disk.old) (D.view disk.new) file.old.place.name.now result }
 {
-    let mut at = 0;
-    let mut sent = Sent::new();
-    'pieces: while at < size && !text.is_refused() {
-        let (read, now) = stream_piece(
-            rt, disk, name, at, size, piece, text, horizon, sent, up, down, pace,
-        )?;
+    let mut sent = Progress::new();
+    'pieces: while file.place.at < file.place.size && !file.text.is_refused() {
+        let (read, now) = stream_piece(run, disk, file, horizon, sent, heads)?;
         sent = now;
         if read == 0 {
             break;
         }
-        at += read;
     }
-    Ok((at, sent))
-}
-
-// Reads the file from byte `at` to its end, and looks at no byte.
-fn skip_pieces<D: Disk>(
-    disk: &mut D,
-    name: &str,
-    at: u64,
-    size: u64,
-    piece: &mut [u8],
-) -> Result<(), DiskError>
-    requires within { at ≤ size }
-    requires some { 0 < length piece.old }
-    ensures absent { IsErrOf result DiskError.Absent → IsAbsent (D.view disk.old).files name.now }
-    ensures only_reads { OnlyReads (D.view disk.old) (D.view disk.new) }
-    ensures cause { HasReadCause name.now (D.view disk.old) (D.view disk.new) result }
-{
-    let mut at = at;
-    'pieces: while at < size {
-        let read = read_piece(disk, name, at, size, piece)?;
-        if read == 0 {
-            break;
-        }
-        at += read as u64;
-    }
-    Ok(())
+    Ok(sent)
 }
 
 // Sends the row of a last line without a line feed, and then the end. Breaks the stream off instead where a line is
 // refused.
 fn end_stream<Q: Pace, R: Wait>(
-    rt: &R,
+    run: &Run<'_, Q, R>,
     text: &mut ScheduleText,
     horizon: u64,
-    sent: Sent,
-    up: &mut Sender,
-    down: &mut Sender,
-    pace: &Q,
+    sent: Progress,
+    heads: &mut Both<Sender>,
 )
-    requires open { (up.old.flow.end ≡ Open) × (down.old.flow.end ≡ Open) }
-    requires bound { (up.old.flow.bound ≡ sent.up) × (down.old.flow.bound ≡ sent.down) }
-    requires horizon { (up.old.horizon ≡ horizon) × (down.old.horizon ≡ horizon) }
-    requires up { HasSent Up horizon [] text.old.gathered.rows sent.up up.old }
-    requires down { HasSent Down horizon [] text.old.gathered.rows sent.down down.old }
+    requires at { AreAt horizon sent heads.old }
+    requires sent { HaveSent horizon text.old.gathered.rows sent heads.old }
     ensures all { (bytes : List ℕ) → HasRead bytes text.old → HasReadAll bytes text.new }
-    ensures sent { text.new.gathered.refused ≡ None → AllSent Up horizon text.new.gathered.rows up.new
-        × AllSent Down horizon text.new.gathered.rows down.new }
-    ensures broken { text.new.gathered.refused ≢ None → (up.new.flow.end ≡ IsCut) × (down.new.flow.end ≡ IsCut) }
-    ensures over { (up.new.flow.end ≢ Open) × (down.new.flow.end ≢ Open) }
-    ensures same { IsSameEnd up.old up.new × IsSameEnd down.old down.new }
+    ensures sent { text.new.gathered.refused ≡ None
+        → ByDirection (λ d head. AllSent d horizon text.new.gathered.rows head) heads.new }
+    ensures broken { text.new.gathered.refused ≢ None → OfBoth (λ head. head.flow.end ≡ IsCut) heads.new }
+    ensures over { OfBoth (λ head. head.flow.end ≢ Open) heads.new }
+    ensures same { BothKeep IsSameEnd heads.old heads.new }
 {
     let done = text.rows().len();
     text.end();
     let rows = text.rows();
-    send_rows(rt, &rows[done..], horizon, sent, up, down, pace);
+    send_rows(run, &rows[done..], horizon, sent, heads);
     if text.is_refused() {
-        cut_both(rt, up, down);
+        cut_both(run.rt, heads);
     } else {
-        end_both(rt, up, down);
+        end_both(run.rt, heads);
     }
 }
 
-/// Reads a schedule of `size` bytes in pieces, once all other workers have begun. Sends what each row gives in both
-/// directions as soon as its line is read, and then the end.
+/// Reads a schedule in pieces, once all other workers have begun. Sends what each row gives in both directions as soon
+/// as its line is read, and then the end.
 ///
 /// Breaks the stream off in both directions where a line is refused, memory for the rows runs out, or the disk fails. A
 /// refused file is read to its end all the same, and a fault met there is returned. Returns the errors of
 /// `Disk::read_at`; and `OutOfMemory` where the other workers can't begin: it then breaks both directions off and reads
 /// nothing.
 pub fn stream_source<D: Disk, Q: Pace, R: Wait>(
-    rt: &R,
+    run: &Run<'_, Q, R>,
     disk: &mut D,
-    name: &str,
-    size: u64,
-    piece: &mut [u8],
-    text: &mut ScheduleText,
+    file: &mut ScheduleFile<'_>,
     horizon: u64,
-    up: &mut Sender,
-    down: &mut Sender,
-    pace: &Q,
-    begun: &Begun,
+    heads: &mut Both<Sender>,
 ) -> Result<(), DiskError>
-    requires size { HasSize (D.view disk.old).files name.now size }
-    requires some { 0 < length piece.old }
-    requires unread { HasRead [] text.old × (text.old.gathered.rows ≡ []) }
-    requires empty { (up.old.flow ≡ no_items) × (down.old.flow ≡ no_items) }
-    requires none { (up.old.items ≡ []) × (down.old.items ≡ []) }
-    requires horizon { (up.old.horizon ≡ horizon) × (down.old.horizon ≡ horizon) }
-    ensures text { OnOk result (IsStreamed (D.view disk.old).files name.now text.new) }
-    ensures sent { OnOk result (text.new.gathered.refused ≡ None → AllSent Up horizon text.new.gathered.rows up.new
-        × AllSent Down horizon text.new.gathered.rows down.new) }
-    ensures broken { OnOk result (text.new.gathered.refused ≢ None
-        → (up.new.flow.end ≡ IsCut) × (down.new.flow.end ≡ IsCut)) }
-    ensures failed { OnErr result ((up.new.flow.end ≡ IsCut) × (down.new.flow.end ≡ IsCut)) }
-    ensures over { (up.new.flow.end ≢ Open) × (down.new.flow.end ≢ Open) }
-    ensures same { IsSameEnd up.old up.new × IsSameEnd down.old down.new }
-    ensures absent { IsErrOf result DiskError.Absent → IsAbsent (D.view disk.old).files name.now }
-    ensures only_reads { OnlyReads (D.view disk.old) (D.view disk.new) }
-    ensures cause { HasReadCause name.now (D.view disk.old) (D.view disk.new) result }
+    requires size { HasSize (D.view disk.old).files file.old.place.name.now file.old.place.size }
+    requires unread { IsUnread file.old }
+    requires unsent { OfBoth (IsUnsent horizon) heads.old }
+    ensures text { OnOk result (IsStreamed (D.view disk.old).files file.old.place.name.now file.new.text) }
+    ensures sent { OnOk result (file.new.text.gathered.refused ≡ None
+        → ByDirection (λ d head. AllSent d horizon file.new.text.gathered.rows head) heads.new) }
+    ensures broken { OnOk result (file.new.text.gathered.refused ≢ None
+        → OfBoth (λ head. head.flow.end ≡ IsCut) heads.new) }
+    ensures failed { OnErr result (OfBoth (λ head. head.flow.end ≡ IsCut) heads.new) }
+    ensures over { OfBoth (λ head. head.flow.end ≢ Open) heads.new }
+    ensures same { BothKeep IsSameEnd heads.old heads.new }
+    ensures reads { ReadsFile (D.view disk.old) (D.view disk.new) file.old.place.name.now result }
 {
-    begun.wait(rt, up, down)?;
-    let (at, sent) = match stream_pieces(
-        rt, disk, name, size, piece, text, horizon, up, down, pace,
-    ) {
-        Ok(read) => read,
+    run.begun.wait(run.rt, &mut heads.up, &mut heads.down)?;
+    let sent = match stream_pieces(run, disk, file, horizon, heads) {
+        Ok(sent) => sent,
         Err(error) => {
-            cut_both(rt, up, down);
+            cut_both(run.rt, heads);
             return Err(error);
         }
     };
-    if text.is_refused() {
-        cut_both(rt, up, down);
-        return skip_pieces(disk, name, at, size, piece);
+    if file.text.is_refused() {
+        cut_both(run.rt, heads);
+        return file.skip(disk);
     }
-    end_stream(rt, text, horizon, sent, up, down, pace);
+    end_stream(run, &mut file.text, horizon, sent, heads);
     Ok(())
 }

@@ -328,14 +328,14 @@ received_whole d h rows got sent over same left = ⊎_elim
     left
 
 left_up : (h sender : ℕ) (rows : List Row) (o : Outlet) → SentOrBroken h sender rows o
-    → HasSentRows Up h (map (merged_row sender) rows) o.up.flow ⊎ IsBrokenOff o.up.flow
+    → HasSentRows Up h (map (merged_row sender) rows) o.heads.up.flow ⊎ IsBrokenOff o.heads.up.flow
 left_up h sender rows o left = ⊎_elim (λ (whole : SentOne h sender rows o). inl whole.0)
-    (λ (cut : IsBrokenOff o.up.flow × IsBrokenOff o.down.flow). inr cut.0) left
+    (λ (cut : IsBrokenOff o.heads.up.flow × IsBrokenOff o.heads.down.flow). inr cut.0) left
 
 left_down : (h sender : ℕ) (rows : List Row) (o : Outlet) → SentOrBroken h sender rows o
-    → HasSentRows Down h (map (merged_row sender) rows) o.down.flow ⊎ IsBrokenOff o.down.flow
+    → HasSentRows Down h (map (merged_row sender) rows) o.heads.down.flow ⊎ IsBrokenOff o.heads.down.flow
 left_down h sender rows o left = ⊎_elim (λ (whole : SentOne h sender rows o). inl whole.1)
-    (λ (cut : IsBrokenOff o.up.flow × IsBrokenOff o.down.flow). inr cut.1) left
+    (λ (cut : IsBrokenOff o.heads.up.flow × IsBrokenOff o.heads.down.flow). inr cut.1) left
 
 -- what was received in a direction, to the ends of all flows, is what enters of the senders' rows
 pub received_up-is : (h sender : ℕ) (schedules : List (List Row)) (outlets : List Outlet) (ups downs : List Inlet)
@@ -349,7 +349,7 @@ received_up-is h sender (rows ∷ schedules) (o ∷ outlets) [] downs ended sett
 received_up-is h sender (rows ∷ schedules) (o ∷ outlets) (u ∷ ups) [] ended settled sent = absurd settled
 received_up-is h sender (rows ∷ schedules) (o ∷ outlets) (u ∷ ups) (d ∷ downs) ended settled sent =
     ap (λ (ts : List Timed). ts ∷ received ups)
-    (received_whole Up h (map (merged_row sender) rows) u.from.flow o.up.flow ended.0 settled.0.up_flow
+    (received_whole Up h (map (merged_row sender) rows) u.from.flow o.heads.up.flow ended.0 settled.0.up_flow
     (left_up h sender rows o sent.0))
     ∙ ap (λ (l : List (List Timed)). entering Up h (map (merged_row sender) rows) ∷ l)
     (received_up-is h (sender + 1) schedules outlets ups downs ended.1 settled.1 sent.1)
@@ -366,7 +366,7 @@ received_down-is h sender (rows ∷ schedules) (o ∷ outlets) [] downs ended se
 received_down-is h sender (rows ∷ schedules) (o ∷ outlets) (u ∷ ups) [] ended settled sent = absurd settled
 received_down-is h sender (rows ∷ schedules) (o ∷ outlets) (u ∷ ups) (d ∷ downs) ended settled sent =
     ap (λ (ts : List Timed). ts ∷ received downs)
-    (received_whole Down h (map (merged_row sender) rows) d.from.flow o.down.flow ended.0 settled.0.down_flow
+    (received_whole Down h (map (merged_row sender) rows) d.from.flow o.heads.down.flow ended.0 settled.0.down_flow
     (left_down h sender rows o sent.0))
     ∙ ap (λ (l : List (List Timed)). entering Down h (map (merged_row sender) rows) ∷ l)
     (received_down-is h (sender + 1) schedules outlets ups downs ended.1 settled.1 sent.1)

@@ -23,7 +23,7 @@ use crate::gates::Gates;
 use crate::inlet::Inlet;
 use crate::merger::merge;
 use crate::outlet::Outlet;
-use mark_channel::{Begun, FeedEnd, Sender};
+use mark_channel::{FeedEnd, Run, Sender};
 use mm_base::Pace;
 use packet_record::Schedule;
 use std::alloc::Global;
@@ -34,13 +34,11 @@ use std::thread::{Threads, join_mut};
 // Sends `schedules` beside each other up to `horizon`, each as one sender, once all senders and merges have begun.
 // `sender` is the number of the first one.
 pub(crate) fn send_all<Q: Pace + Sync, R: Threads + Wait + Sync>(
-    rt: &R,
+    run: &Run<'_, Q, R>,
     sender: u32,
     schedules: &[Schedule],
     horizon: u64,
     outlets: &mut [Outlet],
-    pace: &Q,
-    begun: &Begun,
 )
     requires few { sender + length schedules.now ≤ 17 }
     requires long { length schedules.now ≡ length outlets.old }
@@ -55,18 +53,18 @@ pub(crate) fn send_all<Q: Pace + Sync, R: Threads + Wait + Sync>(
         return;
     };
     join_mut(
-        rt,
+        run.rt,
         &mut ||
             requires { (sender ≤ 16) × IsEmpty horizon outlet.now × IsSync R.row × IsSync Q.row }
             ensures sent { SentOrBroken horizon sender schedule.entry.now outlet.exit.now }
             ensures same { IsSameOutlet outlet.entry.now outlet.exit.now }
-        { outlet.send_begun(rt, sender, schedule, horizon, pace, begun) },
+        { outlet.send_begun(run, sender, schedule, horizon) },
         &mut ||
             requires { (sender + 1 + length others.now ≤ 17) × (length others.now ≡ length other_outlets.now)
                 × AllUnsent horizon other_outlets.now × IsSync R.row × IsSync Q.row }
             ensures sent { AllSentOrBroken horizon (sender + 1) others.entry.now other_outlets.exit.now }
             ensures same { AllSameOutlets other_outlets.entry.now other_outlets.exit.now }
-        { send_all(rt, sender + 1, others, horizon, other_outlets, pace, begun) },
+        { send_all(run, sender + 1, others, horizon, other_outlets) },
     );
 }
 
@@ -80,15 +78,14 @@ fn both(up: FeedEnd, down: FeedEnd) -> FeedEnd
     }
 }
 
-// Merges both directions beside each other. Each merge counts itself in `begun` as it begins.
-pub(crate) fn merge_both<R: Threads + Wait + Sync>(
-    rt: &R,
+// Merges both directions beside each other. Each merge counts itself among those that have begun.
+pub(crate) fn merge_both<Q: Pace + Sync, R: Threads + Wait + Sync>(
+    run: &Run<'_, Q, R>,
     alloc: Global,
     ups: &mut [Inlet],
     downs: &mut [Inlet],
     up: &mut Sender,
     down: &mut Sender,
-    begun: &Begun,
 ) -> FeedEnd
     requires some { (1 ≤ length ups.old) × (1 ≤ length downs.old) }
     requires few { (length ups.old ≤ 16) × (length downs.old ≤ 16) }
@@ -101,26 +98,26 @@ pub(crate) fn merge_both<R: Threads + Wait + Sync>(
     ensures ends { IsSameEnd up.old up.new × IsSameEnd down.old down.new }
 {
     let (up_end, down_end) = join_mut(
-        rt,
+        run.rt,
         &mut || -> FeedEnd
             requires { (1 ≤ length ups.now) × (length ups.now ≤ 16) × AllEmpty up.now.horizon ups.now
-                × (up.now.flow ≡ no_items) × IsSync R.row }
+                × (up.now.flow ≡ no_items) × IsSync R.row × IsSync Q.row }
             ensures merged { IfFed result (IsMerged ups.exit.now up.exit.now.flow) }
             ensures closed { AllClosed ups.exit.now × (up.exit.now.flow.end ≢ Open) }
             ensures same { AllSame ups.entry.now ups.exit.now × IsSameEnd up.entry.now up.exit.now }
         {
-            begun.raise();
-            merge(rt, alloc, ups, up)
+            run.begun.raise();
+            merge(run.rt, alloc, ups, up)
         },
         &mut || -> FeedEnd
             requires { (1 ≤ length downs.now) × (length downs.now ≤ 16) × AllEmpty down.now.horizon downs.now
-                × (down.now.flow ≡ no_items) × IsSync R.row }
+                × (down.now.flow ≡ no_items) × IsSync R.row × IsSync Q.row }
             ensures merged { IfFed result (IsMerged downs.exit.now down.exit.now.flow) }
             ensures closed { AllClosed downs.exit.now × (down.exit.now.flow.end ≢ Open) }
             ensures same { AllSame downs.entry.now downs.exit.now × IsSameEnd down.entry.now down.exit.now }
         {
-            begun.raise();
-            merge(rt, alloc, downs, down)
+            run.begun.raise();
+            merge(run.rt, alloc, downs, down)
         },
     );
     both(up_end, down_end)
@@ -128,49 +125,45 @@ pub(crate) fn merge_both<R: Threads + Wait + Sync>(
 
 // Sends `schedules` beside the merges of both directions. Returns how the merges ended. Each channel keeps its ends,
 // and nothing more comes out of it.
-pub(crate) fn run<Q: Pace + Sync, R: Threads + Wait + Sync>(
-    rt: &R,
-    alloc: Global,
+pub(crate) fn feed_gates<Q: Pace + Sync, R: Threads + Wait + Sync>(
+    run: &Run<'_, Q, R>,
     schedules: &[Schedule],
     horizon: u64,
     gates: &mut Gates,
     up: &mut Sender,
     down: &mut Sender,
-    pace: &Q,
 ) -> FeedEnd
-    requires some { 1 ≤ length schedules.now }
-    requires few { length schedules.now ≤ 16 }
+    requires few { (1 ≤ length schedules.now) × (length schedules.now ≤ 16) }
     requires long { (length gates.old.outlets.items ≡ length schedules.now)
         × (length gates.old.ups.items ≡ length schedules.now)
         × (length gates.old.downs.items ≡ length schedules.now) }
-    requires unsent { AllUnsent horizon gates.old.outlets.items }
-    requires empty { AllEmpty up.old.horizon gates.old.ups.items × AllEmpty down.old.horizon gates.old.downs.items }
+    requires empty { AllUnsent horizon gates.old.outlets.items × AllEmpty up.old.horizon gates.old.ups.items
+        × AllEmpty down.old.horizon gates.old.downs.items }
     requires none { (up.old.flow ≡ no_items) × (down.old.flow ≡ no_items) }
     ensures sent { AllSentOrBroken horizon 1 schedules.now gates.new.outlets.items }
     ensures merged { IfFed result (IsMerged gates.new.ups.items up.new.flow × IsMerged gates.new.downs.items
         down.new.flow) }
     ensures closed { AllClosed gates.new.ups.items × AllClosed gates.new.downs.items }
     ensures over { (up.new.flow.end ≢ Open) × (down.new.flow.end ≢ Open) }
-    ensures same_outlets { AllSameOutlets gates.old.outlets.items gates.new.outlets.items }
-    ensures same_inlets { AllSame gates.old.ups.items gates.new.ups.items
-        × AllSame gates.old.downs.items gates.new.downs.items }
+    ensures same_gates { AllSameOutlets gates.old.outlets.items gates.new.outlets.items
+        × AllSame gates.old.ups.items gates.new.ups.items × AllSame gates.old.downs.items gates.new.downs.items }
     ensures same { IsSameEnd up.old up.new × IsSameEnd down.old down.new }
 {
     let Gates {
+        alloc,
         outlets,
         ups,
         downs,
-        begun,
     } = gates;
-    let begun = &*begun;
+    let alloc = *alloc;
     // The merges stand first, since they go on only once the senders do.
     let (end, _) = join_mut(
-        rt,
+        run.rt,
         &mut || -> FeedEnd
             requires { (1 ≤ length ups.now.items) × (1 ≤ length downs.now.items) × (length ups.now.items ≤ 16)
                 × (length downs.now.items ≤ 16) × AllEmpty up.now.horizon ups.now.items
                 × AllEmpty down.now.horizon downs.now.items × (up.now.flow ≡ no_items) × (down.now.flow ≡ no_items)
-                × IsSync R.row }
+                × IsSync R.row × IsSync Q.row }
             ensures merged { IfFed result (IsMerged ups.exit.now.items up.exit.now.flow
                 × IsMerged downs.exit.now.items down.exit.now.flow) }
             ensures closed { AllClosed ups.exit.now.items × AllClosed downs.exit.now.items }
@@ -180,13 +173,12 @@ pub(crate) fn run<Q: Pace + Sync, R: Threads + Wait + Sync>(
             ensures ends { IsSameEnd up.entry.now up.exit.now × IsSameEnd down.entry.now down.exit.now }
         {
             merge_both(
-                rt,
+                run,
                 alloc,
                 ups.as_mut_slice(),
                 downs.as_mut_slice(),
                 up,
                 down,
-                begun,
             )
         },
         &mut ||
@@ -194,17 +186,7 @@ pub(crate) fn run<Q: Pace + Sync, R: Threads + Wait + Sync>(
                 × AllUnsent horizon outlets.now.items × IsSync R.row × IsSync Q.row }
             ensures sent { AllSentOrBroken horizon 1 schedules.entry.now outlets.exit.now.items }
             ensures same { AllSameOutlets outlets.entry.now.items outlets.exit.now.items }
-        {
-            send_all(
-                rt,
-                1,
-                schedules,
-                horizon,
-                outlets.as_mut_slice(),
-                pace,
-                begun,
-            )
-        },
+        { send_all(run, 1, schedules, horizon, outlets.as_mut_slice()) },
     );
     end
 }

@@ -1,5 +1,4 @@
-// The channels of all senders, and who has begun. The channels are opened before any thread starts, and settled after
-// all have ended.
+// The channels of all senders. They are opened before any thread starts, and settled after all have ended.
 ghost use Rattle.std.specs.Prelude.{◌≡◌, ◌≢◌, ◌≤◌, ◌+◌, length, IfOk, OnOk};
 ghost use Rattle.packet_record.specs.declared.item.FlowEnd.TheVariants.{Open};
 ghost use Rattle.sender_merge.specs.inside.Gates.{AllEnds, AllFresh, AreEnds, AreSettled, IsFresh, IsSettled};
@@ -7,53 +6,48 @@ ghost use Rattle.sender_merge.specs.inside.Inlets.{AllClosed};
 
 use crate::inlet::Inlet;
 use crate::outlet::Outlet;
-use mark_channel::{Begun, settle};
+use mark_channel::settle;
+use packet_record::Both;
 use std::alloc::Global;
 use text_base::OutOfMemory;
 
 // How many items a channel of a sender holds at most.
 const CAPACITY: u32 = 64;
 
-// The sending ends of each sender, its receiving ends in both directions, and which of the senders and merges have
-// begun.
+// The sending ends of each sender, and its receiving ends in both directions.
 #[derive(Drop)]
 pub(crate) struct Gates {
+    pub alloc: Global,
     pub outlets: Vec<Outlet>,
     pub ups: Vec<Inlet>,
     pub downs: Vec<Inlet>,
-    pub begun: Begun,
 }
 
 impl Gates {
-    // Opens the channels of `senders` senders for a run up to `horizon`, whose threads wait for each other by `begun`.
-    pub fn open(
-        alloc: Global,
-        horizon: u64,
-        senders: usize,
-        begun: Begun,
-    ) -> Result<Gates, OutOfMemory>
+    // Opens the channels of `senders` senders for a run up to `horizon`.
+    pub fn open(alloc: Global, horizon: u64, senders: usize) -> Result<Gates, OutOfMemory>
         ensures fresh { IfOk result (λ g. AllFresh horizon g.outlets.items g.ups.items g.downs.items) }
         ensures long { IfOk result (λ g. length g.outlets.items ≡ senders) }
     {
         let mut gates = Gates {
+            alloc,
             outlets: Vec::with_capacity(alloc, senders)?,
             ups: Vec::with_capacity(alloc, senders)?,
             downs: Vec::with_capacity(alloc, senders)?,
-            begun,
         };
         for _ in 0..senders {
-            gates.add(alloc, horizon)?;
+            gates.add(horizon)?;
         }
         Ok(gates)
     }
 
     // Opens the channels of one more sender.
-    fn add(&mut self, alloc: Global, horizon: u64) -> Result<(), OutOfMemory>
+    fn add(&mut self, horizon: u64) -> Result<(), OutOfMemory>
         requires { AllFresh horizon self.old.outlets.items self.old.ups.items self.old.downs.items }
         ensures fresh { OnOk result (AllFresh horizon self.new.outlets.items self.new.ups.items self.new.downs.items) }
         ensures long { OnOk result (length self.new.outlets.items ≡ length self.old.outlets.items + 1) }
     {
-        let (outlet, up, down) = open_one(alloc, horizon)?;
+        let (outlet, up, down) = open_one(self.alloc, horizon)?;
         self.outlets.push(outlet)?;
         self.ups.push(up)?;
         self.downs.push(down)?;
@@ -70,7 +64,7 @@ impl Gates {
             outlets,
             ups,
             downs,
-            begun: _,
+            alloc: _,
         } = self;
         let mut up_inlets = ups.into_iter();
         let mut down_inlets = downs.into_iter();
@@ -89,11 +83,11 @@ fn open_one(alloc: Global, horizon: u64) -> Result<(Outlet, Inlet, Inlet), OutOf
 {
     let (up_to, up_from) = mark_channel::open(alloc, CAPACITY, horizon)?;
     let (down_to, down_from) = mark_channel::open(alloc, CAPACITY, horizon)?;
-    let outlet = Outlet {
+    let heads = Both {
         up: up_to,
         down: down_to,
     };
-    Ok((outlet, Inlet::new(up_from), Inlet::new(down_from)))
+    Ok((Outlet { heads }, Inlet::new(up_from), Inlet::new(down_from)))
 }
 
 // Settles the channels of one sender.
@@ -102,10 +96,10 @@ fn settle_one(outlet: Outlet, up: Inlet, down: Inlet)
     requires closed { (up.from.flow.end ≢ Open) × (down.from.flow.end ≢ Open) }
     ensures { IsSettled outlet up down }
 {
-    let Outlet {
+    let Both {
         up: up_to,
         down: down_to,
-    } = outlet;
+    } = outlet.heads;
     settle(up_to, up.from);
     settle(down_to, down.from);
 }

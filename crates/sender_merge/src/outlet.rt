@@ -1,21 +1,20 @@
 // The sending ends of one sender, and the thread that sends its rows.
 ghost use Rattle.std.specs.Prelude.{◌≡◌, ◌≤◌, map};
-ghost use Rattle.packet_record.specs.declared.packet.Direction.TheVariants.{Up, Down};
 ghost use Rattle.packet_record.specs.Sources.{source_items};
+ghost use Rattle.mark_channel.specs.Boths.{ByDirection};
 ghost use Rattle.mark_channel.specs.Feedings.{HasSentRows};
 ghost use Rattle.sender_merge.specs.Merges.{merged_row as merged_row_of};
 
-use mark_channel::{Begun, Sender};
+use mark_channel::{Run, Sender};
 use mm_base::Pace;
-use packet_record::{Packet, Row, Schedule, Timed};
-use row_source::{Sent, end_both, source_row};
+use packet_record::{Both, Packet, Row, Schedule, Timed};
+use row_source::{Progress, end_both, source_row};
 use std::sync::Wait;
 
 // The sending ends of one sender.
 #[derive(Drop)]
 pub(crate) struct Outlet {
-    pub up: Sender,
-    pub down: Sender,
+    pub heads: Both<Sender>,
 }
 
 // Returns the row of `sender`, 1 to 16, with its number in the merge. In `row` it has the number of its line.
@@ -47,52 +46,47 @@ impl Outlet {
     // before each row, with the row's place counted from 1. It takes no memory.
     pub fn send_schedule<Q: Pace, R: Wait>(
         &mut self,
-        rt: &R,
+        run: &Run<'_, Q, R>,
         sender: u32,
         schedule: &Schedule,
         horizon: u64,
-        pace: &Q,
     )
         requires few { sender ≤ 16 }
         requires empty { IsEmpty horizon self.old }
-        ensures items { (self.new.up.items ≡ source_items Up horizon (map (merged_row_of sender) schedule.now))
-            × (self.new.down.items ≡ source_items Down horizon (map (merged_row_of sender) schedule.now)) }
-        ensures up { HasSentRows Up horizon (map (merged_row_of sender) schedule.now) self.new.up.flow }
-        ensures down { HasSentRows Down horizon (map (merged_row_of sender) schedule.now) self.new.down.flow }
+        ensures items { ByDirection (λ d head. head.items ≡ source_items d horizon
+            (map (merged_row_of sender) schedule.now)) self.new.heads }
+        ensures rows { ByDirection (λ d head. HasSentRows d horizon (map (merged_row_of sender) schedule.now) head.flow)
+            self.new.heads }
         ensures same { IsSameOutlet self.old self.new }
     {
-        let up = &mut self.up;
-        let down = &mut self.down;
-        let mut sent = Sent::new();
+        let heads = &mut self.heads;
+        let mut sent = Progress::new();
         for row in schedule.rows() {
             let merged = merged_row(sender, row);
-            sent = source_row(rt, &merged, horizon, sent, up, down, pace);
+            sent = source_row(run, &merged, horizon, sent, heads);
         }
-        end_both(rt, up, down);
+        end_both(run.rt, heads);
     }
 
     // Sends the rows as `send_schedule` does, once all senders and merges have begun. Where they can't begin, both
-    // directions are broken off. Counts itself in `begun` as it begins.
+    // directions are broken off. Counts itself among those that have begun.
     pub fn send_begun<Q: Pace, R: Wait>(
         &mut self,
-        rt: &R,
+        run: &Run<'_, Q, R>,
         sender: u32,
         schedule: &Schedule,
         horizon: u64,
-        pace: &Q,
-        begun: &Begun,
     )
         requires few { sender ≤ 16 }
         requires empty { IsEmpty horizon self.old }
         ensures sent { SentOrBroken horizon sender schedule.now self.new }
         ensures same { IsSameOutlet self.old self.new }
     {
-        begun.raise();
-        let up = &mut self.up;
-        let down = &mut self.down;
-        if begun.wait(rt, up, down).is_err() {
+        run.begun.raise();
+        let Both { up, down } = &mut self.heads;
+        if run.begun.wait(run.rt, up, down).is_err() {
             return;
         }
-        self.send_schedule(rt, sender, schedule, horizon, pace);
+        self.send_schedule(run, sender, schedule, horizon);
     }
 }

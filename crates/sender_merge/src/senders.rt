@@ -9,10 +9,10 @@ ghost use Rattle.sender_merge.specs.Merges.{merge_rows};
 ghost use Rattle.sender_merge.specs.inside.Gates.{AllFresh};
 ghost use Rattle.sender_merge.specs.RowLists.{rows_in};
 
-use crate::feeding::run;
+use crate::feeding::feed_gates;
 use crate::gates::Gates;
 use crate::row_merge::merge_from;
-use mark_channel::{Begun, FeedEnd, Feeds, Sender};
+use mark_channel::{Begun, FeedEnd, Feeds, Run, Sender};
 use mm_base::{NoPace, Pace};
 use packet_record::{Item, Row, Schedule};
 use std::alloc::Global;
@@ -99,28 +99,30 @@ impl Senders {
         ensures same { IsSameEnd up.old up.new × IsSameEnd down.old down.new }
     {
         let schedules = self.schedules.as_slice();
-        let Ok(gates) = Gates::open(self.alloc, horizon, schedules.len(), begun) else {
+        let Ok(gates) = Gates::open(self.alloc, horizon, schedules.len()) else {
             up.send(rt, Item::Broken);
             down.send(rt, Item::Broken);
             return FeedEnd::OutOfMemory;
         };
-        feed_through(rt, self.alloc, schedules, horizon, gates, up, down, pace)
+        let run = Run {
+            rt,
+            pace,
+            begun: &begun,
+        };
+        feed_through(&run, schedules, horizon, gates, up, down)
     }
 }
 
 // Feeds through the channels of `gates`, and settles them.
 fn feed_through<Q: Pace + Sync, R: Threads + Wait + Sync>(
-    rt: &R,
-    alloc: Global,
+    run: &Run<'_, Q, R>,
     schedules: &[Schedule],
     horizon: u64,
     gates: Gates,
     up: &mut Sender,
     down: &mut Sender,
-    pace: &Q,
 ) -> FeedEnd
-    requires some { 1 ≤ length schedules.now }
-    requires few { length schedules.now ≤ 16 }
+    requires few { (1 ≤ length schedules.now) × (length schedules.now ≤ 16) }
     requires fresh { AllFresh horizon gates.outlets.items gates.ups.items gates.downs.items }
     requires long { length gates.outlets.items ≡ length schedules.now }
     requires empty { (up.old.flow ≡ no_items) × (down.old.flow ≡ no_items) }
@@ -131,7 +133,7 @@ fn feed_through<Q: Pace + Sync, R: Threads + Wait + Sync>(
     ensures same { IsSameEnd up.old up.new × IsSameEnd down.old down.new }
 {
     let mut gates = gates;
-    let end = run(rt, alloc, schedules, horizon, &mut gates, up, down, pace);
+    let end = feed_gates(run, schedules, horizon, &mut gates, up, down);
     gates.settle();
     end
 }

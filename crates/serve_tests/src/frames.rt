@@ -40,7 +40,7 @@ fn answer_to(frames: &mut RequestFrames, piece: &[u8]) -> u64 {
     }
 }
 
-/// Feeds so many copies of a piece, and answers whether there was memory for them.
+/// Feeds `count` copies of a piece, and returns whether there was memory for them.
 fn feed_copies(frames: &mut RequestFrames, piece: &[u8], count: u32) -> bool {
     for _ in 0..count {
         if frames.feed(piece).is_err() {

@@ -11,7 +11,7 @@ pub(crate) const REQUEST: &str = "GET / HTTP/1.1\r\nHost: a\r\n\r\n";
 
 pub(crate) const RESPONSE: &str = "HTTP/1.1 200 OK\r\nContent-Length: 2\r\n\r\nhi";
 
-/// A link with this input, of which a read brings at most so many bytes. Its call of this number fails; none has 0.
+/// A link with this input, of which a read brings at most `most` bytes. Its call of this number fails; none has 0.
 pub(crate) fn link(
     alloc: Global,
     input: &[u8],

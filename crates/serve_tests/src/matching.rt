@@ -11,7 +11,7 @@ use std::alloc::Global;
 use std::process::Abort;
 use text_base::{Bytes, OutOfMemory};
 
-/// What `best` answers. No test needs what its contract says of that, and so this has none.
+/// What `best` returns. No test needs what its contract says of that, and so this has none.
 fn best_of(records: &Store, asked: &Request) -> Option<usize> {
     best(records, &asked.head, None)
 }

@@ -53,7 +53,7 @@ pub(crate) fn status_of<P: Port + Send, X: Dialer + Send, R: Threads + Wait + Sy
     ))
 }
 
-// What a client and a server say, of which a read brings at most so many bytes, and the calls of their links that
+// What a client and a server say, of which a read brings at most `most` bytes, and the calls of their links that
 // fail.
 #[derive(Clone, Copy)]
 struct Talk<'a> {
@@ -232,7 +232,7 @@ static ROWS: [Row; 17] = [
     ),
 ];
 
-// Whether the ends, the bytes passed on and the records are these, where a read brings at most so many bytes.
+// Whether the ends, the bytes passed on and the records are these, where a read brings at most `most` bytes.
 fn passes_so(alloc: Global, row: &Row, most: usize) -> bool
     requires { 1 ≤ most }
 {
@@ -264,7 +264,7 @@ fn connections_pass_whole_messages(rt: HostRuntime) {
     }
 }
 
-// How many of two answers, of 27 and of 40 bytes, are whole in their first so many bytes.
+// How many of two answers, of 27 and of 40 bytes, are whole in their first `given` bytes.
 fn whole_answers(given: usize) -> usize {
     if given < 27 {
         0
@@ -303,7 +303,8 @@ fn end_with_fails(alloc: Global, client_fail: u64, server_fail: u64) -> Option<P
     }
 }
 
-// Whether a call of the client's link is a fault where there are so many. The link is read 55 times and written twice.
+// Whether a call of the client's link is a fault where the link has that many. The link is read 55 times and written
+// twice.
 fn client_fails_at(alloc: Global, call: u64) -> bool {
     match end_with_fails(alloc, call, 0) {
         Some(end) => (end == ProxyEnd::ClientFault) == (call <= 57),

@@ -49,7 +49,7 @@ fn gives<R: Wait>(
     end_of(rt, alloc, pair, link, 1, &NoPace) == end && link.given() == given
 }
 
-/// The same over a link with this input, of which a read brings at most so many bytes.
+/// The same over a link with this input, of which a read brings at most `most` bytes.
 fn passes<R: Wait>(
     rt: &R,
     alloc: Global,
@@ -161,7 +161,7 @@ const BAD_REQUEST: &str =
 
 const REQUEST_LINE: &[u8] = b"GET / HTTP/1.1\r\n";
 
-/// Whether a request line, so many copies of a field's line, and no head's end are refused.
+/// Whether a request line, `count` copies of a field's line, and no head's end are refused.
 fn refuses_fields<R: Wait>(rt: &R, alloc: Global, field: &[u8], count: u32) -> bool {
     match copies(alloc, REQUEST_LINE, field, count) {
         Ok(head) => {

@@ -4,7 +4,7 @@ use record_store::{PairError, Store, StorePieces, pair, print_store};
 use std::alloc::Global;
 use text_base::OutOfMemory;
 
-/// What `pair` answers. No test needs what its contract says of that, and so this has none.
+/// What `pair` returns. No test needs what its contract says of that, and so this has none.
 pub(crate) fn paired(
     alloc: Global,
     client: &[u8],

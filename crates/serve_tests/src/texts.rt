@@ -16,13 +16,13 @@ pub(crate) fn copies(
     Ok(all)
 }
 
-/// A head, and a body of so many letters.
+/// A head, and a body of `body` letters.
 pub(crate) fn long_message(alloc: Global, head: &[u8], body: usize) -> Result<Bytes, OutOfMemory> {
     let letters = vec![in alloc; b'x'; body]?;
     copies(alloc, head, letters.as_slice(), 1)
 }
 
-/// So many messages of that head and a body of so many letters.
+/// `count` messages of that head and a body of `body` letters.
 pub(crate) fn long_messages(
     alloc: Global,
     head: &[u8],

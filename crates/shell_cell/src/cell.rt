@@ -18,7 +18,7 @@ use text_base::OutOfMemory;
 use wake_bell::{Bell, Ringer};
 
 // After this number of feeds a waiting drain is woken.
-const BATCH: u32 = 128;
+const BATCH: u32 = 256;
 
 /// A shell's state under a lock. Contracts see which cell it is, and the state that it was opened with.
 #[derive(Drop)]

@@ -7,10 +7,9 @@ use crate::rule::{Claim, GiveUp, Opening, Slot, Spend, Spending, Turns};
 use crate::view::{Call, View};
 use atomic_table::{Seat, Table};
 use std::alloc::Global;
-use std::hint::spin_loop;
 use std::sync::Wait;
 use std::sync::atomic::{AtomicU64, Ordering};
-use wake_bell::{Bell, LOOKS};
+use wake_bell::{Bell, LOOKS, pause};
 
 /// The table of a cell. Word 0 is the turn: twice the number of turns that were spent, plus 1 while a seat has the
 /// turn. Slot 0 is the state, which the seat that has the turn holds.
@@ -54,11 +53,11 @@ impl TurnTable {
         ensures word { result + 1 < 2 ^ 64 }
         ensures taken { HasTaken seat.old.me result seat.new.me }
     {
-        for _ in 0..LOOKS {
+        for look in 0..LOOKS {
             if let Some(word) = self.claim_at_once(seat) {
                 return word;
             }
-            spin_loop();
+            pause(look);
         }
         for _ in rt.forever() {
             if let Some(word) = self.claim_at_once(seat) {
@@ -98,15 +97,10 @@ impl TurnTable {
         }
     }
 
-    // Waits until the word is neither `seen` nor `seen + 1`, which is a turn that isn't spent yet. Once it sleeps, it
-    // waits for some feeds, or for about a millisecond after one.
+    // Waits until the word is neither `seen` nor `seen + 1`, which is a turn that isn't spent yet. It sleeps at once,
+    // for some feeds, or for about a millisecond after one: however many are fed meanwhile, the feeder waits for no
+    // room.
     pub(crate) fn wait_past<R: Wait>(&self, rt: &R, seen: u64) {
-        for _ in 0..LOOKS {
-            if self.is_past(seen) {
-                return;
-            }
-            spin_loop();
-        }
         for _ in rt.forever() {
             let heard = self.fed.listen();
             if self.is_past(seen) {

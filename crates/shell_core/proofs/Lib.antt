@@ -1,4 +1,5 @@
 pub mod WholeLemmas
 pub mod Counting
-pub mod Laws
 pub mod Once
+pub mod KindLaws
+pub mod Laws

@@ -1,24 +1,18 @@
 -- Each packet that arrives departs, is dropped, or stays inside, once.
 use Rattle.std.proofs.Common.{◌≡◌, ℕ, ◌+◌, Bool, true, false, not, cond, List, [], ◌∷◌, ◌++◌, map, nat_le, reverse}
-use Rattle.std.proofs.Common.{take, refl, ap, arith}
+use Rattle.std.proofs.Common.{refl, ap, arith}
 use Rattle.packet_record.specs.declared.packet.Packet.{Packet}
 use Rattle.packet_record.specs.declared.packet.Timed.{Timed}
 use Rattle.delay_core.specs.Delays.{later, delayed, kept_inside}
-use Rattle.loss_core.specs.Losses.{drops, cha_word, dropped, passed}
+use Rattle.loss_core.specs.Losses.{drops, dropped, passed}
 use Rattle.packet_queue.specs.declared.spec.QueueSpec.{QueueSpec}
 use Rattle.trace_reader.specs.declared.opportunity.Opportunity.{Opportunity}
-use Rattle.trace_reader.specs.Opps.{opps}
 use Rattle.trace_reader.specs.Orders.{AreRising}
-use Rattle.trace_reader.proofs.OppsLaws.{opps_rising}
 use Rattle.packet_record.specs.Packets.{number}
 use Rattle.link_core.specs.Links.{link_out, link_lost, link_inside}
 use Rattle.link_core.proofs.Turned.{reverse_cons}
 use Rattle.link_core.proofs.InOrder.{out_is, lost_is, inside_is, falling_turned}
-use Rattle.link_core.proofs.SeenLemmas.{rising_take}
 use Rattle.link_core.proofs.OnceLaws.{number_append, number_once as link_number_once}
-use Rattle.shell_core.specs.declared.spec.DirSpec.{DirSpec}
-use Rattle.shell_core.specs.declared.spec.DirSpec.TheVariants.{Pass, Delay, Loss, Link}
-use Rattle.shell_core.specs.Shells.{IsBuilt, out, lost, inside}
 
 one : (Packet → Bool) → Timed → ℕ
 one p t = cond (p t.packet) 1 0
@@ -30,7 +24,7 @@ unfolding one
 delayed_one p ms true t us vs n e = omega arith
 delayed_one p ms false t us vs n e = omega arith
 
-number-delayed : (p : Packet → Bool) (ms h : ℕ) (l : List Timed)
+pub number-delayed : (p : Packet → Bool) (ms h : ℕ) (l : List Timed)
     → number p l ≡ number p (delayed ms h l) + number p (kept_inside ms h l)
 unfolding one
 number-delayed p ms h [] = refl
@@ -43,7 +37,7 @@ unfolding one
 lost_one p true t us vs n e = omega arith
 lost_one p false t us vs n e = omega arith
 
-number-passed : (p : Packet → Bool) (rate : ℕ) (word : ℕ → ℕ) (k : ℕ) (l : List Timed)
+pub number-passed : (p : Packet → Bool) (rate : ℕ) (word : ℕ → ℕ) (k : ℕ) (l : List Timed)
     → number p l ≡ number p (passed rate word k l) + number p (dropped rate word k l)
 unfolding one
 number-passed p rate word k [] = refl
@@ -59,7 +53,7 @@ number_reverse p (t ∷ ts) =
     let g = number_reverse p ts in
     omega arith
 
-number-link : (p : Packet → Bool) (q : QueueSpec) (os : List Opportunity) (l : List Timed) → AreRising os
+pub number-link : (p : Packet → Bool) (q : QueueSpec) (os : List Opportunity) (l : List Timed) → AreRising os
     → number p l ≡ number p (link_out q os l) + number p (link_lost q os l) + number p (link_inside q os l)
 number-link p q os l r =
     let a = number_reverse p l in
@@ -68,14 +62,3 @@ number-link p q os l r =
     let d = ap (number p) (lost_is q os l) in
     let e = ap (number p) (inside_is q os l r) in
     omega arith
-
--- of the packets that pass any test, such as one for a number
-pub number_once : (p : Packet → Bool) (c : DirSpec) (h b : ℕ) (l : List Timed) → IsBuilt c
-    → number p l ≡ number p (out c h b l) + number p (lost c h b l) + number p (inside c h b l)
-unfolding out lost inside
-number_once p Pass h b l i = omega arith
-number_once p (Delay ms) h b l i = let e = number-delayed p ms h l in omega arith
-number_once p (Loss rate seed stream) h b l i = let e = number-passed p rate.billionths (cha_word seed stream) 0 l
-    in omega arith
-number_once p (Link trace once queue) h b l i = number-link p queue (take b (opps trace.opportunities once h)) l
-    (rising_take b (opps trace.opportunities once h) (opps_rising trace once h i))

@@ -1,3 +1,4 @@
+pub mod Meaning
 pub mod Shells
 pub mod CoreParts
 pub mod Wholes

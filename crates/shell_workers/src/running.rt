@@ -7,7 +7,7 @@ ghost use Rattle.shell_workers.specs.Stages.{IsGivenUp, IsSame, SomeBroken, Some
 
 use crate::ends::WorkEnd;
 use crate::stage::{Stage, run_stage};
-use mark_channel::Begun;
+use mark_channel::{Begun, Run};
 use mm_base::Pace;
 use std::marker::Sync;
 use std::sync::Wait;
@@ -48,18 +48,22 @@ pub fn stages<Q: Pace + Sync, R: Threads + Wait + Sync>(
     ensures closed { AllClosed list.new }
     ensures same { AllSame list.old list.new }
 {
-    run_stages(rt, list, up, shell, most, pace, &Begun::new(0))
+    let begun = Begun::new(0);
+    let run = Run {
+        rt,
+        pace,
+        begun: &begun,
+    };
+    run_stages(&run, list, up, shell, most)
 }
 
-/// Runs the workers of the stages as `stages` does. Each counts itself in `begun` as it begins.
+/// Runs the workers of the stages as `stages` does. Each counts itself among those that have begun.
 pub fn run_stages<Q: Pace + Sync, R: Threads + Wait + Sync>(
-    rt: &R,
+    run: &Run<'_, Q, R>,
     list: &mut [Stage],
     up: bool,
     shell: u32,
     most: u32,
-    pace: &Q,
-    begun: &Begun,
 ) -> WorkEnd
     requires few { length list.old ≤ 8 }
     requires fresh { AllFresh list.old }
@@ -74,11 +78,11 @@ pub fn run_stages<Q: Pace + Sync, R: Threads + Wait + Sync>(
         return WorkEnd::Ended;
     };
     if rest.is_empty() {
-        return run_stage(rt, first, up, shell, most, pace, begun);
+        return run_stage(run, first, up, shell, most);
     }
     // The later stages stand first, since they go on only once the first one does.
     let (others, one) = join_mut(
-        rt,
+        run.rt,
         &mut || -> WorkEnd
             requires { (length rest.now ≤ 8) × AllFresh rest.now × (1 ≤ most) × IsSync R.row × IsSync Q.row }
             ensures ended { IfEnded result (AllDone rest.exit.now) }
@@ -86,7 +90,7 @@ pub fn run_stages<Q: Pace + Sync, R: Threads + Wait + Sync>(
             ensures wants { IfWants result (SomeGivenUp rest.exit.now) }
             ensures closed { AllClosed rest.exit.now }
             ensures same { AllSame rest.entry.now rest.exit.now }
-        { run_stages(rt, rest, up, next_shell(up, shell), most, pace, begun) },
+        { run_stages(run, rest, up, next_shell(up, shell), most) },
         &mut || -> WorkEnd
             requires { IsFresh first.now × (1 ≤ most) × IsSync R.row × IsSync Q.row }
             ensures ended { IfEnded result (IsDone first.exit.now) }
@@ -94,7 +98,7 @@ pub fn run_stages<Q: Pace + Sync, R: Threads + Wait + Sync>(
             ensures wants { IfWants result (IsGivenUp first.exit.now) }
             ensures closed { IsClosed first.exit.now }
             ensures same { IsSame first.entry.now first.exit.now }
-        { run_stage(rt, first, up, shell, most, pace, begun) },
+        { run_stage(run, first, up, shell, most) },
     );
     one.worse(others)
 }

@@ -11,7 +11,7 @@ ghost use Rattle.shell_workers.specs.Stages.{IsBroken, IsClosed, IsDone, IsFresh
 use crate::draining::drain;
 use crate::ends::WorkEnd;
 use crate::feeding::feeder;
-use mark_channel::{Begun, Receiver, Sender};
+use mark_channel::{Receiver, Run, Sender};
 use mm_base::{Pace, Role};
 use shell_cell::{DrainSeat, FeedSeat, ShellCell};
 use std::marker::Sync;
@@ -29,15 +29,13 @@ pub struct Stage {
     pub to: Sender,
 }
 
-/// Runs the two workers of a stage beside each other. Each counts itself in `begun` as it begins.
+/// Runs the two workers of a stage beside each other. Each counts itself among those that have begun.
 pub(crate) fn run_stage<Q: Pace + Sync, R: Threads + Wait + Sync>(
-    rt: &R,
+    run: &Run<'_, Q, R>,
     stage: &mut Stage,
     up: bool,
     shell: u32,
     most: u32,
-    pace: &Q,
-    begun: &Begun,
 ) -> WorkEnd
     requires fresh { IsFresh stage.old }
     requires most { 1 ≤ most }
@@ -57,7 +55,7 @@ pub(crate) fn run_stage<Q: Pace + Sync, R: Threads + Wait + Sync>(
     let cell = &*cell;
     // The drain stands first, since it goes on only once the feeder does: where no thread can be made it runs last.
     let (drained, fed) = join_mut(
-        rt,
+        run.rt,
         &mut || -> WorkEnd
             requires { (take.now.cell ≡ cell.now) × (take.now.flow ≡ no_items) × (to.now.flow ≡ no_items)
                 × (to.now.horizon ≡ take.now.horizon) × (1 ≤ most) }
@@ -67,8 +65,16 @@ pub(crate) fn run_stage<Q: Pace + Sync, R: Threads + Wait + Sync>(
             ensures wants { IfWants result ((take.exit.now.broken ≡ true) × (to.exit.now.flow.end ≡ IsCut)) }
             ensures same { IsSameEnd to.entry.now to.exit.now × IsSameSeat take.entry.now take.exit.now }
         {
-            begun.raise();
-            drain(rt, cell, take, to, Role::Drain { up, shell }, most, pace)
+            run.begun.raise();
+            drain(
+                run.rt,
+                cell,
+                take,
+                to,
+                Role::Drain { up, shell },
+                most,
+                run.pace,
+            )
         },
         &mut || -> WorkEnd
             requires { (feed.now.cell ≡ cell.now) × (feed.now.flow ≡ no_items) × (from.now.flow ≡ no_items)
@@ -80,8 +86,15 @@ pub(crate) fn run_stage<Q: Pace + Sync, R: Threads + Wait + Sync>(
             ensures wants { IfWants result (feed.exit.now.broken ≡ true) }
             ensures same { IsSameEnd from.entry.now from.exit.now × IsSameSeat feed.entry.now feed.exit.now }
         {
-            begun.raise();
-            feeder(rt, cell, feed, from, Role::Feeder { up, shell }, pace)
+            run.begun.raise();
+            feeder(
+                run.rt,
+                cell,
+                feed,
+                from,
+                Role::Feeder { up, shell },
+                run.pace,
+            )
         },
     );
     fed.worse(drained)

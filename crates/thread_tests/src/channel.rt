@@ -153,7 +153,7 @@ fn receive_all<R: Wait>(rt: &R, receiver: &mut Receiver) -> u32
     unreachable!()
 }
 
-// Waits until so many sends have begun, gives way, and looks how many have begun. 0 where so many didn't.
+// Waits until `goal` sends have begun, gives way, and looks how many have begun. 0 where fewer did.
 fn count_held(begun: &AtomicU64, goal: u64) -> u64 {
     let full = reached(begun, goal);
     give_way();
@@ -164,7 +164,7 @@ fn count_held(begun: &AtomicU64, goal: u64) -> u64 {
     }
 }
 
-// Waits until so many sends have begun, and then receives all.
+// Waits until `goal` sends have begun, and then receives all.
 fn receive_late<R: Wait>(
     rt: &R,
     receiver: &mut Receiver,

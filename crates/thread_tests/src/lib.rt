@@ -1,5 +1,5 @@
-//! Tests of channels, cells, merges of senders and runs over threads, through the public calls of the crates below. They
-//! stand apart from these, so that each of these is proved once, without tests.
+//! Tests of channels, cells, merges of senders and runs over threads, through the public calls of the crates below.
+//! They stand apart from these, so that each of these is proved once, without tests.
 #![tactic(auto)]
 
 #[cfg(test)]

@@ -33,6 +33,7 @@ impl Model for Trace {
 impl Trace {
     ghost use Rattle.trace_reader.specs.declared.opportunity.Opportunity.{Opportunity as OpportunityValue};
 
+    // The trace of this form with the opportunities of `list`, or out of memory.
     pub(crate) fn from_list(form: Form, list: Vec<PackedOpportunity>) -> Result<Self, OutOfMemory>
         requires { IsTrace (record { form = form; opportunities = list.items }) }
         ensures { IfOk result (λ t. t ≡ record { form = form; opportunities = list.items }) }

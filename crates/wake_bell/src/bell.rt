@@ -3,10 +3,6 @@ use std::sync::Wait;
 use std::sync::atomic::{AtomicU64, Ordering};
 use std::time::Duration;
 
-/// How often one who waits looks before it sleeps. It hints that it spins after each look, and all looks take about a
-/// microsecond.
-pub const LOOKS: u32 = 20;
-
 // A sleep ends by itself after a millisecond, and each sleep is twice as long as the one before, up to 2^6
 // milliseconds, until a sleeper finds what it looked for. So what is less than a batch comes a little late where the
 // thread that did it waits elsewhere.

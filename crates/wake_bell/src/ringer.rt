@@ -1,19 +1,32 @@
 // Rings a bell after each batch of things.
 use crate::bell::Bell;
 
+// How many words fill a cache line.
+const LINE: usize = 8;
+
 /// Rings a bell once it has done a batch of things for whoever sleeps there.
+///
+/// It writes its counts for each thing, and may lie beside values that another thread reads. The unused words before
+/// and after keep those out of the cache line of the counts.
 #[derive(Drop)]
 pub struct Ringer {
+    _before: [u64; LINE],
     // How many things make a batch.
     batch: u32,
     // How many things it has done for a sleeper since it last rang.
     owed: u32,
+    _after: [u64; LINE],
 }
 
 impl Ringer {
     /// A ringer whose batch is `batch` things.
     pub fn new(batch: u32) -> Ringer {
-        Ringer { batch, owed: 0 }
+        Ringer {
+            _before: [0; LINE],
+            batch,
+            owed: 0,
+            _after: [0; LINE],
+        }
     }
 
     /// Counts one thing that was done for whoever sleeps, and rings where that makes a batch.

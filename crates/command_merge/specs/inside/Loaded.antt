@@ -17,7 +17,7 @@ use Rattle.command_merge.specs.MergeReading.{refused_listed, refused_total}
 pub record HasTraces (told : Option Files) (job : MergeJob) (plan : NestPlan) (traces : List TraceView) : Type 0 where
   pub texts : List (List ℕ)
   pub have : HaveTraces told plan.traces texts traces
-  pub few : opportunities_of job.until plan.shells traces ≤ 16000000
+  pub few : opportunities_of job.horizon plan.shells traces ≤ 16000000
 
 -- After schedules with `before` lines in all, the file `name` has `text`, which is that of `rows`.
 pub record HasNext (told : Option Files) (before : ℕ) (name : Text) (text : List ℕ) (rows : List Row) : Type 0 where

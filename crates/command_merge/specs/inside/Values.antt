@@ -6,7 +6,7 @@ use Rattle.command_merge.specs.declared.job.MergeJob.{MergeJob}
 -- the job as contracts see it
 abbrev pub merge_values : MergeJob → merge.MergeJob
 merge_values job = record {
-  until = job.until;
+  horizon = job.horizon;
   senders = job.senders.now;
   out = job.out.now;
   seed = job.seed;

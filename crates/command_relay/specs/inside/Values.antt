@@ -5,7 +5,7 @@ use Rattle.command_relay.specs.declared.job.RelayJob.{RelayJob}
 
 abbrev pub relay_values : RelayJob → jobs.RelayJob
 relay_values job = record {
-  until = job.until;
+  horizon = job.horizon;
   listen = job.listen;
   to = job.to;
   turns = job.turns;

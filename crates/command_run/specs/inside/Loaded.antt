@@ -37,5 +37,5 @@ pub record HasNest (told : Option Files) (job : RunJob) (plan : NestPlan) (nest 
   pub texts : List (List ℕ)
   pub traces : List TraceView
   pub have : HaveTraces told plan.traces texts traces
-  pub few : opportunities_of job.until plan.shells traces ≤ 16000000
+  pub few : opportunities_of job.horizon plan.shells traces ≤ 16000000
   pub nest_is : nest ≡ nest_with job plan traces

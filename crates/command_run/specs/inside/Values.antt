@@ -6,7 +6,7 @@ use Rattle.command_run.specs.declared.run_job.RunJob.{RunJob}
 -- the job as contracts see it
 abbrev pub run_values : RunJob → run.RunJob
 run_values job = record {
-  until = job.until;
+  horizon = job.horizon;
   schedule = job.schedule.now;
   out = job.out.now;
   seed = job.seed;

@@ -93,7 +93,7 @@ fn a_schedule_is_read_to_its_end(rt: HostRuntime) {
     }
 }
 
-// A disk that tells no files. Each read takes at most so many bytes of one text, and all that is written is kept. It
+// A disk that tells no files. Each read takes at most `most` bytes of one text, and all that is written is kept. It
 // notes the most bytes that a read asks for, and, at its first read past the first piece, whether a packet was
 // collected by then. Its counts stand at their last value.
 #[derive(Drop)]
@@ -154,7 +154,7 @@ static MIDDLE_LINE: [Hold; 1] = [Hold {
     stays: false,
 }];
 
-// A disk of this text, each of whose reads takes at most so many bytes.
+// A disk of this text, each of whose reads takes at most `most` bytes.
 fn disk_of<'a>(alloc: Global, text: &'a str, most: usize, turns: &'a Turns) -> NotingDisk<'a> {
     NotingDisk {
         text: text.as_bytes(),
@@ -206,7 +206,7 @@ fn packets_pass_before_the_schedule_is_read(rt: HostRuntime) {
 // A schedule, the status, the line and the fates.
 type Cut = (&'static str, u8, &'static str, &'static str);
 
-// Whether a schedule, of which each read takes at most so many bytes, has this status and leaves this line and these
+// Whether a schedule, of which each read takes at most `most` bytes, has this status and leaves this line and these
 // fates.
 fn is_cut<R: Threads + Wait + Sync>(
     rt: &R,

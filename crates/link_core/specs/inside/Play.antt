@@ -46,12 +46,12 @@ without_last last all = take (length all - length last) all
 -- the departures and entries that aren't in hand any more
 abbrev pub gone_of : Parts → Gone
 gone_of c = record {
-  left = without_last c.left.items (link_out c.line.queue.spec (take c.burnt (span_opps c.opportunities))
+  departed = without_last c.departed.items (link_out c.buffer.queue.spec (take c.burnt (span_opps c.opportunities))
       c.arrived.come);
-  log = without_last c.log.entries (link_log c.line.queue.spec (take c.burnt (span_opps c.opportunities))
+  log = without_last c.log.entries (link_log c.buffer.queue.spec (take c.burnt (span_opps c.opportunities))
       c.arrived.come);
 }
 
 -- those that were let go, where those in hand are let go too
 abbrev pub gone_with : Gone → Parts → Gone
-gone_with gone c = record { left = gone.left ++ c.left.items; log = gone.log ++ c.log.entries }
+gone_with gone c = record { departed = gone.departed ++ c.departed.items; log = gone.log ++ c.log.entries }

@@ -11,8 +11,8 @@ use Rattle.link_core.specs.inside.State.{pending, IsPart, Tied}
 
 pub record Sound (q : QueueSpec) (opps : List Opportunity) (burnt : ℕ) (arrivals : List Timed) (packet : Option Timed)
     (used : ℕ)
-    (queue left lost : List Timed) (logged : Bool) (log : List Entry) : Type 0 where
-  pub tied : Tied q (reverse (take burnt opps)) (reverse arrivals) (pending packet queue) used left lost logged log
+    (queue departed lost : List Timed) (logged : Bool) (log : List Entry) : Type 0 where
+  pub tied : Tied q (reverse (take burnt opps)) (reverse arrivals) (pending packet queue) used departed lost logged log
   pub part : IsPart packet used
   pub few : burnt ≤ length opps
   pub order : AreRising opps
@@ -20,17 +20,17 @@ pub record Sound (q : QueueSpec) (opps : List Opportunity) (burnt : ℕ) (arriva
 
 -- the first departures and entries, where they were let go
 pub record Gone : Type 0 where
-  pub left : List Timed
+  pub departed : List Timed
   pub log : List Entry
 
 abbrev pub nothing : Gone
-nothing = record { left = []; log = [] }
+nothing = record { departed = []; log = [] }
 
 -- the parts, where these were let go
 abbrev pub IsSoundAfter : Gone → Parts → Type 0
 IsSoundAfter gone c =
-    Sound c.line.queue.spec (span_opps c.opportunities) c.burnt c.arrived.come c.line.packet c.line.used
-    c.line.queue.packets (gone.left ++ c.left.items) c.line.queue.lost c.log.kept
+    Sound c.buffer.queue.spec (span_opps c.opportunities) c.burnt c.arrived.come c.buffer.packet c.buffer.used
+    c.buffer.queue.packets (gone.departed ++ c.departed.items) c.buffer.queue.lost c.log.kept
     (gone.log ++ c.log.entries)
 
 abbrev pub IsSound : Parts → Type 0

@@ -5,7 +5,7 @@ use Rattle.packet_queue.specs.declared.spec.QueueSpec.{QueueSpec}
 use Rattle.shell_log.specs.declared.entry.Entry.{Entry}
 use Rattle.shell_log.specs.declared.entry.Entry.TheVariants as entries
 use Rattle.trace_reader.specs.declared.opportunity.Opportunity.{Opportunity}
-use Rattle.link_core.specs.declared.line.Line.{Line}
+use Rattle.link_core.specs.declared.buffer.Buffer.{Buffer}
 use Rattle.link_core.specs.inside.Stream.{carried, rest, begun}
 use Rattle.link_core.specs.inside.Orders.{Falling, AreFalling}
 use Rattle.link_core.specs.Links.{departure_line}
@@ -17,8 +17,8 @@ abbrev pub pending : Option Timed → List Timed → List Timed
 pending None queue = queue
 pending (Some t) queue = t ∷ queue
 
-abbrev pub inside_line : Line → List Timed
-inside_line line = pending line.packet line.queue.packets
+abbrev pub inside_buffer : Buffer → List Timed
+inside_buffer buffer = pending buffer.packet buffer.queue.packets
 
 -- some bytes of the packet in transit have gone, and not all
 abbrev pub IsPart : Option Timed → ℕ → Type 0
@@ -34,10 +34,10 @@ abbrev pub served_lines : Opportunity → List Timed → List Entry
 served_lines o ts = entries.Opportunity o.moment o.bytes ∷ map (departure_line o.moment) ts
 
 pub record Tied (q : QueueSpec) (opps : List Opportunity) (arrivals : List Timed) (inside : List Timed) (used : ℕ)
-    (left lost : List Timed) (logged : Bool) (log : List Entry) : Type 0 where
+    (departed lost : List Timed) (logged : Bool) (log : List Entry) : Type 0 where
   pub inside_is : rest (sent (keep q opps arrivals) opps) (keep q opps arrivals) ≡ inside
   pub used_is : begun (sent (keep q opps arrivals) opps) (keep q opps arrivals) ≡ used
-  pub left_is : departures (keep q opps arrivals) opps ≡ left
+  pub departed_is : departures (keep q opps arrivals) opps ≡ departed
   pub lost_is : losses q opps arrivals ≡ lost
   pub log_is : written logged (log_of q opps arrivals) ≡ log
   pub arrivals_fall : Falling arrivals

@@ -1,4 +1,5 @@
--- Beside Stream, for proofs alone: the kept packets of a link as a stream of bytes: what has gone after a number of opportunities.
+-- Beside Stream, for proofs alone: the kept packets of a link as a stream of bytes: what has gone after a number of
+-- opportunities.
 use Rattle.std.specs.Prelude.{ℕ, ◌-◌, ◌&&◌, List, [], ◌∷◌, nat_le, nat_lt, if◌then◌else◌}
 use Rattle.packet_record.specs.declared.packet.Timed.{Timed}
 

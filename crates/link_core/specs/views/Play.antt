@@ -14,4 +14,4 @@ rest_from q os last b come coming =
     drop (length (link_log q (take b os) come)) (link_log q (take last os) (come ++ coming))
 
 abbrev pub rest_of : ℕ → Parts → List Entry
-rest_of last c = rest_from c.line.queue.spec (span_opps c.opportunities) last c.burnt c.arrived.come c.arrived.coming
+rest_of last c = rest_from c.buffer.queue.spec (span_opps c.opportunities) last c.burnt c.arrived.come c.arrived.coming

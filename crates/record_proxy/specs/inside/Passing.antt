@@ -19,12 +19,12 @@ EndsWith found (Ok done) counted = counted ≡ Some found
 EndsWith found (Err Failed) counted = counted ≡ None
 EndsWith found (Err OutOfMemory) counted = ⊥
 
-module _ {X : Type 0} (site : ℕ) (server_view : X → LinkView) where
+module _ {X : Type 0} (site_port : ℕ) (server_view : X → LinkView) where
   -- a client was joined to a connection that was dialed before, and this became of the dialer and the store
   pub record Joins (client : LinkView) (old new : DialerView X) (store store' : List Record) (end : Option ProxyEnd) :
       Type 0 where
     pub dialed : Dialed X
-    pub is : IsDialed site server_view client dialed
+    pub is : IsDialed site_port server_view client dialed
     pub end_is : end ≡ end_of dialed
     pub one : dials_of dialed ≡ 1
     pub count : new.dialed ≡ old.dialed
@@ -36,18 +36,18 @@ module _ {X : Type 0} (site : ℕ) (server_view : X → LinkView) where
   pub record Dials (client : LinkView) (old new : DialerView X) (store store' : List Record) (end : Option ProxyEnd) :
       Type 0 where
     pub dialed : Dialed X
-    pub is : IsDialed site server_view client dialed
+    pub is : IsDialed site_port server_view client dialed
     pub end_is : end ≡ end_of dialed
     pub count : new.dialed ≡ old.dialed + dials_of dialed
     pub finished : new.finished ≡ finished_with (servers_of dialed) old.finished
     pub rises : RisesFor dialed old.faults new.faults
     pub records : store' ≡ store ++ added_of dialed
 
-module _ {C X : Type 0} (site : ℕ) (client_view : C → LinkView) (server_view : X → LinkView) where
+module _ {C X : Type 0} (site_port : ℕ) (client_view : C → LinkView) (server_view : X → LinkView) where
   -- and the client was finished
   pub record ServesOne (old new : Net C X) (store store' : List Record) (end : Option ProxyEnd) : Type 0 where
     pub client : C
-    pub dials : Dials site server_view (client_view client) old.dialer new.dialer store store' end
+    pub dials : Dials site_port server_view (client_view client) old.dialer new.dialer store store' end
     pub accepted : new.port.accepted ≡ old.port.accepted
     pub finished : new.port.finished ≡ finished_with (client ∷ []) old.port.finished
     pub keeps : KeepsPort old.port new.port
@@ -61,11 +61,11 @@ plus n m = record {
   full = n.full + m.full;
 }
 
-module _ {C X : Type 0} (site : ℕ) (client_view : C → LinkView) (server_view : X → LinkView) where
+module _ {C X : Type 0} (site_port : ℕ) (client_view : C → LinkView) (server_view : X → LinkView) where
   -- A serving that goes on, with `left` clients left of `most`.
   pub record ServesSoFar (old new : Net C X) (store store' : List Record) (n : Served) (left most : ℕ) : Type 0 where
     pub passages : List (Passage C X)
-    pub serves : Serves site client_view server_view false old new store store' passages
+    pub serves : Serves site_port client_view server_view false old new store store' passages
     pub counts : n ≡ tally passages
     pub few : length passages + left ≡ most
     pub within : total n ≤ length passages

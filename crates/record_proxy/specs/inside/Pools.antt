@@ -2,16 +2,17 @@
 use Rattle.std.specs.Prelude.{◌≡◌, ◌≤◌, ℕ, ◌+◌, true, List, [], length}
 use Rattle.mm_base.specs.Link.{LinkView}
 use Rattle.record_proxy.specs.Servings.{Net, Passage, Serves, net, tally}
-use Rattle.record_proxy.specs.declared.standing.Standing.{Standing}
+use Rattle.record_proxy.specs.declared.standing.RecordingStanding.{RecordingStanding}
 
-module _ {C X : Type 0} (site : ℕ) (client_view : C → LinkView) (server_view : X → LinkView) where
-  -- These clients came back and are finished. Beside them, a number of clients were accepted and dialed for that are away.
-  pub record InPool (old new : Net C X) (s : Standing) : Type 0 where
+module _ {C X : Type 0} (site_port : ℕ) (client_view : C → LinkView) (server_view : X → LinkView) where
+  -- These clients came back and are finished. Beside them, a number of clients were accepted and dialed for that are
+  -- away.
+  pub record InPool (old new : Net C X) (s : RecordingStanding) : Type 0 where
     pub passages : List (Passage C X)
     pub accepted : ℕ
     pub dialed : ℕ
     pub faults : ℕ
-    pub serves : Serves site client_view server_view true old
+    pub serves : Serves site_port client_view server_view true old
         (net (record new.port { accepted = accepted }) (record new.dialer { dialed = dialed; faults = faults })) []
         s.records passages
     pub accepted_is : new.port.accepted ≡ accepted + s.away
@@ -22,5 +23,5 @@ module _ {C X : Type 0} (site : ℕ) (client_view : C → LinkView) (server_view
     pub many : s.begun ≡ length passages + s.away
 
   -- However a pool stood before, it stands so after.
-  abbrev pub MovesPool : Net C X → Standing → Net C X → Standing → Type 0
+  abbrev pub MovesPool : Net C X → RecordingStanding → Net C X → RecordingStanding → Type 0
   MovesPool old s new s' = (start : Net C X) → InPool start old s → InPool start new s'

@@ -18,7 +18,7 @@ use Rattle.record_proxy.specs.Courses.{Begun, IsBegun, Course, Side, course, sen
 use Rattle.record_proxy.specs.Ends.{WhenBegun, ClientReady, ServerReady}
 use Rattle.record_proxy.specs.Links.{Links, IsStored}
 use Rattle.record_proxy.specs.declared.ends.ProxyEnd.{ProxyEnd}
-use Rattle.record_proxy.specs.declared.talk.Talk.{Talk}
+use Rattle.record_proxy.specs.declared.proxy_state.ProxyState.{ProxyState}
 
 -- what a link has done so far
 pub record History (Ready : List ℕ → List ℕ → Type 0) (start now : Option LinkBytes) (s : Side) (count : ℕ) : Type 0
@@ -42,13 +42,13 @@ pub record Taken : Type 0 where
   pub server_taken : ℕ
   pub server_ended : Bool
 
-abbrev pub taken_of : Talk → Taken
-taken_of talk = record {
-  requests = talk.requests;
-  responses = talk.responses;
-  client_taken = talk.client_taken;
-  server_taken = talk.server_taken;
-  server_ended = talk.server_ended;
+abbrev pub taken_of : ProxyState → Taken
+taken_of state = record {
+  requests = state.requests;
+  responses = state.responses;
+  client_taken = state.client_taken;
+  server_taken = state.server_taken;
+  server_ended = state.server_ended;
 }
 
 -- All that is due to these exchanges was given, and what was taken beyond them is unread.
@@ -72,24 +72,25 @@ pub record Stands (start now : Links) (x : Course) (t : Taken) : Type 0 where
   pub short : t.server_ended ≡ true → t.server_taken < most
 
 -- A connection that goes on, and its records so far.
-pub record Progress (port : ℕ) (start now : Links) (before records : List Record) (talk : Talk) : Type 0 where
+pub record Progress (port : ℕ) (start now : Links) (before records : List Record) (state : ProxyState) : Type 0 where
   pub whole : List Exchange
   pub interim : List Response
-  pub stands : Stands start now (course whole (begun_with talk.due interim)) (taken_of talk)
+  pub stands : Stands start now (course whole (begun_with state.due interim)) (taken_of state)
   pub records_are : records ≡ before ++ map (recorded port) whole
 
 -- After a step the connection goes on, or it has ended so.
-abbrev pub GoesOn : ℕ → Links → Links → List Record → List Record → Talk → Option (Result ProxyEnd OutOfMemory) → Type 0
-GoesOn port start now before records talk None = Progress port start now before records talk
-GoesOn port start now before records talk (Some result) = IsStored port start now before records result
+abbrev pub GoesOn : ℕ → Links → Links → List Record → List Record → ProxyState
+    → Option (Result ProxyEnd OutOfMemory) → Type 0
+GoesOn port start now before records state None = Progress port start now before records state
+GoesOn port start now before records state (Some result) = IsStored port start now before records result
 
 -- How much a connection has left to do at most: each byte is still to be taken, and then to be passed on, and the
 -- server's input ends once. Each step lowers it.
-abbrev pub to_do : Talk → ℕ
-to_do talk =
-    2 * (most - talk.client_taken) + length talk.requests.unread
-    + (2 * (most - talk.server_taken) + length talk.responses.unread)
-    + (if talk.server_ended then 0 else 1)
+abbrev pub to_do : ProxyState → ℕ
+to_do state =
+    2 * (most - state.client_taken) + length state.requests.unread
+    + (2 * (most - state.server_taken) + length state.responses.unread)
+    + (if state.server_ended then 0 else 1)
 
 -- A connection ends so at a refusal of a link: by that fault of it, or for lack of memory.
 abbrev pub IsEndAt : ProxyEnd → EndError → Result ProxyEnd OutOfMemory → Type 0

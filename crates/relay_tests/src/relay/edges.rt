@@ -260,7 +260,7 @@ fn free_port(rt: &HostRuntime) -> Option<u16> {
     port_of(&socket_of(rt).ok()?)
 }
 
-// Whether so many sends to nobody are taken, each before a receive to which nothing comes.
+// Whether `times` sends to nobody are taken, each before a receive to which nothing comes.
 fn is_lost(rt: &HostRuntime, times: u32) -> Option<bool> {
     let pulse = Pulse::new();
     let mut wire = wire_to(rt, &pulse, free_port(rt)?)?;

@@ -28,7 +28,7 @@ impl Clock for Ticks {
     }
 }
 
-// The datagram after so many, of 1 to 1,504 bytes, two of the client and one of the server in turn.
+// Datagram `k`, counted from 0, of 1 to 1,504 bytes, two of the client and one of the server in turn.
 fn answer_after(k: usize) -> Answer {
     let side = if k % 3 == 2 {
         Side::Server
@@ -51,7 +51,7 @@ fn wire_with(alloc: Global, count: usize) -> Result<MemWire, OutOfMemory> {
     wire_of(alloc, answers.as_slice(), &[])
 }
 
-// A relay of so many datagrams, one each millisecond.
+// A relay of `count` datagrams, one each millisecond.
 fn done_with(rt: &impl Abort, alloc: Global, nest: &Nest, count: u32) -> Done
     requires few { count ≤ 100000 }
 {
@@ -80,7 +80,7 @@ fn is_as_plain(rt: &impl Abort, alloc: Global, nest: &Nest, relayed: &RelayResul
     has_text(alloc, &relayed.run, said.as_slice()).expect(rt, "memory")
 }
 
-// Whether a relay took all its turns, so many datagrams passed it, and some were sent to each side.
+// Whether a relay took all its turns, `count` datagrams passed it, and some were sent to each side.
 fn all_passed(done: &Done, count: usize) -> bool {
     done.relayed.end == RelayEnd::Turns
         && done.relayed.rows.as_slice().len() == count

@@ -55,7 +55,7 @@ const ONE_AND_A_TURN: Case = Case {
     to_client: &[],
 };
 
-// What passes a link whose trace is 4, up to 10, where the client sends so many bytes at 4.
+// What passes a link whose trace is 4, up to 10, where the client sends `$size` bytes at 4.
 macro_rules! linked {
     ($size:expr, $text:expr, $rows:expr, $refused:expr, $to_server:expr) => {
         Case {

@@ -84,9 +84,9 @@ fn readings_after(
     Some((readings, least))
 }
 
-// A clock that wakes at each millisecond is read some 200 times in 200 ms. Without a rest it would be read many thousands
-// of times, and one that rested for several milliseconds would have no reading as short. A busy machine lets it be read
-// less often.
+// A clock that wakes at each millisecond is read some 200 times in 200 ms. Without a rest it would be read many
+// thousands of times, and one that rested for several milliseconds would have no reading as short. A busy machine lets
+// it be read less often.
 #[test]
 fn a_clock_rests_beside_an_idle_wire(rt: HostRuntime) {
     let (readings, least) = readings_after(&rt, None, 0, 200).unwrap_or((0, 0));

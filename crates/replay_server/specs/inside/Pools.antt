@@ -11,12 +11,12 @@ use Rattle.replay_server.specs.declared.ends.ConnEnd.TheVariants.{OutOfMemory}
 use Rattle.replay_server.specs.declared.ends.Served.{Served}
 use Rattle.replay_server.specs.declared.ends.ServeError.{ServeError}
 use Rattle.replay_server.specs.declared.ends.ServeError.TheVariants as errors
-use Rattle.replay_server.specs.declared.standing.Standing.{Standing}
+use Rattle.replay_server.specs.declared.standing.ServingStanding.{ServingStanding}
 use Rattle.replay_server.specs.inside.Tallies.{IsTally}
 use Rattle.replay_server.specs.Servings.{IsConnServed, IsServing, finished_with, ends_of, most_served}
 
 -- the ends so far are no more than those that are over
-abbrev pub IsCounted : Standing → Type 0
+abbrev pub IsCounted : ServingStanding → Type 0
 IsCounted s = IsTally (s.begun - s.out) s.ends
 
 module _ {C : Type 0} where
@@ -32,32 +32,32 @@ module _ {C : Type 0} where
   PoolSays begun out old new served (Err errors.OutOfMemory) = Unit {0}
 
   -- no connection is accepted any more
-  abbrev pub IsStopped : PortView C → Standing → Type 0
+  abbrev pub IsStopped : PortView C → ServingStanding → Type 0
   IsStopped port s = OnOk s.ends ((port.drained ≡ true) ⊎ (s.begun ≡ most_served))
 
   -- These were served and finished, the last of them first.
-  pub record PoolStands (store : List Record) (site : Option ℕ) (view : C → LinkView) (old new : PortView C)
+  pub record PoolStands (store : List Record) (site_port : Option ℕ) (view : C → LinkView) (old new : PortView C)
       (begun out : ℕ) (ends : Result Served ServeError) : Type 0 where
     pub served : List (C × ConnEnd)
-    pub each : All (λ (c : C × ConnEnd). ∥ IsConnServed store site (view c.0) c.1 ∥₁) served
+    pub each : All (λ (c : C × ConnEnd). ∥ IsConnServed store site_port (view c.0) c.1 ∥₁) served
     pub finished_is : new.finished ≡ option_map (finished_with served) old.finished
     pub listened_is : new.listened ≡ old.listened
     pub keeps : KeepsPort old new
     pub few : begun ≤ most_served
     pub says : PoolSays begun out old new served ends
 
-  abbrev pub InPool : List Record → Option ℕ → (C → LinkView) → PortView C → PortView C → Standing → Type 0
-  InPool store site view old new s = PoolStands store site view old new s.begun s.out s.ends
+  abbrev pub InPool : List Record → Option ℕ → (C → LinkView) → PortView C → PortView C → ServingStanding → Type 0
+  InPool store site_port view old new s = PoolStands store site_port view old new s.begun s.out s.ends
 
   -- However a pool stood before, it stands so after.
-  abbrev pub MovesPool : List Record → Option ℕ → (C → LinkView) → PortView C → Standing → PortView C → Standing
-      → Type 0
-  MovesPool store site view old s new s' =
-      (start : PortView C) → InPool store site view start old s → InPool store site view start new s'
+  abbrev pub MovesPool : List Record → Option ℕ → (C → LinkView) → PortView C → ServingStanding → PortView C
+      → ServingStanding → Type 0
+  MovesPool store site_port view old s new s' =
+      (start : PortView C) → InPool store site_port view start old s → InPool store site_port view start new s'
 
   -- A pool served its port, which listens as before.
-  pub record PoolServes (store : List Record) (site : Option ℕ) (view : C → LinkView) (old new : PortView C)
+  pub record PoolServes (store : List Record) (site_port : Option ℕ) (view : C → LinkView) (old new : PortView C)
       (result : Result Served ServeError) : Type 0 where
-    pub serving : IsServing store site view true most_served old new result
+    pub serving : IsServing store site_port view true most_served old new result
     pub listened : new.listened ≡ old.listened
     pub within : IsTally most_served result

@@ -11,18 +11,18 @@ use Rattle.replay_server.specs.Sessions.{Reply, IsReplies, AllOpen, LastCloses, 
 use Rattle.replay_server.specs.Links.{Passed, IfBothTold, IsPrompt, IsServed}
 use Rattle.replay_server.specs.declared.ends.ConnEnd.{ConnEnd}
 use Rattle.replay_server.specs.declared.ends.ConnEnd.TheVariants.{LinkFault, OutOfMemory}
-use Rattle.replay_server.specs.declared.talk.Talk.{Talk}
+use Rattle.replay_server.specs.declared.session_state.SessionState.{SessionState}
 
 -- Requests that begin the bytes taken are answered; what was given and what is gathered make up what is due.
-pub record Stand (store : List Record) (site : Option ℕ) (start now : Option LinkBytes) (replies : List Reply)
+pub record Stand (store : List Record) (site_port : Option ℕ) (start now : Option LinkBytes) (replies : List Reply)
     (rest due gathered : List ℕ) (count : ℕ) : Type 0 where
   pub taken : List ℕ
   pub given : List ℕ
   pub starts : List ReadStart
   pub passed : IfBothTold (Passed taken given starts) start now
-  pub are : IsReplies store site taken replies rest
+  pub are : IsReplies store site_port taken replies rest
   pub text : given ++ gathered ≡ due
-  pub prompt : All (IsPrompt store site taken given) starts
+  pub prompt : All (IsPrompt store site_port taken given) starts
   pub count_is : length taken ≡ count
   pub few : count ≤ most
 
@@ -38,19 +38,21 @@ end_of Failed = LinkFault
 end_of NoMemory = OutOfMemory
 
 -- A session that goes on.
-pub record Progress (store : List Record) (site : Option ℕ) (start now : Option LinkBytes) (talk : Talk) : Type 0 where
+pub record Progress (store : List Record) (site_port : Option ℕ) (start now : Option LinkBytes) (state : SessionState) :
+    Type 0 where
   pub replies : List Reply
   pub open_ones : AllOpen replies
-  pub stand : Stand store site start now replies talk.frames.unread (full_text replies) talk.gathered talk.taken
-  pub running : talk.frames.failed ≡ None
-  pub not_ended : talk.frames.ended ≡ false
+  pub stand : Stand store site_port start now replies state.frames.unread (full_text replies) state.gathered state.taken
+  pub running : state.frames.failed ≡ None
+  pub not_ended : state.frames.ended ≡ false
 
 -- How much a session has left to do at most: each byte is still to be taken, and then to be answered. Each step
 -- lowers it.
-abbrev pub to_do : Talk → ℕ
-to_do talk = 2 * (most - talk.taken) + length talk.frames.unread
+abbrev pub to_do : SessionState → ℕ
+to_do state = 2 * (most - state.taken) + length state.frames.unread
 
 -- After a step the session goes on, or ends so.
-abbrev pub GoesOn : List Record → Option ℕ → Option LinkBytes → Option LinkBytes → Talk → Option ConnEnd → Type 0
-GoesOn store site start now talk None = Progress store site start now talk
-GoesOn store site start now talk (Some end) = IsServed store site start now end
+abbrev pub GoesOn : List Record → Option ℕ → Option LinkBytes → Option LinkBytes → SessionState → Option ConnEnd
+    → Type 0
+GoesOn store site_port start now state None = Progress store site_port start now state
+GoesOn store site_port start now state (Some end) = IsServed store site_port start now end

@@ -17,8 +17,8 @@ both OutOfMemory b = OutOfMemory
 
 -- the sender has sent `rows` in both directions, with their numbers in the merge
 abbrev pub SentOne : ℕ → ℕ → List Row → Outlet → Type 0
-SentOne horizon sender rows o = HasSentRows Up horizon (map (merged_row sender) rows) o.up.flow
-    × HasSentRows Down horizon (map (merged_row sender) rows) o.down.flow
+SentOne horizon sender rows o = HasSentRows Up horizon (map (merged_row sender) rows) o.heads.up.flow
+    × HasSentRows Down horizon (map (merged_row sender) rows) o.heads.down.flow
 
 -- the flow was broken off with no packet in it
 abbrev pub IsBrokenOff : Stream → Type 0
@@ -27,4 +27,4 @@ IsBrokenOff sent = (sent.packets ≡ []) × (sent.end ≡ IsCut)
 -- the sender has sent `rows`, or both its flows were broken off with no packet in them
 abbrev pub SentOrBroken : ℕ → ℕ → List Row → Outlet → Type 0
 SentOrBroken horizon sender rows o =
-    SentOne horizon sender rows o ⊎ (IsBrokenOff o.up.flow × IsBrokenOff o.down.flow)
+    SentOne horizon sender rows o ⊎ (IsBrokenOff o.heads.up.flow × IsBrokenOff o.heads.down.flow)

@@ -7,8 +7,8 @@ use Rattle.sender_merge.specs.inside.Outlets.{IsEmpty}
 
 -- The ends of a sender are those of two channels, one in each direction.
 pub record AreEnds (o : Outlet) (up down : Inlet) : Type 0 where
-  pub up_channel : o.up.channel ≡ up.from.channel
-  pub down_channel : o.down.channel ≡ down.from.channel
+  pub up_channel : o.heads.up.channel ≡ up.from.channel
+  pub down_channel : o.heads.down.channel ≡ down.from.channel
 
 -- Nothing has gone through a sender's channels, and both have `horizon`.
 pub record IsFresh (horizon : ℕ) (o : Outlet) (up down : Inlet) : Type 0 where
@@ -35,8 +35,8 @@ AllFresh horizon (o ∷ outlets) (u ∷ ups) (d ∷ downs) = IsFresh horizon o u
 
 -- All that a sender sent was received, its end too.
 pub record IsSettled (o : Outlet) (up down : Inlet) : Type 0 where
-  pub up_flow : up.from.flow ≡ o.up.flow
-  pub down_flow : down.from.flow ≡ o.down.flow
+  pub up_flow : up.from.flow ≡ o.heads.up.flow
+  pub down_flow : down.from.flow ≡ o.heads.down.flow
 
 abbrev pub AreSettled : List Outlet → List Inlet → List Inlet → Type 0
 AreSettled [] [] [] = Unit {0}

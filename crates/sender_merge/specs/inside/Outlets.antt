@@ -1,18 +1,15 @@
 -- The sending ends of all senders.
-use Rattle.std.specs.Prelude.{◌≡◌, ◌+◌, ℕ, List, [], ◌∷◌}
+use Rattle.std.specs.Prelude.{◌+◌, ℕ, List, [], ◌∷◌}
 use Rattle.packet_record.specs.declared.packet.Row.{Row}
-use Rattle.packet_record.specs.Streams.{no_items}
+use Rattle.mark_channel.specs.Boths.{BothKeep, OfBoth}
 use Rattle.mark_channel.specs.Ends.{IsSameEnd}
+use Rattle.row_source.specs.Sending.{IsUnsent}
 use Rattle.sender_merge.specs.declared.outlet.Outlet.{Outlet}
 use Rattle.sender_merge.specs.inside.Feeding.{SentOrBroken}
 
 -- Nothing was sent in either direction, and both ends have `horizon`.
-pub record IsEmpty (horizon : ℕ) (o : Outlet) : Type 0 where
-  pub up : o.up.flow ≡ no_items
-  pub down : o.down.flow ≡ no_items
-  pub none : (o.up.items ≡ []) × (o.down.items ≡ [])
-  pub up_horizon : o.up.horizon ≡ horizon
-  pub down_horizon : o.down.horizon ≡ horizon
+abbrev pub IsEmpty : ℕ → Outlet → Type 0
+IsEmpty horizon o = OfBoth (IsUnsent horizon) o.heads
 
 abbrev pub AllEmpty : ℕ → List Outlet → Type 0
 AllEmpty horizon [] = Unit {0}
@@ -20,7 +17,7 @@ AllEmpty horizon (o ∷ outlets) = IsEmpty horizon o × AllEmpty horizon outlets
 
 -- both ends keep their horizons and channels
 abbrev pub IsSameOutlet : Outlet → Outlet → Type 0
-IsSameOutlet old new = IsSameEnd old.up new.up × IsSameEnd old.down new.down
+IsSameOutlet old new = BothKeep IsSameEnd old.heads new.heads
 
 abbrev pub AllSameOutlets : List Outlet → List Outlet → Type 0
 AllSameOutlets [] [] = Unit {0}

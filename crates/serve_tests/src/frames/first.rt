@@ -46,7 +46,7 @@ fn request_of(alloc: Global, text: &str) -> Option<(usize, bool)> {
     Some((request.bytes.len(), request.head.closes))
 }
 
-// A text, and what `request_of` answers.
+// A text, and what `request_of` returns.
 type Row = (&'static str, Option<(usize, bool)>);
 
 /// Whether each row holds.

@@ -9,7 +9,7 @@ const REQUEST_LINE: &[u8] = b"GET / HTTP/1.1\r\n";
 
 const SHORT_FIELD: &[u8] = b"A: 1\r\n";
 
-/// The answer to a request line, so many lines after it and a piece of one more line.
+/// The answer to a request line, `count` lines after it and a piece of one more line.
 fn answer_after(alloc: Global, count: u32, line: &[u8], piece: &[u8]) -> u64 {
     let mut frames = RequestFrames::new(alloc);
     if feed_copies(&mut frames, REQUEST_LINE, 1) && feed_copies(&mut frames, line, count) {
@@ -19,7 +19,7 @@ fn answer_after(alloc: Global, count: u32, line: &[u8], piece: &[u8]) -> u64 {
     }
 }
 
-/// The answer to a request line, 65 lines of a thousand bytes and so many letters of one more line.
+/// The answer to a request line, 65 lines of a thousand bytes and `letters` letters of one more line.
 fn answer_after_long(alloc: Global, letters: u32) -> Result<u64, OutOfMemory> {
     let line = long_field(alloc, b" ")?;
     let piece = copies(alloc, b"", b"x", letters)?;
@@ -35,7 +35,7 @@ fn limits_of_heads(rt: HostRuntime) {
     assert!(rt; answer_after(alloc, 101, SHORT_FIELD, b"") == 3);
 }
 
-/// The first answer but More to a start and so many times a piece, without one to the start, or else 0.
+/// The first answer but More to a start and `count` times a piece, without one to the start, or else 0.
 fn answer_to_copies(frames: &mut RequestFrames, start: &[u8], piece: &[u8], count: u32) -> u64 {
     if frames.feed(start).is_err() {
         return NO_MEMORY;
@@ -49,7 +49,7 @@ fn answer_to_copies(frames: &mut RequestFrames, start: &[u8], piece: &[u8], coun
     0
 }
 
-/// The first answer but More to a start, so many times a piece, and an end.
+/// The first answer but More to a start, `count` times a piece, and an end.
 fn answer_in_pieces(alloc: Global, start: &[u8], piece: &[u8], count: u32, end: &[u8]) -> u64 {
     let mut frames = RequestFrames::new(alloc);
     let early = answer_to_copies(&mut frames, start, piece, count);

@@ -5,7 +5,7 @@ use super::{answer_to, fault_number, feed_copies, request_answer};
 use http_frame::{RequestFrames, Step};
 use std::alloc::Global;
 
-/// The first answer but More to a piece and a rest in pieces of so many bytes, or else 0.
+/// The first answer but More to a piece and a rest in pieces of `size` bytes, or else 0.
 fn first_answer(frames: &mut RequestFrames, first: &[u8], rest: &[u8], size: usize) -> u64
     requires { 1 ≤ size }
 {
@@ -22,7 +22,7 @@ fn first_answer(frames: &mut RequestFrames, first: &[u8], rest: &[u8], size: usi
     0
 }
 
-/// The same of a request that is cut at a place, and from there on into pieces of so many bytes.
+/// The same of a request that is cut at a place, and from there on into pieces of `size` bytes.
 fn answer_cut(alloc: Global, text: &[u8], cut: usize, size: usize) -> u64
     requires within { cut ≤ length text.now }
     requires some { 1 ≤ size }

@@ -53,7 +53,7 @@ fn answers_at_end(frames: &mut ResponseFrames, to_head: bool, before: u64) -> (u
     (before, response_answer(frames, to_head))
 }
 
-/// The first answer but More to a response that is cut at a place, and from there on into pieces of so many bytes, and
+/// The first answer but More to a response that is cut at a place, and from there on into pieces of `size` bytes, and
 /// the answer after the end of input.
 fn answers_cut(alloc: Global, to_head: bool, text: &[u8], cut: usize, size: usize) -> (u64, u64)
     requires within { cut ≤ length text.now }

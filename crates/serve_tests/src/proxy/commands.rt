@@ -41,8 +41,8 @@ const NONE: Fails = Fails {
 };
 
 // A run: its words, the files before it, what each client says and the call of its link that fails, what the one server
-// says, and which other calls fail. Then its status, what it prints, what it leaves in the file `s`, and whether a second client is
-// given nothing.
+// says, and which other calls fail. Then its status, what it prints, what it leaves in the file `s`, and whether a
+// second client is given nothing.
 #[derive(Clone, Copy)]
 struct Case {
     words: &'static str,

@@ -17,7 +17,7 @@ struct Case {
     said: Many,
 }
 
-// What is seen of such a connection, where a read brings at most so many bytes.
+// What is seen of such a connection, where a read brings at most `most` bytes.
 fn seen_where(alloc: Global, case: &Case, most: usize) -> Result<Seen, OutOfMemory>
     requires { 1 ≤ most }
 {

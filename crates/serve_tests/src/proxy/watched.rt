@@ -181,7 +181,7 @@ impl Dialer for WatchedNet {
     }
 }
 
-// Whether a net was used at the port of this number, has so many connections left, and ended each of 64 well.
+// Whether a net was used at the port of this number, has `left` connections left, and ended each of 64 well.
 fn is_used(net: &WatchedNet, number: u16, left: u64) -> bool {
     net.number == number && net.left == left && net.given == 64 && net.well == 64
 }

@@ -74,7 +74,7 @@ impl Port for Patient<'_> {
     }
 }
 
-/// What `serve` answers with the store of one request, over two connections.
+/// What `serve` returns with the store of one request, over two connections.
 fn served<R: Threads + Wait + Sync, P: Port + Send, Q: Pace + Sync>(
     rt: &R,
     alloc: Global,

@@ -5,7 +5,7 @@ use super::{TWO, TWO_ANSWERS};
 use crate::links::{REQUEST, RESPONSE, port_of};
 use crate::store::paired;
 use mm_base::{MemPort, NoPace, Pace, Port, Role};
-use replay_server::{ServeError, Served, serve_pool};
+use replay_server::{ServeError, Served, ServingPlan, serve_pool};
 use std::alloc::Global;
 use std::marker::{Send, Sync};
 use std::sync::Wait;
@@ -13,7 +13,7 @@ use std::sync::atomic::{AtomicU64, Ordering};
 use std::thread::{self, Threads};
 use text_base::OutOfMemory;
 
-/// What `serve_pool` answers with the store of one request. No test needs what its contract says of that, and so this
+/// What `serve_pool` returns with the store of one request. No test needs what its contract says of that, and so this
 /// has none.
 fn served<R: Threads + Wait + Sync, P: Port + Send, Q: Pace + Sync>(
     rt: &R,
@@ -26,7 +26,14 @@ fn served<R: Threads + Wait + Sync, P: Port + Send, Q: Pace + Sync>(
     requires few { connections ≤ 64 }
 {
     match paired(alloc, REQUEST.as_bytes(), RESPONSE.as_bytes(), 0) {
-        Ok(store) => serve_pool(rt, alloc, &store, port, 80, None, connections, pace),
+        Ok(store) => {
+            let plan = ServingPlan {
+                number: 80,
+                site_port: None,
+                connections,
+            };
+            serve_pool(rt, alloc, &store, port, plan, pace)
+        }
         Err(_) => Err(ServeError::OutOfMemory),
     }
 }
@@ -168,7 +175,7 @@ fn no_more_connections_than_that_are_served_at_a_time(rt: HostRuntime) {
 // One connection of two requests.
 static ONLY: [(&str, u64); 1] = [(TWO, 0)];
 
-// A call of the port that fails, what the pool then answers, and how many connections are finished. Here they are
+// A call of the port that fails, what the pool then returns, and how many connections are finished. Here they are
 // finished after a call that accepts none, or before it.
 static FAILS: [(u64, ServeError); 2] = [(1, ServeError::Listen), (2, ServeError::Accept)];
 
@@ -181,7 +188,7 @@ fn stops_at<R: Threads + Wait + Sync>(rt: &R, alloc: Global, row: &(u64, ServeEr
     answer == Err(row.1) && port.finished().is_empty()
 }
 
-/// Whether a pool whose port fails later answers so, whichever call that is.
+/// Whether a pool whose port fails later returns so, whichever call that is.
 fn stops_later<R: Threads + Wait + Sync>(rt: &R, alloc: Global, call: u64) -> bool {
     let Ok(mut port) = port_of(alloc, &ONLY, 8, call) else {
         return false;

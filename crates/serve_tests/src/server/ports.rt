@@ -13,7 +13,7 @@ use std::sync::atomic::{AtomicU64, Ordering};
 use std::thread::{self, Threads};
 use text_base::OutOfMemory;
 
-/// What `serve` answers with the store of one request. No test needs what its contract says of that, and so this has
+/// What `serve` returns with the store of one request. No test needs what its contract says of that, and so this has
 /// none.
 fn served<R: Threads + Wait + Sync, P: Port + Send, Q: Pace + Sync>(
     rt: &R,
@@ -116,7 +116,7 @@ fn connections_are_served_beside_each_other(rt: HostRuntime) {
 // One connection of two requests.
 static ONLY: [(&str, u64); 1] = [(TWO, 0)];
 
-// A call of the port that fails, what the serving then answers, and how many connections are finished. The calls are
+// A call of the port that fails, what the serving then returns, and how many connections are finished. The calls are
 // listening, accepting, accepting and finishing.
 static FAILS: [(u64, ServeError, usize); 4] = [
     (1, ServeError::Listen, 0),

@@ -30,7 +30,7 @@ impl Turns {
         }
     }
 
-    // Takes a turn, and answers whether its count follows: from 1 on before the reads, and then once 0.
+    // Takes a turn, and returns whether its count follows: from 1 on before the reads, and then once 0.
     fn follows(&self, count: u64) -> bool {
         if count == 0 {
             return self.ends.fetch_add(1, Ordering::SeqCst) == 0;

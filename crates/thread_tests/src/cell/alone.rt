@@ -15,7 +15,7 @@ use std::alloc::Global;
 use std::process::Abort;
 use std::sync::Wait;
 
-// Whether a take that burns one opportunity at most answers this. False at the end.
+// Whether a take that burns one opportunity at most returns this. False at the end.
 fn takes<R: Wait + Abort>(rt: &R, cell: &ShellCell, seat: &mut DrainSeat, answer: Taken) -> bool
     requires own { seat.old.cell ≡ cell.now }
     requires open { seat.old.flow.end ≡ Open }
@@ -91,7 +91,7 @@ const ENDED: [Taken; 2] = [
     Taken::Item(Item::Mark(18)),
 ];
 
-// Whether a take answers an item that is the last.
+// Whether a take returns an item that is the last.
 fn takes_last<R: Wait + Abort>(rt: &R, cell: &ShellCell, seat: &mut DrainSeat, last: Item) -> bool
     requires own { seat.old.cell ≡ cell.now }
     requires open { seat.old.flow.end ≡ Open }

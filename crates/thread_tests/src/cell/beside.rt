@@ -29,7 +29,7 @@ fn cross(cell: &ShellCell, feed: &FeedSeat, drain: &DrainSeat) {
 }
 
 // Feeds a packet at each of the moments 1 to `count`, and then the end. Where it finds no memory it breaks the state,
-// since the other thread would wait for the end, and answers false.
+// since the other thread would wait for the end, and returns false.
 fn feed_all<R: Wait>(rt: &R, cell: &ShellCell, seat: &mut FeedSeat, count: u32) -> bool
     requires own { seat.old.cell ≡ cell.now }
     requires empty { seat.old.flow ≡ no_items }
@@ -49,7 +49,7 @@ fn feed_all<R: Wait>(rt: &R, cell: &ShellCell, seat: &mut FeedSeat, count: u32) 
     feed_to(rt, cell, seat, Item::End).is_ok()
 }
 
-// Takes until the end, waits where there is nothing yet, which it counts, and answers how many takes there were. None
+// Takes until the end, waits where there is nothing yet, which it counts, and returns how many takes there were. None
 // where it finds no memory or a broken state.
 fn count_takes<R: Wait>(
     rt: &R,
@@ -80,7 +80,7 @@ fn count_takes<R: Wait>(
     unreachable!()
 }
 
-// Both seats at work in two threads, one of which feeds so many packets: whether both came to the end.
+// Both seats at work in two threads, one of which feeds `count` packets: whether both came to the end.
 fn pass_all<R: Threads + Wait + Sync>(
     rt: &R,
     cell: &ShellCell,
@@ -131,7 +131,7 @@ fn are_in_order(packets: &[Timed]) -> bool {
     true
 }
 
-// Whether so many packets were taken in their order, and then the end.
+// Whether `count` packets were taken in their order, and then the end.
 fn has_passed(state: &ShellState, count: usize) -> bool {
     let taken = state.taken();
     taken.packets().len() == count && are_in_order(taken.packets()) && taken.end() == FlowEnd::Ended

@@ -367,8 +367,8 @@ const BURNT_AT_MOST: u64 = 256;
 
 const BURNING_TAKES: u64 = 10_000 / BURNT_AT_MOST;
 
-// Whether the drain of a link of 10,000 opportunities, each of one byte, takes as often as it has to burn them, beside a
-// take for each packet and the end and some that found nothing, and the source has a turn for each row.
+// Whether the drain of a link of 10,000 opportunities, each of one byte, takes as often as it has to burn them, beside
+// a take for each packet and the end and some that found nothing, and the source has a turn for each row.
 fn burns_in_parts<R: Threads + Wait + Abort + Sync>(rt: &R, alloc: Global, call: Call) {
     let pace = LastTurns {
         takes: AtomicU64::new(0),

@@ -122,7 +122,7 @@ fn marks_are_passed_on(rt: HostRuntime) {
     check(&rt, is_fed(&fed, &ONE_EACH_UP, &ONE_EACH_DOWN), "marks");
 }
 
-// The text of so many equal lines.
+// The text of `count` equal lines.
 fn lines_of(alloc: Global, line: &str, count: u32) -> Result<String, AllocError> {
     let mut text = String::new(alloc);
     for _ in 0..count {
@@ -158,7 +158,7 @@ fn senders_that_are_apart_do_not_stop_each_other(rt: HostRuntime) {
     );
 }
 
-// The schedules of so many senders, of 200 packets each, made from this number on.
+// The schedules of `senders` senders, of 200 packets each, made from this number on.
 fn made_schedules(rt: &impl Abort, alloc: Global, number: u64, senders: u64) -> Vec<Schedule> {
     let mut schedules = Vec::new(alloc);
     for sender in 0..senders {
@@ -238,7 +238,7 @@ fn made_by(rt: &impl Abort, alloc: Global, count: u64) -> Made {
     }
 }
 
-// Whether so many senders feed their rows in the order of a stable sort.
+// Whether `count` senders feed their rows in the order of a stable sort.
 fn feeds_sorted<R: Threads + Wait + Sync + Abort>(rt: &R, alloc: Global, count: u64) -> bool {
     let mut made = made_by(rt, alloc, count);
     let fed = feed_all(rt, alloc, &mut made.senders, HORIZON, Call::Feed, &NoPace);

@@ -176,7 +176,7 @@ fn three_flows_give_what_is_said(rt: HostRuntime) {
     }
 }
 
-// Adds so many packets of a sender, all at one moment, numbered from 0.
+// Adds `count` packets of a sender, all at one moment, numbered from 0.
 fn add_packets(core: &mut MergeCore, sender: u32, count: u32) -> Result<bool, OutOfMemory> {
     for id in 0..count {
         if !add_next(core, sender, packet(id, 1))? {
@@ -186,7 +186,7 @@ fn add_packets(core: &mut MergeCore, sender: u32, count: u32) -> Result<bool, Ou
     Ok(true)
 }
 
-// How many packets of that moment, numbered from 0, the merge gives next, up to so many.
+// How many packets of that moment, numbered from 0, the merge gives next, up to `most`.
 fn count_given(core: &mut MergeCore, most: u32) -> u32 {
     for id in 0..most {
         if next_step(core) != Some(MergeStep::Item(packet(id, 1))) {

@@ -1,5 +1,5 @@
 use Rattle.std.proofs.Common.{Err, ap, subst, sym, ◌∙◌}
-use Rattle.file_pieces.proofs.PieceLemmas.{none_read, whole_read}
+use Rattle.mm_base.proofs.PieceLemmas.{none_read, whole_read}
 use Rattle.command_ends.specs.inside.Loads.{cause_of_disk}
 use Rattle.command_ends.specs.Stops.{StopsAtFile}
 use Rattle.command_ends.specs.declared.cause.Cause.{Cause}

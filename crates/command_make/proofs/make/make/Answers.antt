@@ -1,6 +1,6 @@
 use Rattle.std.proofs.Common.{List, ℕ, Some, refl, subst, sym}
 use Rattle.std.proofs.lemmas.Result.{err_from_is_err_and}
-use Rattle.made_run.specs.SummaryText.{IsSummary}
+use Rattle.command_make.specs.SummaryText.{IsSummary}
 use Rattle.command_ends.specs.Ends.{Ends, offline}
 use Rattle.command_ends.specs.Works.{only}
 use Rattle.command_ends.specs.Outputs.{prints}

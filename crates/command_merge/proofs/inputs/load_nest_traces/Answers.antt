@@ -39,7 +39,7 @@ returns-in_err-check_count-clause-stopped g c =
     let traces = c.in_ok-traces.traces.items in
     let have = subst (λ (names : List Text). HaveTraces old.files names found.0 traces) c.traces.ensures.traces
     found.1 in
-    let refused = subst (λ (l : List TraceView). RefusesText (refused_count job.until nest.shells l)
+    let refused = subst (λ (l : List TraceView). RefusesText (refused_count job.horizon nest.shells l)
     c.in_err-check_count.field-0.0) c.as_slice.ensures.value c.in_err-check_count.ensures.refused in
     rw p.1 (subst (λ (k : Cause). StopsReading (merge_inputs job nest) old new k) (sym p.2)
     (count_stop job nest old new found.0 traces c.in_err-check_count.field-0.0 have refused))
@@ -53,6 +53,7 @@ returns-clause-found g c =
       texts = found.0;
       have = subst (λ (names : List Text). HaveTraces (g.D.Disk.view c.args.disk.now).files names found.0 traces)
           c.traces.ensures.traces found.1;
-      few = subst (λ (l : List TraceView). opportunities_of job.until nest.shells l ≤ 16000000) c.as_slice.ensures.value
+      few = subst (λ (l : List TraceView). opportunities_of job.horizon nest.shells l ≤ 16000000)
+          c.as_slice.ensures.value
           c.in_ok-check_count.ensures.few;
     }

@@ -1,91 +1,29 @@
 use Rattle.std.proofs.Common.{map, string_bytes}
-use Rattle.mm_base.proofs.Then.{CountsFaults-then}
 use Rattle.command_ends.specs.Answers.{cause_in}
-use Rattle.command_ends.proofs.TellLemmas.{tells, tells_answered, tells_done, tells_stopped}
-use Rattle.command_relay.specs.Relaying.{relay_work}
+use Rattle.refusal_lines.proofs.TellLemmas.{tells_by}
+use Rattle.refusal_words.specs.declared.command.Program.TheVariants.{Relay}
+use Rattle.command_ends.proofs.TopLemmas.{refuses_by_words, top_call}
+use Rattle.command_relay.specs.Relaying.{net_counts, relay_work}
 use Rattle.command_relay.proofs.RelayLemmas.{relay_first, relay_one}
-use Rattle.command_ends.proofs.AloneLemmas.{net_alone}
 use Rattle.command_relay.proofs.telling.relay_main_told.Goals as goal
 
-pub returns-clause-done : goal.returns-clause-done
-returns-clause-done g c =
-    tells_done relay_work _ _ _ _ (g.O.Sink.view c.answer-answer.new.out) _ (cause_in c.answer-answer.result)
-    c.conclude-status.result c.answer-answer.ensures.ends c.conclude-status.ensures
-
-pub returns-clause-answered : goal.returns-clause-answered
-returns-clause-answered g c =
-    tells_answered relay_work _ _ _ _ (g.O.Sink.view c.answer-answer.new.out) _ (cause_in c.answer-answer.result)
-    c.conclude-status.result c.answer-answer.ensures.ends c.conclude-status.ensures
-
-pub returns-clause-stopped : goal.returns-clause-stopped
-returns-clause-stopped g c =
-    tells_stopped relay_work _ _ _ _ (g.O.Sink.view c.answer-answer.new.out) _ (cause_in c.answer-answer.result)
-    c.conclude-status.result c.answer-answer.ensures.ends c.conclude-status.ensures
+pub returns-clause-top : goal.returns-clause-top
+returns-clause-top g c =
+    let answered = c.answer-answer.ensures in
+    top_call relay_work _ _ _ _ (g.O.Sink.view c.answer-answer.new.out) _
+    (cause_in c.answer-answer.result) c.conclude_told.result.status answered.ends c.conclude_told.ensures.concludes
+    net_counts (relay_one (map string_bytes c.args.words.now)) (λ task rose. rose)
+    answered.alone answered.counts answered.out_counts answered.wire_counts
 
 pub returns-clause-usage : goal.returns-clause-usage
 returns-clause-usage g c =
-    let t = tells relay_work _ _ _ _ (g.O.Sink.view c.answer-answer.new.out) (g.O.Sink.view c.conclude-status.new.out)
-    (cause_in c.answer-answer.result) c.conclude-status.result c.answer-answer.ensures.ends c.conclude-status.ensures in
-    λ two. t.usage two (relay_first (map string_bytes c.args.words.now))
-
-pub returns-clause-absent : goal.returns-clause-absent
-returns-clause-absent g c =
-    let t = tells relay_work _ _ _ _ (g.O.Sink.view c.answer-answer.new.out) (g.O.Sink.view c.conclude-status.new.out)
-    (cause_in c.answer-answer.result) c.conclude-status.result c.answer-answer.ensures.ends c.conclude-status.ensures in
-    t.absent
-
-pub returns-clause-read_fault : goal.returns-clause-read_fault
-returns-clause-read_fault g c =
-    let t = tells relay_work _ _ _ _ (g.O.Sink.view c.answer-answer.new.out) (g.O.Sink.view c.conclude-status.new.out)
-    (cause_in c.answer-answer.result) c.conclude-status.result c.answer-answer.ensures.ends c.conclude-status.ensures in
-    t.read_fault
-
-pub returns-clause-write_fault : goal.returns-clause-write_fault
-returns-clause-write_fault g c =
-    let t = tells relay_work _ _ _ _ (g.O.Sink.view c.answer-answer.new.out) (g.O.Sink.view c.conclude-status.new.out)
-    (cause_in c.answer-answer.result) c.conclude-status.result c.answer-answer.ensures.ends c.conclude-status.ensures in
-    t.write_fault
-
-pub returns-clause-net_fault : goal.returns-clause-net_fault
-returns-clause-net_fault g c =
-    let t = tells relay_work _ _ _ _ (g.O.Sink.view c.answer-answer.new.out) (g.O.Sink.view c.conclude-status.new.out)
-    (cause_in c.answer-answer.result) c.conclude-status.result c.answer-answer.ensures.ends c.conclude-status.ensures in
-    λ eight. (t.net_fault eight).1
-
-pub returns-clause-keeps : goal.returns-clause-keeps
-returns-clause-keeps g c =
-    let t = tells relay_work _ _ _ _ (g.O.Sink.view c.answer-answer.new.out) (g.O.Sink.view c.conclude-status.new.out)
-    (cause_in c.answer-answer.result) c.conclude-status.result c.answer-answer.ensures.ends c.conclude-status.ensures in
-    t.keeps
-
-pub returns-clause-by_words : goal.returns-clause-by_words
-returns-clause-by_words g c =
-    let t = tells relay_work _ _ _ _ (g.O.Sink.view c.answer-answer.new.out) (g.O.Sink.view c.conclude-status.new.out)
-    (cause_in c.answer-answer.result) c.conclude-status.result c.answer-answer.ensures.ends c.conclude-status.ensures in
-    t.by_words
-
-pub returns-clause-by_files : goal.returns-clause-by_files
-returns-clause-by_files g c =
-    let t = tells relay_work _ _ _ _ (g.O.Sink.view c.answer-answer.new.out) (g.O.Sink.view c.conclude-status.new.out)
-    (cause_in c.answer-answer.result) c.conclude-status.result c.answer-answer.ensures.ends c.conclude-status.ensures in
-    λ m refusal. t.by_files m refusal (relay_one (map string_bytes c.args.words.now))
-
-pub returns-clause-complete : goal.returns-clause-complete
-returns-clause-complete g c =
-    let t = tells relay_work _ _ _ _ (g.O.Sink.view c.answer-answer.new.out) (g.O.Sink.view c.conclude-status.new.out)
-    (cause_in c.answer-answer.result) c.conclude-status.result c.answer-answer.ensures.ends c.conclude-status.ensures in
-    λ m task. t.complete m task (relay_one (map string_bytes c.args.words.now))
-
-pub returns-clause-out_counts : goal.returns-clause-out_counts
-returns-clause-out_counts g c = CountsFaults-then c.answer-answer.ensures.out_counts c.conclude-status.ensures.counts
+    refuses_by_words relay_work _ _ _ _ (g.O.Sink.view c.answer-answer.new.out)
+    (g.O.Sink.view c.conclude_told.new.out) (cause_in c.answer-answer.result) c.conclude_told.result.status
+    c.answer-answer.ensures.ends c.conclude_told.ensures.concludes (relay_first (map string_bytes c.args.words.now))
 
 pub returns-clause-told : goal.returns-clause-told
-returns-clause-told g c = record {
-  ended = g.O.Sink.view c.answer-answer.new.out;
-  ends = c.answer-answer.ensures.ends;
-  concludes = c.conclude-status.ensures;
-  told_is = c.tell-told.ensures;
-}
-
-pub returns-clause-net_alone : goal.returns-clause-net_alone
-returns-clause-net_alone g c = net_alone relay_work _ _ _ (cause_in c.answer-answer.result) c.answer-answer.ensures.ends
+returns-clause-told g c =
+    tells_by Relay (map string_bytes c.args.words.now) relay_work _ _ _ _
+    (g.O.Sink.view c.answer-answer.new.out) _ _ _ c.answer-answer.result c.conclude_told.result
+    c.conclude_told.ensures.answer c.answer-answer.ensures.ends c.conclude_told.ensures.concludes
+    c.conclude_told.ensures.told

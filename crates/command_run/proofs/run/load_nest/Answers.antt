@@ -36,7 +36,7 @@ returns-in_err-check_count-clause-stopped g c =
     let traces = c.in_ok-traces.traces.items in
     let have = subst (λ (names : List Text). HaveTraces old.files names found.0 traces) c.traces.ensures.traces
     found.1 in
-    let refused = subst (λ (l : List TraceView). RefusesText (refused_count job.until c.args.words.shells l)
+    let refused = subst (λ (l : List TraceView). RefusesText (refused_count job.horizon c.args.words.shells l)
     c.in_err-check_count.field-0.0) c.as_slice.ensures.value c.in_err-check_count.ensures.refused in
     rw p.1 (subst (λ (k : Cause). StopsReading (run_inputs job c.args.words) old new k) (sym p.2)
     (count_stop job c.args.words old new found.0 traces c.in_err-check_count.field-0.0 have refused))

@@ -41,4 +41,5 @@ returns-in-Some-clause-alone g c =
     let old = g.D.Disk.view c.args.disk.now in
     let new = g.D.Disk.view c.print_best.new.disk in
     asked_alone (match_job_of (map string_bytes c.args.words.now)) (match_values c.in-Some.job) match_reading old new
-    (ap (λ (o : Option MatchJob). option_map match_values o) (sym c.in-Some.is) ∙ c.in_ok-job.ensures) (unrefused old new)
+    (ap (λ (o : Option MatchJob). option_map match_values o) (sym c.in-Some.is) ∙ c.in_ok-job.ensures)
+    (unrefused old new)

@@ -8,7 +8,7 @@ use Rattle.command_ends.proofs.EndLemmas.{ends_stopped, ends_written, finishes_l
 use Rattle.command_ends.proofs.ReadingLemmas.{stops_later}
 use Rattle.command_stores.specs.Migrating.{GivesMigrate, migrate_inputs, migrate_reading}
 use Rattle.command_stores.specs.inside.Values.{migrate_values}
-use Rattle.command_stores.specs.Written.{store_file}
+use Rattle.store_files.specs.Written.{store_file}
 use Rattle.command_ends.proofs.AloneLemmas.{accepted_alone}
 use Rattle.command_stores.proofs.migrating.migrate.Goals as goal
 
@@ -19,7 +19,8 @@ returns-in_err-check_migrate-clause-ends g c = λ out.
     let old = g.D.Disk.view c.args.disk.now in
     rw p.1 (subst (λ (k : Cause). Ends (only GivesMigrate) reading (offline old out) (offline old out) (Some k))
     (sym p.2)
-    (ends_stopped (only GivesMigrate) reading old old out tt _ (keeps_all old) (c.in_err-check_migrate.ensures.read old)))
+    (ends_stopped (only GivesMigrate) reading old old out tt _ (keeps_all old)
+    (c.in_err-check_migrate.ensures.read old)))
 
 pub returns-in_err-store-clause-ends : goal.returns-in_err-store-clause-ends
 returns-in_err-store-clause-ends g c = λ out.
@@ -51,4 +52,5 @@ returns-in_err-store-clause-alone g c =
     accepted_alone (migrate_reading (migrate_values c.args.job.now)) _ _ c.in_ok-check_migrate.ensures.accepts
 
 pub returns-clause-alone : goal.returns-clause-alone
-returns-clause-alone g c = accepted_alone (migrate_reading (migrate_values c.args.job.now)) _ _ c.in_ok-check_migrate.ensures.accepts
+returns-clause-alone g c =
+    accepted_alone (migrate_reading (migrate_values c.args.job.now)) _ _ c.in_ok-check_migrate.ensures.accepts

@@ -8,7 +8,7 @@ use Rattle.command_ends.proofs.EndLemmas.{ends_stopped, ends_written, finishes_l
 use Rattle.command_ends.proofs.ReadingLemmas.{stops_later}
 use Rattle.command_stores.specs.Recording.{GivesRecord, record_inputs, record_reading}
 use Rattle.command_stores.specs.inside.Values.{record_values}
-use Rattle.command_stores.specs.Written.{store_file}
+use Rattle.store_files.specs.Written.{store_file}
 use Rattle.command_ends.proofs.AloneLemmas.{accepted_alone}
 use Rattle.command_stores.proofs.recording.make_store.Goals as goal
 
@@ -50,4 +50,5 @@ returns-in_err-store-clause-alone g c =
     accepted_alone (record_reading (record_values c.args.job.now)) _ _ c.in_ok-check_record.ensures.accepts
 
 pub returns-clause-alone : goal.returns-clause-alone
-returns-clause-alone g c = accepted_alone (record_reading (record_values c.args.job.now)) _ _ c.in_ok-check_record.ensures.accepts
+returns-clause-alone g c =
+    accepted_alone (record_reading (record_values c.args.job.now)) _ _ c.in_ok-check_record.ensures.accepts

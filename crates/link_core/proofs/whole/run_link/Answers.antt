@@ -30,13 +30,12 @@ into_passage-requires c =
     let is = c.in_ok-parts.ensures in
     let ts = c.args.arrivals.items in
     let span = is.opportunities ∙ c.new-opportunities.ensures in
-    let come = sym (come_is c.len-last.result parts is.sound is.played c.args.queue _ ts is.spec (ap span_opps span) is.arrivals) in
-    record {
-      sound = is.sound;
-      none = is.played.all_in;
-      within = subst (λ (h : ℕ). AreUpTo h parts.arrived.come) (sym (ap (λ (s : Span). s.horizon) span))
-          (subst (AreUpTo c.args.horizon) come c.requires.within);
-    }
+    let come = sym (come_is c.len-last.result parts is.sound is.played c.args.queue _ ts is.spec (ap span_opps span) is.arrivals) in (
+      is.sound,
+      is.played.all_in,
+      subst (λ (h : ℕ). AreUpTo h parts.arrived.come) (sym (ap (λ (s : Span). s.horizon) span))
+          (subst (AreUpTo c.args.horizon) come c.requires.within),
+    )
 
 pub returns : goal.returns
 returns c =

@@ -3,7 +3,7 @@ use Rattle.std.proofs.lemmas.Grind.{common_steps}
 use Rattle.std.proofs.lemmas.List.{length-take}
 use Rattle.mm_base.specs.Sink.{sending}
 use Rattle.mm_base.proofs.SinkLemmas.{sent_more}
-use Rattle.mm_base.proofs.Pieces.{next_piece}
+use Rattle.mm_base.proofs.ListPieces.{next_piece}
 use Rattle.mm_base.proofs.Then.{CountsFaults-then}
 use Rattle.mm_base.proofs.sink.send_all.Goals as goal
 

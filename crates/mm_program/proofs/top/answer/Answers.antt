@@ -5,7 +5,7 @@ use Rattle.command_ends.proofs.MapLemmas.{ends_beside, ends_within}
 use Rattle.command_make.specs.Make.{GivesMake, make_words}
 use Rattle.command_merge.specs.Merge.{GivesMerge}
 use Rattle.command_merge.specs.MergeReading.{merge_words}
-use Rattle.command_replay.specs.Replay.{replay_words, serve_work}
+use Rattle.command_stores.specs.Replaying.{replay_words, serve_work}
 use Rattle.command_report.specs.Report.{GivesReport}
 use Rattle.command_report.specs.ReportReading.{report_words}
 use Rattle.command_run.specs.Run.{GivesRun}

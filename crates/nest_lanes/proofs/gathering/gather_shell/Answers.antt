@@ -24,13 +24,13 @@ pass-requires c =
     record {
       short = lost_short s.spec s.horizon s.fed.packets c.as_slice.result.now
           (c.as_slice.ensures.value ∙ c.in_ok-departed.ensures.lost) c.stands.ensures.stands.honest_fed.within
-          c.requires.short;
+          c.requires.state.2;
     }
 
 pub returns-clause-short : goal.returns-clause-short
 returns-clause-short c =
     let s = c.args.state in
     let departed = c.in_ok-departed.field-0.departed.items in
-    up_to_higher s.horizon 3600000 departed c.requires.short
+    up_to_higher s.horizon 3600000 departed c.requires.state.2
     (departed_within s.spec s.horizon s.fed.packets departed c.stands.ensures.stands.built
     c.in_ok-departed.ensures.departed c.stands.ensures.stands.honest_fed.within)

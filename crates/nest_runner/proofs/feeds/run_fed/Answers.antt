@@ -1,11 +1,13 @@
-use Rattle.std.proofs.Common.{◌≡◌, ℕ, rules, subst}
-use Rattle.packet_record.specs.declared.packet.Direction.TheVariants.{Up, Down}
+use Rattle.std.proofs.Common.{◌≡◌, rules, subst, sym}
 use Rattle.packet_record.specs.Rows.{entering}
 use Rattle.shell_workers.specs.declared.ends.WorkEnd.{WorkEnd}
 use Rattle.shell_workers.specs.declared.ends.WorkEnd.TheVariants.{Ended}
 use Rattle.shell_workers.specs.Ends.{IfEnded}
-use Rattle.nest_lanes.specs.Lanes.{HasCarried}
-use Rattle.nest_lanes.proofs.Chains.{carried_ended, still_wired}
+use Rattle.mark_channel.specs.Boths.{ByDirection, OfBoth}
+use Rattle.nest_lanes.specs.Lanes.{HasCarried, HasRun}
+use Rattle.nest_lanes.specs.inside.Lanes.{HasEnded}
+use Rattle.nest_runner.specs.inside.Lanes.{lanes_of}
+use Rattle.nest_runner.proofs.BothLanes.{both_ended, both_ran}
 use Rattle.nest_runner.proofs.feeds.run_fed.Goals as goal
 
 pub returns-clause-ended : goal.returns-clause-ended
@@ -13,32 +15,19 @@ returns-clause-ended g c =
     let rows = g.F.Feeds.fed_rows c.args.feeds.now in
     let ran = c.feed_lanes-end in
     let is : ran.result ≡ Ended = search rules in
-    let up = subst (λ (e : WorkEnd). IfEnded e (HasCarried (entering Up c.horizon.result rows) ran.new.up)) is
-    ran.ensures.up in
-    let down = subst (λ (e : WorkEnd). IfEnded e (HasCarried (entering Down c.horizon.result rows) ran.new.down)) is
-    ran.ensures.down in
-    (carried_ended _ _ up, carried_ended _ _ down)
+    let carried = subst (λ (e : WorkEnd). IfEnded e
+    (ByDirection (λ d lane. HasCarried (entering d c.horizon.result rows) lane) (lanes_of ran.new.lanes))) is
+    ran.ensures.carried in
+    subst (λ lanes. OfBoth HasEnded lanes) (sym c.into_both.ensures) (both_ended c.horizon.result rows _ carried)
 
-pub returns-clause-up : goal.returns-clause-up
-returns-clause-up g c =
+pub returns-clause-ran : goal.returns-clause-ran
+returns-clause-ran g c =
     let rows = g.F.Feeds.fed_rows c.args.feeds.now in
     let ran = c.feed_lanes-end in
     let is : ran.result ≡ Ended = search rules in
-    record {
-      wired = still_wired _ _ _ _ c.in_ok-up.ensures.wired ran.ensures.same.0;
-      carried = subst (λ (h : ℕ). HasCarried (entering Up h rows) ran.new.up) c.horizon.ensures.value
-          (subst (λ (e : WorkEnd). IfEnded e (HasCarried (entering Up c.horizon.result rows) ran.new.up)) is
-          ran.ensures.up);
-    }
-
-pub returns-clause-down : goal.returns-clause-down
-returns-clause-down g c =
-    let rows = g.F.Feeds.fed_rows c.args.feeds.now in
-    let ran = c.feed_lanes-end in
-    let is : ran.result ≡ Ended = search rules in
-    record {
-      wired = still_wired _ _ _ _ c.in_ok-down.ensures.wired ran.ensures.same.1;
-      carried = subst (λ (h : ℕ). HasCarried (entering Down h rows) ran.new.down) c.horizon.ensures.value
-          (subst (λ (e : WorkEnd). IfEnded e (HasCarried (entering Down c.horizon.result rows) ran.new.down)) is
-          ran.ensures.down);
-    }
+    let carried = subst (λ (e : WorkEnd). IfEnded e
+    (ByDirection (λ d lane. HasCarried (entering d c.horizon.result rows) lane) (lanes_of ran.new.lanes))) is
+    ran.ensures.carried in
+    subst (λ lanes. ByDirection (λ d lane. HasRun d c.args.nest.now rows lane) lanes) (sym c.into_both.ensures)
+    (both_ran c.args.nest.now c.horizon.result rows _ _ c.horizon.ensures.value c.in_ok-lanes.ensures.wired
+    ran.ensures.same carried)

@@ -28,12 +28,14 @@ gather_marked-requires-clause-unsent g c =
 pub gather_marked-requires-clause-up : goal.gather_marked-requires-clause-up
 gather_marked-requires-clause-up g c =
     let same = ap (λ (m : Marks). m.rows) c.in_ok-marking.ensures ∙ c.rows.ensures.rows ∙ c.run_fed.ensures.rows in
-    subst (λ (rows : List Row). HasRun Up c.args.nest.now rows c.in_ok-up.up) (sym same) c.in_ok-up.ensures.up
+    subst (λ (rows : List Row). HasRun Up c.args.nest.now rows c.in_ok-up.field-0.up) (sym same)
+    c.in_ok-up.ensures.ran.0
 
 pub gather_marked-requires-clause-down : goal.gather_marked-requires-clause-down
 gather_marked-requires-clause-down g c =
     let same = ap (λ (m : Marks). m.rows) c.in_ok-marking.ensures ∙ c.rows.ensures.rows ∙ c.run_fed.ensures.rows in
-    subst (λ (rows : List Row). HasRun Down c.args.nest.now rows c.in_ok-up.down) (sym same) c.in_ok-up.ensures.down
+    subst (λ (rows : List Row). HasRun Down c.args.nest.now rows c.in_ok-up.field-0.down) (sym same)
+    c.in_ok-up.ensures.ran.1
 
 pub returns-clause-value : goal.returns-clause-value
 returns-clause-value g c =

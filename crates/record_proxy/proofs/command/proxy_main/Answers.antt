@@ -1,71 +1,24 @@
 use Rattle.std.proofs.Common.{map, string_bytes}
-use Rattle.mm_base.proofs.Then.{CountsFaults-then}
 use Rattle.command_ends.specs.Answers.{cause_in}
-use Rattle.command_ends.proofs.TellLemmas.{tells, tells_answered, tells_done, tells_stopped}
-use Rattle.record_proxy.specs.Proxying.{proxy_work}
+use Rattle.command_ends.proofs.TopLemmas.{refuses_by_words, top_call}
+use Rattle.record_proxy.specs.Proxying.{net_counts, proxy_work}
 use Rattle.record_proxy.proofs.CommandLemmas.{ends_status, proxy_status, proxy_words_first, proxy_words_one}
-use Rattle.command_ends.proofs.AloneLemmas.{net_alone}
 use Rattle.record_proxy.proofs.command.proxy_main.Goals as goal
 
-pub returns-clause-done : goal.returns-clause-done
-returns-clause-done g c =
-    tells_done (proxy_work g.P.Conn.Link.view g.X.Conn.Link.view) _ _ _ _ (g.O.Sink.view c.answer-answer.new.out) _
-    (cause_in c.answer-answer.result) c.conclude.result c.answer-answer.ensures.ends c.conclude.ensures
-
-pub returns-clause-answered : goal.returns-clause-answered
-returns-clause-answered g c =
-    tells_answered (proxy_work g.P.Conn.Link.view g.X.Conn.Link.view) _ _ _ _ (g.O.Sink.view c.answer-answer.new.out) _
-    (cause_in c.answer-answer.result) c.conclude.result c.answer-answer.ensures.ends c.conclude.ensures
-
-pub returns-clause-stopped : goal.returns-clause-stopped
-returns-clause-stopped g c =
-    tells_stopped (proxy_work g.P.Conn.Link.view g.X.Conn.Link.view) _ _ _ _ (g.O.Sink.view c.answer-answer.new.out) _
-    (cause_in c.answer-answer.result) c.conclude.result c.answer-answer.ensures.ends c.conclude.ensures
+pub returns-clause-top : goal.returns-clause-top
+returns-clause-top g c =
+    let answered = c.answer-answer.ensures in
+    top_call (proxy_work g.P.Conn.Link.view g.X.Conn.Link.view) _ _ _ _ (g.O.Sink.view c.answer-answer.new.out) _
+    (cause_in c.answer-answer.result) c.conclude.result answered.ends c.conclude.ensures
+    net_counts (proxy_words_one (map string_bytes c.args.words.now)) (λ job rose. rose)
+    answered.alone answered.counts answered.out_counts answered.keeps
 
 pub returns-clause-usage : goal.returns-clause-usage
 returns-clause-usage g c =
-    let t = tells (proxy_work g.P.Conn.Link.view g.X.Conn.Link.view) _ _ _ _ (g.O.Sink.view c.answer-answer.new.out)
-    (g.O.Sink.view c.conclude.new.out) (cause_in c.answer-answer.result) c.conclude.result
-    c.answer-answer.ensures.ends c.conclude.ensures in
-    λ two. t.usage two (proxy_words_first (map string_bytes c.args.words.now))
-
-pub returns-clause-write_fault : goal.returns-clause-write_fault
-returns-clause-write_fault g c =
-    let t = tells (proxy_work g.P.Conn.Link.view g.X.Conn.Link.view) _ _ _ _ (g.O.Sink.view c.answer-answer.new.out)
-    (g.O.Sink.view c.conclude.new.out) (cause_in c.answer-answer.result) c.conclude.result
-    c.answer-answer.ensures.ends c.conclude.ensures in
-    t.write_fault
-
-pub returns-clause-net_fault : goal.returns-clause-net_fault
-returns-clause-net_fault g c =
-    let t = tells (proxy_work g.P.Conn.Link.view g.X.Conn.Link.view) _ _ _ _ (g.O.Sink.view c.answer-answer.new.out)
-    (g.O.Sink.view c.conclude.new.out) (cause_in c.answer-answer.result) c.conclude.result
-    c.answer-answer.ensures.ends c.conclude.ensures in
-    λ eight. (t.net_fault eight).1
-
-pub returns-clause-keeps : goal.returns-clause-keeps
-returns-clause-keeps g c =
-    let t = tells (proxy_work g.P.Conn.Link.view g.X.Conn.Link.view) _ _ _ _ (g.O.Sink.view c.answer-answer.new.out)
-    (g.O.Sink.view c.conclude.new.out) (cause_in c.answer-answer.result) c.conclude.result
-    c.answer-answer.ensures.ends c.conclude.ensures in
-    t.keeps
-
-pub returns-clause-by_words : goal.returns-clause-by_words
-returns-clause-by_words g c =
-    let t = tells (proxy_work g.P.Conn.Link.view g.X.Conn.Link.view) _ _ _ _ (g.O.Sink.view c.answer-answer.new.out)
-    (g.O.Sink.view c.conclude.new.out) (cause_in c.answer-answer.result) c.conclude.result
-    c.answer-answer.ensures.ends c.conclude.ensures in
-    t.by_words
-
-pub returns-clause-complete : goal.returns-clause-complete
-returns-clause-complete g c =
-    let t = tells (proxy_work g.P.Conn.Link.view g.X.Conn.Link.view) _ _ _ _ (g.O.Sink.view c.answer-answer.new.out)
-    (g.O.Sink.view c.conclude.new.out) (cause_in c.answer-answer.result) c.conclude.result
-    c.answer-answer.ensures.ends c.conclude.ensures in
-    λ m job. t.complete m job (proxy_words_one (map string_bytes c.args.words.now))
-
-pub returns-clause-out_counts : goal.returns-clause-out_counts
-returns-clause-out_counts g c = CountsFaults-then c.answer-answer.ensures.out_counts c.conclude.ensures.counts
+    refuses_by_words (proxy_work g.P.Conn.Link.view g.X.Conn.Link.view) _ _ _ _
+    (g.O.Sink.view c.answer-answer.new.out) (g.O.Sink.view c.conclude.new.out) (cause_in c.answer-answer.result)
+    c.conclude.result c.answer-answer.ensures.ends c.conclude.ensures
+    (proxy_words_first (map string_bytes c.args.words.now))
 
 pub returns-clause-statuses : goal.returns-clause-statuses
 returns-clause-statuses g c =
@@ -73,7 +26,3 @@ returns-clause-statuses g c =
     (ends_status g.P.Conn.Link.view g.X.Conn.Link.view (map string_bytes c.args.words.now) _ _
     (cause_in c.answer-answer.result) c.answer-answer.ensures.ends)
     c.conclude.ensures.status_is
-
-pub returns-clause-net_alone : goal.returns-clause-net_alone
-returns-clause-net_alone g c = net_alone (proxy_work g.P.Conn.Link.view g.X.Conn.Link.view) _ _ _
-    (cause_in c.answer-answer.result) c.answer-answer.ensures.ends

@@ -2,7 +2,7 @@ use Rattle.std.proofs.Common.{◌∙◌, List, [], ◌∷◌, ◌++◌, Some, Ok
 use Rattle.std.specs.Option.{option_map}
 use Rattle.mm_base.specs.Link.{giving}
 use Rattle.record_store.specs.declared.record.Record.{Record}
-use Rattle.record_proxy.specs.inside.Giving.{Breaks}
+use Rattle.replay_server.specs.Giving.{Breaks}
 use Rattle.record_proxy.specs.Links.{IsStored, links}
 use Rattle.record_proxy.specs.inside.Progress.{Progress, taken_of}
 use Rattle.record_proxy.specs.declared.ends.ProxyEnd.TheVariants.{Closed}
@@ -16,19 +16,19 @@ pub returns-in-Err-clause-goes_on : goal.returns-in-Err-clause-goes_on
 returns-in-Err-clause-goes_on g c =
     let x = c.args.exchange in
     λ start server before unread is stops due e p.
-    broken_response start _ server p.whole (taken_of c.args.talk.now) unread x.request p.interim x.response is e
+    broken_response start _ server p.whole (taken_of c.args.state.now) unread x.request p.interim x.response is e
     (due_stands p x.request refl) x.port before _ p.records_are stops _
     (subst (Breaks _ _) c.as_slice.ensures c.in-Err.ensures.err) c.in-Err.error c.refused.result c.refused.ensures
 
 pub returns-then-exchange-lt200-clause-goes_on : goal.returns-then-exchange-lt200-clause-goes_on
 returns-then-exchange-lt200-clause-goes_on g c =
     let x = c.args.exchange in
-    let talk = c.args.talk.now in
+    let state = c.args.state.now in
     let told = (g.L.Link.view c.args.client.now).told in
     λ start server before unread is stops due e p.
-    progress_due (record talk { due = Some x.request }) p.whole p.records_are x.request (p.interim ++ x.response ∷ [])
+    progress_due (record state { due = Some x.request }) p.whole p.records_are x.request (p.interim ++ x.response ∷ [])
     refl
-    (passed_interim start told server p.whole (taken_of talk) unread x.request p.interim x.response is e
+    (passed_interim start told server p.whole (taken_of state) unread x.request p.interim x.response is e
     (due_stands p x.request refl) _
     (c.in_default.ensures.ok ∙ ap (λ l. option_map (giving l) told) c.as_slice.ensures) c.if-exchange-lt200.true)
 
@@ -39,7 +39,7 @@ returns-in-Err-add-clause-goes_on g c =
     λ start server before unread is stops due e p.
     subst (λ (rs : List Record). IsStored x.port start (links (g.L.Link.view c.give.new.link).told server) before rs
     (Err c.in-Err-add.error)) (sym c.in-Err-add.ensures.err)
-    (final_unadded start told server p.whole (taken_of c.args.talk.now) unread x.request p.interim x.response is e
+    (final_unadded start told server p.whole (taken_of c.args.state.now) unread x.request p.interim x.response is e
     (due_stands p x.request refl) _
     (c.in_default.ensures.ok ∙ ap (λ l. option_map (giving l) told) c.as_slice.ensures) c.if-exchange-lt200.false x.port
     before c.args.store.now p.records_are c.in-Err-add.error)
@@ -51,7 +51,7 @@ returns-then-closes-clause-goes_on g c =
     λ start server before unread is stops due e p.
     subst (λ (rs : List Record). IsStored x.port start (links (g.L.Link.view c.give.new.link).told server) before rs
     (Ok Closed)) (sym c.in_default-add.ensures.ok)
-    (final_closes start told server p.whole (taken_of c.args.talk.now) unread x.request p.interim x.response is e
+    (final_closes start told server p.whole (taken_of c.args.state.now) unread x.request p.interim x.response is e
     (due_stands p x.request refl) _
     (c.in_default.ensures.ok ∙ ap (λ l. option_map (giving l) told) c.as_slice.ensures) c.if-exchange-lt200.false x.port
     before c.args.store.now p.records_are stops (sym c.either-closes.ensures ∙ c.if-closes.true))
@@ -59,15 +59,15 @@ returns-then-closes-clause-goes_on g c =
 pub returns-clause-goes_on : goal.returns-clause-goes_on
 returns-clause-goes_on g c =
     let x = c.args.exchange in
-    let talk = c.args.talk.now in
+    let state = c.args.state.now in
     let told = (g.L.Link.view c.args.client.now).told in
     λ start server before unread is stops due e p.
     let given = c.in_default.ensures.ok ∙ ap (λ l. option_map (giving l) told) c.as_slice.ensures in
     subst (λ (rs : List Record). Progress x.port start (links (g.L.Link.view c.give.new.link).told server) before rs
-    talk) (sym c.in_default-add.ensures.ok)
-    (progress_idle talk (p.whole ++ exchange x.request p.interim x.response ∷ [])
-    (records_push start told server p.whole (taken_of talk) unread x.request p.interim x.response is e
+    state) (sym c.in_default-add.ensures.ok)
+    (progress_idle state (p.whole ++ exchange x.request p.interim x.response ∷ [])
+    (records_push start told server p.whole (taken_of state) unread x.request p.interim x.response is e
     (due_stands p x.request refl) _ given c.if-exchange-lt200.false x.port before c.args.store.now p.records_are)
     due
-    (passed_final start told server p.whole (taken_of talk) unread x.request p.interim x.response is e
+    (passed_final start told server p.whole (taken_of state) unread x.request p.interim x.response is e
     (due_stands p x.request refl) _ given c.if-exchange-lt200.false (sym c.either-closes.ensures ∙ c.if-closes.false)))

@@ -7,12 +7,12 @@ use Rattle.record_proxy.proofs.pool.admit_all.Given as goal
 
 abbrev pub invariant-open : goal.invariant-open
 invariant-open g l = record {
-  moved : MovesPool g.K.Site.number g.P.Conn.Link.view g.X.Conn.Link.view
+  moved : MovesPool g.K.Site.port g.P.Conn.Link.view g.X.Conn.Link.view
       (net (g.P.Port.view l.fn.port) (g.X.Dialer.view l.fn.dialer)) l.fn.standing
       (net (g.P.Port.view l.port) (g.X.Dialer.view l.dialer)) l.standing;
   few : l.standing.begun ≤ most_recorded;
   heard : (g.P.Port.view l.port).listened ≡ (g.P.Port.view l.fn.port).listened;
-  asks : OnlyAsks g.K.Site.number (g.X.Dialer.view l.fn.dialer).asked (g.X.Dialer.view l.dialer).asked;
+  asks : OnlyAsks g.K.Site.port (g.X.Dialer.view l.fn.dialer).asked (g.X.Dialer.view l.dialer).asked;
   keeps : KeepsPort (g.P.Port.view l.fn.port) (g.P.Port.view l.port);
 }
 

@@ -9,7 +9,7 @@ returns-in_ok-finish_client-in-Err-Failed-clause-moves g c = λ before accepted 
     let dialed = c.in-Err-Failed.ensures in
     let client = c.finish_client.ensures in
     let one = c.with_one_lost.ensures.one in
-    pool_lost g.K.Site.number g.P.Conn.Link.view g.X.Conn.Link.view start
+    pool_lost g.K.Site.port g.P.Conn.Link.view g.X.Conn.Link.view start
     (net before (g.X.Dialer.view c.args.dialer.now))
     c.args.standing (g.P.Port.view c.args.port.now)
     (net (g.P.Port.view c.finish_client.new.port) (g.X.Dialer.view c.dial.new.self)) c.with_one_lost.result

@@ -5,7 +5,7 @@ use Rattle.record_proxy.proofs.pool.serve_port.Goals as goal
 
 pub returns-clause-serving : goal.returns-clause-serving
 returns-clause-serving g c =
-    let site = g.K.Site.number in
+    let site = g.K.Site.port in
     let client_view = g.P.Conn.Link.view in
     let server_view = g.X.Conn.Link.view in
     let port = g.P.Port.view c.args.port.now in

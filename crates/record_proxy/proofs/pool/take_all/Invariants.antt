@@ -6,7 +6,7 @@ use Rattle.record_proxy.proofs.pool.take_all.Given as goal
 
 abbrev pub invariant-away : goal.invariant-away
 invariant-away g l = record {
-  moved : MovesPool g.K.Site.number g.P.Conn.Link.view g.X.Conn.Link.view
+  moved : MovesPool g.K.Site.port g.P.Conn.Link.view g.X.Conn.Link.view
       (net (g.P.Port.view l.fn.port) (g.X.Dialer.view l.fn.dialer)) l.fn.standing
       (net (g.P.Port.view l.port) (g.X.Dialer.view l.dialer)) l.standing;
   begun : l.standing.begun ≡ l.fn.standing.begun;

@@ -9,7 +9,7 @@ returns-clause-moves g c = λ start pool.
     let passed = c.args.passed in
     let done = c.finish_dialed-done.ensures in
     let one = c.in_ok-with_one_back.ensures.one in
-    pool_back g.K.Site.number g.P.Conn.Link.view g.X.Conn.Link.view start (net port dialer)
+    pool_back g.K.Site.port g.P.Conn.Link.view g.X.Conn.Link.view start (net port dialer)
     (net (g.P.Port.view c.finish_client.new.port) (g.X.Dialer.view c.finish_dialed-done.new.dialer)) c.args.standing
     c.in_ok-with_one_back.field-0 passed.client passed.server passed.records passed.end pool passed.joined c.requires
     done.dialed done.counts c.finish_client.ensures.accepted c.in_ok-finish_client.ensures.finished

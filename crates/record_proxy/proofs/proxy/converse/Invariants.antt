@@ -7,11 +7,11 @@ use Rattle.record_proxy.proofs.proxy.converse.Given as goal
 abbrev pub invariant-steps : goal.invariant-steps
 invariant-steps g l = record {
   progress : Progress l.port (links (g.A.Link.view l.fn.client).told (g.B.Link.view l.fn.server).told)
-      (links (g.A.Link.view l.client).told (g.B.Link.view l.server).told) l.fn.store l.store l.talk;
+      (links (g.A.Link.view l.client).told (g.B.Link.view l.server).told) l.fn.store l.store l.state;
   client_counts : CountsLinkFaults (g.A.Link.view l.fn.client) (g.A.Link.view l.client);
   server_counts : CountsLinkFaults (g.B.Link.view l.fn.server) (g.B.Link.view l.server);
   room : 0 < length l.buf;
 }
 
 abbrev pub decreases-steps : goal.decreases-steps
-decreases-steps g l = to_do l.talk
+decreases-steps g l = to_do l.state

@@ -12,9 +12,9 @@ clients-init g c = record {
     passages = [];
     serves = serves_none c.args.job.now.site g.P.Conn.Link.view g.X.Conn.Link.view false _ _ _ _
         c.in_default.ensures.keeps c.in_default.ensures.finished c.in_default.ensures.accepted;
-    counts = c.nothing-served.ensures;
+    counts = c.none-served.ensures;
     few = omega arith;
-    within = let none = ap total c.nothing-served.ensures in omega (arith, none);
+    within = let none = ap total c.none-served.ensures in omega (arith, none);
   };
   few = c.args.job.now.few;
   listens = search rules;

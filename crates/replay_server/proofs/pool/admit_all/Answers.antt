@@ -6,7 +6,7 @@ use Rattle.replay_server.proofs.pool.admit_all.Goals as goal
 pub open-init : goal.open-init
 open-init g c =
     let store = g.K.Serving.store in
-    let site = g.K.Serving.site in
+    let site = g.K.Serving.site_port in
     let view = g.P.Conn.Link.view in
     let port = g.P.Port.view c.args.port.now in
     let new = c.new-standing.result in

@@ -5,7 +5,7 @@ use Rattle.replay_server.proofs.pool.admit_all.Given as goal
 
 abbrev pub invariant-open : goal.invariant-open
 invariant-open g l = record {
-  stands : InPool g.K.Serving.store g.K.Serving.site g.P.Conn.Link.view (g.P.Port.view l.fn.port)
+  stands : InPool g.K.Serving.store g.K.Serving.site_port g.P.Conn.Link.view (g.P.Port.view l.fn.port)
       (g.P.Port.view l.port) l.standing;
   few : l.standing.begun ≤ most_served;
   counted : IsCounted l.standing;

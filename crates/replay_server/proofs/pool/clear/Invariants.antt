@@ -4,7 +4,7 @@ use Rattle.replay_server.proofs.pool.clear.Given as goal
 
 abbrev pub invariant-done : goal.invariant-done
 invariant-done g l = record {
-  moved : MovesPool g.K.Serving.store g.K.Serving.site g.P.Conn.Link.view (g.P.Port.view l.fn.port) l.fn.standing
+  moved : MovesPool g.K.Serving.store g.K.Serving.site_port g.P.Conn.Link.view (g.P.Port.view l.fn.port) l.fn.standing
       (g.P.Port.view l.port) l.standing;
   counted : IsCounted l.standing;
   begun : l.standing.begun ≡ l.fn.standing.begun;

@@ -8,8 +8,8 @@ returns-in_default g c = λ start pool.
     let x = c.out.invariant.moved start pool in
     let s = c.out.standing in
     record {
-      serving = pool_lost g.K.Serving.store g.K.Serving.site g.P.Conn.Link.view start (g.P.Port.view c.out.port) s.begun
-          s.out s.ends x;
+      serving = pool_lost g.K.Serving.store g.K.Serving.site_port g.P.Conn.Link.view start
+          (g.P.Port.view c.out.port) s.begun s.out s.ends x;
       listened = x.listened_is;
       within = tt;
     }
@@ -23,8 +23,8 @@ returns g c = λ start pool.
     let none : s.out ≡ 0 = omega (arith, over) in
     let less : s.begun - s.out ≤ most_served = omega (arith, few) in
     record {
-      serving = pool_ends g.K.Serving.store g.K.Serving.site g.P.Conn.Link.view start (g.P.Port.view c.out.port) s.begun
-          s.out s.ends none c.out.invariant.stopped x;
+      serving = pool_ends g.K.Serving.store g.K.Serving.site_port g.P.Conn.Link.view start
+          (g.P.Port.view c.out.port) s.begun s.out s.ends none c.out.invariant.stopped x;
       listened = x.listened_is;
       within = tally_most (s.begun - s.out) most_served s.ends less c.out.invariant.counted;
     }

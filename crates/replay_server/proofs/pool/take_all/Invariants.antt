@@ -5,7 +5,7 @@ use Rattle.replay_server.proofs.pool.take_all.Given as goal
 
 abbrev pub invariant-out : goal.invariant-out
 invariant-out g l = record {
-  moved : MovesPool g.K.Serving.store g.K.Serving.site g.P.Conn.Link.view (g.P.Port.view l.fn.port) l.fn.standing
+  moved : MovesPool g.K.Serving.store g.K.Serving.site_port g.P.Conn.Link.view (g.P.Port.view l.fn.port) l.fn.standing
       (g.P.Port.view l.port) l.standing;
   stopped : IsStopped (g.P.Port.view l.port) l.standing;
   few : l.standing.begun ≤ most_served;

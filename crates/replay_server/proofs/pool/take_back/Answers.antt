@@ -4,7 +4,7 @@ use Rattle.replay_server.proofs.pool.take_back.Goals as goal
 pub returns-clause-pool : goal.returns-clause-pool
 returns-clause-pool g c = λ start pool.
     let store = g.K.Serving.store in
-    let site = g.K.Serving.site in
+    let site = g.K.Serving.site_port in
     let view = g.P.Conn.Link.view in
     let s = c.args.standing in
     let one = c.finished.ensures.one in

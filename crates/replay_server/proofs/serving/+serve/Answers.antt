@@ -10,15 +10,15 @@ use Rattle.replay_server.proofs.serving.+serve.Goals as goal
 
 pub serve_from-returns-then-most-eq0-clause-serving : goal.serve_from-returns-then-most-eq0-clause-serving
 serve_from-returns-then-most-eq0-clause-serving g t c =
-    serving_none _ _ _ false _ _ _ _ (keeps_same (g.P.Port.view c.args.port.now)) refl refl c.nothing.ensures
+    serving_none _ _ _ false _ _ _ _ (keeps_same (g.P.Port.view c.args.port.now)) refl refl c.none.ensures
     (inl c.if-most-eq0.true)
 
 pub serve_from-returns-in-Err-clause-serving : goal.serve_from-returns-in-Err-clause-serving
 serve_from-returns-in-Err-clause-serving g t c =
     let old = g.P.Port.view c.args.port.now in
     let new = g.P.Port.view c.accept.new.self in
-    let store = c.args.source.now.store.now in
-    let site = c.args.source.now.index.port in
+    let store = c.args.server.now.source.store.now in
+    let site = c.args.server.now.source.index.port in
     subst (λ (e : ServeError). IsServing store site g.P.Conn.Link.view false c.args.most old new (Err e))
     (sym c.refused.ensures)
     (serving_refused store site g.P.Conn.Link.view false c.args.most old new c.in-Err.error c.in-Err.ensures.keeps
@@ -32,12 +32,12 @@ serve_from-returns-in_default-clause-serving g t c =
     let told : (new.accepted ≡ old.accepted) × (new.drained ≡ true) = search rules in
     let some : 0 < c.args.most = let none = c.if-most-eq0.false in omega (arith, none) in
     serving_none _ _ _ false _ old new _ c.in-Ok.ensures.keeps c.in-Ok.ensures.finished told.0
-    c.nothing-in_default.ensures (inr (some, told.1))
+    c.none-in_default.ensures (inr (some, told.1))
 
 pub serve_from-returns-clause-serving : goal.serve_from-returns-clause-serving
 serve_from-returns-clause-serving g t c =
-    let store = c.args.source.now.store.now in
-    let site = c.args.source.now.index.port in
+    let store = c.args.server.now.source.store.now in
+    let site = c.args.server.now.source.index.port in
     let view = g.P.Conn.Link.view in
     let before = g.P.Port.view c.args.port.now in
     let asked = g.P.Port.view c.accept.new.self in

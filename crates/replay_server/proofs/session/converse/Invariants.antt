@@ -5,11 +5,11 @@ use Rattle.replay_server.proofs.session.converse.Given as goal
 
 abbrev pub invariant-steps : goal.invariant-steps
 invariant-steps g l = record {
-  progress : Progress l.source.store.now l.source.index.port (g.L.Link.view l.fn.link).told
-      (g.L.Link.view l.link).told l.talk;
+  progress : Progress l.server.source.store.now l.server.source.index.port (g.L.Link.view l.fn.link).told
+      (g.L.Link.view l.link).told l.state;
   counts : CountsLinkFaults (g.L.Link.view l.fn.link) (g.L.Link.view l.link);
   room : 0 < length l.buf;
 }
 
 abbrev pub decreases-steps : goal.decreases-steps
-decreases-steps g l = to_do l.talk
+decreases-steps g l = to_do l.state

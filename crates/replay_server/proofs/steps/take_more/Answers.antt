@@ -6,20 +6,20 @@ use Rattle.replay_server.proofs.steps.take_more.Goals as goal
 pub returns-in-Err-clause-goes_on : goal.returns-in-Err-clause-goes_on
 returns-in-Err-clause-goes_on g c =
     λ store site start p whole may. subst (IsServed store site start _) (sym c.refused.ensures)
-    (flush_spilt start _ c.args.talk.now p _ c.in-Err.ensures.err c.in-Err.error)
+    (flush_spilt start _ c.args.state.now p _ c.in-Err.ensures.err c.in-Err.error)
 
-pub returns-then-talk-ge-MOST-clause-goes_on : goal.returns-then-talk-ge-MOST-clause-goes_on
-returns-then-talk-ge-MOST-clause-goes_on g c =
+pub returns-then-state-ge-MOST-clause-goes_on : goal.returns-then-state-ge-MOST-clause-goes_on
+returns-then-state-ge-MOST-clause-goes_on g c =
     λ store site start p whole may.
-    is_full start _ _ (flushed_on start _ c.args.talk.now p _ c.flush.new.gathered c.args.talk.now.reads
+    is_full start _ _ (flushed_on start _ c.args.state.now p _ c.flush.new.gathered c.args.state.now.reads
     c.in_default.ensures.pours) c.in_default.ensures.ok whole may
-    c.if-talk-ge-MOST.true
+    c.if-state-ge-MOST.true
 
 pub returns-clause-goes_on : goal.returns-clause-goes_on
 returns-clause-goes_on g c =
     λ store site start p whole may.
     c.read_more.ensures.goes_on store site start
-    (flushed_on start _ c.args.talk.now p _ c.flush.new.gathered _ c.in_default.ensures.pours)
+    (flushed_on start _ c.args.state.now p _ c.flush.new.gathered _ c.in_default.ensures.pours)
     c.in_default.ensures.ok whole may
 
 pub read_more-requires-clause-few : goal.read_more-requires-clause-few

@@ -1,26 +1,13 @@
-use Rattle.std.proofs.Common.{[]}
-use Rattle.packet_record.specs.declared.packet.Direction.TheVariants.{Up, Down}
-use Rattle.row_source.proofs.Streamed.{piece_rises, piece_sent}
+use Rattle.row_source.proofs.Streamed.{pieces_rise, pieces_sent}
 use Rattle.row_source.proofs.streaming.stream_piece.Goals as goal
 
 pub send_rows-sent-requires-clause-rises : goal.send_rows-sent-requires-clause-rises
 send_rows-sent-requires-clause-rises g c =
-    let old = c.args.text.now.gathered.rows in
-    let new = c.push.new.self.gathered.rows in
-    let done = c.rows-done.ensures.rows in
-    let now = c.rows-rows.ensures in (
-      piece_rises Up c.args.horizon _ old new _ _ _ done now.rows c.requires.up c.push.ensures.grows now.schedule,
-      piece_rises Down c.args.horizon _ old new _ _ _ done now.rows c.requires.down c.push.ensures.grows now.schedule,
-    )
+    let now = c.rows-rows.ensures in
+    pieces_rise c.args.horizon c.args.sent _ _ _ _ _ c.rows-done.ensures.rows now.rows c.requires.sent
+    c.in_ok-read.ensures.piece.grows now.schedule
 
-pub returns-clause-up : goal.returns-clause-up
-returns-clause-up g c =
-    let old = c.args.text.now.gathered.rows in
-    piece_sent Up c.args.horizon _ old c.push.new.self.gathered.rows _ _ _ c.rows-done.ensures.rows
-    c.rows-rows.ensures.rows c.push.ensures.grows (c.send_rows-sent.ensures.up [] old c.requires.up)
-
-pub returns-clause-down : goal.returns-clause-down
-returns-clause-down g c =
-    let old = c.args.text.now.gathered.rows in
-    piece_sent Down c.args.horizon _ old c.push.new.self.gathered.rows _ _ _ c.rows-done.ensures.rows
-    c.rows-rows.ensures.rows c.push.ensures.grows (c.send_rows-sent.ensures.down [] old c.requires.down)
+pub returns-clause-sent : goal.returns-clause-sent
+returns-clause-sent g c =
+    pieces_sent c.args.horizon c.args.sent c.send_rows-sent.result _ _ _ _ _ _ c.rows-done.ensures.rows
+    c.rows-rows.ensures.rows c.in_ok-read.ensures.piece.grows c.requires.sent c.send_rows-sent.ensures.sent

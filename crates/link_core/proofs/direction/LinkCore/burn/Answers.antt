@@ -8,9 +8,9 @@ pub returns-clause-goes_on : goal.returns-clause-goes_on
 returns-clause-goes_on c =
     let old = c.self.inside.parts in
     let new = c.burn.new.self in
-    subst (λ (v : Link). OnlyGoesOn v (made new.line.queue.spec new.opportunities new.burnt new.arrived.come))
+    subst (λ (v : Link). OnlyGoesOn v (made new.buffer.queue.spec new.opportunities new.burnt new.arrived.come))
     c.self.view_is
-    (only_burn old.line.queue.spec new.line.queue.spec old.opportunities new.opportunities old.burnt new.burnt
+    (only_burn old.buffer.queue.spec new.buffer.queue.spec old.opportunities new.opportunities old.burnt new.burnt
     old.arrived.come new.arrived.come
     c.burn.result (ready _ _ _ _ _ _ _ _ _ _ _ c.self.invariant.0) c.burn.ensures.link.spec
     c.burn.ensures.link.opportunities (ap (λ (a : Arriving). a.come) c.burn.ensures.arrived) c.burn.ensures.burnt c.burn.ensures.err)

@@ -15,7 +15,7 @@ enter-requires g c =
     let m = t.moment in
     let os = span_opps now.opportunities in
     let due = c.count_from-due.ensures.count in
-    let same : span_opps c.burn_to.new.self.opportunities ≡ os = ap span_opps (c.burn_to.ensures.opportunities
+    let same : span_opps c.burn_to.new.self.opportunities ≡ os = ap span_opps (c.burn_to.ensures.link.opportunities
     ∙ c.reserve.ensures.link.opportunities ∙ c.count_from-due.ensures.same) in
     let end : c.burn_to.new.self.burnt ≡ length (up_to m os) = omega arith in
     let arrived : c.burn_to.new.self.arrived ≡ now.arrived = c.burn_to.ensures.arrived ∙ c.reserve.ensures.arrived in
@@ -27,23 +27,18 @@ enter-requires g c =
     let here = counted m os c.requires.0.order in (
       c.burn_to.ensures.sound,
       (
-        omega arith,
-        (
-          subst (λ (a : Arriving). AreUpTo m a.come) (sym arrived) order,
-          (
-            rw (end, same) here.0,
-            (
-              rw (end, same) here.1,
-              (
-                search rules,
-                (
-                  subst (λ (a : Arriving). a.coming ≡ t ∷ drop 1 a.coming) (sym arrived) c.requires.1.1,
-                  omega (arith, c.in_ok-reserve.ensures.spare, c.burn_to.ensures.spare),
-                ),
-              ),
-            ),
-          ),
-        ),
+        record {
+          next = subst (λ (a : Arriving). a.coming ≡ t ∷ drop 1 a.coming) (sym arrived) c.requires.1.1;
+          short = omega arith;
+          order = subst (λ (a : Arriving). AreUpTo m a.come) (sym arrived) order;
+          burnt = rw (end, same) here.0;
+          later = rw (end, same) here.1;
+        },
+        record {
+          queue = c.burn_to.ensures.room.queue;
+          departures = c.burn_to.ensures.room.departures;
+          entries = omega (arith, c.burn_to.ensures.room.entries);
+        },
       ),
     )
 
@@ -54,7 +49,7 @@ returns-clause-playable g c =
     let os = span_opps now.opportunities in
     let due = c.count_from-due.ensures.count in
     let opps_e : c.enter.new.self.opportunities ≡ now.opportunities =
-    c.enter.ensures.link.opportunities ∙ c.burn_to.ensures.opportunities ∙ c.reserve.ensures.link.opportunities
+    c.enter.ensures.link.opportunities ∙ c.burn_to.ensures.link.opportunities ∙ c.reserve.ensures.link.opportunities
     ∙ c.count_from-due.ensures.same
     in
     let burnt_e : c.enter.new.self.burnt ≡ count_to os m = omega arith in

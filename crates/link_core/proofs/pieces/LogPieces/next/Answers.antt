@@ -27,7 +27,7 @@ pub returns-clause-err : goal.returns-clause-err
 returns-clause-err c =
     let was = c.let_go.ensures in
     let same_rest : rest_of c.self.inside.last c.let_go.new.self ≡ rest_of c.self.inside.last c.self.inside.parts =
-    rw (was.opportunities, was.burnt, was.arrived, was.line) in
+    rw (was.opportunities, was.burnt, was.arrived, was.buffer) in
     let same : c.fill.new.self.log.entries ++ rest_of c.self.inside.last c.fill.new.self ≡ c.args.self.now.rest =
     c.fill.ensures.same
     ∙ ap (λ (es : List Entry). es ++ rest_of c.self.inside.last c.let_go.new.self) was.entries

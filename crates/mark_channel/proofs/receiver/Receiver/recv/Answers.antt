@@ -7,5 +7,5 @@ returns-in-Some-clause-flow g c = search rules
 pub returns-in-Some-clause-items : goal.returns-in-Some-clause-items
 returns-in-Some-clause-items g c = search rules
 
-pub loop-preserved : goal.loop-preserved
-loop-preserved g c = search rules
+pub loop-look-preserved : goal.loop-look-preserved
+loop-look-preserved g c = search rules

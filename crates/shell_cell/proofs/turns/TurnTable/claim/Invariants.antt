@@ -1,10 +1,10 @@
 use Rattle.std.proofs.Common.{◌≡◌}
 use Rattle.shell_cell.proofs.turns.TurnTable.claim.Given as goal
 
-abbrev pub invariant-loop : goal.invariant-loop
-invariant-loop g l = (l.seat.table_id ≡ l.initial.seat.table_id) × (l.seat.id ≡ l.initial.seat.id)
+abbrev pub invariant-loop-look : goal.invariant-loop-look
+invariant-loop-look g l = (l.seat.table_id ≡ l.initial.seat.table_id) × (l.seat.id ≡ l.initial.seat.id)
     × (l.seat.me ≡ l.initial.seat.me)
 
-abbrev pub invariant-loop-2 : goal.invariant-loop-2
-invariant-loop-2 g l = (l.seat.table_id ≡ l.initial.seat.table_id) × (l.seat.id ≡ l.initial.seat.id)
+abbrev pub invariant-loop : goal.invariant-loop
+invariant-loop g l = (l.seat.table_id ≡ l.initial.seat.table_id) × (l.seat.id ≡ l.initial.seat.id)
     × (l.seat.me ≡ l.initial.seat.me)

@@ -1,6 +1,0 @@
--- a call that is interrupted writes nothing
-use Rattle.std.specs.Io.KnownBytes.{Keeps}
-use Rattle.interrupted_calls.proofs.calls.write_once.Given as goal
-
-abbrev pub invariant-calls : goal.invariant-calls
-invariant-calls g l = Keeps (g.W.Write.contents l.initial.writer) (g.W.Write.contents l.writer)

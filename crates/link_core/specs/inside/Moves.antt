@@ -1,0 +1,27 @@
+-- What the steps of a link want of its parts.
+use Rattle.std.specs.Prelude.{◌≡◌, ℕ, ◌+◌, ◌<◌, ◌≤◌, [], ◌∷◌, length, take, drop, vec_len, vec_capacity}
+use Rattle.packet_record.specs.declared.packet.Timed.{Timed}
+use Rattle.packet_record.specs.Moments.{AreUpTo}
+use Rattle.trace_reader.specs.Orders.{Each}
+use Rattle.link_core.specs.declared.parts.Parts.{Parts}
+use Rattle.link_core.specs.views.Span.{span_opps}
+use Rattle.link_core.specs.inside.State.{inside_buffer}
+use Rattle.link_core.specs.inside.Sound.{IsSound}
+
+-- a link that has dealt with each of its arrivals so far
+abbrev pub IsSettled : Parts → Type 0
+IsSettled c = IsSound c × (c.arrived.coming ≡ []) × AreUpTo c.opportunities.horizon c.arrived.come
+
+-- There is room to burn opportunities until `end` are burnt, and then to let one packet in, without an allocation.
+pub record HasRoomTo (end : ℕ) (c : Parts) : Type 0 where
+  pub queue : 1 ≤ c.buffer.queue.spare
+  pub departures : length (inside_buffer c.buffer) + vec_len c.departed ≤ vec_capacity c.departed
+  pub entries : end + length (inside_buffer c.buffer) + 2 ≤ c.log.spare + c.burnt
+
+-- the packet is the next to come, and the opportunities up to its moment are burnt, and no others
+pub record CanEnter (t : Timed) (c : Parts) : Type 0 where
+  pub next : c.arrived.coming ≡ t ∷ drop 1 c.arrived.coming
+  pub short : t.moment ≤ 9999999999
+  pub order : AreUpTo t.moment c.arrived.come
+  pub burnt : Each (λ o. o.moment ≤ t.moment) (take c.burnt (span_opps c.opportunities))
+  pub later : Each (λ o. t.moment < o.moment) (drop c.burnt (span_opps c.opportunities))

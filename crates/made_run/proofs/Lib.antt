@@ -1,4 +1,0 @@
-pub mod Totals
-pub mod LoadLemmas
-pub mod TraceLemmas
-pub mod WordLemmas

@@ -1,3 +1,0 @@
-pub mod Made
-pub mod Summaries
-pub mod SummaryText

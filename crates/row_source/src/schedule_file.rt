@@ -1,0 +1,62 @@
+// The file of a schedule, as it is read piece by piece.
+ghost use Rattle.std.specs.Prelude.{◌≡◌, ◌<◌, IfOk};
+ghost use Rattle.row_source.specs.inside.Reading.{HasReadPiece, IsReading};
+ghost use Rattle.row_source.specs.Reading.{IsUnread, ReadsFile};
+
+use mm_base::{Disk, DiskError, FilePlace, piece_buffer, read_piece};
+use packet_record::ScheduleText;
+use std::alloc::Global;
+use text_base::{OutOfMemory, PieceReader};
+
+/// A schedule's file that is read piece by piece: how far it was read, and what its text has given.
+#[derive(Drop)]
+pub struct ScheduleFile<'a> {
+    /// How far it was read.
+    pub place: FilePlace<'a>,
+    /// Room for a piece.
+    pub piece: Vec<u8>,
+    /// What its text has given.
+    pub text: ScheduleText,
+}
+
+impl<'a> ScheduleFile<'a> {
+    /// A file of `size` bytes of which nothing was read. Returns `OutOfMemory` where an allocation fails.
+    pub fn new(alloc: Global, name: &'a str, size: u64) -> Result<ScheduleFile<'a>, OutOfMemory>
+        ensures name { IfOk result (λ file. file.place.name.now ≡ name.now) }
+        ensures size { IfOk result (λ file. file.place.size ≡ size) }
+        ensures unread { IfOk result (λ file. IsUnread file) }
+    {
+        let text = ScheduleText::new(alloc, size as usize)?;
+        let piece = piece_buffer(alloc, size)?;
+        let place = FilePlace { name, at: 0, size };
+        Ok(ScheduleFile { place, piece, text })
+    }
+
+    // Reads the next piece, and adds the lines that end in it. Returns how many bytes it has.
+    pub(crate) fn read_on<D: Disk>(&mut self, disk: &mut D) -> Result<u64, DiskError>
+        requires reading { IsReading self.old × (self.old.place.at < self.old.place.size) }
+        ensures piece { IfOk result (λ read. HasReadPiece (D.view disk.old).files read self.old self.new) }
+        ensures reads { ReadsFile (D.view disk.old) (D.view disk.new) self.old.place.name.now result }
+    {
+        let read = read_piece(disk, &self.place, self.piece.as_mut_slice())?;
+        self.text.push(&self.piece[..read]);
+        self.place.at += read as u64;
+        Ok(read as u64)
+    }
+
+    // Reads the rest of the file, and looks at no byte.
+    pub(crate) fn skip<D: Disk>(&mut self, disk: &mut D) -> Result<(), DiskError>
+        requires reading { IsReading self.old }
+        ensures text { self.new.text ≡ self.old.text }
+        ensures reads { ReadsFile (D.view disk.old) (D.view disk.new) self.old.place.name.now result }
+    {
+        'pieces: while self.place.at < self.place.size {
+            let read = read_piece(disk, &self.place, self.piece.as_mut_slice())?;
+            if read == 0 {
+                break;
+            }
+            self.place.at += read as u64;
+        }
+        Ok(())
+    }
+}

@@ -1,0 +1,70 @@
+// The file of a store, written record by record.
+ghost use Rattle.std.specs.Prelude.{◌≡◌, ◌≤◌, ◌<◌, ℕ, length, take, IfErr, OnOk, OnErr};
+ghost use Rattle.mm_base.specs.Disk.{OnlyWrites, HasWriteCause};
+ghost use Rattle.mm_base.specs.Files.{holding, lengthened};
+ghost use Rattle.record_store.specs.StoreText.{store_text};
+ghost use Rattle.record_store.specs.declared.header.Form.TheVariants as forms;
+ghost use Rattle.command_ends.specs.Outputs.{HoldsSome, holding_all, named_text};
+ghost use Rattle.command_ends.specs.Stops.{StopsWriting};
+ghost use Rattle.store_files.specs.Written.{store_file};
+
+use command_ends::{Cause, file_written};
+use mm_base::{Disk, DiskError};
+use record_store::{Store, StorePieces};
+use std::alloc::Global;
+
+// Appends `bytes` to a file. Where it stops, a front of them was appended, but not all.
+fn append_all<D: Disk>(disk: &mut D, name: &str, bytes: &[u8]) -> Result<(), DiskError>
+    ensures ok { OnOk result ((D.view disk.new).files ≡ lengthened name.now bytes.now (D.view disk.old).files) }
+    ensures err { OnErr result ((n : ℕ) × (n < length bytes.now)
+        × ((D.view disk.new).files ≡ lengthened name.now (take n bytes.now) (D.view disk.old).files)) }
+    ensures only_writes { OnlyWrites (D.view disk.old) (D.view disk.new) }
+    ensures cause { HasWriteCause (D.view disk.old) (D.view disk.new) result }
+{
+    let mut at = 0;
+    while at < bytes.len() {
+        at += disk.append(name, &bytes[at..])?;
+    }
+    Ok(())
+}
+
+// Makes the file `name` hold a store's text in form 2. Where it stops, the file is as before, or holds a front of the
+// text, but not all.
+fn save_store<D: Disk>(
+    alloc: Global,
+    disk: &mut D,
+    name: &str,
+    store: &Store,
+) -> Result<(), DiskError>
+    ensures ok { OnOk result ((D.view disk.new).files ≡ holding name.now (store_text forms.Two store.now)
+        (D.view disk.old).files) }
+    ensures err { OnErr result (HoldsSome (named_text name.now (store_text forms.Two store.now)) (D.view disk.old).files
+        (D.view disk.new).files) }
+    ensures only_writes { OnlyWrites (D.view disk.old) (D.view disk.new) }
+    ensures cause { HasWriteCause (D.view disk.old) (D.view disk.new) result }
+{
+    let mut pieces = StorePieces::new(alloc, store);
+    disk.create(name)?;
+    'pieces: while pieces.next()? {
+        append_all(disk, name, pieces.piece())?;
+    }
+    Ok(())
+}
+
+/// Writes the file of a store, in form 2. Where writing stops, the file is as before or holds a front of its text. The
+/// cause is a fault of the disk or out of memory.
+pub fn write_store<D: Disk>(
+    alloc: Global,
+    disk: &mut D,
+    name: &str,
+    store: &Store,
+) -> Result<(), Cause>
+    ensures ok { OnOk result ((D.view disk.new).files ≡ holding_all (store_file name.now store.now)
+        (D.view disk.old).files) }
+    ensures stopped { IfErr result (λ cause. StopsWriting (store_file name.now store.now) (D.view disk.old)
+        (D.view disk.new) cause) }
+    ensures only_writes { OnlyWrites (D.view disk.old) (D.view disk.new) }
+{
+    let written = save_store(alloc, disk, name, store);
+    file_written(alloc, name, written)
+}
