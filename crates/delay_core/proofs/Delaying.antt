@@ -14,10 +14,6 @@ delayed-append ms h xs ys =
     let test = λ (a : Timed). nat_le (a.moment + ms) h in
     ap (map (later ms)) (filter-append test xs ys) ∙ map-append (later ms) (filter test xs) (filter test ys)
 
-pub kept_inside-append : (ms h : ℕ) (xs ys : List Timed) → kept_inside ms h (xs ++ ys) ≡ kept_inside ms h xs
-    ++ kept_inside ms h ys
-kept_inside-append ms h xs ys = filter-append (λ (a : Timed). not (nat_le (a.moment + ms) h)) xs ys
-
 from_kept : (low ms : ℕ) (b : Bool) (t : Timed) (us : List Timed) → (b ≡ true → low ≤ t.moment + ms)
     → AreFrom low (map (later ms) us) → AreFrom low (map (later ms) (cond b (t ∷ us) us))
 from_kept low ms true t us f h = (f refl, h)

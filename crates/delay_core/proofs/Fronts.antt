@@ -3,7 +3,7 @@ use Rattle.std.proofs.Common.{◌≡◌, ℕ, zero, suc, ◌+◌, ◌≤◌, ◌
 use Rattle.std.proofs.Common.{length, get_or, set, take, drop, map, filter, nat_le, ap, sym, ◌∙◌, refl, append_assoc}
 use Rattle.std.proofs.Common.{arith}
 use Rattle.std.specs.List.Sorted.{IsNonDecreasingBy, IsPartitionedBy}
-use Rattle.std.proofs.lemmas.List.{append-nil, drop_all, drop_more, get_or_at, length-append, length-drop, length-map}
+use Rattle.std.proofs.lemmas.List.{append-nil, drop_all, drop_more, get_or_at, length-map}
 use Rattle.std.proofs.lemmas.List.{length-take-le, map-append, set_at, take_all, take_more}
 use Rattle.std.proofs.lemmas.List.Sorted.{IsPartitionedBy-leb}
 use Rattle.packet_record.specs.declared.packet.Timed.{Timed}
@@ -60,11 +60,6 @@ partly ms ts i = map (later ms) (take i ts) ++ drop i ts
 
 front_long : (ms : ℕ) (ts : List Timed) (i : ℕ) → i ≤ length ts → length (map (later ms) (take i ts)) ≡ i
 front_long ms ts i le = length-map (take i ts) (later ms) ∙ length-take-le i ts le
-
-pub length_partly : (ms : ℕ) (ts : List Timed) (i : ℕ) → i ≤ length ts → length (partly ms ts i) ≡ length ts
-unfolding partly
-length_partly ms ts i le = let a = length-append (map (later ms) (take i ts)) (drop i ts)
-    in let b = front_long ms ts i le in let d = length-drop i ts in omega arith
 
 -- the next of them
 next_is : (ms : ℕ) (ts : List Timed) (i : ℕ) (d : Timed) → i < length ts → partly ms ts i ≡ map (later ms) (take i ts)

@@ -45,10 +45,6 @@ counted_start m (suc b) (o ∷ opps) le a =
     let e : length (up_to m (o ∷ opps)) ≡ suc (length (up_to m opps)) = ap length (up_to_in m o opps a.0) in
     omega arith
 
-pub counted_all : (m b : ℕ) (opps : List Opportunity) → b ≤ length opps → All (λ o. o.moment ≤ m) (take b opps)
-    → b ≤ length (up_to m opps)
-counted_all m b opps le a = counted_start m b opps le (each_from_all (λ o. o.moment ≤ m) (take b opps) a)
-
 -- no more are up to the moment where the next one is after it
 pub counted_end : (m b : ℕ) (opps : List Opportunity) (o : Opportunity) → AreRising opps → Some o ≡ slice_get opps b
     → m < o.moment → length (up_to m opps) ≤ b

@@ -26,25 +26,6 @@ up_to_later m n ts a le = up_to_higher m n ts le a
 abbrev IsFed : Link → Link → Timed → Type 0
 IsFed old new t = new ≡ record old { burnt = count_to (opps_of old) t.moment; arrivals = old.arrivals ++ t ∷ [] }
 
-fed_order : (old new : Link) (t : Timed) (last : ℕ) → IsFed old new t → AreUpTo last old.arrivals → last ≤ t.moment
-    → AreUpTo t.moment new.arrivals
-fed_order old new t last e a le = subst (λ (v : Link). AreUpTo t.moment v.arrivals) (sym e)
-    (up_to_push last old.arrivals t a le)
-
-fed_burnt : (old new : Link) (t : Timed) → IsFed old new t → new.burnt ≤ count_to (opps_of new) t.moment
-fed_burnt old new t e = subst (λ (v : Link). v.burnt ≤ count_to (opps_of v) t.moment) (sym e) (omega arith)
-
-pub order_after : (old new : Link) (t : Timed) (last : ℕ) (r : Result (Unit {0}) OutOfMemory)
-    → OnOk r (IsFed old new t) → AreUpTo last old.arrivals → last ≤ t.moment
-    → OnOk r (AreUpTo t.moment new.arrivals)
-order_after old new t last (Ok u) e a le = fed_order old new t last e a le
-order_after old new t last (Err u) e a le = tt
-
-pub burnt_after : (old new : Link) (t : Timed) (r : Result (Unit {0}) OutOfMemory) → OnOk r (IsFed old new t)
-    → OnOk r (new.burnt ≤ count_to (opps_of new) t.moment)
-burnt_after old new t (Ok u) e = fed_burnt old new t e
-burnt_after old new t (Err u) e = tt
-
 pub rise_push : (last : ℕ) (ts : List Timed) (t : Timed) → Rise ts → AreUpTo last ts → last ≤ t.moment
     → Rise (ts ++ t ∷ [])
 rise_push last ts t r a le = rise-append t.moment ts (t ∷ []) r (up_to_higher last t.moment ts le a) (omega arith, tt)

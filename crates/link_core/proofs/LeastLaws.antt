@@ -145,24 +145,3 @@ departures_least kept (o ∷ earlier) f =
     let e' : sent kept (o ∷ earlier) ≡ sent kept (o ∷ earlier) - 0 = omega arith in
     ap (λ (xs : List Timed). xs ++ map (moved_to o.moment) (ended kept o earlier)) (departures_least kept earlier f.1)
     ∙ sym (departing_more kept o earlier 0 (sent kept earlier) (sent kept (o ∷ earlier)) kept f e e')
-
--- an infinite queue keeps all
-pub entered_infinite : (q : QueueSpec) (n : ℕ) (kept : List Timed) (t : Timed) → q.kind ≡ Infinite
-    → entered q n kept t ≡ kept ++ t ∷ []
-entered_infinite q n kept t e =
-    ap (λ (ws : List Timed). ahead n kept ++ ws) (by_infinite q (waiting n kept) t e).0
-    ∙ sym (append_assoc (ahead n kept) (waiting n kept) (t ∷ []))
-    ∙ ap (λ (ks : List Timed). ks ++ t ∷ []) (ahead_waiting n kept)
-
--- droptail keeps all, or all but the new one
-pub entered_tail_in : (q : QueueSpec) (n : ℕ) (kept : List Timed) (t : Timed) → q.kind ≡ DropTail
-    → fits q (waiting n kept ++ t ∷ []) ≡ true → entered q n kept t ≡ kept ++ t ∷ []
-entered_tail_in q n kept t e f =
-    ap (λ (ws : List Timed). ahead n kept ++ ws) (by_tail_in q (waiting n kept) t e f).0
-    ∙ sym (append_assoc (ahead n kept) (waiting n kept) (t ∷ []))
-    ∙ ap (λ (ks : List Timed). ks ++ t ∷ []) (ahead_waiting n kept)
-
-pub entered_tail_out : (q : QueueSpec) (n : ℕ) (kept : List Timed) (t : Timed) → q.kind ≡ DropTail
-    → fits q (waiting n kept ++ t ∷ []) ≡ false → entered q n kept t ≡ kept
-entered_tail_out q n kept t e f = ap (λ (ws : List Timed). ahead n kept ++ ws)
-    (by_tail_out q (waiting n kept) t e f).0 ∙ ahead_waiting n kept

@@ -316,15 +316,3 @@ pub link_log_burnt : (q : QueueSpec) (os : List Opportunity) (b b' : ℕ) (l : L
     → Rise l → AreCovered os b l
     → (rest : List Entry) × (link_log q (take b' os) l ≡ link_log q (take b os) l ++ rest)
 link_log_burnt q os b b' l r le rl cov = let g = (link_burnt q os 0 b b' l r le rl cov).log in (g.more, g.is)
-
-pub link_lost_fed : (q : QueueSpec) (os : List Opportunity) (b b' bound : ℕ) (l cs : List Timed) → AreRising os
-    → b ≤ b' → b ≤ count_to os bound → AreCovered os b l
-    → Rise l → AreUpTo bound l → AreFrom bound cs → Rise cs → (rest : List Timed)
-    × (link_lost q (take b' os) (l ++ cs) ≡ link_lost q (take b os) l ++ rest)
-link_lost_fed q os b b' bound l cs r le lic cov rl up from rc = let g =
-    (link_fed q os 0 b b' bound l cs r le lic cov rl up from rc).lost in (g.more, g.is)
-
-pub link_lost_burnt : (q : QueueSpec) (os : List Opportunity) (b b' : ℕ) (l : List Timed) → AreRising os → b ≤ b'
-    → Rise l → AreCovered os b l
-    → (rest : List Timed) × (link_lost q (take b' os) l ≡ link_lost q (take b os) l ++ rest)
-link_lost_burnt q os b b' l r le rl cov = let g = (link_burnt q os 0 b b' l r le rl cov).lost in (g.more, g.is)

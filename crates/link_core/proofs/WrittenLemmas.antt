@@ -8,11 +8,6 @@ pub written_append : (kept : Bool) (xs ys : List Entry) → written kept (xs ++ 
 written_append true xs ys = refl
 written_append false xs ys = refl
 
-pub written_cons : (kept : Bool) (e : Entry) (es : List Entry) → written kept (e ∷ [])
-    ++ written kept es ≡ written kept (e ∷ es)
-written_cons true e es = refl
-written_cons false e es = refl
-
 pub written_up_to : (m : ℕ) (kept : Bool) (es : List Entry) → AreUpTo m es → AreUpTo m (written kept es)
 written_up_to m true es a = a
 written_up_to m false es a = tt

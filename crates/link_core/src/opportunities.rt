@@ -73,6 +73,7 @@ impl Opportunities {
     }
 
     /// Opportunity number `j`, counted from 0. It divides only where another lap begins.
+    #[inline(always)]
     pub fn take(&mut self, j: u32) -> Opportunity
         requires { j < length (span_opps self.old) }
         ensures at { Some result ≡ slice_get (span_opps self.old) j }

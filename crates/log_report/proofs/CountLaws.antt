@@ -68,11 +68,3 @@ pub short_other : (counts delays : List ℕ) (x : ℕ) → 65536 ≤ x
     → ((d : ℕ) → d < 65536 → get_or counts d 0 ≡ times delays d) → (d : ℕ) → d < 65536
     → get_or counts d 0 ≡ times (delays ++ x ∷ []) d
 short_other counts delays x le are d within = are d within ∙ sym (times_other delays x d (λ e. omega arith))
-
--- their sum
-pub sum_more : (counts : List ℕ) (x : ℕ) → x < length counts
-    → sum (set counts x (get_or counts x 0 + 1)) ≡ sum counts + 1
-sum_more counts x lt = let e = sum_by-set (λ (z : ℕ). z) counts x (get_or counts x 0 + 1) 0 lt in omega arith
-
-pub one_of_sum : (counts : List ℕ) (x : ℕ) → x < length counts → get_or counts x 0 ≤ sum counts
-one_of_sum counts x lt = get_or-le-sum_by (λ (z : ℕ). z) counts x 0 lt

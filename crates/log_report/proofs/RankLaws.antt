@@ -16,9 +16,6 @@ use Rattle.log_report.specs.Counted.{times, long_ones}
 abbrev pub below : ℕ → List ℕ → ℕ
 below d xs = count_by (λ x. nat_lt x d) xs
 
-one_if : Bool → ℕ
-one_if b = cond b 1 0
-
 not_below : (b : Bool) (x d : ℕ) → nat_lt x d ≡ b → d ≤ x → b ≡ false
 not_below true x d e le = let lt = ltb-true x d e in absurd (omega arith)
 not_below false x d e le = refl

@@ -100,14 +100,6 @@ passed_more es e n first last first' last' moment are at is is' = (
   is' ∙ sym (last-push 0 es e),
 )
 
-pub no_report : (es : List Entry) (n : ℕ) → n ≡ length es → n ≡ 0 → None ≡ report_of es
-no_report [] n count none = refl
-no_report (e ∷ es) n count none = absurd (omega arith)
-
-pub one_report : (es : List Entry) (r : Report) → 0 < length es → r ≡ report_over es → Some r ≡ report_of es
-one_report [] r some is = absurd (omega arith)
-one_report (e ∷ es) r some is = ap Some is
-
 pub entry_in_log : (es : List Entry) (i : ℕ) (d : Entry) → IsLog es → i < length es → IsEntry (get_or es i d)
 entry_in_log [] i d is lt = absurd (let h : i < 0 = lt in omega arith)
 entry_in_log (e ∷ es) zero d is lt = is.0

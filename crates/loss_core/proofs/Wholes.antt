@@ -1,6 +1,6 @@
 -- The loss over the packets up to a place.
 use Rattle.std.proofs.Common.{◌≡◌, ℕ, ◌+◌, ◌<◌, Bool, true, false, cond, List, [], ◌∷◌, ◌++◌, length, get_or, take, ap}
-use Rattle.std.proofs.Common.{sym, ◌∙◌, refl, arith}
+use Rattle.std.proofs.Common.{sym, ◌∙◌, arith}
 use Rattle.std.proofs.lemmas.List.{append-nil, length-take-le, take_more}
 use Rattle.packet_record.specs.declared.packet.Timed.{Timed}
 use Rattle.loss_core.specs.Losses.{drops, dropped, passed}
@@ -65,10 +65,3 @@ module _ (rate : ℕ) (word rest rest' : ℕ → ℕ) (ts : List Timed) (n : ℕ
         test);
     next = next_word;
   }
-
-pub none_drawn : (rate : ℕ) (word : ℕ → ℕ) (ts : List Timed) → Draws rate word word ts 0 [] []
-none_drawn rate word ts = record {
-  departed = refl;
-  lost = refl;
-  next = λ k. ap word (let e : k ≡ 0 + k = omega arith in e);
-}

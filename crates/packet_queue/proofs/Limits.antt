@@ -7,7 +7,7 @@ use Rattle.packet_queue.specs.declared.spec.QueueKind.{QueueKind}
 use Rattle.packet_queue.specs.declared.spec.QueueKind.TheVariants.{Infinite, DropTail, DropHead}
 use Rattle.packet_queue.specs.declared.spec.QueueSpec.{QueueSpec}
 use Rattle.packet_record.specs.Packets.{bytes}
-use Rattle.packet_queue.specs.Queues.{is_within, fits, fitting, excess, enqueued, enqueued_by, dropped}
+use Rattle.packet_queue.specs.Queues.{is_within, fits, fitting, excess, enqueued_by, dropped}
 use Rattle.packet_queue.specs.Queues.{dropped_by}
 use Rattle.packet_queue.specs.inside.Kept.{AreKept, AreKeptBy}
 use Rattle.packet_queue.proofs.Sizes.{bytes_push, length_push, fit_stays}
@@ -72,24 +72,10 @@ kept_by DropTail q ts t a = elim (fits q (ts ++ t ∷ [])) as (λ b. fits q (ts 
     ] refl
 kept_by DropHead q ts t a = fitting_fits q (ts ++ t ∷ [])
 
-pub kept_after : (q : QueueSpec) (ts : List Timed) (t : Timed) → AreKept q ts → AreKept q (enqueued q ts t)
-kept_after q ts t a = kept_by q.kind q ts t a
-
 none_by : (k : QueueKind) (q : QueueSpec) → AreKeptBy k q []
 none_by Infinite q = tt
 none_by DropTail q = fits_none q
 none_by DropHead q = fits_none q
-
-pub kept_none : (q : QueueSpec) → AreKept q []
-kept_none q = none_by q.kind q
-
-rest_by : (k : QueueKind) (q : QueueSpec) (t : Timed) (ts : List Timed) → AreKeptBy k q (t ∷ ts) → AreKeptBy k q ts
-rest_by Infinite q t ts a = tt
-rest_by DropTail q t ts a = fits_rest q t ts a
-rest_by DropHead q t ts a = fits_rest q t ts a
-
-pub kept_rest : (q : QueueSpec) (t : Timed) (ts : List Timed) → AreKept q (t ∷ ts) → AreKept q ts
-kept_rest q t ts a = rest_by q.kind q t ts a
 
 -- where the list has e bytes too many at most, about as many are dropped
 over_bytes : (q : QueueSpec) (ts : List Timed) (e : ℕ) → is_within q.packets (length ts) ≡ true
@@ -179,13 +165,6 @@ few_dropped q ts t a = few_by q.kind q ts t a
 pub length_most : (ts : List Timed) → length ts ≤ bytes ts
 length_most [] = omega arith
 length_most (t ∷ ts) = let h = length_most ts in let some = t.packet.some in omega arith
-
--- what each kind of queue may hold
-pub kept_infinite : (q : QueueSpec) (ts : List Timed) → q.kind ≡ Infinite → AreKept q ts
-kept_infinite q ts e = subst (λ (k : QueueKind). AreKeptBy k q ts) (sym e) tt
-
-pub kept_tail : (q : QueueSpec) (ts : List Timed) → q.kind ≡ DropTail → fits q ts ≡ true → AreKept q ts
-kept_tail q ts e f = subst (λ (k : QueueKind). AreKeptBy k q ts) (sym e) f
 
 fits_by : (k : QueueKind) (q : QueueSpec) (ts : List Timed) → fits q ts ≡ true → AreKeptBy k q ts
 fits_by Infinite q ts f = tt

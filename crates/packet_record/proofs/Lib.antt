@@ -10,7 +10,6 @@ pub mod RowsLemmas
 pub mod SourcesLemmas
 pub mod MomentsLemmas
 pub mod GatheringLemmas
-pub mod CutLemmas
 pub mod PartLemmas
 pub mod LongLines
 pub mod Told

@@ -1,5 +1,5 @@
 -- A line by its parts: a decimal, a direction between two spaces, and a decimal.
-use Rattle.std.proofs.Common.{◌≡◌, ℕ, Bool, true, false, not, ◌&&◌, cond, List, [], ◌∷◌, ◌++◌, length, take, drop}
+use Rattle.std.proofs.Common.{◌≡◌, ℕ, Bool, true, false, cond, List, [], ◌∷◌, ◌++◌, length, take, drop}
 use Rattle.std.proofs.Common.{get_or, ◌-◌, ◌≤◌, Option, Some, None, codes, refl, ap, sym, ◌∙◌, append_assoc, ◌==◌}
 use Rattle.std.proofs.Common.{ne_eqb, arith}
 use Rattle.std.specs.Option.{option_and_then}
@@ -9,16 +9,16 @@ use Rattle.std.proofs.lemmas.List.{append-nil}
 use Rattle.std.specs.List.{join_with_byte}
 use Rattle.std.proofs.lemmas.List.Splits.{join_with_byte-slice_split}
 use Rattle.std.proofs.lemmas.Slice.Eq.{bytes_eq-Decides}
-use Rattle.text_base.specs.inside.Lines.{is_one_line}
+use Rattle.text_base.specs.Lines.{is_one_line}
 use Rattle.text_base.specs.Numbers.{decimal_of, BeginsOtherwise}
-use Rattle.text_base.proofs.NumbersLemmas.{decimal_of-Some}
+use Rattle.text_base.proofs.NumbersLemmas.{decimal_of-Some, is_one_line-digits}
 use Rattle.text_base.proofs.SplitLemmas.{none_is}
 use Rattle.text_base.proofs.TextLemmas.{is_one_line-append}
 use Rattle.packet_record.specs.Said.{words_of, direction_of, said_by_words, said_of}
 use Rattle.packet_record.specs.Printing.{direction_text}
 use Rattle.packet_record.specs.declared.packet.Direction.{Direction}
 use Rattle.packet_record.specs.declared.packet.Direction.TheVariants.{Up, Down}
-use Rattle.packet_record.proofs.CutLemmas.{feed_first}
+use Rattle.text_base.proofs.CutLemmas.{feed_first}
 use Rattle.packet_record.proofs.SpaceLemmas.{Lacks, digits_lack, words_of-append, words_of-one}
 
 abbrev pub word_of : Direction → List ℕ
@@ -159,12 +159,8 @@ pub same_said : (m s : ℕ) (d : Direction) (says : ℕ × Direction × ℕ) →
     → (m, d, s) ≡ says
 same_said m s d (m', d', s') em ed es = rw (em, ed, es) refl
 
-one_line_lacks : (xs : List ℕ) → Lacks 10 xs → is_one_line xs ≡ true
-one_line_lacks [] h = refl
-one_line_lacks (x ∷ xs) h = ap (λ b. not b && is_one_line xs) h.0 ∙ one_line_lacks xs h.1
-
 decimal_one_line : (word : List ℕ) (n : ℕ) → decimal_of word ≡ Some n → is_one_line word ≡ true
-decimal_one_line word n e = one_line_lacks word (digits_lack 10 word (omega arith) (decimal_of-Some word n e).digits)
+decimal_one_line word n e = is_one_line-digits word (decimal_of-Some word n e).digits
 
 direction_one_line : (d : Direction) → is_one_line (direction_text d) ≡ true
 direction_one_line Up = refl

@@ -5,7 +5,7 @@ use Rattle.std.proofs.Common.{append_assoc, arith, rules, tests, length-append}
 use Rattle.std.specs.List.{onto_first}
 use Rattle.std.proofs.lemmas.List.{length-take, take_all, take-append-drop}
 use Rattle.text_base.specs.Lines.{lines_of}
-use Rattle.text_base.specs.inside.Lines.{is_one_line}
+use Rattle.text_base.specs.Lines.{is_one_line}
 use Rattle.text_base.proofs.NumbersLemmas.{decimal_of-Some}
 use Rattle.text_base.proofs.TextLemmas.{is_one_line-append}
 use Rattle.packet_record.specs.Gathered.{Gathered, Awaits}

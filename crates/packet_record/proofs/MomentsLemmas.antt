@@ -58,7 +58,3 @@ from_at m (t ∷ ts) (suc k) d lt f = from_at m ts k d (omega arith) f.1
 pub up_to_read : (m : ℕ) (ts : List Timed) (i : ℕ) (t : Timed) → i < length ts → t ≡ get_or ts i t → AreUpTo m ts
     → t.moment ≤ m
 up_to_read m ts i t lt read u = subst (λ (v : Timed). v.moment ≤ m) (sym read) (up_at m ts i t lt u)
-
-pub from_read : (m : ℕ) (ts : List Timed) (i : ℕ) (t : Timed) → i < length ts → t ≡ get_or ts i t → AreFrom m ts
-    → m ≤ t.moment
-from_read m ts i t lt read f = subst (λ (v : Timed). m ≤ v.moment) (sym read) (from_at m ts i t lt f)

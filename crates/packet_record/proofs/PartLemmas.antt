@@ -3,7 +3,7 @@ use Rattle.std.proofs.Common.{◌≡◌, ℕ, ◌<◌, List, [], ◌∷◌, ◌+
 use Rattle.std.proofs.Common.{refl, ap, subst, ◌∙◌, arith, rules}
 use Rattle.std.proofs.lemmas.List.{append-nil}
 use Rattle.text_base.specs.Lines.{lines_of}
-use Rattle.text_base.specs.inside.Lines.{is_one_line}
+use Rattle.text_base.specs.Lines.{is_one_line}
 use Rattle.text_base.proofs.TextLemmas.{lines_of-line, lines_of-last}
 use Rattle.text_base.specs.Refusals.{or_later}
 use Rattle.packet_record.specs.Gathered.{Gathered, Awaits}

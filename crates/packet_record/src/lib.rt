@@ -2,7 +2,6 @@
 #![tactic(auto)]
 
 mod both;
-mod cut;
 mod draws;
 mod flow;
 mod gathering;

@@ -1,6 +1,6 @@
 // How one line of a schedule is read: what it says.
 ghost use Rattle.std.specs.Prelude.{◌≡◌, ◌≤◌, ◌∷◌, ◌++◌, ℕ, List, Some, true, IfSome, MatchOption};
-ghost use Rattle.text_base.specs.inside.Lines.{is_one_line};
+ghost use Rattle.text_base.specs.Lines.{is_one_line};
 ghost use Rattle.text_base.specs.Numbers.{BeginsOtherwise};
 ghost use Rattle.packet_record.specs.Said.{said_of};
 ghost use Rattle.packet_record.specs.Printing.{direction_text};
@@ -11,7 +11,7 @@ use text_base::limits::GREATEST_MOMENT;
 use text_base::split_decimal;
 
 // Returns the direction between two spaces at the front of a text, and what follows.
-#[inline]
+#[inline(always)]
 fn split_direction(text: &[u8]) -> Option<(Direction, &[u8])>
     ensures read { IfSome result (λ r. text.now ≡ direction_text r.0 ++ r.1.now) }
     ensures every { (d : DirectionValue) (rest : List ℕ) → text.now ≡ direction_text d ++ rest → MatchOption result ⊥

@@ -2,20 +2,18 @@
 ghost use Rattle.std.specs.Prelude.{◌≡◌, ◌≢◌, ◌≤◌, ◌<◌, ◌∷◌, ◌++◌, ◌+◌, ◌-◌, ◌/◌, ℕ, List, [], length, take, None};
 ghost use Rattle.std.specs.Prelude.{Some, true, IfSome, IfNone, IfOk, IfErr, MatchResult, is_some};
 ghost use mathlib.Core.List.{IsPrefix};
-ghost use Rattle.text_base.specs.Lines.{lines_of};
-ghost use Rattle.text_base.specs.inside.Lines.{is_one_line};
+ghost use Rattle.text_base.specs.Lines.{lines_of, is_one_line};
 ghost use Rattle.packet_record.specs.Orders.{IsSchedule};
 ghost use Rattle.packet_record.specs.Schedules.{IsScheduleText, first_fault};
 ghost use Rattle.packet_record.specs.declared.packet.Row.{Row as RowValue};
 
-use crate::cut::cut_line;
 use crate::gathering::ScheduleRows;
 use crate::line::{read_line, split_line};
 use crate::{Row, Schedule, ScheduleError};
 use std::alloc::Global;
 use std::marker::Model;
 use text_base::limits::MOST_LINES;
-use text_base::{Bytes, OutOfMemory, PieceReader};
+use text_base::{Bytes, OutOfMemory, PieceReader, cut_line};
 
 // A byte more than the longest line that says something: two decimals of ten digits, and a direction between two
 // spaces.

@@ -1,28 +1,28 @@
 -- The refusals of a text, and the text of a log, which has none.
 use Rattle.std.proofs.Common.{◌≡◌, ◌≢◌, ℕ, suc, ◌+◌, ◌≤◌, ◌++◌, ◌==◌, ◌&&◌, not, Bool, true, false, cond, List, [], ◌∷◌}
-use Rattle.std.proofs.Common.{length, map, Option, Some, None, MatchResult, IfOk, Result, Ok, Err, refl, ap, sym, subst}
-use Rattle.std.proofs.Common.{◌∙◌, arith, rules, append_assoc, length-append}
-use Rattle.std.specs.List.{All, join_with_byte}
+use Rattle.std.proofs.Common.{map, Option, Some, None, MatchResult, IfOk, Result, Ok, Err, refl, ap, sym, subst}
+use Rattle.std.proofs.Common.{◌∙◌, arith, rules, append_assoc}
+use Rattle.std.specs.List.{All}
 use Rattle.std.specs.Fmt.{decimal}
 use Rattle.std.specs.Str.{bytes_eq}
 use Rattle.std.proofs.lemmas.Bool.{lt-leb}
 use Rattle.std.proofs.lemmas.List.Elements.{All-cons}
-use Rattle.std.proofs.lemmas.List.Splits.{slice_split_at, join_with_byte-slice_split}
+use Rattle.std.proofs.lemmas.List.Splits.{slice_split_at}
 use Rattle.std.proofs.lemmas.Slice.Eq.{bytes_eq-Decides}
-use Rattle.text_base.specs.inside.Lines.{is_one_line}
+use Rattle.text_base.specs.Lines.{is_one_line}
 use Rattle.text_base.proofs.NumbersLemmas.{is_one_line-decimal}
 use Rattle.text_base.proofs.TextLemmas.{is_one_line-append}
 use Rattle.shell_log.specs.declared.entry.Entry.{Entry}
 use Rattle.shell_log.specs.declared.entry.Entry.TheVariants.{Arrival, Opportunity, Departure, Drop}
 use Rattle.shell_log.specs.declared.reading.LogError.{LogError}
 use Rattle.shell_log.specs.declared.reading.LogError.TheVariants as errors
-use Rattle.shell_log.specs.Entries.{IsEntry, IsShort, IsLog, AreFrom, AreUpTo, moment_of}
+use Rattle.shell_log.specs.Entries.{IsEntry, IsShort, IsLog, AreFrom, moment_of}
 use Rattle.shell_log.specs.View.{LogView}
 use Rattle.shell_log.specs.Words.{parts_of}
 use Rattle.shell_log.specs.LogText.{header, line_of, lines_text, log_text}
 use Rattle.shell_log.specs.Reading.{entry_of, fault_of, moment_after, or_else, first_fault, fault_by_parts, log_fault}
 use Rattle.shell_log.proofs.WordsLemmas.{some_part}
-use Rattle.shell_log.proofs.LineLaws.{entry_of-line_of, line_of-entry_of}
+use Rattle.shell_log.proofs.LineLaws.{entry_of-line_of}
 
 -- no byte of a line is a line feed
 one_number : (sign : ℕ) (m n : ℕ) → not (sign == 10) ≡ true → IsShort m → IsShort n
@@ -144,10 +144,6 @@ from_zero (e ∷ es) = (omega arith, from_zero es)
 pub log_no_fault : (es : List Entry) → IsLog es → log_fault (log_text es) ≡ None
 log_no_fault es is = after_header (log_text es) header (lines_text es) (parts_of-log es) refl
     ∙ lines_no_fault 2 0 es is (from_zero es)
-
--- two logs of one text are the same
-said_parts : List (List ℕ) → List (Option Entry)
-said_parts ps = map entry_of ps
 
 same_lines : (xs ys : List Entry) → IsLog xs → IsLog ys → map line_of xs ++ [] ∷ [] ≡ map line_of ys ++ [] ∷ []
     → xs ≡ ys

@@ -1,5 +1,5 @@
 -- What reading the front of a text comes to, a line or a part of one at a time.
-use Rattle.std.proofs.Common.{◌≡◌, ◌≢◌, ℕ, suc, ◌+◌, ◌-◌, ◌≤◌, ◌<◌, ◌^◌, ◌++◌, ◌==◌, ◌&&◌, not, Bool, true, false, cond}
+use Rattle.std.proofs.Common.{◌≡◌, ◌≢◌, ℕ, suc, ◌+◌, ◌-◌, ◌≤◌, ◌<◌, ◌++◌, ◌==◌, ◌&&◌, not, Bool, true, false, cond}
 use Rattle.std.proofs.Common.{List, [], ◌∷◌, length, Option, Some, None, MatchOption, IfSome, IfNone, is_some, refl, ap}
 use Rattle.std.proofs.Common.{sym, subst, ◌∙◌, arith, append_assoc, length-append}
 use Rattle.std.specs.Prelude.{fold}
@@ -10,7 +10,7 @@ use Rattle.std.proofs.lemmas.Fmt.{length-decimal-le}
 use borrow.Author.Tests.{eqb-true}
 use Rattle.std.proofs.lemmas.List.{append-nil}
 use Rattle.std.proofs.lemmas.Slice.Eq.{bytes_eq-Decides}
-use Rattle.text_base.specs.inside.Lines.{is_one_line}
+use Rattle.text_base.specs.Lines.{is_one_line}
 use Rattle.text_base.proofs.TextLemmas.{is_one_line-append}
 use Rattle.shell_log.specs.declared.entry.Entry.{Entry}
 use Rattle.shell_log.specs.declared.entry.Entry.TheVariants.{Arrival, Opportunity, Departure, Drop}
@@ -20,11 +20,11 @@ use Rattle.shell_log.specs.Entries.{IsEntry, IsShort, IsLog, AreFrom, AreUpTo, m
 use Rattle.shell_log.specs.Words.{parts_of}
 use Rattle.shell_log.specs.LogText.{header, line_of, lines_text, log_text}
 use Rattle.shell_log.specs.Reading.{entry_of, fault_of, moment_after, or_else, first_fault, fault_by_parts, log_fault}
-use Rattle.shell_log.specs.LogParts.{LogPart, last_moment, lines_before, IsRead, IsFault, IsLeft, refusing}
+use Rattle.shell_log.specs.LogParts.{LogPart, last_moment, lines_before, IsRead, IsFault, IsLeft}
 use Rattle.shell_log.specs.inside.LogParts.{IsRefusing, KeepsLine, with_entry, keeping, bad_line}
 use Rattle.shell_log.proofs.WordsLemmas.{some_part}
 use Rattle.shell_log.proofs.LineLaws.{entry_of-line_of, line_of-entry_of}
-use Rattle.shell_log.proofs.LogLemmas.{log_push, up_to_push}
+use Rattle.shell_log.proofs.LogLemmas.{log_push}
 use Rattle.shell_log.proofs.FaultLaws.{is_one_line-line_of, parts_of-line, accepted, refused_line, after_header}
 use Rattle.shell_log.proofs.FaultLaws.{from_zero, log_no_fault, log_text_more}
 
@@ -317,14 +317,6 @@ pub read_left : (whole rest : List ℕ) (es : List Entry) (p : LogPart) → p.re
 read_left whole rest es p none read = let P : Option LogError
     → Type 0 = λ o. MatchOption o (IsRead whole rest es p) (IsFault whole) in subst P (sym none) read
 
--- what was refused stays so
-pub left_refused : (whole more rest : List ℕ) (es : List Entry) (p : LogPart) (fault : LogError)
-    → p.refused ≡ Some fault → IsLeft whole more es p → IsLeft whole rest es p
-left_refused whole more rest es p fault some left =
-    let P : Option LogError → Type 0 = λ o. MatchOption o (IsRead whole more es p) (IsFault whole) in
-    let Q : Option LogError → Type 0 = λ o. MatchOption o (IsRead whole rest es p) (IsFault whole) in
-    subst Q (sym some) (subst P some left)
-
 -- a refusal of the line that is kept
 pub refuse_line : (whole line more rest kept : List ℕ) (es : List Entry) (p q : LogPart) → p.has_begun ≡ true
     → line ≡ p.kept → is_one_line line ≡ true
@@ -380,9 +372,6 @@ front_refused whole piece after rest es e p q begun empty cut is refuses read =
     (subst (λ (o : Option Entry). IsRefusing (fault_of (p.entries + 2) p.last o) p q) (sym (entry_of-line_of e is))
     refuses)
     (front_line whole piece after rest es e p empty cut read)
-
-pub same_entry : (e d : Entry) → Some e ≡ Some d → IsEntry e → IsEntry d
-same_entry e d same is = let eq : e ≡ d = cc in subst IsEntry eq is
 
 pub when_none : {X : Type 0} (o : Option X) (P : Type 0) → P → IfNone o P
 when_none None P p = p

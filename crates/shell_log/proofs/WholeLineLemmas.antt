@@ -1,11 +1,10 @@
 -- The line at the front of a text, from its numbers.
-use Rattle.std.proofs.Common.{◌≡◌, ℕ, ◌+◌, ◌-◌, ◌≤◌, ◌<◌, ◌++◌, Bool, true, false, cond, List, [], ◌∷◌, length, take}
-use Rattle.std.proofs.Common.{Option, Some, None, refl, ap, sym, subst, ◌∙◌, arith, append_assoc, length-append}
+use Rattle.std.proofs.Common.{◌≡◌, ℕ, ◌+◌, ◌-◌, ◌++◌, Bool, false, cond, List, ◌∷◌, length, take}
+use Rattle.std.proofs.Common.{Some, None, ap, sym, ◌∙◌, arith, append_assoc, length-append}
 use Rattle.text_base.specs.Numbers.{decimal_of, canonical_of, leads_with_zero}
 use Rattle.text_base.proofs.NumbersLemmas.{canonical_of-Some, decimal-canonical_of}
 use Rattle.std.specs.Fmt.{decimal}
 use Rattle.std.proofs.Math.Seq.{take-append_seam}
-use Rattle.shell_log.specs.declared.entry.Entry.{Entry}
 use Rattle.shell_log.specs.declared.entry.Entry.TheVariants.{Arrival, Opportunity, Departure, Drop}
 use Rattle.shell_log.specs.Entries.{IsShort}
 use Rattle.shell_log.specs.LogText.{line_of}

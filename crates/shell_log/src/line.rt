@@ -1,23 +1,9 @@
 // How one line of a log is read.
-ghost use Rattle.std.specs.Prelude.{◌≡◌, ◌∷◌, ◌++◌, true, MatchOption};
-ghost use Rattle.text_base.specs.inside.Lines.{is_one_line};
+ghost use Rattle.std.specs.Prelude.{◌≡◌};
 ghost use Rattle.shell_log.specs.Reading.{arrival_of, opportunity_of, departure_of, drop_of, entry_of};
 
 use crate::Entry;
-use memchr::memchr;
 use text_base::{read_canonical, split_word};
-
-// Cuts a text at its first line feed: returns what stands before it, and what follows it. Returns `None` where there is
-// none.
-pub(crate) fn cut_line(text: &[u8]) -> Option<(&[u8], &[u8])>
-    ensures { MatchOption result (is_one_line text.now ≡ true)
-        (λ cut. (text.now ≡ cut.0.now ++ 10 ∷ cut.1.now) × (is_one_line cut.0.now ≡ true)) }
-{
-    match memchr(b'\n', text) {
-        Some(end) => Some((&text[..end], &text[end + 1..])),
-        None => None,
-    }
-}
 
 // The entry that a line says, if it is of one of the four forms and in range.
 pub(crate) fn read_entry(line: &[u8]) -> Option<Entry>

@@ -3,18 +3,18 @@ ghost use Rattle.std.specs.Prelude.{◌≡◌, ◌≢◌, ◌≤◌, ◌<◌, �
 ghost use Rattle.std.specs.Prelude.{false, IfSome, IfNone, IfOk, IfErr, OnOk, MatchResult};
 ghost use Rattle.std.specs.Bool.{OnTrue, OnFalse};
 ghost use Rattle.std.specs.Str.{bytes_eq};
-ghost use Rattle.text_base.specs.inside.Lines.{is_one_line};
+ghost use Rattle.text_base.specs.Lines.{is_one_line};
 ghost use Rattle.shell_log.specs.declared.entry.Entry.{Entry as EntryValue};
 ghost use Rattle.shell_log.specs.Entries.{IsEntry, IsLog, moment_of};
 ghost use Rattle.shell_log.specs.LogText.{header, log_text};
 ghost use Rattle.shell_log.specs.Reading.{fault_of, log_fault};
 
-use crate::line::{cut_line, read_entry};
+use crate::line::read_entry;
 use crate::whole_line::split_entry;
 use crate::{Entry, LogError};
 use std::alloc::Global;
 use std::marker::Model;
-use text_base::Bytes;
+use text_base::{Bytes, cut_line};
 
 // The longest line that says something: a drop with three numbers of ten digits.
 const MOST_KEPT: usize = 34;

@@ -1,4 +1,4 @@
-pub mod LinesLemmas
+pub mod CutLemmas
 pub mod WordsLemmas
 pub mod TextLemmas
 pub mod NumbersLemmas

@@ -6,10 +6,10 @@ use Rattle.std.specs.List.{list_all}
 use Rattle.std.specs.Fmt.{decimal}
 use Rattle.std.proofs.lemmas.Str.Parse.{IsNumeralModel, numerals_by_fold, digits_value_short}
 use Rattle.std.proofs.lemmas.Fmt.{digits_decimal, digits_value-decimal, length-decimal-le, decimal_is_IsNumeral}
-use Rattle.std.proofs.lemmas.Fmt.{decimal-digits_value, decimal_digit, first_decimal, decimal_nonempty}
+use Rattle.std.proofs.lemmas.Fmt.{decimal-digits_value, decimal_digit, first_decimal}
 use Rattle.std.proofs.lemmas.Option.{cond_some}
 use Rattle.std.proofs.lemmas.Bool.Decides.{nat_tests}
-use Rattle.text_base.specs.inside.Lines.{is_one_line}
+use Rattle.text_base.specs.Lines.{is_one_line}
 use Rattle.text_base.specs.Numbers.{is_digit, is_decimal, value_of_digits, decimal_of, leads_with_zero, canonical_of}
 
 abbrev value_on : ℕ → List ℕ → ℕ
@@ -128,13 +128,13 @@ digit_is_no_blank byte digit = grind (arith, nat_tests)
 pub digits-decimal : (n : ℕ) → n < 2 ^ 64 → list_all is_digit (decimal n) ≡ true
 digits-decimal n fits = digits_decimal own n fits
 
-pub some-decimal : (n : ℕ) → n < 2 ^ 64 → 0 < length (decimal n)
-some-decimal n fits = decimal_nonempty n fits
+-- digits have no line feed
+pub is_one_line-digits : (text : List ℕ) → list_all is_digit text ≡ true → is_one_line text ≡ true
+is_one_line-digits text digits = all_digits_are (λ byte. not (eqb byte 10)) digit_is_no_feed text digits
 
--- it has no line feed
+-- nor has a written number
 pub is_one_line-decimal : (n : ℕ) → n < 2 ^ 64 → is_one_line (decimal n) ≡ true
-is_one_line-decimal n fits = all_digits_are (λ byte. not (eqb byte 10)) digit_is_no_feed (decimal n)
-    (digits-decimal n fits)
+is_one_line-decimal n fits = is_one_line-digits (decimal n) (digits-decimal n fits)
 
 -- and no space
 pub no_space-decimal : (n : ℕ) → n < 2 ^ 64 → list_all (λ byte. not (eqb byte 32)) (decimal n) ≡ true

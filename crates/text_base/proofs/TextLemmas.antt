@@ -3,7 +3,8 @@ use Rattle.std.proofs.Common.{◌≡◌, ◌≢◌, ℕ, ◌<◌, List, [], ◌�
 use Rattle.std.proofs.Common.{eqb, append_assoc, refl, ap, sym, ◌∙◌, arith, rules}
 use Rattle.std.specs.List.{onto_first, list_all, flat_map}
 use Rattle.text_base.specs.Lines.{lines_of, is_ended}
-use Rattle.text_base.specs.inside.Lines.{is_one_line, text_of_lines}
+use Rattle.text_base.specs.Lines.{is_one_line}
+use Rattle.text_base.specs.inside.Lines.{text_of_lines}
 
 both_true : (a b : Bool) → (a && b) ≡ true → (a ≡ true) × (b ≡ true)
 both_true true b e = (refl, e)
@@ -59,18 +60,6 @@ lines_of-printed line_of (x ∷ xs) one =
     ap lines_of (append_assoc (line_of x) (10 ∷ []) (flat_map (λ y. line_of y ++ 10 ∷ []) xs))
     ∙ lines_of-line (line_of x) (flat_map (λ y. line_of y ++ 10 ∷ []) xs) parts.0
     ∙ ap (λ ls. line_of x ∷ ls) (lines_of-printed line_of xs parts.1)
-
--- the same, where every value has one line
-pub lines_of-printed_any : {X : Type 0} (line_of : X → List ℕ) (xs : List X)
-    → ((x : X) → is_one_line (line_of x) ≡ true)
-    → lines_of (flat_map (λ x. line_of x ++ 10 ∷ []) xs) ≡ map line_of xs
-lines_of-printed_any line_of xs one = lines_of-printed line_of xs (all_one line_of xs one)
-  where
-    all_one : {X : Type 0} (line_of : X → List ℕ) (xs : List X) → ((x : X) → is_one_line (line_of x) ≡ true)
-        → list_all (λ x. is_one_line (line_of x)) xs ≡ true
-    all_one line_of [] one = refl
-    all_one line_of (x ∷ xs) one = both_are (is_one_line (line_of x)) (list_all (λ y. is_one_line (line_of y)) xs)
-        (one x) (all_one line_of xs one)
 
 -- the text of these lines has these lines
 pub lines_of-text_of_lines : (lines : List (List ℕ)) → list_all is_one_line lines ≡ true

@@ -14,7 +14,7 @@ mod words;
 
 pub use bytes::{Bytes, Text};
 pub use line_buffer::LineBuffer;
-pub use lines::Lines;
+pub use lines::{Lines, cut_line, first_line};
 pub use numbers::{read_canonical, read_decimal, split_decimal, write_decimal};
 pub use out_of_memory::OutOfMemory;
 pub use piece_reader::PieceReader;

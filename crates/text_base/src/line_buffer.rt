@@ -55,6 +55,7 @@ impl LineBuffer {
     }
 
     /// Puts the bytes of `piece` in front.
+    #[inline(always)]
     pub fn put(&mut self, piece: &[u8])
         requires { length piece.now + length self.old ≤ BUFFER_BYTES }
         ensures bytes { self.new ≡ piece.now ++ self.old }

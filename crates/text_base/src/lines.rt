@@ -1,7 +1,7 @@
 // The lines of a text.
-ghost use Rattle.std.specs.Prelude.{◌≡◌, ◌<◌, ◌∷◌, length};
+ghost use Rattle.std.specs.Prelude.{◌≡◌, ◌<◌, ◌∷◌, ◌++◌, true, length, MatchOption};
 ghost use Rattle.std.specs.Iterator.{YieldsFirstRef, item_count};
-ghost use Rattle.text_base.specs.Lines.{lines_of};
+ghost use Rattle.text_base.specs.Lines.{lines_of, is_one_line};
 
 use memchr::memchr;
 
@@ -12,13 +12,26 @@ pub struct Lines<'a> {
     rest: &'a [u8],
 }
 
-// The first line, and what follows it.
-fn first_line(text: &[u8]) -> (&[u8], &[u8])
-    requires { 0 < length text.now }
-    ensures { lines_of text.now ≡ result.0.now ∷ lines_of result.1.now }
+/// Cuts a text at its first line feed: returns what stands before it, and what follows it. Returns `None` where there is
+/// none.
+pub fn cut_line(text: &[u8]) -> Option<(&[u8], &[u8])>
+    ensures { MatchOption result (is_one_line text.now ≡ true)
+        (λ cut. (text.now ≡ cut.0.now ++ 10 ∷ cut.1.now) × (is_one_line cut.0.now ≡ true)) }
 {
     match memchr(b'\n', text) {
-        Some(end) => (&text[..end], &text[end + 1..]),
+        Some(end) => Some((&text[..end], &text[end + 1..])),
+        None => None,
+    }
+}
+
+/// The first line of a text that isn't empty, and what follows it.
+pub fn first_line(text: &[u8]) -> (&[u8], &[u8])
+    requires { 0 < length text.now }
+    ensures lines { lines_of text.now ≡ result.0.now ∷ lines_of result.1.now }
+    ensures shorter { length result.1.now < length text.now }
+{
+    match cut_line(text) {
+        Some(cut) => cut,
         None => (text, &text[text.len()..]),
     }
 }

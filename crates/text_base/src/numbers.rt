@@ -17,9 +17,10 @@ pub fn split_decimal(text: &[u8]) -> Option<(u64, &[u8])>
     ensures stops { IfSome result (λ r. (length r.1.now + 10 ≡ length text.now) ⊎ BeginsOtherwise r.1.now) }
     ensures none { IfNone result (BeginsOtherwise text.now) }
 {
+    let most = text.len().min(10);
     let mut value = 0;
     let mut count = 0;
-    while count < text.len() && count < 10 && is_digit(text[count]) {
+    while count < most && is_digit(text[count]) {
         value = value * 10 + u64::from(text[count] - b'0');
         count += 1;
     }

@@ -9,3 +9,4 @@ pub mod TextFaults
 pub mod MadeLemmas
 pub mod CountLaws
 pub mod RoomLemmas
+pub mod LineLemmas

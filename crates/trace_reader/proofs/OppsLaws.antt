@@ -92,11 +92,6 @@ pub length-up_to-opps : (t : TraceView) (once : Bool) (m horizon : ℕ) → IsTr
     → length (up_to m (opps t.opportunities once horizon)) ≡ length (opps t.opportunities once (min m horizon))
 length-up_to-opps t once m horizon is = ap length (up_to-opps_min t once m horizon is)
 
-pub up_to-opps_front : (t : TraceView) (once : Bool) (m horizon : ℕ) → IsTrace t
-    → up_to m (opps t.opportunities once horizon) ≡ take (length (up_to m (opps t.opportunities once horizon)))
-    (opps t.opportunities once horizon)
-up_to-opps_front t once m horizon is = up_to_front m (opps t.opportunities once horizon) (opps_rising t once horizon is)
-
 -- no fewer come up to a later horizon
 pub length-opps_more : (t : TraceView) (once : Bool) (m horizon : ℕ) → IsTrace t → m ≤ horizon
     → length (opps t.opportunities once m) ≤ length (opps t.opportunities once horizon)

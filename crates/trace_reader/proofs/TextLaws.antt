@@ -7,7 +7,7 @@ use Rattle.std.specs.Option.{option_and_then}
 use Rattle.std.specs.Str.{bytes_eq}
 use Rattle.std.proofs.lemmas.Slice.Eq.{bytes_eq-Decides}
 use Rattle.text_base.specs.Lines.{lines_of}
-use Rattle.text_base.specs.inside.Lines.{is_one_line}
+use Rattle.text_base.specs.Lines.{is_one_line}
 use Rattle.text_base.specs.Numbers.{decimal_of}
 use Rattle.text_base.proofs.NumbersLemmas.{decimal_of-decimal, no_space-decimal, is_one_line-decimal}
 use Rattle.text_base.proofs.TextLemmas.{lines_of-printed, is_one_line-append}

@@ -7,14 +7,13 @@ ghost use Rattle.trace_reader.specs.Traces.{TraceView, IsTrace};
 ghost use Rattle.trace_reader.specs.TraceText.{form_of, lines_before, stated, said_of, said, IsTraceText, trace_text};
 ghost use Rattle.trace_reader.specs.Reading.{first_fault, trace_fault};
 ghost use Rattle.text_base.specs.Lines.{lines_of};
-ghost use Rattle.text_base.specs.LinesLeft.{lines_left};
 
-use crate::line::read_line;
+use crate::line::read_first;
 use crate::packed::PackedOpportunity;
 use crate::{Form, Opportunity, Trace};
 use std::alloc::{AllocError, AllocFailed, Global};
 use text_base::limits::MOST_LINES;
-use text_base::{Lines, OutOfMemory};
+use text_base::{OutOfMemory, first_line};
 
 /// Why a text is no trace. The first refusal wins; lines are counted from 1, the first line `# mm-trace 2` among them.
 #[derive(Clone, Copy, Debug, PartialEq, Eq)]
@@ -113,13 +112,15 @@ fn read_text(alloc: Global, text: &[u8]) -> Result<Trace, TraceError>
     ensures exact { MatchResult result (λ _. trace_fault text.now ≡ None)
         (λ e. e ≢ TraceError.OutOfMemory → trace_fault text.now ≡ Some e) }
 {
-    let (form, lines) = open(text);
+    let (form, mut rest) = open(text);
     let mut list = Vec::with_capacity(alloc, most_lines(text.len()))?;
     let mut low = 0;
-    for line in lines {
-        let o = next_opportunity(form, list.len(), low, line)?;
+    'lines: while !rest.is_empty() {
+        let (says, after) = read_first(form, rest);
+        let o = opportunity_of(form, list.len(), low, says)?;
         low = o.moment;
         list.push(PackedOpportunity::new(o))?;
+        rest = after;
     }
     if list.is_empty() {
         return Err(TraceError::Empty);
@@ -141,38 +142,43 @@ fn most_lines(bytes: usize) -> usize
     (bytes / 2 + 1).min(MOST_LINES as usize)
 }
 
-// The form of a text, and the lines of its opportunities.
-fn open(text: &[u8]) -> (Form, Lines<'_>)
+// The form of a text, and the text of the lines of its opportunities.
+fn open(text: &[u8]) -> (Form, &[u8])
     ensures form { result.0 ≡ form_of (lines_of text.now) }
-    ensures lines { lines_left result.1 ≡ stated (lines_of text.now) }
+    ensures lines { lines_of result.1.now ≡ stated (lines_of text.now) }
 {
-    let mut lines = Lines::new(text);
-    match lines.next() {
-        Some(line) if line == b"# mm-trace 2".as_slice() => (Form::MomentsAndBytes, lines),
-        _ => (Form::Moments, Lines::new(text)),
+    if text.is_empty() {
+        return (Form::Moments, text);
+    }
+    let (line, rest) = first_line(text);
+    if line == b"# mm-trace 2".as_slice() {
+        (Form::MomentsAndBytes, rest)
+    } else {
+        (Form::Moments, text)
     }
 }
 
-// The opportunity of a line, behind `count` opportunities, the last of them at the moment `low`.
-fn next_opportunity(
+// The opportunity of what a line states, behind `count` opportunities, the last of them at the moment `low`.
+#[inline]
+fn opportunity_of(
     form: Form,
     count: usize,
     low: u64,
-    line: &[u8],
+    says: Option<(u64, u64)>,
 ) -> Result<Opportunity, TraceError>
     requires { count ≤ MOST_LINES }
     ensures few { OnOk result (count < MOST_LINES) }
-    ensures said { IfOk result (λ o. said_of form line.now ≡ Some (said o)) }
+    ensures said { IfOk result (λ o. says ≡ Some (said o)) }
     ensures order { IfOk result (λ o. low ≤ o.moment) }
-    ensures fault { (rest : List (List ℕ)) → MatchResult result
-        (λ o. first_fault form count low (line.now ∷ rest) ≡ first_fault form (count + 1) o.moment rest)
-        (λ e. first_fault form count low (line.now ∷ rest) ≡ Some e) }
+    ensures fault { (line : List ℕ) (rest : List (List ℕ)) → said_of form line ≡ says → MatchResult result
+        (λ o. first_fault form count low (line ∷ rest) ≡ first_fault form (count + 1) o.moment rest)
+        (λ e. first_fault form count low (line ∷ rest) ≡ Some e) }
 {
     if count >= MOST_LINES as usize {
         return Err(TraceError::TooManyLines);
     }
     let number = count_before(form) + count as u32 + 1;
-    let Some((moment, bytes)) = read_line(form, line) else {
+    let Some((moment, bytes)) = says else {
         return Err(TraceError::BadLine { line: number });
     };
     if bytes < 1 || bytes > 1_000_000 {

@@ -1,6 +1,6 @@
 -- For proofs alone: what contracts see of a schedule that is read piece by piece.
 use Rattle.std.specs.Prelude.{◌≡◌, ◌≤◌, length, true}
-use Rattle.text_base.specs.inside.Lines.{is_one_line}
+use Rattle.text_base.specs.Lines.{is_one_line}
 use Rattle.packet_record.specs.declared.text.TheConstants.{MOST_KEPT}
 use Rattle.packet_record.specs.declared.text.ScheduleText.TheInside.{Inside}
 

@@ -1,6 +1,6 @@
 -- For proofs alone: what contracts see of a log that is read piece by piece.
 use Rattle.std.specs.Prelude.{◌≡◌, ◌≤◌, ◌^◌, true, length}
-use Rattle.text_base.specs.inside.Lines.{is_one_line}
+use Rattle.text_base.specs.Lines.{is_one_line}
 use Rattle.shell_log.specs.declared.text.LogText.TheInside.{Inside}
 
 -- what is kept is of one line, and at most the longest that says something; lines can be counted

@@ -1,4 +1,4 @@
-use Rattle.std.proofs.Common.{◌≡◌, ◌++◌, List, [], length}
+use Rattle.std.proofs.Common.{◌++◌, [], length}
 use Rattle.shell_log.specs.LogParts.{IsLeft}
 use Rattle.shell_log.proofs.reading.read_text.Given as goal
 

@@ -4,8 +4,7 @@ use Rattle.std.proofs.lemmas.Grind.{common_steps}
 use Rattle.std.proofs.lemmas.List.{take_all}
 use Rattle.text_base.specs.Numbers.{is_digit, decimal_of}
 use Rattle.text_base.proofs.SplitLemmas.{front_read, front_every}
-use Rattle.text_base.proofs.numbers.split_decimal.Goals.{then-loop-count-test+then-count-lt10+else-is_digit}
-use Rattle.text_base.proofs.numbers.split_decimal.Goals.{then-loop-count-test+else-count-lt10, else-loop-count-test}
+use Rattle.text_base.proofs.numbers.split_decimal.Goals.{then-loop-count-test+else-is_digit, else-loop-count-test}
 use Rattle.text_base.proofs.numbers.split_decimal.Goals as goal
 
 pub returns-clause-read : goal.returns-clause-read
@@ -26,8 +25,7 @@ returns-clause-every c =
     let whole : take (length text - k) (drop k text) ≡ drop k text = take_all (length text - k) (drop k text)
     (omega (arith, length-drop k text)) in
     let stops : k < length text → k < 10 → is_digit (get_or text k 0) ≡ false = elim c.loop-count-test.branch [
-      | then-loop-count-test+then-count-lt10+else-is_digit w ↦ λ within few. search rules
-      | then-loop-count-test+else-count-lt10 w ↦ λ within few. absurd (omega (arith, w.if-count-lt10.false))
+      | then-loop-count-test+else-is_digit w ↦ λ within few. search rules
       | else-loop-count-test w ↦ λ within few. absurd (omega (arith, w.loop-count-test.false))
     ] in
     λ word rest n cut e other.

@@ -3,7 +3,7 @@ use Rattle.std.proofs.Common.{arith, length-append}
 use Rattle.std.proofs.lemmas.List.{length-take}
 use Rattle.std.specs.Result.{is_err}
 use Rattle.text_base.specs.Lines.{lines_of}
-use Rattle.text_base.specs.inside.Lines.{is_one_line}
+use Rattle.text_base.specs.Lines.{is_one_line}
 use Rattle.text_base.proofs.TextLemmas.{is_one_line-append}
 use Rattle.packet_record.specs.Gathered.{Awaits}
 use Rattle.packet_record.specs.PartsRead.{IsLeft}

@@ -1,6 +1,5 @@
-use Rattle.std.proofs.Common.{◌≡◌, ◌<◌, ◌==◌, true, false, None, Some, [], length, ap, sym, subst, ◌∙◌}
-use Rattle.text_base.specs.inside.Lines.{is_one_line}
-use Rattle.shell_log.specs.LogParts.{LogPart, IsRead, IsLeft}
+use Rattle.std.proofs.Common.{◌≡◌, ◌<◌, true, false, Some, [], length, ap, sym, subst, ◌∙◌}
+use Rattle.shell_log.specs.LogParts.{LogPart, IsLeft}
 use Rattle.shell_log.specs.views.LogTexts.{text_view}
 use Rattle.shell_log.proofs.PartLaws.{read_end, read_open_end, left_read, none_kept, some_kept}
 use Rattle.shell_log.proofs.text.LogText.finish.Goals as goal

@@ -1,7 +1,7 @@
 use Rattle.std.proofs.Common.{◌+◌, ◌∷◌, ◌++◌, take, ap, sym, ◌∙◌, arith}
 use Rattle.std.proofs.lemmas.List.{take_rest}
-use Rattle.packet_record.proofs.CutLemmas.{one_line_front, one_line_none, cut_at}
-use Rattle.packet_record.proofs.cut.cut_line.Goals as goal
+use Rattle.text_base.proofs.CutLemmas.{one_line_front, one_line_none, cut_at}
+use Rattle.text_base.proofs.lines.cut_line.Goals as goal
 
 pub returns-in-Some : goal.returns-in-Some
 returns-in-Some c =

@@ -1,5 +1,5 @@
 use Rattle.std.proofs.Common.{rules}
-use Rattle.trace_reader.proofs.reading.next_opportunity.Goals as goal
+use Rattle.trace_reader.proofs.reading.opportunity_of.Goals as goal
 
 pub returns-clause-order : goal.returns-clause-order
 returns-clause-order c = search rules
