@@ -1,5 +1,5 @@
 -- The shells that words build.
-use Rattle.std.proofs.Common.{◌≡◌, ℕ, suc, ◌+◌, ◌≤◌, Bool, true, false, cond, List, [], ◌∷◌, ◌++◌, Option, Some, None}
+use Rattle.std.proofs.Common.{◌≡◌, ℕ, ◌+◌, ◌≤◌, Bool, true, false, cond, List, [], ◌∷◌, ◌++◌, Option, Some, None}
 use Rattle.std.proofs.Common.{option_to_list, is_some, length, drop, refl, ap, sym, ◌∙◌, arith}
 use Rattle.std.specs.List.{slice_get}
 use Rattle.packet_queue.specs.declared.spec.QueueSpec.{QueueSpec}
@@ -8,10 +8,12 @@ use Rattle.trace_reader.specs.Opps.{opps}
 use Rattle.nest_spec.specs.declared.shell.Shell.{Shell}
 use Rattle.nest_spec.specs.declared.shell.LinkDirection.{LinkDirection}
 use Rattle.nest_spec.specs.declared.shell_words.LinkSide.{LinkSide}
-use Rattle.nest_spec.specs.declared.shell.Shell.TheVariants.{Delay, Loss, Link}
-use Rattle.nest_spec.specs.Plans.{AreShells, trace_count, log_in, IsPlan}
+use Rattle.nest_spec.specs.declared.shell.Shell.TheVariants.{Link}
+use Rattle.nest_spec.specs.Plans.{IsPlan}
+use Rattle.nest_spec.specs.Shells.{log_in, shells_of, side_with}
 use Rattle.nest_spec.specs.Words.{Text, NestPlan}
-use Rattle.nest_spec.specs.Nests.{built, shells_of, side_with, all_opportunities, opportunities_of, IsNest}
+use Rattle.nest_spec.specs.Nests.{built, opportunities_of, IsNest}
+use Rattle.nest_spec.proofs.ShellLemmas.{built_range, built_long, unnamed}
 
 -- a side that takes the next trace, and the next name where it is logged
 pub record Takes (words : LinkSide) (traces traces' : List Trace) (names names' : List Text) (side : LinkDirection) : Type 0
@@ -77,37 +79,6 @@ link_built once up down more traces traces' traces'' names names' names'' a b fi
 
     along : Takes up traces traces' names names' a → Takes up (a.trace ∷ traces') traces' names names' a
     along takes = record { trace = refl; queue = takes.queue; log = takes.log; logged = takes.logged }
-
--- what is true of words is true of the nest
-built_range : (words : List (Shell LinkSide)) (traces : List Trace) (names : List Text) → AreShells words
-    → AreShells (shells_of words traces names)
-built_range [] traces names are = tt
-built_range (Delay ms ∷ words) traces names are = (are.0, built_range words traces names are.1)
-built_range (Loss d rate ∷ words) traces names are = (tt, built_range words traces names are.1)
-built_range (Link once up down ∷ words) [] names are = tt
-built_range (Link once up down ∷ words) (t ∷ []) names are = tt
-built_range (Link once up down ∷ words) (t ∷ u ∷ traces) names are = (tt, built_range words traces _ are.1)
-
-built_long : (words : List (Shell LinkSide)) (traces : List Trace) (names : List Text) → length traces ≡ trace_count words
-    → length (shells_of words traces names) ≡ length words
-built_long [] traces names e = refl
-built_long (Delay ms ∷ words) traces names e = ap suc (built_long words traces names (omega arith))
-built_long (Loss d rate ∷ words) traces names e = ap suc (built_long words traces names (omega arith))
-built_long (Link once up down ∷ words) [] names e = absurd (let no : 0 ≡ 2 + trace_count words = e in omega arith)
-built_long (Link once up down ∷ words) (t ∷ []) names e = absurd (let no : 1 ≡ 2 + trace_count words = e in omega arith)
-built_long (Link once up down ∷ words) (t ∷ u ∷ traces) names e =
-    ap suc (built_long words traces _ (let long : length (t ∷ u ∷ traces) ≡ 2 + trace_count words = e in omega arith))
-
-unnamed : (h : ℕ) (words : List (Shell LinkSide)) (traces : List Trace) (names names' : List Text)
-    → all_opportunities h (shells_of words traces names) ≡ all_opportunities h (shells_of words traces names')
-unnamed h [] traces names names' = refl
-unnamed h (Delay ms ∷ words) traces names names' = unnamed h words traces names names'
-unnamed h (Loss d rate ∷ words) traces names names' = unnamed h words traces names names'
-unnamed h (Link once up down ∷ words) [] names names' = refl
-unnamed h (Link once up down ∷ words) (t ∷ []) names names' = refl
-unnamed h (Link once up down ∷ words) (t ∷ u ∷ traces) names names' = let rest =
-    unnamed h words traces (drop (log_in down) (drop (log_in up) names))
-    (drop (log_in down) (drop (log_in up) names')) in omega arith
 
 pub nest_built : (plan : NestPlan) (traces : List Trace) (seed h : ℕ) → IsPlan plan
     → length traces ≡ length plan.traces → h ≤ 3600000 → opportunities_of h plan.shells traces ≤ 16000000

@@ -1,4 +1,5 @@
 pub mod Rates
+pub mod ShellLemmas
 pub mod PlanLemmas
 pub mod CountLemmas
 pub mod Indexing

@@ -1,6 +1,7 @@
 pub mod FateTexts
 pub mod NestFaults
 pub mod Words
+pub mod Shells
 pub mod Plans
 pub mod Walk
 pub mod Fates

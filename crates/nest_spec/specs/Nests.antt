@@ -1,26 +1,22 @@
 -- A nest, what its shells do in each direction, and what a run of it gives.
-use Rattle.std.specs.Prelude.{ℕ, ◌+◌, ◌*◌, ◌≤◌, Bool, List, [], ◌∷◌, Option, None, length, drop, map, reverse, nat_lt}
-use Rattle.std.specs.Prelude.{if◌then◌else◌}
-use Rattle.std.specs.List.{slice_get}
+use Rattle.std.specs.Prelude.{ℕ, ◌+◌, ◌≤◌, List, [], ◌∷◌, length, map, reverse, nat_lt, if◌then◌else◌}
 use Rattle.packet_record.specs.declared.packet.Direction.{Direction}
 use Rattle.packet_record.specs.declared.packet.Direction.TheVariants.{Up, Down}
 use Rattle.packet_record.specs.declared.packet.Row.{Row}
-use Rattle.packet_record.specs.Rows.{goes, entering}
+use Rattle.packet_record.specs.Rows.{entering}
 use Rattle.trace_reader.specs.declared.trace.Trace.{Trace}
-use Rattle.trace_reader.specs.Opps.{opps}
 use Rattle.shell_core.specs.declared.spec.DirSpec.{DirSpec}
-use Rattle.shell_core.specs.declared.spec.DirSpec.TheVariants as specs
 use Rattle.shell_core.specs.Shells.{IsInRange, opportunities}
 use Rattle.nest_spec.specs.declared.fate.Fate.{Fate}
 use Rattle.nest_spec.specs.declared.fate.Fate.TheVariants as fates
 use Rattle.nest_spec.specs.declared.fate.FateRow.{FateRow}
 use Rattle.nest_spec.specs.declared.shell_words.LinkSide.{LinkSide}
 use Rattle.nest_spec.specs.declared.shell.Shell.{Shell}
-use Rattle.nest_spec.specs.declared.shell.Shell.TheVariants.{Delay, Loss, Link}
 use Rattle.nest_spec.specs.declared.shell.LinkDirection.{LinkDirection}
 use Rattle.nest_spec.specs.declared.shell.ShellDirection.{ShellDirection}
-use Rattle.nest_spec.specs.Words.{Text, NestPlan}
-use Rattle.nest_spec.specs.Plans.{AreShells, log_in}
+use Rattle.nest_spec.specs.Words.{NestPlan}
+use Rattle.nest_spec.specs.Shells.{shells_of, all_opportunities, spec_in, log_name}
+use Rattle.nest_spec.specs.Plans.{AreShells}
 use Rattle.nest_spec.specs.Walk.{Step, walk, named_log, in_nest_order}
 use Rattle.nest_spec.specs.Fates.{fate_in, fated}
 pub use Rattle.nest_spec.specs.Walk.{NamedEntries}
@@ -31,23 +27,6 @@ pub record NestParts : Type 0 where
   pub seed : ℕ
   pub horizon : ℕ
 
--- One direction of a link, with its trace. Its log, where it has one, has the first of `names` as its name.
-abbrev pub side_with : LinkSide → Trace → List Text → LinkDirection
-side_with side trace names =
-    record { trace = trace; queue = side.queue; log = if side.logged then slice_get names 0 else None }
-
--- The shells of their words. Each link takes the next two traces, and each of its directions that is logged the next
--- name, up before down.
-abbrev pub shells_of : List (Shell LinkSide) → List Trace → List Text → List (Shell LinkDirection)
-shells_of [] traces names = []
-shells_of (Delay ms ∷ more) traces names = Delay ms ∷ shells_of more traces names
-shells_of (Loss d rate ∷ more) traces names = Loss d rate ∷ shells_of more traces names
-shells_of (Link once up down ∷ more) [] names = []
-shells_of (Link once up down ∷ more) (t ∷ []) names = []
-shells_of (Link once up down ∷ more) (t ∷ u ∷ traces) names =
-    Link once (side_with up t names) (side_with down u (drop (log_in up) names))
-    ∷ shells_of more traces (drop (log_in down) (drop (log_in up) names))
-
 -- The nest of a plan, with `traces` in the order of their names.
 abbrev pub built : NestPlan → List Trace → ℕ → ℕ → NestParts
 built plan traces seed horizon = record {
@@ -56,45 +35,9 @@ built plan traces seed horizon = record {
   horizon = horizon;
 }
 
--- How many opportunities one direction of a link has up to the horizon `h`. With `once` the trace doesn't begin again.
-abbrev pub side_opportunities : ℕ → Bool → LinkDirection → ℕ
-side_opportunities h once side = length (opps side.trace.opportunities once h)
-
--- How many opportunities all links have up to the horizon `h`, in both directions together.
-abbrev pub all_opportunities : ℕ → List (Shell LinkDirection) → ℕ
-all_opportunities h [] = 0
-all_opportunities h (Delay ms ∷ shells) = all_opportunities h shells
-all_opportunities h (Loss d rate ∷ shells) = all_opportunities h shells
-all_opportunities h (Link once up down ∷ shells) =
-    side_opportunities h once up + side_opportunities h once down + all_opportunities h shells
-
 -- How many opportunities the links of words have with `traces`, in both directions together.
 abbrev pub opportunities_of : ℕ → List (Shell LinkSide) → List Trace → ℕ
 opportunities_of h shells traces = all_opportunities h (shells_of shells traces [])
-
--- The stream of random words that the loss of shell `number` draws from: twice the number for up, one more for down.
-abbrev pub stream_of : ℕ → Direction → ℕ
-stream_of number Up = 2 * number
-stream_of number Down = 2 * number + 1
-
--- Of a pair of values for up and down, that of the direction.
-abbrev pub side_in : {A : Type 0} → Direction → A → A → A
-side_in Up up down = up
-side_in Down up down = down
-
--- What the shell `number` does in the direction `d`. A loss drops packets in the direction that it names, and passes
--- every packet in the other.
-abbrev pub spec_in : Direction → ℕ → ℕ → Shell LinkDirection → DirSpec
-spec_in d seed number (Delay ms) = specs.Delay ms
-spec_in d seed number (Loss named rate) =
-    if goes d named then specs.Loss rate seed (stream_of number d) else specs.Pass
-spec_in d seed number (Link once up down) = specs.Link (side_in d up down).trace once (side_in d up down).queue
-
--- The name of a shell's log in the direction `d`, if it has one.
-abbrev pub log_name : Direction → Shell LinkDirection → Option Text
-log_name d (Delay ms) = None
-log_name d (Loss named rate) = None
-log_name d (Link once up down) = (side_in d up down).log
 
 -- The shell `number` in the direction `d`: its number, what it does there, and the name of its log there.
 abbrev pub in_direction : Direction → ℕ → ℕ → Shell LinkDirection → ShellDirection

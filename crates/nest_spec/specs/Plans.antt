@@ -1,36 +1,14 @@
 -- What is true of every nest that words state: how many shells, traces and logs it has.
-use Rattle.std.specs.Prelude.{◌≡◌, ℕ, ◌+◌, ◌≤◌, List, [], ◌∷◌, length, if◌then◌else◌}
+use Rattle.std.specs.Prelude.{◌≡◌, ℕ, ◌+◌, ◌≤◌, List, [], ◌∷◌, length}
 use Rattle.nest_spec.specs.Words.{NestPlan}
+use Rattle.nest_spec.specs.Shells.{IsShell, traces_in, logs_in}
 use Rattle.nest_spec.specs.declared.shell.Shell.{Shell}
-use Rattle.nest_spec.specs.declared.shell.Shell.TheVariants.{Delay, Loss, Link}
 use Rattle.nest_spec.specs.declared.shell_words.LinkSide.{LinkSide}
-
--- A delay is at most an hour.
-abbrev pub IsShell : {S : Type 0} → Shell S → Type 0
-IsShell (Delay ms) = ms ≤ 3600000
-IsShell (Loss d rate) = Unit {0}
-IsShell (Link once up down) = Unit {0}
 
 -- Each delay is at most an hour.
 abbrev pub AreShells : {S : Type 0} → List (Shell S) → Type 0
 AreShells [] = Unit {0}
 AreShells (shell ∷ shells) = IsShell shell × AreShells shells
-
--- How many traces a shell names.
-abbrev pub traces_in : {S : Type 0} → Shell S → ℕ
-traces_in (Delay ms) = 0
-traces_in (Loss d rate) = 0
-traces_in (Link once up down) = 2
-
--- How many logs one direction of a link names.
-abbrev pub log_in : LinkSide → ℕ
-log_in side = if side.logged then 1 else 0
-
--- How many logs a shell names.
-abbrev pub logs_in : Shell LinkSide → ℕ
-logs_in (Delay ms) = 0
-logs_in (Loss d rate) = 0
-logs_in (Link once up down) = log_in up + log_in down
 
 -- How many traces all shells name.
 abbrev pub trace_count : List (Shell LinkSide) → ℕ

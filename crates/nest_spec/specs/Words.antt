@@ -1,7 +1,8 @@
 -- The grammar of a nest's words: what the words `mm-delay`, `mm-loss` and `mm-link` say with those after them, and why
 -- words are refused. Places of words are counted from 1.
-use Rattle.std.specs.Prelude.{ℕ, zero, suc, ◌+◌, Bool, true, false, ◌==◌, ◌&&◌, List, [], ◌∷◌, ◌++◌, Option, Some, None}
-use Rattle.std.specs.Prelude.{Result, Ok, Err, length, min, nat_le, nat_lt, codes, option_to_list, if◌then◌else◌}
+use Rattle.std.specs.Prelude.{ℕ, zero, suc, ◌+◌, Bool, true, false, ◌==◌, ◌&&◌, ◌||◌, List, [], ◌∷◌, ◌++◌}
+use Rattle.std.specs.Prelude.{Option, Some, None, Result, Ok, Err, length, min, nat_le, nat_lt, codes, option_to_list}
+use Rattle.std.specs.Prelude.{if◌then◌else◌}
 use Rattle.std.specs.Option.{is_some, unwrap_or}
 use Rattle.std.specs.List.{position_or_len, before_first, after_first}
 use Rattle.std.specs.Str.{bytes_eq}
@@ -16,9 +17,6 @@ use Rattle.loss_core.specs.declared.rate.RateError.{RateError}
 use Rattle.loss_core.specs.RateValues.{rate_value}
 use Rattle.nest_spec.specs.declared.error.NestError.{NestError}
 use Rattle.nest_spec.specs.declared.error.NestError.TheVariants as errors
-use Rattle.nest_spec.specs.declared.shell_words.ShellKind.{ShellKind}
-use Rattle.nest_spec.specs.declared.shell_words.ShellKind.TheVariants.{Delay as AnyDelay, Loss as AnyLoss}
-use Rattle.nest_spec.specs.declared.shell_words.ShellKind.TheVariants.{Link as AnyLink}
 use Rattle.nest_spec.specs.declared.shell_words.LinkSide.{LinkSide}
 use Rattle.nest_spec.specs.declared.shell.Shell.{Shell}
 use Rattle.nest_spec.specs.declared.shell.Shell.TheVariants.{Delay, Loss, Link}
@@ -281,19 +279,18 @@ link_end shell read = traces_read shell read read.given.up.trace read.given.down
 abbrev pub link_words : ℕ → ℕ → List Text → Result ShellRead NestError
 link_words shell place words = and_then (link_from shell place None nothing_given words) (link_end shell)
 
--- The kind of shell that a word begins, if it begins one.
-abbrev pub kind_of : Text → Option ShellKind
-kind_of word =
-    if bytes_eq word (codes "mm-delay") then Some AnyDelay
-    else if bytes_eq word (codes "mm-loss") then Some AnyLoss
-    else if bytes_eq word (codes "mm-link") then Some AnyLink
-    else None
+-- A word begins a shell.
+abbrev pub is_shell : Text → Bool
+is_shell word =
+    bytes_eq word (codes "mm-delay") || bytes_eq word (codes "mm-loss") || bytes_eq word (codes "mm-link")
 
--- Reads the words after the one that begins a shell. `place` is that of the first of them.
-abbrev pub shell_words : ShellKind → ℕ → ℕ → List Text → Result ShellRead NestError
-shell_words AnyDelay shell place words = delay_words shell place words
-shell_words AnyLoss shell place words = loss_words shell place words
-shell_words AnyLink shell place words = link_words shell place words
+-- Reads a shell, of which `word` at `place` must be the first word, and `words` are those after it.
+abbrev pub shell_words : ℕ → ℕ → Text → List Text → Result ShellRead NestError
+shell_words shell place word words =
+    if bytes_eq word (codes "mm-delay") then delay_words shell (next place) words
+    else if bytes_eq word (codes "mm-loss") then loss_words shell (next place) words
+    else if bytes_eq word (codes "mm-link") then link_words shell (next place) words
+    else Err (errors.UnknownShell place)
 
 -- A nest as its words state it: its shells, the outermost first, and the names of traces and logs in that order, up
 -- before down.
@@ -318,10 +315,9 @@ with_shell plan read = record {
 abbrev pub next_shell : NestPlan → ℕ
 next_shell plan = length plan.shells + 1
 
--- A word that must begin a shell does so, or is refused.
-abbrev pub begun : {A : Type 0} → ℕ → Option ShellKind → (ShellKind → Result A NestError) → Result A NestError
-begun place None f = Err (errors.UnknownShell place)
-begun place (Some kind) f = f kind
+-- Why the word at `place` is refused after the eighth shell.
+abbrev pub past_last : ℕ → Text → NestError
+past_last place word = if is_shell word then errors.TooManyShells else errors.UnknownShell place
 
 -- Where the next shell must begin: after a shell one word `--` is passed over. None where no word is left.
 abbrev pub passed_over : ℕ → List Text → Option (ℕ × List Text)
@@ -339,11 +335,11 @@ followed plan (Some rest) more = more rest.0 rest.1
 -- no word is left, `missing` is the refusal.
 unfoldable pub shells_from : ℕ → NestPlan → ℕ → NestError → List Text → Result NestPlan NestError
 shells_from left plan place missing [] = Err missing
-shells_from zero plan place missing (word ∷ words) = begun place (kind_of word) (λ kind. Err errors.TooManyShells)
+shells_from zero plan place missing (word ∷ words) = Err (past_last place word)
 shells_from (suc left) plan place missing (word ∷ words) =
-    begun place (kind_of word) (λ kind. and_then (shell_words kind (next_shell plan) (next place) words) (λ read.
+    and_then (shell_words (next_shell plan) place word words) (λ read.
     followed (with_shell plan read) (passed_over read.place read.rest)
-    (λ place' rest. shells_from left (with_shell plan read) place' (errors.MissingWord (next_shell plan)) rest)))
+    (λ place' rest. shells_from left (with_shell plan read) place' (errors.MissingWord (next_shell plan)) rest))
 
 -- The nest of the words, or their first refusal from the left.
 abbrev pub nest_of : List Text → Result NestPlan NestError

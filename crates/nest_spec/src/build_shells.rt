@@ -1,11 +1,10 @@
 // Builds the shells of a nest from its words: each link gets its traces and the names of its logs.
-ghost use Rattle.std.specs.Prelude.{◌≡◌, ◌≤◌, ◌<◌, ◌+◌, ◌∷◌, ◌++◌, List, is_some, length, option_to_list, OnOk, IfOk};
+ghost use Rattle.std.specs.Prelude.{◌≡◌, ◌++◌, length, OnOk, IfOk};
 ghost use Rattle.std.specs.Vec.Iter.{into_iter_items};
-ghost use Rattle.nest_spec.specs.declared.shell.Shell.{Shell as ShellValue};
-ghost use Rattle.nest_spec.specs.declared.shell_words.LinkSide.{LinkSide as SideValue};
-ghost use Rattle.nest_spec.specs.Nests.{shells_of};
-ghost use Rattle.nest_spec.specs.Plans.{IsPlan, log_in, traces_in, logs_in, trace_count, log_count};
+ghost use Rattle.nest_spec.specs.Shells.{shells_of};
+ghost use Rattle.nest_spec.specs.Plans.{IsPlan, trace_count, log_count};
 
+use crate::shell::shell_of;
 use crate::{LinkDirection, LinkSide, NestWords, Shell};
 use std::alloc::Global;
 use std::vec::IntoIter;
@@ -51,49 +50,4 @@ fn push_shells(
     let shell = shell_of(*shell, &mut traces, &mut names);
     shells.push(shell)?;
     push_shells(shells, words, traces, names)
-}
-
-// Returns the shell of `words`, and takes the traces and names that it needs.
-fn shell_of(
-    words: Shell<LinkSide>,
-    traces: &mut IntoIter<Trace>,
-    names: &mut IntoIter<Text>,
-) -> Shell<LinkDirection>
-    requires traces { traces_in words ≤ length (into_iter_items traces.old) }
-    requires names { logs_in words ≤ length (into_iter_items names.old) }
-    ensures shell { (more : List (ShellValue SideValue))
-        → shells_of (words ∷ more) (into_iter_items traces.old) (into_iter_items names.old)
-        ≡ result ∷ shells_of more (into_iter_items traces.new) (into_iter_items names.new) }
-    ensures traces { length (into_iter_items traces.old) ≡ traces_in words + length (into_iter_items traces.new) }
-    ensures names { length (into_iter_items names.old) ≡ logs_in words + length (into_iter_items names.new) }
-{
-    match words {
-        Shell::Delay { ms } => Shell::Delay { ms },
-        Shell::Loss { direction, rate } => Shell::Loss { direction, rate },
-        Shell::Link { once, up, down } => {
-            let up = side_of(up, traces, names);
-            let down = side_of(down, traces, names);
-            Shell::Link { once, up, down }
-        }
-    }
-}
-
-// Returns one direction of a link. It takes the next trace, and the next name where it is logged.
-fn side_of(
-    words: LinkSide,
-    traces: &mut IntoIter<Trace>,
-    names: &mut IntoIter<Text>,
-) -> LinkDirection
-    requires traces { 0 < length (into_iter_items traces.old) }
-    requires names { log_in words ≤ length (into_iter_items names.old) }
-    ensures trace { into_iter_items traces.old ≡ result.trace ∷ into_iter_items traces.new }
-    ensures queue { result.queue ≡ words.queue }
-    ensures log { into_iter_items names.old ≡ option_to_list result.log ++ into_iter_items names.new }
-    ensures logged { is_some result.log ≡ words.logged }
-{
-    LinkDirection {
-        trace: traces.next().unwrap(),
-        queue: words.queue,
-        log: if words.logged { names.next() } else { None },
-    }
 }

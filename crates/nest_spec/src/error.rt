@@ -12,7 +12,7 @@ use std::alloc::{AllocError, AllocFailed};
 pub enum NestError {
     /// 1: there are no words.
     NoShell,
-    /// 2: a shell must begin at the word, which is none of `mm-delay`, `mm-loss` and `mm-link`.
+    /// 2: a shell must begin at the word, which begins none.
     UnknownShell { word: u32 },
     /// 3: a word that the shell needs is missing, or one that may not be empty is empty.
     MissingWord { shell: u32 },

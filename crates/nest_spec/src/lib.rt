@@ -31,4 +31,4 @@ pub use nest_words::{NestWords, read_nest};
 pub use packed_fate::{PackedFate, unpack_fates};
 pub use run_result::{Named, NamedLog, RunResult};
 pub use shell::{LinkDirection, Shell, ShellDirection};
-pub use shell_words::{LinkSide, ShellKind, ShellWords};
+pub use shell_words::LinkSide;

@@ -1,7 +1,7 @@
 // Reads the words for a nest, as `mm-delay 20 mm-loss uplink 0.1`.
 ghost use Rattle.std.specs.Prelude.{◌≡◌, ◌≢◌, ◌≤◌, ◌+◌, ◌*◌, ◌++◌, Ok, Err, length, map, string_bytes, option_map};
 ghost use Rattle.std.specs.Prelude.{option_to_list, MatchResult, OnOk};
-ghost use Rattle.nest_spec.specs.Words.{with_shell, passed_over, shells_from, nest_of};
+ghost use Rattle.nest_spec.specs.Words.{with_shell, passed_over, past_last, shells_from, nest_of};
 ghost use Rattle.nest_spec.specs.Plans.{IsPlan, trace_count};
 ghost use Rattle.nest_spec.specs.inside.LinkWords.{text_of};
 ghost use Rattle.nest_spec.specs.inside.ShellWords.{shell_given};
@@ -9,9 +9,9 @@ ghost use Rattle.nest_spec.specs.Nests.{opportunities_of};
 ghost use Rattle.trace_reader.specs.Opps.{opps};
 ghost use Rattle.nest_spec.specs.inside.Draft.{draft_plan, place_and_words};
 
-use crate::shell_reading::{ShellRead, read_shell};
-use crate::shell_words::{kind_of, next};
-use crate::{LinkSide, NestError, Shell, ShellWords};
+use crate::shell_reading::{ShellRead, is_shell, read_shell};
+use crate::shell_words::next;
+use crate::{LinkSide, NestError, Shell};
 use std::alloc::Global;
 use std::marker::Model;
 use text_base::{OutOfMemory, Text};
@@ -41,7 +41,7 @@ impl Model for NestWords {
 
 impl NestWords {
     /// Returns the shells, the outermost first.
-    pub fn shells(&self) -> &[ShellWords]
+    pub fn shells(&self) -> &[Shell<LinkSide>]
         ensures shells { result.now ≡ self.now.shells }
         ensures plan { IsPlan self.now }
     {
@@ -173,6 +173,17 @@ fn pass_over<'a>(place: u32, words: &'a [String]) -> Option<(u32, &'a [String])>
     }
 }
 
+// Returns why the word at `place` is refused after the eighth shell.
+fn past_last(place: u32, word: &str) -> NestError
+    ensures { result ≡ past_last place word.now }
+{
+    if is_shell(word) {
+        NestError::TooManyShells
+    } else {
+        NestError::UnknownShell { word: place }
+    }
+}
+
 // Reads shells from the word `place` on, where a shell must begin. There may be `left` more, and `missing` is the
 // refusal where no word is left.
 #[tactic(auto, unfolding(crate::specs::Words::shells_from))]
@@ -194,14 +205,12 @@ fn read_shells(
     let Some((word, rest)) = words.split_first() else {
         return Err(missing);
     };
-    let Some(kind) = kind_of(word.as_str()) else {
-        return Err(NestError::UnknownShell { word: place });
-    };
+    let word = word.as_str();
     if left == 0 {
-        return Err(NestError::TooManyShells);
+        return Err(past_last(place, word));
     }
     let shell = draft.shells.len() as u32 + 1;
-    let read = read_shell(kind, shell, next(place), rest)?;
+    let read = read_shell(shell, place, word, rest)?;
     add_shell(alloc, draft, &read)?;
     let Some((place, rest)) = pass_over(read.place, read.rest) else {
         return Ok(());
@@ -210,8 +219,8 @@ fn read_shells(
     read_shells(alloc, draft, left - 1, place, missing, rest)
 }
 
-/// Reads the words for a nest: shells of `mm-delay D`, `mm-loss uplink|downlink RATE` and `mm-link UPTRACE DOWNTRACE`
-/// with its options in any place. One word `--` after a whole shell is passed over.
+/// Reads the words for a nest: one to eight shells, the outermost first, each with its words. One word `--` after a whole
+/// shell is passed over.
 ///
 /// Returns the first refusal from the left, or `NestError::OutOfMemory` where an allocation fails.
 pub fn read_nest(alloc: Global, words: &[String]) -> Result<NestWords, NestError>

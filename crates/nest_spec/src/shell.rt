@@ -1,12 +1,18 @@
-// The shells of a nest, and what each does in one direction.
-ghost use Rattle.std.specs.Prelude.{◌≡◌, ◌≤◌, IfOk};
-ghost use Rattle.nest_spec.specs.Nests.{stream_of, spec_in, log_name, in_direction, side_in};
+// The shells of a nest, how each is built, and what it does in one direction.
+ghost use Rattle.std.specs.Prelude.{◌≡◌, ◌≤◌, ◌<◌, ◌+◌, ◌∷◌, ◌++◌, List, is_some, length, option_to_list, IfOk};
+ghost use Rattle.std.specs.Vec.Iter.{into_iter_items};
+ghost use Rattle.nest_spec.specs.Nests.{in_direction};
+ghost use Rattle.nest_spec.specs.Shells.{log_in, logs_in, log_name, shells_of, side_in, spec_in, stream_of, traces_in};
+ghost use Rattle.nest_spec.specs.declared.shell.Shell.{Shell as ShellValue};
+ghost use Rattle.nest_spec.specs.declared.shell_words.LinkSide.{LinkSide as SideValue};
 
+use crate::LinkSide;
 use loss_core::Rate;
 use packet_queue::QueueSpec;
 use packet_record::Direction;
 use shell_core::DirSpec;
 use std::alloc::Global;
+use std::vec::IntoIter;
 use text_base::{OutOfMemory, Text};
 use trace_reader::Trace;
 
@@ -106,6 +112,51 @@ impl Shell<LinkDirection> {
             Some(name) => Ok(Some(Text::from_text(alloc, name.as_str())?)),
             None => Ok(None),
         }
+    }
+}
+
+// Returns the shell of `words`, and takes the traces and names that it needs.
+pub(crate) fn shell_of(
+    words: Shell<LinkSide>,
+    traces: &mut IntoIter<Trace>,
+    names: &mut IntoIter<Text>,
+) -> Shell<LinkDirection>
+    requires traces { traces_in words ≤ length (into_iter_items traces.old) }
+    requires names { logs_in words ≤ length (into_iter_items names.old) }
+    ensures shell { (more : List (ShellValue SideValue))
+        → shells_of (words ∷ more) (into_iter_items traces.old) (into_iter_items names.old)
+        ≡ result ∷ shells_of more (into_iter_items traces.new) (into_iter_items names.new) }
+    ensures traces { length (into_iter_items traces.old) ≡ traces_in words + length (into_iter_items traces.new) }
+    ensures names { length (into_iter_items names.old) ≡ logs_in words + length (into_iter_items names.new) }
+{
+    match words {
+        Shell::Delay { ms } => Shell::Delay { ms },
+        Shell::Loss { direction, rate } => Shell::Loss { direction, rate },
+        Shell::Link { once, up, down } => {
+            let up = side_of(up, traces, names);
+            let down = side_of(down, traces, names);
+            Shell::Link { once, up, down }
+        }
+    }
+}
+
+// Returns one direction of a link. It takes the next trace, and the next name where it is logged.
+fn side_of(
+    words: LinkSide,
+    traces: &mut IntoIter<Trace>,
+    names: &mut IntoIter<Text>,
+) -> LinkDirection
+    requires traces { 0 < length (into_iter_items traces.old) }
+    requires names { log_in words ≤ length (into_iter_items names.old) }
+    ensures trace { into_iter_items traces.old ≡ result.trace ∷ into_iter_items traces.new }
+    ensures queue { result.queue ≡ words.queue }
+    ensures log { into_iter_items names.old ≡ option_to_list result.log ++ into_iter_items names.new }
+    ensures logged { is_some result.log ≡ words.logged }
+{
+    LinkDirection {
+        trace: traces.next().unwrap(),
+        queue: words.queue,
+        log: if words.logged { names.next() } else { None },
     }
 }
 

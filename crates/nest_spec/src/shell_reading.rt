@@ -1,17 +1,17 @@
-// Reads the words of one shell, after the word that begins it.
+// Reads the words of one shell.
 ghost use Rattle.std.specs.Prelude.{◌≡◌, Some, None, Ok, Err, map, string_bytes, unwrap_or, codes, [], option_map};
 ghost use Rattle.std.specs.Prelude.{MatchResult};
 ghost use Rattle.text_base.specs.Numbers.{decimal_of};
 ghost use Rattle.nest_spec.specs.Words.{shell_read, delay_ms, delay_words, loss_direction, loss_rate, rate_words};
 ghost use Rattle.nest_spec.specs.Words.{loss_words, queue_given, side_words, queues_read, link_end, link_words};
-ghost use Rattle.nest_spec.specs.Words.{shell_words};
+ghost use Rattle.nest_spec.specs.Words.{is_shell, shell_words};
 ghost use Rattle.loss_core.specs.RateValues.{rate_value};
 ghost use Rattle.nest_spec.specs.inside.LinkWords.{side_given, rest_given};
 ghost use Rattle.nest_spec.specs.inside.ShellWords.{shell_given};
 
 use crate::link_words::{LinkRest, LinkWords, SideWords, read_link_words};
 use crate::shell_words::next;
-use crate::{LinkSide, NestError, Shell, ShellKind};
+use crate::{LinkSide, NestError, Shell};
 use loss_core::{Rate, read_rate};
 use packet_queue::{QueueSpec, read_queue};
 use packet_record::Direction;
@@ -192,19 +192,30 @@ fn read_link<'a>(shell: u32, place: u32, words: &'a [String]) -> Result<ShellRea
     read_link_end(shell, read)
 }
 
-// Reads the words after the one that begins a shell. `place` is that of the first of them.
+// Returns whether a word begins a shell.
+pub(crate) fn is_shell(word: &str) -> bool
+    ensures { result ≡ is_shell word.now }
+{
+    match word {
+        "mm-delay" | "mm-loss" | "mm-link" => true,
+        _ => false,
+    }
+}
+
+// Reads a shell, of which `word` at `place` must be the first word, and `words` are those after it.
 pub(crate) fn read_shell<'a>(
-    kind: ShellKind,
     shell: u32,
     place: u32,
+    word: &str,
     words: &'a [String],
 ) -> Result<ShellRead<'a>, NestError>
-    ensures { MatchResult result (λ r. shell_words kind shell place (map string_bytes words.now) ≡ Ok (shell_given r))
-        (λ e. shell_words kind shell place (map string_bytes words.now) ≡ Err e) }
+    ensures { MatchResult result (λ r. shell_words shell place word.now (map string_bytes words.now) ≡ Ok
+        (shell_given r)) (λ e. shell_words shell place word.now (map string_bytes words.now) ≡ Err e) }
 {
-    match kind {
-        ShellKind::Delay => read_delay(shell, place, words),
-        ShellKind::Loss => read_loss(shell, place, words),
-        ShellKind::Link => read_link(shell, place, words),
+    match word {
+        "mm-delay" => read_delay(shell, next(place), words),
+        "mm-loss" => read_loss(shell, next(place), words),
+        "mm-link" => read_link(shell, next(place), words),
+        _ => Err(NestError::UnknownShell { word: place }),
     }
 }

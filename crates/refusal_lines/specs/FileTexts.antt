@@ -4,7 +4,7 @@ use Rattle.command_ends.specs.declared.cause.Limit.{Limit}
 use Rattle.command_ends.specs.declared.cause.Limit.TheVariants as limits
 use Rattle.refusal_words.specs.Commands.{Text}
 use Rattle.refusal_words.specs.Parts.{five, seven, three}
-use Rattle.refusal_words.specs.Shells.{link_value}
+use Rattle.refusal_words.specs.LinkWords.{link_value}
 use Rattle.refusal_lines.specs.InputTexts.{place_text, rule_of}
 use Rattle.refusal_lines.specs.Roles.{gives, role_digit, role_of, role_text}
 use Rattle.refusal_lines.specs.declared.roles.FileRole.{FileRole}

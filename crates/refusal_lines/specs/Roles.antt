@@ -3,7 +3,7 @@ use Rattle.std.specs.Prelude.{ℕ, ◌==◌, Bool, List, [], ◌∷◌, Option, 
 use Rattle.std.specs.Str.{bytes_eq}
 use Rattle.refusal_words.specs.Commands.{Text}
 use Rattle.refusal_words.specs.Faults.{is_end}
-use Rattle.refusal_words.specs.Shells.{link_value}
+use Rattle.refusal_words.specs.LinkWords.{link_value}
 use Rattle.refusal_words.specs.Traces.{trace_named}
 use Rattle.refusal_words.specs.declared.traces.TraceAt.{TraceAt}
 use Rattle.refusal_lines.specs.declared.roles.FileRole.{FileRole}

@@ -3,7 +3,7 @@ use Rattle.std.proofs.Common.{◌≡◌, ◌-◌, List, length, map, take, sym, 
 use Rattle.std.specs.List.{take-map}
 use Rattle.std.proofs.lemmas.List.{length-map}
 use Rattle.refusal_words.specs.Commands.{Text}
-use Rattle.refusal_words.specs.Shells.{after_shell, own_words}
+use Rattle.refusal_words.specs.NestWords.{after_shell, own_words}
 
 pub own_words_map : {S : Type 0} (f : S → Text) (words rest : List S) → map f rest ≡ after_shell (map f words)
     → map f (take (length words - length rest) words) ≡ own_words (map f words)

@@ -1,20 +1,16 @@
 -- The texts of the faults of words.
-use Rattle.std.specs.Prelude.{Bool, ◌&&◌, ◌||◌, List, [], ◌∷◌, Option, Some, None, codes, if◌then◌else◌}
-use Rattle.std.specs.Str.{bytes_eq}
+use Rattle.std.specs.Prelude.{◌&&◌, List, [], ◌∷◌, Option, Some, None, codes, if◌then◌else◌}
 use Rattle.refusal_words.specs.Commands.{Text, command_text, has_shells}
 use Rattle.refusal_words.specs.Faults.{Fault, Stray, UnknownOption, NoValue, BadValue, FlagValue, Twice, Missing, Both}
 use Rattle.refusal_words.specs.Faults.{NoShells, Nothing, lacking, name_in}
 use Rattle.refusal_words.specs.Options.{option_text, options_of, sort_text, want}
 use Rattle.refusal_words.specs.Parts.{five, seven, three}
+use Rattle.refusal_words.specs.Shells.{is_shell}
 use Rattle.refusal_words.specs.Slips.{is_slip}
 use Rattle.refusal_words.specs.declared.command.Command.{Command}
 use Rattle.refusal_words.specs.declared.command.Command.TheVariants.{Run, Merge, Report, Make, Record, Match, Migrate}
 use Rattle.refusal_words.specs.declared.command.Command.TheVariants.{Replay, Proxy, Relay}
 use Rattle.refusal_words.specs.declared.known.KnownOption.{KnownOption}
-
--- a word begins a shell
-abbrev pub is_shell : Text → Bool
-is_shell word = bytes_eq word (codes "mm-delay") || bytes_eq word (codes "mm-loss") || bytes_eq word (codes "mm-link")
 
 -- the first option that is one slip away from what was typed
 abbrev pub near_option : List KnownOption → Text → Option KnownOption

@@ -1,15 +1,20 @@
--- The usage of each program and command, and the versions.
-use Rattle.std.specs.Prelude.{List, [], ◌∷◌, ◌++◌, codes}
-use Rattle.std.specs.List.{flat_map}
+-- The usage of each program and command, and the versions, each in nine pieces.
+use Rattle.std.specs.Prelude.{List, [], ◌∷◌, codes}
 use Rattle.refusal_words.specs.Commands.{Text}
+use Rattle.refusal_words.specs.Parts.{joined}
+use Rattle.refusal_words.specs.Shells.{short_usage, usage}
 
--- lines, each with a line feed
-abbrev pub joined : List Text → Text
-joined lines = flat_map (λ line. line ++ codes "\n") lines
+-- the pieces of a text of several lines
+abbrev pub page : Text → List Text
+page text = text ∷ [] ∷ [] ∷ [] ∷ [] ∷ [] ∷ [] ∷ [] ∷ [] ∷ []
+
+-- the pieces of a text in which the lines of the shells stand
+abbrev pub page_with : Text → Text → Text → List Text
+page_with front shells end = front ∷ shells ∷ end ∷ [] ∷ [] ∷ [] ∷ [] ∷ [] ∷ [] ∷ []
 
 -- the usage of `mm`
-abbrev pub all : Text
-all = joined (
+abbrev pub all : List Text
+all = page_with (joined (
     codes "usage: mm COMMAND OPTIONS"
     ∷ codes ""
     ∷ codes "  run      passes the packets of a schedule through a nest of shells"
@@ -30,21 +35,19 @@ all = joined (
     ∷ codes "             --store FILE --port N --connections N [--site-port N] [--until-ended]"
     ∷ codes ""
     ∷ codes "  SHELLS   one to eight of:"
-    ∷ codes "             mm-delay MS                      0 to 3600000 ms each way"
-    ∷ codes "             mm-loss uplink|downlink RATE     0 to 1, as 0.01"
-    ∷ codes "             mm-link UPTRACE DOWNTRACE        with options; mm run --help has them"
-    ∷ codes ""
+    ∷ [])) short_usage (joined (
+    codes ""
     ∷ codes "examples:"
     ∷ codes "  mm run --until 30000 --schedule s --out fates -- mm-delay 20"
     ∷ codes "  mm run --until 30000 --schedule s --out fates -- mm-link up down --uplink-log=up.log"
     ∷ codes "  mm report --log up.log"
     ∷ codes ""
     ∷ codes "mm COMMAND --help says more of a command, and the manual all: man mm"
-    ∷ [])
+    ∷ []))
 
 -- the usage of `run`
-abbrev pub run : Text
-run = joined (
+abbrev pub run : List Text
+run = page_with (joined (
     codes "usage: mm run --until MS --schedule FILE --out FILE [--seed N] [--plain] [--order FILE] -- SHELLS"
     ∷ codes ""
     ∷ codes "Passes the packets of a schedule through a nest of shells, and writes what became of each."
@@ -57,14 +60,8 @@ run = joined (
     ∷ codes "  --order FILE     in single steps, in the order that the bytes of the file state"
     ∷ codes ""
     ∷ codes "  SHELLS           one to eight, the outermost first:"
-    ∷ codes "    mm-delay MS                    0 to 3600000 milliseconds, each way"
-    ∷ codes "    mm-loss uplink|downlink RATE   0 to 1, with at most nine digits after the point, as 0.01"
-    ∷ codes "    mm-link UPTRACE DOWNTRACE      two traces (a line for each opportunity), and options:"
-    ∷ codes "      --uplink-log=FILE --downlink-log=FILE"
-    ∷ codes "      --uplink-queue=KIND --downlink-queue=KIND     infinite, droptail or drophead"
-    ∷ codes "      --uplink-queue-args=ARGS --downlink-queue-args=ARGS     packets=N, bytes=N or both"
-    ∷ codes "      --once                       each trace is used once, and not again and again"
-    ∷ codes ""
+    ∷ [])) usage (joined (
+    codes ""
     ∷ codes "examples:"
     ∷ codes "  mm run --until 30000 --schedule s --out fates -- mm-delay 20"
     ∷ codes "  mm run --until 30000 --schedule s --out fates -- mm-delay 20 mm-loss downlink 0.01"
@@ -72,11 +69,11 @@ run = joined (
     ∷ codes "      --uplink-queue=droptail --uplink-queue-args=packets=100"
     ∷ codes ""
     ∷ codes "manual: man mm"
-    ∷ [])
+    ∷ []))
 
 -- the usage of `merge`
-abbrev pub merge : Text
-merge = joined (
+abbrev pub merge : List Text
+merge = page_with (joined (
     codes "usage: mm merge --until MS --senders FILE --out FILE [--seed N] -- SHELLS"
     ∷ codes ""
     ∷ codes "Passes the packets of up to 16 senders through one nest, and writes what became of each."
@@ -87,25 +84,19 @@ merge = joined (
     ∷ codes "  --seed N         the seed of losses, at most ten digits; 0 where none is given"
     ∷ codes ""
     ∷ codes "  SHELLS           one to eight, the outermost first:"
-    ∷ codes "    mm-delay MS                    0 to 3600000 milliseconds, each way"
-    ∷ codes "    mm-loss uplink|downlink RATE   0 to 1, with at most nine digits after the point, as 0.01"
-    ∷ codes "    mm-link UPTRACE DOWNTRACE      two traces (a line for each opportunity), and options:"
-    ∷ codes "      --uplink-log=FILE --downlink-log=FILE"
-    ∷ codes "      --uplink-queue=KIND --downlink-queue=KIND     infinite, droptail or drophead"
-    ∷ codes "      --uplink-queue-args=ARGS --downlink-queue-args=ARGS     packets=N, bytes=N or both"
-    ∷ codes "      --once                       each trace is used once, and not again and again"
-    ∷ codes ""
+    ∷ [])) usage (joined (
+    codes ""
     ∷ codes "examples:"
     ∷ codes "  mm merge --until 30000 --senders senders --out fates -- mm-delay 20"
     ∷ codes "  mm merge --until 30000 --senders senders --out fates -- mm-link t t"
     ∷ codes "  mm merge --until 30000 --senders senders --out fates --seed 1 -- mm-loss uplink 0.01"
     ∷ codes ""
     ∷ codes "manual: man mm"
-    ∷ [])
+    ∷ []))
 
 -- the usage of `report`
-abbrev pub report : Text
-report = joined (
+abbrev pub report : List Text
+report = page (joined (
     codes "usage: mm report --log FILE"
     ∷ codes ""
     ∷ codes "Prints the sums of a log: packets, bytes, what was used, and delays."
@@ -118,11 +109,11 @@ report = joined (
     ∷ codes "  mm report --log up.log | grep delay"
     ∷ codes ""
     ∷ codes "manual: man mm"
-    ∷ [])
+    ∷ []))
 
 -- the usage of `make`
-abbrev pub make : Text
-make = joined (
+abbrev pub make : List Text
+make = page (joined (
     codes "usage: mm make --number N --packets N"
     ∷ codes ""
     ∷ codes "Makes a load and a trace of a number, runs them through a stated nest, and prints the sums."
@@ -136,11 +127,11 @@ make = joined (
     ∷ codes "  mm make --number 7 --packets 1000000"
     ∷ codes ""
     ∷ codes "manual: man mm"
-    ∷ [])
+    ∷ []))
 
 -- the usage of `record`
-abbrev pub recording : Text
-recording = joined (
+abbrev pub recording : List Text
+recording = page (joined (
     codes "usage: mm record --client FILE --server FILE --out FILE [--port N]"
     ∷ codes ""
     ∷ codes "Makes a store of the two byte streams of one connection."
@@ -156,11 +147,11 @@ recording = joined (
     ∷ codes "  mm record --client c --server s --out store --port 8080"
     ∷ codes ""
     ∷ codes "manual: man mm"
-    ∷ [])
+    ∷ []))
 
 -- the usage of `match`
-abbrev pub matching : Text
-matching = joined (
+abbrev pub matching : List Text
+matching = page (joined (
     codes "usage: mm match --store FILE --request FILE [--port N]"
     ∷ codes ""
     ∷ codes "Prints the number of the record that answers a request, or 'none'."
@@ -175,11 +166,11 @@ matching = joined (
     ∷ codes "  mm match --store=store --request=q"
     ∷ codes ""
     ∷ codes "manual: man mm"
-    ∷ [])
+    ∷ []))
 
 -- the usage of `migrate`
-abbrev pub migrate : Text
-migrate = joined (
+abbrev pub migrate : List Text
+migrate = page (joined (
     codes "usage: mm migrate --store FILE --out FILE"
     ∷ codes ""
     ∷ codes "Writes a store of any form in the newest."
@@ -193,11 +184,11 @@ migrate = joined (
     ∷ codes "  mm migrate --out new --store old"
     ∷ codes ""
     ∷ codes "manual: man mm"
-    ∷ [])
+    ∷ []))
 
 -- the usage of `replay`
-abbrev pub replay : Text
-replay = joined (
+abbrev pub replay : List Text
+replay = page (joined (
     codes "usage: mm replay --store FILE --port N --connections N [--site-port N] [--until-ended]"
     ∷ codes ""
     ∷ codes "Serves the responses of a store at a port of 127.0.0.1, and prints how the connections ended."
@@ -215,11 +206,11 @@ replay = joined (
     ∷ codes "  curl -H 'Host: example.org' http://127.0.0.1:8080/"
     ∷ codes ""
     ∷ codes "manual: man mm"
-    ∷ [])
+    ∷ []))
 
 -- the usage of `mm-record`
-abbrev pub proxy : Text
-proxy = joined (
+abbrev pub proxy : List Text
+proxy = page (joined (
     codes "usage: mm-record --port N --to N --connections N --out FILE [--until-ended]"
     ∷ codes ""
     ∷ codes "Stands between clients and a site on this machine, and stores what passes."
@@ -236,11 +227,11 @@ proxy = joined (
     ∷ codes "  mm-record --port 8080 --to 80 --connections 64 --out store --until-ended"
     ∷ codes ""
     ∷ codes "manual: man mm-record"
-    ∷ [])
+    ∷ []))
 
 -- the usage of `mm-relay`
-abbrev pub relay : Text
-relay = joined (
+abbrev pub relay : List Text
+relay = page_with (joined (
     codes "usage: mm-relay --until MS --listen N --to N --turns N --out FILE [--seed N] -- SHELLS"
     ∷ codes ""
     ∷ codes "Passes UDP datagrams between a client and a server of this machine through a nest of shells."
@@ -253,30 +244,24 @@ relay = joined (
     ∷ codes "  --seed N         the seed of losses, at most ten digits; 0 where none is given"
     ∷ codes ""
     ∷ codes "  SHELLS           one to eight, the outermost first:"
-    ∷ codes "    mm-delay MS                    0 to 3600000 milliseconds, each way"
-    ∷ codes "    mm-loss uplink|downlink RATE   0 to 1, with at most nine digits after the point, as 0.01"
-    ∷ codes "    mm-link UPTRACE DOWNTRACE      two traces (a line for each opportunity), and options:"
-    ∷ codes "      --uplink-log=FILE --downlink-log=FILE"
-    ∷ codes "      --uplink-queue=KIND --downlink-queue=KIND     infinite, droptail or drophead"
-    ∷ codes "      --uplink-queue-args=ARGS --downlink-queue-args=ARGS     packets=N, bytes=N or both"
-    ∷ codes "      --once                       each trace is used once, and not again and again"
-    ∷ codes ""
+    ∷ [])) usage (joined (
+    codes ""
     ∷ codes "examples:"
     ∷ codes "  mm-relay --until 5000 --listen 4434 --to 4433 --turns 1000000 --out fates -- mm-delay 50"
     ∷ codes "  mm-relay --until 5000 --listen 4434 --to 4433 --turns 1000000 --out fates -- mm-loss uplink 0.01"
     ∷ codes "  mm-relay --until 5000 --listen 4434 --to 4433 --turns 1000000 --out fates -- mm-link t t --uplink-log=u"
     ∷ codes ""
     ∷ codes "manual: man mm-relay"
-    ∷ [])
+    ∷ []))
 
 -- the version of `mm`, and the kit that it is proved with
-abbrev pub mm_version : Text
-mm_version = codes "mm 0.1.0 (rattle-kit-13f)\n"
+abbrev pub mm_version : List Text
+mm_version = page (codes "mm 0.1.0 (rattle-kit-13f)\n")
 
 -- the version of `mm-record`
-abbrev pub record_version : Text
-record_version = codes "mm-record 0.1.0 (rattle-kit-13f)\n"
+abbrev pub record_version : List Text
+record_version = page (codes "mm-record 0.1.0 (rattle-kit-13f)\n")
 
 -- the version of `mm-relay`
-abbrev pub relay_version : Text
-relay_version = codes "mm-relay 0.1.0 (rattle-kit-13f)\n"
+abbrev pub relay_version : List Text
+relay_version = page (codes "mm-relay 0.1.0 (rattle-kit-13f)\n")

@@ -1,34 +1,30 @@
 -- The texts of the refusals of a nest's words.
-use Rattle.std.specs.Prelude.{ℕ, zero, suc, ◌-◌, Bool, true, false, ◌==◌, ◌||◌, List, [], ◌∷◌, Option, Some, None}
-use Rattle.std.specs.Prelude.{codes}
+use Rattle.std.specs.Prelude.{ℕ, ◌-◌, Bool, true, false, ◌==◌, ◌||◌, List, [], ◌∷◌, Option, Some, None, codes, map}
 use Rattle.std.specs.Prelude.{Result, Ok, Err, if◌then◌else◌}
 use Rattle.std.specs.Option.{is_some}
 use Rattle.std.specs.Str.{bytes_eq}
 use Rattle.packet_queue.specs.Arguments.{queue_of}
 use Rattle.refusal_words.specs.Commands.{Text}
 use Rattle.refusal_words.specs.Faults.{begins_with_hyphen, is_end, known, name_in}
+use Rattle.refusal_words.specs.LinkWords.{link_value}
+use Rattle.refusal_words.specs.NestWords.{own_words, shell_words}
 use Rattle.refusal_words.specs.Options.{options_of}
-use Rattle.refusal_words.specs.Parts.{five, three}
-use Rattle.refusal_words.specs.Shells.{Lack, Value, Traces, Nothing, link_lack, link_value, own_words, shell_words}
+use Rattle.refusal_words.specs.Parts.{five, seven, three}
+use Rattle.refusal_words.specs.Shells.{missing_in, no_further_shell, own_refusal, shell_list, shell_of, shells, word_at}
 use Rattle.refusal_words.specs.Slips.{known_text, nearest}
 use Rattle.refusal_words.specs.declared.command.Command.TheVariants as commands
+use Rattle.refusal_words.specs.declared.shells.Shell.{Shell}
 use Rattle.refusal_words.specs.declared.slips.KnownWord.{KnownWord}
-use Rattle.refusal_words.specs.declared.slips.KnownWord.TheVariants.{Delay, Loss, Link, UplinkLog, DownlinkLog}
+use Rattle.refusal_words.specs.declared.slips.KnownWord.TheVariants.{Shell as KnownShell, UplinkLog, DownlinkLog}
 use Rattle.refusal_words.specs.declared.slips.KnownWord.TheVariants.{UplinkQueue, DownlinkQueue, UplinkQueueArgs}
 use Rattle.refusal_words.specs.declared.slips.KnownWord.TheVariants.{DownlinkQueueArgs, Once}
-
--- the word before which `n` others stand, or no text
-abbrev pub word_at : ℕ → List Text → Text
-word_at before [] = []
-word_at zero (word ∷ words) = word
-word_at (suc before) (word ∷ words) = word_at before words
 
 -- where a shell must begin stands another word
 abbrev pub no_shell_by : Text → Text → Option KnownWord → List Text
 no_shell_by digits word (Some shell) = five (codes "'") word (codes "' is no shell; did you mean ")
     (known_text shell) (codes "?")
-no_shell_by digits word None = five (codes "word ") digits (codes ", '") word
-    (codes "', is no shell (mm-delay, mm-loss, mm-link); no command runs inside a nest")
+no_shell_by digits word None = seven (codes "word " ∷ digits ∷ codes ", '" ∷ word ∷ codes "', is no shell (" ∷ [])
+    (shell_list ∷ codes "); no command runs inside a nest" ∷ [])
 
 -- an option of a command stands among the shells
 abbrev pub late_option_parts : Text → List Text
@@ -37,38 +33,18 @@ late_option_parts word = three (codes "'") (name_in word) (codes "' stands among
 abbrev pub no_shell_parts : Text → Text → List Text
 no_shell_parts digits word =
     if is_end word
-    then three (codes "a shell must follow '--' (mm-delay, mm-loss, mm-link), and not another '--'") [] []
+    then three (codes "a shell must follow '--' (") shell_list (codes "), and not another '--'")
     else if begins_with_hyphen word then late_option_parts word
-    else no_shell_by digits word (nearest (Delay ∷ Loss ∷ Link ∷ []) word)
+    else no_shell_by digits word (nearest (map (λ shell. KnownShell shell) shells) word)
 
-abbrev pub no_further_shell : List Text
-no_further_shell = three (codes "a shell must follow '--'") [] []
-
--- what the words of a loss lack, after its first
-abbrev pub missing_in_loss : List Text → List Text
-missing_in_loss [] = three (codes "mm-loss needs 'uplink' or 'downlink', and a rate") [] []
-missing_in_loss (direction ∷ []) = three (codes "mm-loss ") direction (codes " needs a rate from 0 to 1, as 0.01")
-missing_in_loss (direction ∷ rate ∷ words) = no_further_shell
-
-abbrev pub lack_parts : Lack → List Text
-lack_parts (Value option) = three (codes "mm-link: ") option (codes " needs a value")
-lack_parts Traces = three (codes "mm-link needs two traces, UP and DOWN") [] []
-lack_parts Nothing = no_further_shell
-
-abbrev pub missing_in_link : List Text → List Text
-missing_in_link words = lack_parts (link_lack None 0 words)
-
-abbrev pub missing_in_delay : List Text → List Text
-missing_in_delay [] = three (codes "mm-delay needs a whole number of milliseconds, 0 to 3600000") [] []
-missing_in_delay (word ∷ words) = no_further_shell
+abbrev pub missing_by : Option Shell → List Text → List Text
+missing_by None words = no_further_shell
+missing_by (Some shell) words = missing_in shell words
 
 -- what the words of a shell lack
 abbrev pub missing_parts : List Text → List Text
 missing_parts [] = no_further_shell
-missing_parts (word ∷ words) =
-    if bytes_eq word (codes "mm-link") then missing_in_link words
-    else if bytes_eq word (codes "mm-loss") then missing_in_loss words
-    else missing_in_delay words
+missing_parts (word ∷ words) = missing_by (shell_of word) words
 
 abbrev pub link_options : List KnownWord
 link_options = UplinkLog ∷ DownlinkLog ∷ UplinkQueue ∷ DownlinkQueue ∷ UplinkQueueArgs ∷ DownlinkQueueArgs ∷ Once ∷ []
@@ -136,11 +112,6 @@ queue_parts inner words = queue_of_side inner (is_up_refused words) words
 abbrev pub twice_parts : Text → List Text
 twice_parts word = three (codes "mm-link: ") (name_in word) (codes " stands twice")
 
-abbrev pub rate_parts : ℕ → Text → List Text
-rate_parts inner rate = if inner == 2 then three (codes "loss rate ") rate (codes " is above 1")
-    else three (codes "loss rate '") rate
-    (codes "': write a number from 0 to 1, as 0.01 (up to nine digits after the point)")
-
 -- the text of a refusal by its number, the word and the shell that it names, with their digits, and the number of the
 -- refusal inside it
 abbrev pub nest_by : ℕ → ℕ → Text → Text → List Text → List Text
@@ -148,14 +119,11 @@ nest_by number inner digits word shell =
     if number == 1 then three (codes "no shell stands after '--', as: -- mm-delay 20") [] []
     else if number == 2 then no_shell_parts digits word
     else if number == 3 then missing_parts shell
-    else if number == 4 then three (codes "mm-delay: '") (word_at 1 shell)
-    (codes "' is not a whole number of milliseconds, 0 to 3600000")
     else if number == 5 then bad_option_parts word
     else if number == 6 then twice_parts word
     else if number == 7 then three (codes "a nest has at most 8 shells") [] []
     else if number == 8 then queue_parts inner (own_words shell)
-    else if number == 9 then rate_parts inner (word_at 2 shell)
-    else three (codes "mm-loss needs 'uplink' or 'downlink' before the rate (found '") (word_at 1 shell) (codes "')")
+    else own_refusal number inner shell
 
 abbrev pub nest_parts : ℕ → ℕ → ℕ → Text → List Text → List Text
 nest_parts number place inner digits words = nest_by number inner digits (word_at (place - 1) words)

@@ -4,9 +4,10 @@ use Rattle.std.specs.Prelude.{codes}
 use Rattle.std.specs.Prelude.{if◌then◌else◌}
 use Rattle.std.specs.Str.{bytes_eq}
 use Rattle.refusal_words.specs.Commands.{Text}
+use Rattle.refusal_words.specs.Shells.{shell_text}
 use Rattle.refusal_words.specs.declared.slips.KnownWord.{KnownWord}
 use Rattle.refusal_words.specs.declared.slips.KnownWord.TheVariants.{Run, Merge, Report, Make, Record, Match, Migrate}
-use Rattle.refusal_words.specs.declared.slips.KnownWord.TheVariants.{Replay, Delay, Loss, Link, UplinkLog, DownlinkLog}
+use Rattle.refusal_words.specs.declared.slips.KnownWord.TheVariants.{Replay, Shell, UplinkLog, DownlinkLog}
 use Rattle.refusal_words.specs.declared.slips.KnownWord.TheVariants.{UplinkQueue, DownlinkQueue, UplinkQueueArgs}
 use Rattle.refusal_words.specs.declared.slips.KnownWord.TheVariants.{DownlinkQueueArgs, Once}
 
@@ -39,9 +40,7 @@ known_text Record = codes "record"
 known_text Match = codes "match"
 known_text Migrate = codes "migrate"
 known_text Replay = codes "replay"
-known_text Delay = codes "mm-delay"
-known_text Loss = codes "mm-loss"
-known_text Link = codes "mm-link"
+known_text (Shell shell) = shell_text shell
 known_text UplinkLog = codes "--uplink-log"
 known_text DownlinkLog = codes "--downlink-log"
 known_text UplinkQueue = codes "--uplink-queue"

@@ -4,7 +4,8 @@ use Rattle.std.specs.Prelude.{if◌then◌else◌}
 use Rattle.std.specs.Str.{bytes_eq}
 use Rattle.refusal_words.specs.Commands.{Text}
 use Rattle.refusal_words.specs.Faults.{begins_with_hyphen}
-use Rattle.refusal_words.specs.Shells.{after_shell, is_valued, own_words, past_end}
+use Rattle.refusal_words.specs.LinkWords.{is_valued}
+use Rattle.refusal_words.specs.NestWords.{after_shell, own_words, past_end}
 use Rattle.refusal_words.specs.declared.traces.TraceAt.{TraceAt}
 
 -- Whether the trace of this name is the uplink's, where it is among a link's words: the first that is neither an option

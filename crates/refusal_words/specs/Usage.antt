@@ -5,10 +5,11 @@ use Rattle.std.specs.Prelude.{if◌then◌else◌}
 use Rattle.std.specs.List.{list_any}
 use Rattle.std.specs.Str.{bytes_eq}
 use Rattle.refusal_words.specs.Commands.{Text, command_of, has_shells, program_text}
-use Rattle.refusal_words.specs.FaultTexts.{fault_parts, is_shell}
+use Rattle.refusal_words.specs.FaultTexts.{fault_parts}
 use Rattle.refusal_words.specs.Faults.{begins_with_hyphen, is_end, word_fault}
 use Rattle.refusal_words.specs.Help as help
 use Rattle.refusal_words.specs.Parts.{five, three}
+use Rattle.refusal_words.specs.Shells.{is_shell}
 use Rattle.refusal_words.specs.Slips.{known_text, nearest}
 use Rattle.refusal_words.specs.declared.slips.KnownWord.{KnownWord}
 use Rattle.refusal_words.specs.declared.slips.KnownWord.TheVariants as known
@@ -20,9 +21,6 @@ use Rattle.refusal_words.specs.declared.command.Program.TheVariants.{Mm, Record,
 -- the pieces of a line: the program's name, the parts of the text, and a line feed
 abbrev pub line : Program → List Text → List Text
 line program parts = program_text program ∷ parts ++ codes "\n" ∷ []
-
-abbrev pub page : Text → List Text
-page text = text ∷ [] ∷ [] ∷ [] ∷ [] ∷ [] ∷ [] ∷ [] ∷ [] ∷ []
 
 abbrev pub is_help : Text → Bool
 is_help word = bytes_eq word (codes "--help") || bytes_eq word (codes "-h")
@@ -38,13 +36,11 @@ abbrev pub is_version : List Text → Bool
 is_version [] = false
 is_version (word ∷ words) = bytes_eq word (codes "--version") && is_last words
 
-abbrev pub version : Program → Text
+-- the version of a program
+abbrev pub version : Program → List Text
 version Mm = help.mm_version
 version Record = help.record_version
 version Relay = help.relay_version
-
-abbrev pub version_pieces : Program → List Text
-version_pieces program = page (version program)
 
 abbrev pub no_command_by : Text → Option KnownWord → List Text
 no_command_by word (Some command) = five (codes "no command '") word (codes "'; did you mean ")
@@ -73,7 +69,7 @@ abbrev pub before_end : List Text → List Text
 before_end words = take (end_of words) words
 
 -- the usage of a command
-abbrev pub command_help : Command → Text
+abbrev pub command_help : Command → List Text
 command_help commands.Run = help.run
 command_help commands.Merge = help.merge
 command_help commands.Report = help.report
@@ -87,7 +83,7 @@ command_help commands.Relay = help.relay
 
 -- what the words of a command get
 abbrev pub command_pieces : Program → Command → List Text → List Text → List Text
-command_pieces program command options words = if asks_help options then page (command_help command)
+command_pieces program command options words = if asks_help options then command_help command
     else line program (fault_parts command options (word_fault command options words))
 
 -- its options end at the first `--` where shells follow
@@ -103,8 +99,8 @@ asks_page (word ∷ words) = bytes_eq word (codes "help")
 -- what the words of a program without a command's name get
 abbrev pub program_pieces : Program → Command → List Text → List Text
 program_pieces program command words =
-    if asks_page words then page (command_help command)
-    else if is_version words then version_pieces program
+    if asks_page words then command_help command
+    else if is_version words then version program
     else own_pieces program command words
 
 abbrev pub by_command : Text → List Text → Option Command → List Text
@@ -112,21 +108,21 @@ by_command word words None = line Mm (no_command_parts word)
 by_command word words (Some command) = own_pieces Mm command words
 
 -- the usage of a command, or else of all
-abbrev pub help_by : Option Command → Text
+abbrev pub help_by : Option Command → List Text
 help_by None = help.all
 help_by (Some command) = command_help command
 
 -- the usage of the command that these words name, or else of all
-abbrev pub named_help : List Text → Text
+abbrev pub named_help : List Text → List Text
 named_help [] = help.all
 named_help (word ∷ words) = help_by (command_of word)
 
 -- what the words of `mm` get
 abbrev pub mm_pieces : List Text → List Text
-mm_pieces [] = page help.all
+mm_pieces [] = help.all
 mm_pieces (word ∷ words) =
-    if is_version (word ∷ words) then version_pieces Mm
-    else if is_help word || bytes_eq word (codes "help") then page (named_help words)
+    if is_version (word ∷ words) then version Mm
+    else if is_help word || bytes_eq word (codes "help") then named_help words
     else by_command word words (command_of word)
 
 -- what a program says of words that ask for nothing

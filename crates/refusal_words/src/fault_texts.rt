@@ -1,6 +1,6 @@
 // The texts of the faults of words.
 ghost use Rattle.std.specs.Prelude.{◌≡◌, map, option_map, string_bytes};
-ghost use Rattle.refusal_words.specs.FaultTexts.{fault_parts, is_shell, known_text, near_option};
+ghost use Rattle.refusal_words.specs.FaultTexts.{fault_parts, known_text, near_option};
 ghost use Rattle.refusal_words.specs.FaultTexts.{stray_parts, unknown_parts};
 ghost use Rattle.refusal_words.specs.View.{fault_of};
 
@@ -9,14 +9,8 @@ use crate::fault::WordFault;
 use crate::known::{KnownOption, options_of};
 use crate::options::{lacking, name_and_value};
 use crate::parts::{five, seven, three};
+use crate::shells::is_shell;
 use crate::slips::is_slip;
-
-/// Whether a word begins a shell.
-pub(crate) fn is_shell(word: &str) -> bool
-    ensures { result ≡ is_shell word.now }
-{
-    word == "mm-delay" || word == "mm-loss" || word == "mm-link"
-}
 
 // The first option that is one slip away from what was typed.
 fn near_option(options: &[KnownOption], typed: &str) -> Option<KnownOption>

@@ -1,7 +1,23 @@
-// The usage of each program and command, and the versions.
-ghost use Rattle.std.specs.Prelude.{◌≡◌};
+// The usage of each program and command, and the versions, each in nine pieces.
+ghost use Rattle.std.specs.Prelude.{◌≡◌, map};
 ghost use Rattle.refusal_words.specs.Help.{all, make, matching, merge, migrate, mm_version, proxy, recording};
-ghost use Rattle.refusal_words.specs.Help.{record_version, relay, relay_version, replay, report, run};
+ghost use Rattle.refusal_words.specs.Help.{page, page_with, record_version, relay, relay_version, replay, report, run};
+
+use crate::shells::{SHORT_USAGE, USAGE};
+
+// The pieces of a text of several lines.
+fn page(text: &str) -> [&str; 9]
+    ensures { map (λ s. s.now) result ≡ page text.now }
+{
+    [text, "", "", "", "", "", "", "", ""]
+}
+
+// The pieces of a text in which the lines of the shells stand.
+fn page_with<'a>(front: &'a str, shells: &'a str, end: &'a str) -> [&'a str; 9]
+    ensures { map (λ s. s.now) result ≡ page_with front.now shells.now end.now }
+{
+    [front, shells, end, "", "", "", "", "", ""]
+}
 
 const ALL: &str = "usage: mm COMMAND OPTIONS
 
@@ -23,10 +39,9 @@ const ALL: &str = "usage: mm COMMAND OPTIONS
              --store FILE --port N --connections N [--site-port N] [--until-ended]
 
   SHELLS   one to eight of:
-             mm-delay MS                      0 to 3600000 ms each way
-             mm-loss uplink|downlink RATE     0 to 1, as 0.01
-             mm-link UPTRACE DOWNTRACE        with options; mm run --help has them
+";
 
+const ALL_END: &str = "
 examples:
   mm run --until 30000 --schedule s --out fates -- mm-delay 20
   mm run --until 30000 --schedule s --out fates -- mm-link up down --uplink-log=up.log
@@ -36,10 +51,10 @@ mm COMMAND --help says more of a command, and the manual all: man mm
 ";
 
 /// The usage of `mm`.
-pub(crate) fn all<'a>() -> &'a str
-    ensures { result.now ≡ all }
+pub(crate) fn all<'a>() -> [&'a str; 9]
+    ensures { map (λ s. s.now) result ≡ all }
 {
-    ALL
+    page_with(ALL, SHORT_USAGE, ALL_END)
 }
 
 const RUN: &str =
@@ -55,14 +70,9 @@ Passes the packets of a schedule through a nest of shells, and writes what becam
   --order FILE     in single steps, in the order that the bytes of the file state
 
   SHELLS           one to eight, the outermost first:
-    mm-delay MS                    0 to 3600000 milliseconds, each way
-    mm-loss uplink|downlink RATE   0 to 1, with at most nine digits after the point, as 0.01
-    mm-link UPTRACE DOWNTRACE      two traces (a line for each opportunity), and options:
-      --uplink-log=FILE --downlink-log=FILE
-      --uplink-queue=KIND --downlink-queue=KIND     infinite, droptail or drophead
-      --uplink-queue-args=ARGS --downlink-queue-args=ARGS     packets=N, bytes=N or both
-      --once                       each trace is used once, and not again and again
+";
 
+const RUN_END: &str = "
 examples:
   mm run --until 30000 --schedule s --out fates -- mm-delay 20
   mm run --until 30000 --schedule s --out fates -- mm-delay 20 mm-loss downlink 0.01
@@ -73,10 +83,10 @@ manual: man mm
 ";
 
 /// The usage of `run`.
-pub(crate) fn run<'a>() -> &'a str
-    ensures { result.now ≡ run }
+pub(crate) fn run<'a>() -> [&'a str; 9]
+    ensures { map (λ s. s.now) result ≡ run }
 {
-    RUN
+    page_with(RUN, USAGE, RUN_END)
 }
 
 const MERGE: &str = "usage: mm merge --until MS --senders FILE --out FILE [--seed N] -- SHELLS
@@ -89,14 +99,9 @@ Passes the packets of up to 16 senders through one nest, and writes what became 
   --seed N         the seed of losses, at most ten digits; 0 where none is given
 
   SHELLS           one to eight, the outermost first:
-    mm-delay MS                    0 to 3600000 milliseconds, each way
-    mm-loss uplink|downlink RATE   0 to 1, with at most nine digits after the point, as 0.01
-    mm-link UPTRACE DOWNTRACE      two traces (a line for each opportunity), and options:
-      --uplink-log=FILE --downlink-log=FILE
-      --uplink-queue=KIND --downlink-queue=KIND     infinite, droptail or drophead
-      --uplink-queue-args=ARGS --downlink-queue-args=ARGS     packets=N, bytes=N or both
-      --once                       each trace is used once, and not again and again
+";
 
+const MERGE_END: &str = "
 examples:
   mm merge --until 30000 --senders senders --out fates -- mm-delay 20
   mm merge --until 30000 --senders senders --out fates -- mm-link t t
@@ -106,10 +111,10 @@ manual: man mm
 ";
 
 /// The usage of `merge`.
-pub(crate) fn merge<'a>() -> &'a str
-    ensures { result.now ≡ merge }
+pub(crate) fn merge<'a>() -> [&'a str; 9]
+    ensures { map (λ s. s.now) result ≡ merge }
 {
-    MERGE
+    page_with(MERGE, USAGE, MERGE_END)
 }
 
 const REPORT: &str = "usage: mm report --log FILE
@@ -127,10 +132,10 @@ manual: man mm
 ";
 
 /// The usage of `report`.
-pub(crate) fn report<'a>() -> &'a str
-    ensures { result.now ≡ report }
+pub(crate) fn report<'a>() -> [&'a str; 9]
+    ensures { map (λ s. s.now) result ≡ report }
 {
-    REPORT
+    page(REPORT)
 }
 
 const MAKE: &str = "usage: mm make --number N --packets N
@@ -149,10 +154,10 @@ manual: man mm
 ";
 
 /// The usage of `make`.
-pub(crate) fn make<'a>() -> &'a str
-    ensures { result.now ≡ make }
+pub(crate) fn make<'a>() -> [&'a str; 9]
+    ensures { map (λ s. s.now) result ≡ make }
 {
-    MAKE
+    page(MAKE)
 }
 
 const RECORD: &str = "usage: mm record --client FILE --server FILE --out FILE [--port N]
@@ -173,10 +178,10 @@ manual: man mm
 ";
 
 /// The usage of `record`.
-pub(crate) fn recording<'a>() -> &'a str
-    ensures { result.now ≡ recording }
+pub(crate) fn recording<'a>() -> [&'a str; 9]
+    ensures { map (λ s. s.now) result ≡ recording }
 {
-    RECORD
+    page(RECORD)
 }
 
 const MATCH: &str = "usage: mm match --store FILE --request FILE [--port N]
@@ -196,10 +201,10 @@ manual: man mm
 ";
 
 /// The usage of `match`.
-pub(crate) fn matching<'a>() -> &'a str
-    ensures { result.now ≡ matching }
+pub(crate) fn matching<'a>() -> [&'a str; 9]
+    ensures { map (λ s. s.now) result ≡ matching }
 {
-    MATCH
+    page(MATCH)
 }
 
 const MIGRATE: &str = "usage: mm migrate --store FILE --out FILE
@@ -218,10 +223,10 @@ manual: man mm
 ";
 
 /// The usage of `migrate`.
-pub(crate) fn migrate<'a>() -> &'a str
-    ensures { result.now ≡ migrate }
+pub(crate) fn migrate<'a>() -> [&'a str; 9]
+    ensures { map (λ s. s.now) result ≡ migrate }
 {
-    MIGRATE
+    page(MIGRATE)
 }
 
 const REPLAY: &str =
@@ -245,10 +250,10 @@ manual: man mm
 ";
 
 /// The usage of `replay`.
-pub(crate) fn replay<'a>() -> &'a str
-    ensures { result.now ≡ replay }
+pub(crate) fn replay<'a>() -> [&'a str; 9]
+    ensures { map (λ s. s.now) result ≡ replay }
 {
-    REPLAY
+    page(REPLAY)
 }
 
 const PROXY: &str = "usage: mm-record --port N --to N --connections N --out FILE [--until-ended]
@@ -270,10 +275,10 @@ manual: man mm-record
 ";
 
 /// The usage of `mm-record`.
-pub(crate) fn proxy<'a>() -> &'a str
-    ensures { result.now ≡ proxy }
+pub(crate) fn proxy<'a>() -> [&'a str; 9]
+    ensures { map (λ s. s.now) result ≡ proxy }
 {
-    PROXY
+    page(PROXY)
 }
 
 const RELAY: &str =
@@ -289,14 +294,9 @@ Passes UDP datagrams between a client and a server of this machine through a nes
   --seed N         the seed of losses, at most ten digits; 0 where none is given
 
   SHELLS           one to eight, the outermost first:
-    mm-delay MS                    0 to 3600000 milliseconds, each way
-    mm-loss uplink|downlink RATE   0 to 1, with at most nine digits after the point, as 0.01
-    mm-link UPTRACE DOWNTRACE      two traces (a line for each opportunity), and options:
-      --uplink-log=FILE --downlink-log=FILE
-      --uplink-queue=KIND --downlink-queue=KIND     infinite, droptail or drophead
-      --uplink-queue-args=ARGS --downlink-queue-args=ARGS     packets=N, bytes=N or both
-      --once                       each trace is used once, and not again and again
+";
 
+const RELAY_END: &str = "
 examples:
   mm-relay --until 5000 --listen 4434 --to 4433 --turns 1000000 --out fates -- mm-delay 50
   mm-relay --until 5000 --listen 4434 --to 4433 --turns 1000000 --out fates -- mm-loss uplink 0.01
@@ -306,38 +306,38 @@ manual: man mm-relay
 ";
 
 /// The usage of `mm-relay`.
-pub(crate) fn relay<'a>() -> &'a str
-    ensures { result.now ≡ relay }
+pub(crate) fn relay<'a>() -> [&'a str; 9]
+    ensures { map (λ s. s.now) result ≡ relay }
 {
-    RELAY
+    page_with(RELAY, USAGE, RELAY_END)
 }
 
 const MM_VERSION: &str = "mm 0.1.0 (rattle-kit-13f)
 ";
 
 /// The version of `mm`, and the kit that it is proved with.
-pub(crate) fn mm_version<'a>() -> &'a str
-    ensures { result.now ≡ mm_version }
+pub(crate) fn mm_version<'a>() -> [&'a str; 9]
+    ensures { map (λ s. s.now) result ≡ mm_version }
 {
-    MM_VERSION
+    page(MM_VERSION)
 }
 
 const RECORD_VERSION: &str = "mm-record 0.1.0 (rattle-kit-13f)
 ";
 
 /// The version of `mm-record`.
-pub(crate) fn record_version<'a>() -> &'a str
-    ensures { result.now ≡ record_version }
+pub(crate) fn record_version<'a>() -> [&'a str; 9]
+    ensures { map (λ s. s.now) result ≡ record_version }
 {
-    RECORD_VERSION
+    page(RECORD_VERSION)
 }
 
 const RELAY_VERSION: &str = "mm-relay 0.1.0 (rattle-kit-13f)
 ";
 
 /// The version of `mm-relay`.
-pub(crate) fn relay_version<'a>() -> &'a str
-    ensures { result.now ≡ relay_version }
+pub(crate) fn relay_version<'a>() -> [&'a str; 9]
+    ensures { map (λ s. s.now) result ≡ relay_version }
 {
-    RELAY_VERSION
+    page(RELAY_VERSION)
 }

@@ -1,17 +1,19 @@
 // The texts of the refusals of a nest's words.
 ghost use Rattle.std.specs.Prelude.{◌≡◌, map, string_bytes};
 ghost use Rattle.refusal_words.specs.NestTexts.{args_option, bad_option_parts, is_command_option, is_up_refused};
-ghost use Rattle.refusal_words.specs.NestTexts.{kind_option, missing_parts};
-ghost use Rattle.refusal_words.specs.NestTexts.{late_option_parts, link_option_parts, own_option_parts, twice_parts};
-ghost use Rattle.refusal_words.specs.NestTexts.{missing_in_delay, missing_in_link, missing_in_loss, nest_parts};
-ghost use Rattle.refusal_words.specs.NestTexts.{no_shell_parts, queue_by};
-ghost use Rattle.refusal_words.specs.NestTexts.{queue_parts, rate_parts, word_at};
+ghost use Rattle.refusal_words.specs.NestTexts.{kind_option, late_option_parts, link_option_parts, missing_parts};
+ghost use Rattle.refusal_words.specs.NestTexts.{nest_parts, no_shell_parts, own_option_parts, queue_by, queue_parts};
+ghost use Rattle.refusal_words.specs.NestTexts.{twice_parts};
 
 use crate::Command;
 use crate::known::options_of;
+use crate::link_words::option_value;
+use crate::nest_words::{own_words, shell_words};
 use crate::options::{begins_with_hyphen, known, name_and_value};
-use crate::parts::{five, three};
-use crate::shells::{LinkLack, link_lack, option_value, own_words, shell_words};
+use crate::parts::{five, seven, three};
+use crate::shells::{
+    SHELL_LIST, SHELLS, missing_in, no_further_shell, own_refusal, shell_of, word_at,
+};
 use crate::slips::{KnownWord, nearest};
 use packet_queue::read_queue;
 
@@ -24,8 +26,6 @@ pub struct NestFault {
     pub inner: u32,
 }
 
-const SHELLS: &[KnownWord] = &[KnownWord::Delay, KnownWord::Loss, KnownWord::Link];
-
 const LINK_OPTIONS: &[KnownWord] = &[
     KnownWord::UplinkLog,
     KnownWord::DownlinkLog,
@@ -35,19 +35,6 @@ const LINK_OPTIONS: &[KnownWord] = &[
     KnownWord::DownlinkQueueArgs,
     KnownWord::Once,
 ];
-
-// The word before which `before` others stand, or no text.
-fn word_at(before: u64, words: &[String]) -> &str
-    ensures { result.now ≡ word_at before (map string_bytes words.now) }
-{
-    let Some((word, rest)) = words.split_first() else {
-        return "";
-    };
-    if before == 0 {
-        return word.as_str();
-    }
-    word_at(before - 1, rest)
-}
 
 // An option of a command stands among the shells.
 fn late_option_parts(word: &str) -> [&str; 7]
@@ -67,9 +54,9 @@ fn no_shell_parts<'a>(digits: &'a str, word: &'a str) -> [&'a str; 7]
 {
     if word == "--" {
         return three(
-            "a shell must follow '--' (mm-delay, mm-loss, mm-link), and not another '--'",
-            "",
-            "",
+            "a shell must follow '--' (",
+            SHELL_LIST,
+            "), and not another '--'",
         );
     }
     if begins_with_hyphen(word) {
@@ -77,55 +64,10 @@ fn no_shell_parts<'a>(digits: &'a str, word: &'a str) -> [&'a str; 7]
     }
     match nearest(SHELLS, word) {
         Some(shell) => five("'", word, "' is no shell; did you mean ", shell.text(), "?"),
-        None => five(
-            "word ",
-            digits,
-            ", '",
-            word,
-            "', is no shell (mm-delay, mm-loss, mm-link); no command runs inside a nest",
+        None => seven(
+            ["word ", digits, ", '", word, "', is no shell ("],
+            [SHELL_LIST, "); no command runs inside a nest"],
         ),
-    }
-}
-
-// What the words of a loss lack, after its first.
-fn missing_in_loss(words: &[String]) -> [&str; 7]
-    ensures { map (λ s. s.now) result ≡ missing_in_loss (map string_bytes words.now) }
-{
-    let Some((direction, rest)) = words.split_first() else {
-        return three("mm-loss needs 'uplink' or 'downlink', and a rate", "", "");
-    };
-    match rest.split_first() {
-        Some(_) => three("a shell must follow '--'", "", ""),
-        None => three(
-            "mm-loss ",
-            direction.as_str(),
-            " needs a rate from 0 to 1, as 0.01",
-        ),
-    }
-}
-
-// What the words of a delay lack, after its first.
-fn missing_in_delay(words: &[String]) -> [&str; 7]
-    ensures { map (λ s. s.now) result ≡ missing_in_delay (map string_bytes words.now) }
-{
-    match words.split_first() {
-        Some(_) => three("a shell must follow '--'", "", ""),
-        None => three(
-            "mm-delay needs a whole number of milliseconds, 0 to 3600000",
-            "",
-            "",
-        ),
-    }
-}
-
-// What the words of a link lack.
-fn missing_in_link(words: &[String]) -> [&str; 7]
-    ensures { map (λ s. s.now) result ≡ missing_in_link (map string_bytes words.now) }
-{
-    match link_lack(None, 0, words) {
-        LinkLack::Value(option) => three("mm-link: ", option, " needs a value"),
-        LinkLack::Traces => three("mm-link needs two traces, UP and DOWN", "", ""),
-        LinkLack::Nothing => three("a shell must follow '--'", "", ""),
     }
 }
 
@@ -134,12 +76,11 @@ fn missing_parts(words: &[String]) -> [&str; 7]
     ensures { map (λ s. s.now) result ≡ missing_parts (map string_bytes words.now) }
 {
     let Some((word, rest)) = words.split_first() else {
-        return three("a shell must follow '--'", "", "");
+        return no_further_shell();
     };
-    match word.as_str() {
-        "mm-link" => missing_in_link(rest),
-        "mm-loss" => missing_in_loss(rest),
-        _ => missing_in_delay(rest),
+    match shell_of(word.as_str()) {
+        Some(shell) => missing_in(shell, rest),
+        None => no_further_shell(),
     }
 }
 
@@ -272,19 +213,6 @@ fn twice_parts(word: &str) -> [&str; 7]
     three("mm-link: ", name, " stands twice")
 }
 
-fn rate_parts(inner: u32, rate: &str) -> [&str; 7]
-    ensures { map (λ s. s.now) result ≡ rate_parts inner rate.now }
-{
-    if inner == 2 {
-        return three("loss rate ", rate, " is above 1");
-    }
-    three(
-        "loss rate '",
-        rate,
-        "': write a number from 0 to 1, as 0.01 (up to nine digits after the point)",
-    )
-}
-
 /// The text of the refusal of a nest's words; `digits` are those of the word or the shell that it names.
 pub fn nest_parts<'a>(fault: NestFault, digits: &'a str, words: &'a [String]) -> [&'a str; 7]
     ensures { map (λ s. s.now) result ≡ nest_parts fault.number fault.place fault.inner digits.now
@@ -297,20 +225,10 @@ pub fn nest_parts<'a>(fault: NestFault, digits: &'a str, words: &'a [String]) ->
         1 => three("no shell stands after '--', as: -- mm-delay 20", "", ""),
         2 => no_shell_parts(digits, word),
         3 => missing_parts(shell),
-        4 => three(
-            "mm-delay: '",
-            word_at(1, shell),
-            "' is not a whole number of milliseconds, 0 to 3600000",
-        ),
         5 => bad_option_parts(word),
         6 => twice_parts(word),
         7 => three("a nest has at most 8 shells", "", ""),
         8 => queue_parts(fault.inner, own_words(shell)),
-        9 => rate_parts(fault.inner, word_at(2, shell)),
-        _ => three(
-            "mm-loss needs 'uplink' or 'downlink' before the rate (found '",
-            word_at(1, shell),
-            "')",
-        ),
+        _ => own_refusal(fault.number, fault.inner, shell),
     }
 }

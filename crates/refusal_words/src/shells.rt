@@ -1,11 +1,62 @@
-// Where a shell stands among the words of a nest, and what its words say.
-ghost use Rattle.std.specs.Prelude.{◌≡◌, ◌≤◌, length, option_map, map, string_bytes};
-ghost use Rattle.refusal_words.specs.Shells.{after_link, after_shell, drop_words, is_log, is_valued, lack_from};
-ghost use Rattle.refusal_words.specs.Shells.{link_lack};
-ghost use Rattle.refusal_words.specs.Shells.{link_value, own_words, past_end, shell_words, value_at};
-ghost use Rattle.refusal_words.specs.ShellViews.{lack_of};
+// What differs from shell to shell: its word, where its words end, what is said of them, and its usage.
+ghost use Rattle.std.specs.Prelude.{◌≡◌, ◌≤◌, is_some, length, map, string_bytes};
+ghost use Rattle.refusal_words.specs.Shells.{drop_words, is_shell, missing_in, missing_in_delay, missing_in_link};
+ghost use Rattle.refusal_words.specs.Shells.{missing_in_loss, no_further_shell, own_refusal, rate_parts, shell_of};
+ghost use Rattle.refusal_words.specs.Shells.{shell_text, word_at, words_after};
 
-use crate::options::{begins_with_hyphen, name_and_value};
+use crate::link_words::{LinkLack, after_link, link_lack};
+use crate::parts::three;
+use crate::slips::KnownWord;
+
+/// The shells of a nest.
+#[derive(Clone, Copy, PartialEq, Eq)]
+pub(crate) enum Shell {
+    Delay,
+    Loss,
+    Link,
+}
+
+/// The words of all shells, as they are guessed.
+pub(crate) const SHELLS: &[KnownWord] = &[
+    KnownWord::Shell(Shell::Delay),
+    KnownWord::Shell(Shell::Loss),
+    KnownWord::Shell(Shell::Link),
+];
+
+/// The words of all shells, as a text lists them.
+pub(crate) const SHELL_LIST: &str = "mm-delay, mm-loss, mm-link";
+
+impl Shell {
+    /// The word that begins the shell.
+    pub(crate) fn text<'a>(self) -> &'a str
+        ensures { result.now ≡ shell_text self }
+    {
+        match self {
+            Shell::Delay => "mm-delay",
+            Shell::Loss => "mm-loss",
+            Shell::Link => "mm-link",
+        }
+    }
+}
+
+/// The shell that a word begins, if it begins one.
+pub(crate) fn shell_of(word: &str) -> Option<Shell>
+    ensures { result ≡ shell_of word.now }
+{
+    match word {
+        "mm-delay" => Some(Shell::Delay),
+        "mm-loss" => Some(Shell::Loss),
+        "mm-link" => Some(Shell::Link),
+        _ => None,
+    }
+}
+
+/// Whether a word begins a shell.
+pub(crate) fn is_shell(word: &str) -> bool
+    ensures { result ≡ is_shell word.now }
+{
+    shell_of(word).is_some()
+}
 
 // Without the first word.
 fn drop_word(words: &[String]) -> &[String]
@@ -18,178 +69,138 @@ fn drop_word(words: &[String]) -> &[String]
     }
 }
 
-/// Whether this option of a link takes the next word as its value.
-pub(crate) fn is_valued(word: &str) -> bool
-    ensures { result ≡ is_valued word.now }
-{
-    match word {
-        "--uplink-log" | "--downlink-log" => true,
-        "--uplink-queue" | "--downlink-queue" => true,
-        "--uplink-queue-args" | "--downlink-queue-args" => true,
-        _ => false,
-    }
-}
-
-// The words after those of a link that has `traces` traces, where an option may wait for its value.
-fn after_link(waits: bool, traces: u32, words: &[String]) -> &[String]
-    ensures rest { map string_bytes result.now ≡ after_link waits traces (map string_bytes words.now) }
+/// The words after those of a shell. `words` follow the one that begins it.
+pub(crate) fn words_after(shell: Shell, words: &[String]) -> &[String]
+    ensures rest { map string_bytes result.now ≡ words_after shell (map string_bytes words.now) }
     ensures within { length result.now ≤ length words.now }
 {
-    let Some((word, rest)) = words.split_first() else {
-        return words;
-    };
-    let word = word.as_str();
-    if waits {
-        return after_link(false, traces, rest);
-    }
-    if word == "--" {
-        return words;
-    }
-    if begins_with_hyphen(word) {
-        return after_link(is_valued(word), traces, rest);
-    }
-    match traces {
-        0 => after_link(false, 1, rest),
-        1 => after_link(false, 2, rest),
-        _ => words,
+    match shell {
+        Shell::Delay => drop_word(words),
+        Shell::Loss => drop_word(drop_word(words)),
+        Shell::Link => after_link(false, 0, words),
     }
 }
 
-/// The words after those of the first shell.
-pub(crate) fn after_shell(words: &[String]) -> &[String]
-    ensures rest { map string_bytes result.now ≡ after_shell (map string_bytes words.now) }
-    ensures within { length result.now ≤ length words.now }
+/// The words of a shell are whole, and nothing stands after the `--` that follows them.
+pub(crate) fn no_further_shell<'a>() -> [&'a str; 7]
+    ensures { map (λ s. s.now) result ≡ no_further_shell }
 {
-    let Some((word, rest)) = words.split_first() else {
-        return words;
-    };
-    match word.as_str() {
-        "mm-delay" => drop_word(rest),
-        "mm-loss" => drop_word(drop_word(rest)),
-        _ => after_link(false, 0, rest),
-    }
+    three("a shell must follow '--'", "", "")
 }
 
-/// The words of the first shell alone.
-pub(crate) fn own_words(words: &[String]) -> &[String]
-    ensures { map string_bytes result.now ≡ own_words (map string_bytes words.now) }
-{
-    let rest = after_shell(words);
-    &words[..words.len() - rest.len()]
-}
-
-/// Past one word `--`.
-pub(crate) fn past_end(words: &[String]) -> &[String]
-    ensures { map string_bytes result.now ≡ past_end (map string_bytes words.now) }
+// What the words of a delay lack, after its first.
+fn missing_in_delay(words: &[String]) -> [&str; 7]
+    ensures { map (λ s. s.now) result ≡ missing_in_delay (map string_bytes words.now) }
 {
     match words.split_first() {
-        Some((word, rest)) if word.as_str() == "--" => rest,
-        _ => words,
+        Some(_) => no_further_shell(),
+        None => three(
+            "mm-delay needs a whole number of milliseconds, 0 to 3600000",
+            "",
+            "",
+        ),
     }
 }
 
-/// The words from the shell on before which `before` shells stand.
-pub fn shell_words(before: u64, words: &[String]) -> &[String]
-    ensures { map string_bytes result.now ≡ shell_words before (map string_bytes words.now) }
+// What the words of a loss lack, after its first.
+fn missing_in_loss(words: &[String]) -> [&str; 7]
+    ensures { map (λ s. s.now) result ≡ missing_in_loss (map string_bytes words.now) }
 {
+    let Some((direction, rest)) = words.split_first() else {
+        return three("mm-loss needs 'uplink' or 'downlink', and a rate", "", "");
+    };
+    match rest.split_first() {
+        Some(_) => no_further_shell(),
+        None => three(
+            "mm-loss ",
+            direction.as_str(),
+            " needs a rate from 0 to 1, as 0.01",
+        ),
+    }
+}
+
+// What the words of a link lack.
+fn missing_in_link(words: &[String]) -> [&str; 7]
+    ensures { map (λ s. s.now) result ≡ missing_in_link (map string_bytes words.now) }
+{
+    match link_lack(None, 0, words) {
+        LinkLack::Value(option) => three("mm-link: ", option, " needs a value"),
+        LinkLack::Traces => three("mm-link needs two traces, UP and DOWN", "", ""),
+        LinkLack::Nothing => no_further_shell(),
+    }
+}
+
+/// What the words of a shell lack, after its first.
+pub(crate) fn missing_in(shell: Shell, words: &[String]) -> [&str; 7]
+    ensures { map (λ s. s.now) result ≡ missing_in shell (map string_bytes words.now) }
+{
+    match shell {
+        Shell::Delay => missing_in_delay(words),
+        Shell::Loss => missing_in_loss(words),
+        Shell::Link => missing_in_link(words),
+    }
+}
+
+/// The word before which `before` others stand, or no text.
+pub(crate) fn word_at(before: u64, words: &[String]) -> &str
+    ensures { result.now ≡ word_at before (map string_bytes words.now) }
+{
+    let Some((word, rest)) = words.split_first() else {
+        return "";
+    };
     if before == 0 {
-        return words;
+        return word.as_str();
     }
-    shell_words(before - 1, past_end(after_shell(words)))
+    word_at(before - 1, rest)
 }
 
-/// What a link's words lack.
-#[derive(Clone, Copy)]
-pub(crate) enum LinkLack<'a> {
-    /// The value of this option.
-    Value(&'a str),
-    Traces,
-    Nothing,
-}
-
-fn lack_at_end<'a>(traces: u32) -> LinkLack<'a>
-    ensures { lack_of result ≡ lack_from traces }
+fn rate_parts(inner: u32, rate: &str) -> [&str; 7]
+    ensures { map (λ s. s.now) result ≡ rate_parts inner rate.now }
 {
-    if traces < 2 {
-        return LinkLack::Traces;
+    if inner == 2 {
+        return three("loss rate ", rate, " is above 1");
     }
-    LinkLack::Nothing
+    three(
+        "loss rate '",
+        rate,
+        "': write a number from 0 to 1, as 0.01 (up to nine digits after the point)",
+    )
 }
 
-// Whether this option of a link takes a log's name, which isn't empty.
-fn is_log(option: &str) -> bool
-    ensures { result ≡ is_log option.now }
+/// The text of a refusal that a shell alone has, by its number and that of the refusal inside it. `words` are the words
+/// of the nest from the shell on.
+pub(crate) fn own_refusal(number: u32, inner: u32, words: &[String]) -> [&str; 7]
+    ensures { map (λ s. s.now) result ≡ own_refusal number inner (map string_bytes words.now) }
 {
-    option == "--uplink-log" || option == "--downlink-log"
-}
-
-/// What the words of a link that has `traces` traces lack, where an option may wait for its value.
-pub(crate) fn link_lack<'a>(
-    waiting: Option<&'a str>,
-    traces: u32,
-    words: &'a [String],
-) -> LinkLack<'a>
-    ensures { lack_of result ≡ link_lack (option_map (λ s. s.now) waiting.entry) traces (map string_bytes words.now) }
-{
-    let Some((word, rest)) = words.split_first() else {
-        return match waiting {
-            Some(option) => LinkLack::Value(option),
-            None => lack_at_end(traces),
-        };
-    };
-    let word = word.as_str();
-    if let Some(option) = waiting {
-        if begins_with_hyphen(word) || is_log(option) && word.is_empty() {
-            return LinkLack::Value(option);
-        }
-        return link_lack(None, traces, rest);
-    }
-    if is_valued(word) {
-        return link_lack(Some(word), traces, rest);
-    }
-    if word == "--uplink-log=" || word == "--downlink-log=" {
-        return LinkLack::Value(word);
-    }
-    if word == "--" || word.is_empty() {
-        return lack_at_end(traces);
-    }
-    if begins_with_hyphen(word) {
-        return link_lack(None, traces, rest);
-    }
-    match traces {
-        0 => link_lack(None, 1, rest),
-        1 => link_lack(None, 2, rest),
-        _ => LinkLack::Nothing,
+    match number {
+        4 => three(
+            "mm-delay: '",
+            word_at(1, words),
+            "' is not a whole number of milliseconds, 0 to 3600000",
+        ),
+        9 => rate_parts(inner, word_at(2, words)),
+        _ => three(
+            "mm-loss needs 'uplink' or 'downlink' before the rate (found '",
+            word_at(1, words),
+            "')",
+        ),
     }
 }
 
-/// The value that these words give an option, up to a word `--`, or else this one.
-pub fn option_value<'a>(option: &str, otherwise: &'a str, words: &'a [String]) -> &'a str
-    ensures { result.now ≡ link_value option.now otherwise.now (map string_bytes words.now) }
-{
-    let Some((word, rest)) = words.split_first() else {
-        return otherwise;
-    };
-    let word = word.as_str();
-    if word == "--" {
-        return otherwise;
-    }
-    let (name, value) = name_and_value(word);
-    if name != option {
-        return option_value(option, otherwise, rest);
-    }
-    match value {
-        Some(value) => value,
-        None => value_at(otherwise, rest),
-    }
-}
+/// The lines of the shells in the usage of `mm`.
+pub(crate) const SHORT_USAGE: &str =
+    "             mm-delay MS                      0 to 3600000 ms each way
+             mm-loss uplink|downlink RATE     0 to 1, as 0.01
+             mm-link UPTRACE DOWNTRACE        with options; mm run --help has them
+";
 
-// The first word, or else this one.
-fn value_at<'a>(otherwise: &'a str, words: &'a [String]) -> &'a str
-    ensures { result.now ≡ value_at otherwise.now (map string_bytes words.now) }
-{
-    match words.split_first() {
-        Some((word, _)) => word.as_str(),
-        None => otherwise,
-    }
-}
+/// The lines of the shells in the usage of a command.
+pub(crate) const USAGE: &str =
+    "    mm-delay MS                    0 to 3600000 milliseconds, each way
+    mm-loss uplink|downlink RATE   0 to 1, with at most nine digits after the point, as 0.01
+    mm-link UPTRACE DOWNTRACE      two traces (a line for each opportunity), and options:
+      --uplink-log=FILE --downlink-log=FILE
+      --uplink-queue=KIND --downlink-queue=KIND     infinite, droptail or drophead
+      --uplink-queue-args=ARGS --downlink-queue-args=ARGS     packets=N, bytes=N or both
+      --once                       each trace is used once, and not again and again
+";

@@ -2,6 +2,8 @@
 ghost use Rattle.std.specs.Prelude.{◌≡◌};
 ghost use Rattle.refusal_words.specs.Slips.{differs_once, is_swapped, is_slip, known_text, nearest};
 
+use crate::shells::Shell;
+
 // Whether two neighbours are exchanged, of which these are the first ones, and these the rests after them.
 fn is_swapped(first: u8, typed: &[u8], other: u8, known: &[u8]) -> bool
     ensures { result ≡ is_swapped first typed.now other known.now }
@@ -60,9 +62,7 @@ pub(crate) enum KnownWord {
     Match,
     Migrate,
     Replay,
-    Delay,
-    Loss,
-    Link,
+    Shell(Shell),
     UplinkLog,
     DownlinkLog,
     UplinkQueue,
@@ -86,9 +86,7 @@ impl KnownWord {
             KnownWord::Match => "match",
             KnownWord::Migrate => "migrate",
             KnownWord::Replay => "replay",
-            KnownWord::Delay => "mm-delay",
-            KnownWord::Loss => "mm-loss",
-            KnownWord::Link => "mm-link",
+            KnownWord::Shell(shell) => shell.text(),
             KnownWord::UplinkLog => "--uplink-log",
             KnownWord::DownlinkLog => "--downlink-log",
             KnownWord::UplinkQueue => "--uplink-queue",

@@ -2,8 +2,9 @@
 ghost use Rattle.std.specs.Prelude.{◌≡◌, ◌+◌, ◌≤◌, map, string_bytes};
 ghost use Rattle.refusal_words.specs.Traces.{link_side, side_in, side_of, trace_from, trace_named};
 
+use crate::link_words::is_valued;
+use crate::nest_words::{after_shell, own_words, past_end};
 use crate::options::begins_with_hyphen;
-use crate::shells::{after_shell, is_valued, own_words, past_end};
 
 /// Which trace of a nest: the number of its shell, from 1, and whether it is the uplink's.
 #[derive(Clone, Copy, PartialEq, Eq)]

@@ -2,13 +2,14 @@
 ghost use Rattle.std.specs.Prelude.{◌≡◌, ◌≤◌, length, map, string_bytes};
 ghost use Rattle.refusal_words.specs.Usage.{asks_help, asks_page, before_end, command_pieces, end_of, is_help};
 ghost use Rattle.refusal_words.specs.Usage.{is_last, is_version, line, mm_pieces};
-ghost use Rattle.refusal_words.specs.Usage.{no_command_parts, own_pieces, page, usage_pieces, version, version_pieces};
+ghost use Rattle.refusal_words.specs.Usage.{no_command_parts, own_pieces, usage_pieces, version};
 ghost use Rattle.refusal_words.specs.Usage.{command_help, named_help, program_pieces};
 
 use crate::command::command_of;
-use crate::fault_texts::{fault_parts, is_shell};
+use crate::fault_texts::fault_parts;
 use crate::options::{begins_with_hyphen, word_fault};
 use crate::parts::{five, three};
+use crate::shells::is_shell;
 use crate::slips::{KnownWord, nearest};
 use crate::{Command, Program, help};
 
@@ -29,13 +30,6 @@ pub fn line<'a>(program: Program, parts: [&'a str; 7]) -> [&'a str; 9]
 {
     let [a, b, c, d, e, f, g] = parts;
     [program.text(), a, b, c, d, e, f, g, "\n"]
-}
-
-// The pieces of a text of several lines.
-fn page(text: &str) -> [&str; 9]
-    ensures { map (λ s. s.now) result ≡ page text.now }
-{
-    [text, "", "", "", "", "", "", "", ""]
 }
 
 fn is_help(word: &str) -> bool
@@ -74,20 +68,15 @@ fn is_version(words: &[String]) -> bool
     }
 }
 
-fn version<'a>(program: Program) -> &'a str
-    ensures { result.now ≡ version program }
+// The version of a program.
+fn version<'a>(program: Program) -> [&'a str; 9]
+    ensures { map (λ s. s.now) result ≡ version program }
 {
     match program {
         Program::Mm => help::mm_version(),
         Program::Record => help::record_version(),
         Program::Relay => help::relay_version(),
     }
-}
-
-fn version_pieces<'a>(program: Program) -> [&'a str; 9]
-    ensures { map (λ s. s.now) result ≡ version_pieces program }
-{
-    page(version(program))
 }
 
 // No command has this name.
@@ -154,15 +143,15 @@ fn command_pieces<'a>(
         (map string_bytes words.now) }
 {
     if asks_help(options) {
-        return page(command_help(command));
+        return command_help(command);
     }
     let fault = word_fault(command, options, words);
     line(program, fault_parts(command, options, fault))
 }
 
 // The usage of a command.
-fn command_help<'a>(command: Command) -> &'a str
-    ensures { result.now ≡ command_help command }
+fn command_help<'a>(command: Command) -> [&'a str; 9]
+    ensures { map (λ s. s.now) result ≡ command_help command }
 {
     match command {
         Command::Run => help::run(),
@@ -203,17 +192,17 @@ fn program_pieces<'a>(program: Program, command: Command, words: &'a [String]) -
     ensures { map (λ s. s.now) result ≡ program_pieces program command (map string_bytes words.now) }
 {
     if asks_page(words) {
-        return page(command_help(command));
+        return command_help(command);
     }
     if is_version(words) {
-        return version_pieces(program);
+        return version(program);
     }
     own_pieces(program, command, words)
 }
 
 // The usage of the command that these words name, or else of all.
-fn named_help<'a>(words: &[String]) -> &'a str
-    ensures { result.now ≡ named_help (map string_bytes words.now) }
+fn named_help<'a>(words: &[String]) -> [&'a str; 9]
+    ensures { map (λ s. s.now) result ≡ named_help (map string_bytes words.now) }
 {
     let Some((word, _)) = words.split_first() else {
         return help::all();
@@ -229,14 +218,14 @@ fn mm_pieces(words: &[String]) -> [&str; 9]
     ensures { map (λ s. s.now) result ≡ mm_pieces (map string_bytes words.now) }
 {
     if is_version(words) {
-        return version_pieces(Program::Mm);
+        return version(Program::Mm);
     }
     let Some((word, rest)) = words.split_first() else {
-        return page(help::all());
+        return help::all();
     };
     let word = word.as_str();
     if is_help(word) || word == "help" {
-        return page(named_help(rest));
+        return named_help(rest);
     }
     match command_of(word) {
         Some(command) => own_pieces(Program::Mm, command, rest),

@@ -1,16 +1,18 @@
-// One direction of a shell of any kind, packet by packet: the core of its kind behind one type.
+// What differs from kind to kind of shell: its core, packet by packet, behind one type, and its run over a whole list.
 ghost use Rattle.std.specs.Prelude.{◌≡◌, ◌≤◌, ◌<◌, ◌+◌, ◌++◌, ◌∷◌, [], length, nat_le, map, OnOk, OnErr, IfOk};
-ghost use Rattle.packet_record.specs.Moments.{AreUpTo};
+ghost use Rattle.packet_record.specs.Moments.{AreUpTo, Rise};
 ghost use Rattle.link_core.specs.Promises.{count_to};
 ghost use Rattle.link_core.specs.View.{opps_of};
 ghost use Rattle.shell_core.specs.Shells.{IsInRange, IsBuilt, opportunities, out, lost, inside, shell_log, floor};
+ghost use Rattle.shell_core.specs.Shells.{whole_out, whole_lost, whole_log};
 ghost use Rattle.shell_core.specs.Wholes.{if_link};
 ghost use Rattle.shell_core.specs.CoreParts.{CorePart, with_arrival, with_burnt, is_spent, burns, new_part};
 
 use crate::spec::DirSpec;
-use delay_core::DelayCore;
-use link_core::{LinkCore, LinkLog};
-use loss_core::{ChaWords, LossCore};
+use crate::whole::{late_passage, link, passage};
+use delay_core::{DelayCore, delay_all};
+use link_core::{LinkCore, LinkLog, Passage};
+use loss_core::{ChaWords, LossCore, lose_all};
 use packet_record::Timed;
 use std::alloc::Global;
 use std::marker::Model;
@@ -227,5 +229,75 @@ impl Core {
         ensures small { result ≤ 3600000 }
     {
         self.until
+    }
+
+    /// Gives the direction up for its lists, none of which is copied. A link's log isn't written out: it keeps the
+    /// packets from which it is made. Memory may run out for the numbers of the packets inside.
+    pub fn into_passage(self) -> Result<Passage, OutOfMemory>
+        ensures departed { IfOk result (λ p. p.departed.items ≡ out self.spec self.horizon self.burnt self.arrivals) }
+        ensures lost { IfOk result (λ p. p.lost.items ≡ lost self.spec self.horizon self.burnt self.arrivals) }
+        ensures held { IfOk result (λ p. p.held.items ≡ map (λ t. t.packet.id)
+            (inside self.spec self.horizon self.burnt self.arrivals)) }
+        ensures log { IfOk result (λ p. p.log ≡ if_link self.spec
+            (shell_log self.spec self.horizon self.burnt self.arrivals)) }
+    {
+        let Core {
+            alloc,
+            until: _,
+            inner,
+        } = self;
+        match inner {
+            Inner::Pass(arrived) => Ok(passage(alloc, arrived, Vec::new(alloc))),
+            Inner::Delay { core, ms: _ } => {
+                let held = core.inside()?;
+                Ok(late_passage(alloc, core.into_departed(), held))
+            }
+            Inner::Loss {
+                core,
+                seed: _,
+                stream: _,
+            } => {
+                let (departed, lost) = core.into_lists();
+                Ok(passage(alloc, departed, lost))
+            }
+            Inner::Link(core) => core.into_passage(),
+        }
+    }
+}
+
+/// Runs the direction over all packets up to the horizon, or runs out of memory. A link's log isn't written out: it
+/// keeps the packets from which it is made.
+#[tactic(auto, unfolding(crate::specs::Shells::opportunities, crate::specs::Shells::out, crate::specs::Shells::lost, crate::specs::Shells::inside, crate::specs::Shells::shell_log))]
+pub fn run_whole(
+    alloc: Global,
+    spec: DirSpec,
+    horizon: u64,
+    packets: Vec<Timed>,
+) -> Result<Passage, OutOfMemory>
+    requires range { IsInRange spec }
+    requires horizon { horizon ≤ 3600000 }
+    requires few { length (opportunities spec horizon) ≤ 16000000 }
+    requires rises { Rise packets.items }
+    requires within { AreUpTo horizon packets.items }
+    ensures departed { IfOk result (λ p. p.departed.items ≡ whole_out spec horizon packets.items) }
+    ensures lost { IfOk result (λ p. p.lost.items ≡ whole_lost spec horizon packets.items) }
+    ensures held { IfOk result (λ p. p.held.items ≡ map (λ t. t.packet.id)
+        (inside spec horizon (length (opportunities spec horizon)) packets.items)) }
+    ensures log { IfOk result (λ p. p.log ≡ if_link spec (whole_log spec horizon packets.items)) }
+    ensures built { OnOk result (IsBuilt spec) }
+{
+    let mut packets = packets;
+    match spec {
+        DirSpec::Pass => Ok(passage(alloc, packets, Vec::new(alloc))),
+        DirSpec::Delay { ms } => {
+            let held = delay_all(alloc, ms, horizon, &mut packets)?;
+            Ok(late_passage(alloc, packets, held))
+        }
+        DirSpec::Loss { rate, seed, stream } => {
+            let words = ChaWords::new(seed, stream);
+            let lost = lose_all(alloc, rate, words, &mut packets)?;
+            Ok(passage(alloc, packets, lost))
+        }
+        DirSpec::Link { trace, once, queue } => link(alloc, trace, once, queue, horizon, packets),
     }
 }

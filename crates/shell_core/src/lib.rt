@@ -6,7 +6,6 @@ mod kinds;
 mod spec;
 mod whole;
 
-pub use kinds::Core;
+pub use kinds::{Core, run_whole};
 pub use link_core::{LinkLog, Passage};
 pub use spec::DirSpec;
-pub use whole::run_whole;

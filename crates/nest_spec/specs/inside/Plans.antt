@@ -1,7 +1,7 @@
 -- For proofs alone: what is true of the words of one shell.
 use Rattle.std.specs.Prelude.{◌≡◌, length}
 use Rattle.nest_spec.specs.Words.{ShellRead}
-use Rattle.nest_spec.specs.Plans.{IsShell, traces_in, logs_in}
+use Rattle.nest_spec.specs.Shells.{IsShell, traces_in, logs_in}
 
 -- There are as many traces and logs as the shell names, and a delay is at most an hour.
 pub record IsShellRead (read : ShellRead) : Type 0 where

@@ -1,6 +1,7 @@
 use Rattle.std.proofs.Common.{◌≡◌, length, ap, subst, sym, arith, rules}
 use Rattle.nest_spec.specs.Nests.{IsNest, shells_in}
-use Rattle.nest_spec.proofs.NestLemmas.{AreFit, shells_fit, specs_fit, named_links, shells_long}
+use Rattle.nest_spec.proofs.ShellLemmas.{AreFit}
+use Rattle.nest_spec.proofs.NestLemmas.{shells_fit, specs_fit, named_links, shells_long}
 use Rattle.nest_spec.proofs.nest.Nest.shells_in.Goals as goal
 
 pub returns : goal.returns

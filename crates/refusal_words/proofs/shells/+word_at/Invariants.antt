@@ -1,5 +1,5 @@
 use Rattle.std.proofs.Common.{length}
-use Rattle.refusal_words.proofs.nest_texts.+word_at.Given as goal
+use Rattle.refusal_words.proofs.shells.+word_at.Given as goal
 
 abbrev pub decreases-word_at : goal.decreases-word_at
 decreases-word_at l = length l.words.now
