@@ -30,6 +30,11 @@ impl EndBells {
         }
     }
 
+    // Rings where items were sent for whoever sleeps, however few.
+    pub fn ring_owed(&self) {
+        self.ringer.ring_owed(&self.shared.sent);
+    }
+
     // Rings after an item was received.
     pub fn ring_for_room(&mut self) {
         self.ringer.add(&self.shared.received);

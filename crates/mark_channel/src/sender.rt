@@ -46,11 +46,8 @@ impl Sender {
         ensures items { self.new.items ≡ self.old.items ++ item ∷ [] }
         ensures same { IsSameEnd self.old self.new }
     {
-        for look in 0..LOOKS {
-            if self.send_at_once(rt, item) {
-                return;
-            }
-            pause(look);
+        if self.send_soon(rt, item) {
+            return;
         }
         for _ in rt.forever() {
             if self.send_or_sleep(rt, item) {
@@ -58,6 +55,37 @@ impl Sender {
             }
         }
         unreachable!()
+    }
+
+    /// Sends the item as `send` does. Before it sleeps it wakes whoever sleeps for what `other` has sent: the one who
+    /// is to make room here may wait for that.
+    pub fn send_beside<R: Wait>(&mut self, rt: &R, item: Item, other: &Sender)
+        requires follows { MayFollow self.old.flow item }
+        requires within { IsUpTo self.old.horizon item }
+        ensures flow { self.new.flow ≡ after self.old.flow item }
+        ensures items { self.new.items ≡ self.old.items ++ item ∷ [] }
+        ensures same { IsSameEnd self.old self.new }
+    {
+        if self.send_soon(rt, item) {
+            return;
+        }
+        other.bells.ring_owed();
+        self.send(rt, item);
+    }
+
+    // Sends the item where there is room within `LOOKS` looks. Returns whether it did.
+    fn send_soon<R: Wait>(&mut self, rt: &R, item: Item) -> bool
+        requires { MayPass self.old item }
+        ensures sent { IsTrue result → self.new ≡ with_item self.old item }
+        ensures kept { IsFalse result → self.new ≡ self.old }
+    {
+        for look in 0..LOOKS {
+            if self.send_at_once(rt, item) {
+                return true;
+            }
+            pause(look);
+        }
+        false
     }
 
     // Sends the item where there is room, and rings for it. Returns whether it did.

@@ -11,13 +11,13 @@ use Rattle.packet_record.proofs.SourcesLemmas.{source_packets, source_honest, it
 use Rattle.shell_core.specs.declared.spec.DirSpec.{DirSpec}
 use Rattle.shell_state.specs.States.{State}
 use Rattle.nest_spec.specs.Nests.{NestParts, directions_of}
-use Rattle.nest_core.specs.declared.stage.Stage.{Stage}
+use Rattle.nest_core.specs.declared.station.Station.{Station}
 use Rattle.nest_core.specs.Channels.{ChannelParts, new_channel}
-use Rattle.nest_core.specs.Worlds.{line, world, new_stages, new_world}
+use Rattle.nest_core.specs.Worlds.{line, world, new_stations, new_world}
 use Rattle.nest_core.specs.Promises.{passed_first, source_stream, IsRunOf}
 use Rattle.nest_core.specs.inside.Standing.{Arrives, LineStands, WorldStands, StandAnew}
 
-none_passed : (h capacity : ℕ) (specs : List DirSpec) → passed_first (new_stages h capacity specs) no_items ≡ no_items
+none_passed : (h capacity : ℕ) (specs : List DirSpec) → passed_first (new_stations h capacity specs) no_items ≡ no_items
 none_passed h capacity [] = refl
 none_passed h capacity (c ∷ specs) = refl
 
@@ -26,13 +26,13 @@ new_source : (specs : List DirSpec) (h capacity : ℕ) (items : List Item)
 new_source specs h capacity items = ap (λ (f : Stream). after_all f items) (none_passed h capacity specs)
 
 new_specs : (h capacity : ℕ) (specs : List DirSpec)
-    → map (λ (s : State). s.spec) (map (λ (s : Stage). s.state) (new_stages h capacity specs)) ≡ specs
+    → map (λ (s : State). s.spec) (map (λ (s : Station). s.state) (new_stations h capacity specs)) ≡ specs
 new_specs h capacity [] = refl
 new_specs h capacity (c ∷ specs) = ap (λ (l : List DirSpec). c ∷ l) (new_specs h capacity specs)
 
 new_line : (h capacity : ℕ) (whole : Stream) (items : List Item) (specs : List DirSpec) → 1 ≤ capacity
     → StandAnew h specs → Arrives h whole no_items items
-    → LineStands h whole (new_channel capacity) items (new_stages h capacity specs) no_items
+    → LineStands h whole (new_channel capacity) items (new_stations h capacity specs) no_items
 new_line h capacity whole items [] some st a = (a, some)
 new_line h capacity whole items (c ∷ specs) some st a = (
   a,
@@ -41,9 +41,9 @@ new_line h capacity whole items (c ∷ specs) some st a = (
   new_line h capacity no_items [] specs some st.1 (record { is = refl; honest = tt }),
 )
 
-length-new_stages : (h capacity : ℕ) (specs : List DirSpec) → length (new_stages h capacity specs) ≡ length specs
-length-new_stages h capacity [] = refl
-length-new_stages h capacity (c ∷ specs) = ap suc (length-new_stages h capacity specs)
+length-new_stations : (h capacity : ℕ) (specs : List DirSpec) → length (new_stations h capacity specs) ≡ length specs
+length-new_stations h capacity [] = refl
+length-new_stations h capacity (c ∷ specs) = ap suc (length-new_stations h capacity specs)
 
 pub new_world_stands : (d : Direction) (rows : List Row) (specs : List DirSpec) (h capacity : ℕ) → 1 ≤ capacity
     → Rises 0 rows → StandAnew h specs → length specs ≤ 8
@@ -55,7 +55,7 @@ new_world_stands d rows specs h capacity some rises st few =
       ended = ap (λ (f : Stream). f.end) (new_source specs h capacity items) ∙ items_end d h 0 rows no_items;
       line = new_line h capacity whole items specs some st
           (record { is = sym (new_source specs h capacity items); honest = source_honest d h rows rises });
-      few = let same = length-new_stages h capacity specs in omega arith;
+      few = let same = length-new_stations h capacity specs in omega arith;
     }
 
 pub new_run : (nest : NestParts) (d : Direction) (rows : List Row) (capacity : ℕ)
@@ -70,15 +70,15 @@ new_run nest d rows capacity = record {
 
 -- the parts that a new world is made of
 pub made_is : (d : Direction) (rows rows' : List Row) (specs : List DirSpec) (h h' capacity : ℕ) (items : List Item)
-    (channel : ChannelParts) (stages : List Stage) (collected : Stream)
+    (channel : ChannelParts) (stations : List Station) (collected : Stream)
     → h ≡ h' → rows' ≡ rows → items ≡ source_items d h rows' → channel ≡ new_channel capacity
-    → stages ≡ new_stages h capacity specs → collected ≡ no_items
-    → world h items (line channel stages collected) ≡ new_world specs h' capacity (source_items d h' rows)
-made_is d rows rows' specs h h' capacity items channel stages collected horizon same sent empty made none =
-    ap (λ (l : List Item). world h l (line channel stages collected))
+    → stations ≡ new_stations h capacity specs → collected ≡ no_items
+    → world h items (line channel stations collected) ≡ new_world specs h' capacity (source_items d h' rows)
+made_is d rows rows' specs h h' capacity items channel stations collected horizon same sent empty made none =
+    ap (λ (l : List Item). world h l (line channel stations collected))
     (sent ∙ ap (λ (r : List Row). source_items d h r) same)
-    ∙ ap (λ (c : ChannelParts). world h (source_items d h rows) (line c stages collected)) empty
-    ∙ ap (λ (l : List Stage). world h (source_items d h rows) (line (new_channel capacity) l collected)) made
+    ∙ ap (λ (c : ChannelParts). world h (source_items d h rows) (line c stations collected)) empty
+    ∙ ap (λ (l : List Station). world h (source_items d h rows) (line (new_channel capacity) l collected)) made
     ∙ ap (λ (f : Stream). world h (source_items d h rows)
-    (line (new_channel capacity) (new_stages h capacity specs) f)) none
+    (line (new_channel capacity) (new_stations h capacity specs) f)) none
     ∙ ap (λ n. new_world specs n capacity (source_items d n rows)) horizon

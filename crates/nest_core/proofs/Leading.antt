@@ -16,12 +16,12 @@ use Rattle.shell_core.proofs.Laws.{out_rises, out_within}
 use Rattle.shell_state.specs.States.{State}
 use Rattle.shell_state.specs.Standing.{Stands, Foretells}
 use Rattle.shell_state.proofs.Foretelling.{foretells_more, finished}
-use Rattle.nest_core.specs.declared.stage.Stage.{Stage}
+use Rattle.nest_core.specs.declared.station.Station.{Station}
 use Rattle.nest_spec.specs.Chains.{last_departed, chain_logs}
 use Rattle.nest_core.specs.Channels.{ChannelParts}
 use Rattle.nest_core.specs.Worlds.{WorldParts}
 use Rattle.nest_core.specs.Promises.{source_stream, arrivals_of, AreUnderWay, Keeps}
-use Rattle.nest_core.specs.inside.Standing.{Arrives, StageStands, LineStands, WorldStands}
+use Rattle.nest_core.specs.inside.Standing.{Arrives, StationStands, LineStands, WorldStands}
 
 -- all is what came and others, none of which is before the bound, in order and within the horizon; where nothing more
 -- may come, there are no others
@@ -125,26 +125,26 @@ taken_leads s all st whole l =
     by f Cut e = absurd (let contra : true ≡ false = sym (st.taken_broken e) ∙ whole in cc contra)
 
 -- a shell of a line: what it was fed leads to what arrives, and what was taken to what it lets out
-pub fed_leads : (h : ℕ) (whole : Stream) (s : Stage) (items : List Item) (all : List Timed)
-    → Arrives h whole s.state.fed items → StageStands h s → Leads h whole all
+pub fed_leads : (h : ℕ) (whole : Stream) (s : Station) (items : List Item) (all : List Timed)
+    → Arrives h whole s.state.fed items → StationStands h s → Leads h whole all
     → Leads s.state.horizon s.state.fed all
 fed_leads h whole s items all a st l = subst (λ n. Leads n s.state.fed all) (sym st.horizon)
     (arrived_leads h whole s.state.fed items all a l)
 
-pub next_leads : (h : ℕ) (whole : Stream) (s : Stage) (items : List Item) (all : List Timed)
-    → Arrives h whole s.state.fed items → StageStands h s → Leads h whole all
+pub next_leads : (h : ℕ) (whole : Stream) (s : Station) (items : List Item) (all : List Timed)
+    → Arrives h whole s.state.fed items → StationStands h s → Leads h whole all
     → Leads h s.state.taken (whole_out s.state.spec s.state.horizon all)
 next_leads h whole s items all a st l =
     subst (λ n. Leads n s.state.taken (whole_out s.state.spec s.state.horizon all)) st.horizon
     (taken_leads s.state all st.stands st.unbroken (fed_leads h whole s items all a st l))
 
-line_logs : (h : ℕ) (whole : Stream) (channel : ChannelParts) (rest : List Item) (stages : List Stage)
+line_logs : (h : ℕ) (whole : Stream) (channel : ChannelParts) (rest : List Item) (stations : List Station)
     (collected : Stream) (all : List Timed)
-    → LineStands h whole channel rest stages collected → Leads h whole all
-    → AreUnderWay (map (λ (s : Stage). s.state) stages)
-    (chain_logs h (map (λ (s : State). s.spec) (map (λ (s : Stage). s.state) stages)) all)
+    → LineStands h whole channel rest stations collected → Leads h whole all
+    → AreUnderWay (map (λ (s : Station). s.state) stations)
+    (chain_logs h (map (λ (s : State). s.spec) (map (λ (s : Station). s.state) stations)) all)
 line_logs h whole channel rest [] collected all l leads = tt
-line_logs h whole channel rest (s ∷ stages) collected all l leads =
+line_logs h whole channel rest (s ∷ stations) collected all l leads =
     let items = option_to_list s.feeder ++ (channel.items ++ rest) in
     let f = foretold s.state all l.2.stands (fed_leads h whole s items all l.0 l.2 leads) in
     let next = subst (λ n. Leads h s.state.taken (whole_out s.state.spec n all)) l.2.horizon
@@ -154,19 +154,19 @@ line_logs h whole channel rest (s ∷ stages) collected all l leads =
         entries = f.entries;
         log = ap (λ n. whole_log s.state.spec n all) (sym l.2.horizon) ∙ f.log;
       },
-      line_logs h s.state.taken s.channel (option_to_list s.drain) stages collected (whole_out s.state.spec h all) l.3
+      line_logs h s.state.taken s.channel (option_to_list s.drain) stations collected (whole_out s.state.spec h all) l.3
           next,
     )
 
-pub line_collected : (h : ℕ) (whole : Stream) (channel : ChannelParts) (rest : List Item) (stages : List Stage)
+pub line_collected : (h : ℕ) (whole : Stream) (channel : ChannelParts) (rest : List Item) (stations : List Station)
     (collected : Stream) (all : List Timed)
-    → LineStands h whole channel rest stages collected → Leads h whole all
-    → Leads h collected (last_departed h (map (λ (s : State). s.spec) (map (λ (s : Stage). s.state) stages)) all)
+    → LineStands h whole channel rest stations collected → Leads h whole all
+    → Leads h collected (last_departed h (map (λ (s : State). s.spec) (map (λ (s : Station). s.state) stations)) all)
 line_collected h whole channel rest [] collected all l leads = arrived_leads h whole collected (channel.items ++ rest)
     all l.0 leads
-line_collected h whole channel rest (s ∷ stages) collected all l leads =
+line_collected h whole channel rest (s ∷ stations) collected all l leads =
     let next = next_leads h whole s (option_to_list s.feeder ++ (channel.items ++ rest)) all l.0 l.2 leads in
-    line_collected h s.state.taken s.channel (option_to_list s.drain) stages collected (whole_out s.state.spec h all)
+    line_collected h s.state.taken s.channel (option_to_list s.drain) stations collected (whole_out s.state.spec h all)
     l.3
     (subst (λ n. Leads h s.state.taken (whole_out s.state.spec n all)) l.2.horizon next)
 
@@ -183,15 +183,16 @@ source_leads w = record {
 
 pub world_leads : (w : WorldParts) → WorldStands w
     → Leads w.horizon w.line.collected
-    (last_departed w.horizon (map (λ (s : State). s.spec) (map (λ (s : Stage). s.state) w.line.stages)) (arrivals_of w))
-world_leads w st = line_collected w.horizon (source_stream w) w.line.channel w.unsent w.line.stages w.line.collected
+    (last_departed w.horizon (map (λ (s : State). s.spec) (map (λ (s : Station). s.state) w.line.stations))
+    (arrivals_of w))
+world_leads w st = line_collected w.horizon (source_stream w) w.line.channel w.unsent w.line.stations w.line.collected
     (arrivals_of w) st.line (source_leads w)
 
 pub world_keeps : (w : WorldParts) → WorldStands w → Keeps w
 world_keeps w st =
     let l = world_leads w st in
     record {
-      shells = line_logs w.horizon (source_stream w) w.line.channel w.unsent w.line.stages w.line.collected
+      shells = line_logs w.horizon (source_stream w) w.line.channel w.unsent w.line.stations w.line.collected
           (arrivals_of w) st.line (source_leads w);
       collected = record { others = l.others; is = l.is; later = l.later };
     }

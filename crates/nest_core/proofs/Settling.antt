@@ -18,16 +18,17 @@ use Rattle.shell_state.specs.Causes.{Waits}
 use Rattle.shell_state.proofs.Causing.{has_causes}
 use Rattle.shell_state.proofs.Foretelling.{finished}
 use Rattle.nest_spec.specs.Passed.{HavePassed}
-use Rattle.nest_core.specs.declared.stage.Stage.{Stage}
+use Rattle.nest_core.specs.declared.station.Station.{Station}
 use Rattle.nest_core.specs.declared.actor.Actor.{Actor}
 use Rattle.nest_core.specs.declared.actor.Actor.TheVariants.{Source, Receiver, Feeder, Taker, Sender}
 use Rattle.nest_spec.specs.Chains.{chain_logs}
 use Rattle.nest_core.specs.Channels.{ChannelParts, holding, new_channel, has_room, with_last, first_of, left_by}
-use Rattle.nest_core.specs.Stages.{most, stage, receives, fed_stage, feeding, given, taking, taken_stage, sending}
-use Rattle.nest_core.specs.Stages.{sent_stage}
+use Rattle.nest_core.specs.Stations.{most, station, receives, fed_station, feeding, given}
+use Rattle.nest_core.specs.Stations.{taking, taken_station, sending}
+use Rattle.nest_core.specs.Stations.{sent_station}
 use Rattle.nest_core.specs.Worlds.{Line, WorldParts, line, world}
 use Rattle.nest_core.specs.WorldSteps.{actors_of, sourcing, collecting, receiving, behind, received, changed_at}
-use Rattle.nest_core.specs.WorldSteps.{with_stages, act, step_of}
+use Rattle.nest_core.specs.WorldSteps.{with_stations, act, step_of}
 use Rattle.nest_core.specs.Actors.{actor_at, actor_of}
 use Rattle.nest_core.specs.Promises.{source_stream, arrivals_of, departed_of, specs_of, states_of, state_log}
 use Rattle.nest_core.specs.Promises.{sent_stream, IsFrontUntil, IsSettled, IsQuiet, IsFinished, IsWhole}
@@ -47,33 +48,33 @@ settled_act : (w : WorldParts) (i j : ℕ) → IsSettled w → i < 4 → 4 * j +
 unfolding step_of
 settled_act w i j settled lt within = ap (act w) (sym (numbered i j lt)) ∙ settled (4 * j + i + 1) (omega arith) within
 
-first_stage : List Stage → Stage → Stage
-first_stage [] s = s
-first_stage (t ∷ stages) s = t
+first_station : List Station → Station → Station
+first_station [] s = s
+first_station (t ∷ stations) s = t
 
-tail_of : List Stage → List Stage
+tail_of : List Station → List Station
 tail_of [] = []
-tail_of (s ∷ stages) = stages
+tail_of (s ∷ stations) = stations
 
-channel_of : List Stage → ChannelParts
+channel_of : List Station → ChannelParts
 channel_of [] = new_channel 0
-channel_of (s ∷ stages) = s.channel
+channel_of (s ∷ stations) = s.channel
 
 unbehind : Line → Line
 unfolding tail_of channel_of
-unbehind l = line (channel_of l.stages) (tail_of l.stages) l.collected
+unbehind l = line (channel_of l.stations) (tail_of l.stations) l.collected
 
 -- no step of a line changes it
-record Stays (channel : ChannelParts) (stages : List Stage) (collected : Stream) : Type 0 where
-  received : (j : ℕ) → j ≤ length stages → received j channel stages collected ≡ line channel stages collected
-  fed : (j : ℕ) → j < length stages → changed_at fed_stage j stages ≡ stages
-  taken : (j : ℕ) → j < length stages → changed_at taken_stage j stages ≡ stages
-  sent : (j : ℕ) → j < length stages → changed_at sent_stage j stages ≡ stages
+record Stays (channel : ChannelParts) (stations : List Station) (collected : Stream) : Type 0 where
+  received : (j : ℕ) → j ≤ length stations → received j channel stations collected ≡ line channel stations collected
+  fed : (j : ℕ) → j < length stations → changed_at fed_station j stations ≡ stations
+  taken : (j : ℕ) → j < length stations → changed_at taken_station j stations ≡ stations
+  sent : (j : ℕ) → j < length stations → changed_at sent_station j stations ≡ stations
 
-stays_behind : (channel : ChannelParts) (s : Stage) (stages : List Stage) (collected : Stream)
-    → Stays channel (s ∷ stages) collected → Stays s.channel stages collected
+stays_behind : (channel : ChannelParts) (s : Station) (stations : List Station) (collected : Stream)
+    → Stays channel (s ∷ stations) collected → Stays s.channel stations collected
 unfolding unbehind tail_of channel_of
-stays_behind channel s stages collected st = record {
+stays_behind channel s stations collected st = record {
   received = λ j le. ap unbehind (st.received (suc j) (omega arith));
   fed = λ j lt. ap tail_of (st.fed (suc j) (omega arith));
   taken = λ j lt. ap tail_of (st.taken (suc j) (omega arith));
@@ -89,13 +90,13 @@ collects_none : (capacity : ℕ) (items : List Item) (collected : Stream)
 collects_none capacity [] collected e = refl
 collects_none capacity (x ∷ items) collected e = absurd (not_longer x items (ap (λ (l : Line). l.channel.items) e))
 
-feeds_none : (feeder : Option Item) (s : Stage) → (feeding feeder s).feeder ≡ feeder → feeder ≡ None
+feeds_none : (feeder : Option Item) (s : Station) → (feeding feeder s).feeder ≡ feeder → feeder ≡ None
 feeds_none None s e = refl
 feeds_none (Some x) s e = absurd (let contra : None ≡ Some x = e in cc contra)
 
 receives_none : (feeder : Option Item) (capacity : ℕ) (items : List Item) (state : State) (drain : Option Item)
     (own : ChannelParts) → feeder ≡ None
-    → (left_by (receives (first_of items) (stage feeder state drain own)) (holding capacity items)).items ≡ items
+    → (left_by (receives (first_of items) (station feeder state drain own)) (holding capacity items)).items ≡ items
     → items ≡ []
 receives_none (Some x) capacity items state drain own f e = absurd (cc f)
 receives_none None capacity [] state drain own f e = refl
@@ -105,12 +106,12 @@ roomy : (c : ChannelParts) → 1 ≤ c.capacity → c.items ≡ [] → has_room 
 roomy c some none = let long = ap length none in let lt : length c.items < c.capacity = omega arith
     in search (rules, tests)
 
-sends_none : (drain : Option Item) (s : Stage) → has_room s.channel ≡ true → s.drain ≡ drain
+sends_none : (drain : Option Item) (s : Station) → has_room s.channel ≡ true → s.drain ≡ drain
     → (sending drain s).drain ≡ drain → drain ≡ None
 sends_none None s room is e = refl
 sends_none (Some x) s room is e =
     absurd (let contra : None ≡ Some x =
-    sym (ap (λ (b : Bool). (cond b (stage s.feeder s.state None (with_last s.channel x)) s).drain) room) ∙ e
+    sym (ap (λ (b : Bool). (cond b (station s.feeder s.state None (with_last s.channel x)) s).drain) room) ∙ e
     in cc contra)
 
 -- a take that changes nothing and gives nothing waits
@@ -124,31 +125,31 @@ takes_none s (Again n) st is none same =
     let all = burnt.burns in
     absurd (omega arith)
 
-taken_none : (drain : Option Item) (end : FlowEnd) (s : Stage) → Stands s.state → drain ≡ None → s.drain ≡ None
+taken_none : (drain : Option Item) (end : FlowEnd) (s : Station) → Stands s.state → drain ≡ None → s.drain ≡ None
     → taking drain end s ≡ s → end ≡ Open → Waits s.state
 taken_none (Some x) end s st none held e going = absurd (cc none)
 taken_none None Ended s st none held e going = absurd (cc going)
 taken_none None Cut s st none held e going = absurd (cc going)
 taken_none None Open s st none held e going =
-    takes_none s.state (answer_of s.state most) st refl (ap (λ (t : Stage). t.drain) e ∙ held)
-    (ap (λ (t : Stage). t.state.burnt) e)
+    takes_none s.state (answer_of s.state most) st refl (ap (λ (t : Station). t.drain) e ∙ held)
+    (ap (λ (t : Station). t.state.burnt) e)
 
-stays_idle : (h : ℕ) (whole : Stream) (channel : ChannelParts) (rest : List Item) (stages : List Stage)
-    (collected : Stream) → Stays channel stages collected
-    → LineStands h whole channel rest stages collected → IdleLine channel stages
-unfolding first_stage
+stays_idle : (h : ℕ) (whole : Stream) (channel : ChannelParts) (rest : List Item) (stations : List Station)
+    (collected : Stream) → Stays channel stations collected
+    → LineStands h whole channel rest stations collected → IdleLine channel stations
+unfolding first_station
 stays_idle h whole channel rest [] collected stays l = collects_none channel.capacity channel.items collected
     (stays.received 0 (omega arith))
-stays_idle h whole channel rest (s ∷ stages) collected stays l =
-    let next = stays_idle h s.state.taken s.channel (option_to_list s.drain) stages collected
-    (stays_behind channel s stages collected stays) l.3 in
-    let fed : fed_stage s ≡ s = ap (λ (l : List Stage). first_stage l s) (stays.fed 0 (omega arith)) in
-    let taken : taken_stage s ≡ s = ap (λ (l : List Stage). first_stage l s) (stays.taken 0 (omega arith)) in
-    let sent : sent_stage s ≡ s = ap (λ (l : List Stage). first_stage l s) (stays.sent 0 (omega arith)) in
-    let feeder : s.feeder ≡ None = feeds_none s.feeder s (ap (λ (t : Stage). t.feeder) fed) in
+stays_idle h whole channel rest (s ∷ stations) collected stays l =
+    let next = stays_idle h s.state.taken s.channel (option_to_list s.drain) stations collected
+    (stays_behind channel s stations collected stays) l.3 in
+    let fed : fed_station s ≡ s = ap (λ (l : List Station). first_station l s) (stays.fed 0 (omega arith)) in
+    let taken : taken_station s ≡ s = ap (λ (l : List Station). first_station l s) (stays.taken 0 (omega arith)) in
+    let sent : sent_station s ≡ s = ap (λ (l : List Station). first_station l s) (stays.sent 0 (omega arith)) in
+    let feeder : s.feeder ≡ None = feeds_none s.feeder s (ap (λ (t : Station). t.feeder) fed) in
     let drain : s.drain ≡ None = sends_none s.drain s
-    (roomy s.channel (room_of s stages l.3) (idle_first s.channel stages next)) refl
-    (ap (λ (t : Stage). t.drain) sent) in (
+    (roomy s.channel (room_of s stations l.3) (idle_first s.channel stations next)) refl
+    (ap (λ (t : Station). t.drain) sent) in (
       receives_none s.feeder channel.capacity channel.items s.state s.drain s.channel feeder
           (ap (λ (l : Line). l.channel.items) (stays.received 0 (omega arith))),
       feeder,
@@ -157,22 +158,23 @@ stays_idle h whole channel rest (s ∷ stages) collected stays l =
       next,
     )
   where
-    room_of : (s : Stage) (stages : List Stage) → LineStands h s.state.taken s.channel (option_to_list s.drain) stages
+    room_of : (s : Station) (stations : List Station)
+        → LineStands h s.state.taken s.channel (option_to_list s.drain) stations
         collected → 1 ≤ s.channel.capacity
     room_of s [] l = l.1
     room_of s (t ∷ ts) l = l.1
 
-settled_stays : (w : WorldParts) → IsSettled w → Stays w.line.channel w.line.stages w.line.collected
+settled_stays : (w : WorldParts) → IsSettled w → Stays w.line.channel w.line.stations w.line.collected
 settled_stays w settled = record {
   received = λ j le. ap (λ (v : WorldParts). v.line) (settled_act w 0 j settled (omega arith) (omega arith));
-  fed = λ j lt. ap (λ (v : WorldParts). v.line.stages) (settled_act w 1 j settled (omega arith) (omega arith));
-  taken = λ j lt. ap (λ (v : WorldParts). v.line.stages) (settled_act w 2 j settled (omega arith) (omega arith));
-  sent = λ j lt. ap (λ (v : WorldParts). v.line.stages) (settled_act w 3 j settled (omega arith) (omega arith));
+  fed = λ j lt. ap (λ (v : WorldParts). v.line.stations) (settled_act w 1 j settled (omega arith) (omega arith));
+  taken = λ j lt. ap (λ (v : WorldParts). v.line.stations) (settled_act w 2 j settled (omega arith) (omega arith));
+  sent = λ j lt. ap (λ (v : WorldParts). v.line.stations) (settled_act w 3 j settled (omega arith) (omega arith));
 }
 
-pub settled_idle : (w : WorldParts) → WorldStands w → IsSettled w → IdleLine w.line.channel w.line.stages
+pub settled_idle : (w : WorldParts) → WorldStands w → IsSettled w → IdleLine w.line.channel w.line.stations
 settled_idle w st settled =
-    stays_idle w.horizon (source_stream w) w.line.channel w.unsent w.line.stages w.line.collected
+    stays_idle w.horizon (source_stream w) w.line.channel w.unsent w.line.stations w.line.collected
     (settled_stays w settled) st.line
 
 -- in a settled world all is collected that is before the bound of what the source has sent
@@ -180,10 +182,10 @@ pub settled_front : (w : WorldParts) → WorldStands w → IsSettled w
     → IsFrontUntil (sent_stream w).bound w.line.collected.packets (departed_of w)
 settled_front w st settled = idle_front w st (settled_idle w st settled)
 
-room_in : (w : WorldParts) (stages : List Stage) → LineStands w.horizon (source_stream w) w.line.channel w.unsent
-    stages w.line.collected → 1 ≤ w.line.channel.capacity
+room_in : (w : WorldParts) (stations : List Station) → LineStands w.horizon (source_stream w) w.line.channel w.unsent
+    stations w.line.collected → 1 ≤ w.line.channel.capacity
 room_in w [] l = l.1
-room_in w (s ∷ stages) l = l.1
+room_in w (s ∷ stations) l = l.1
 
 all_sent : (w : WorldParts) (items : List Item) → has_room w.line.channel ≡ true → w.unsent ≡ items
     → sourcing items w ≡ w → items ≡ []
@@ -191,7 +193,7 @@ all_sent w [] room is e = refl
 all_sent w (x ∷ items) room is e =
     absurd (not_longer x items
     (sym (ap (λ (b : Bool). (cond b
-    (world w.horizon items (line (with_last w.line.channel x) w.line.stages w.line.collected)) w).unsent) room)
+    (world w.horizon items (line (with_last w.line.channel x) w.line.stations w.line.collected)) w).unsent) room)
     ∙ ap (λ (v : WorldParts). v.unsent) e ∙ is))
 
 -- a quiet world is finished
@@ -199,79 +201,83 @@ pub quiet_finished : (w : WorldParts) → WorldStands w → IsQuiet w → IsFini
 unfolding step_of
 quiet_finished w st quiet =
     let idle = settled_idle w st (λ number some lt. quiet number lt) in
-    let room = roomy w.line.channel (room_in w w.line.stages st.line) (idle_first w.line.channel w.line.stages idle) in
+    let room = roomy w.line.channel (room_in w w.line.stations st.line)
+    (idle_first w.line.channel w.line.stations idle) in
     let sent = all_sent w w.unsent room refl (quiet 0 (omega arith)) in
-    idle_ends w.horizon (source_stream w) w.line.channel w.unsent w.line.stages w.line.collected idle sent st.line
+    idle_ends w.horizon (source_stream w) w.line.channel w.unsent w.line.stations w.line.collected idle sent st.line
     st.ended
 
 idle_receiving : (capacity : ℕ) (items : List Item) (feeder : Option Item) (state : State) (drain : Option Item)
-    (own : ChannelParts) (stages : List Stage) (collected : Stream)
+    (own : ChannelParts) (stations : List Station) (collected : Stream)
     → items ≡ [] → feeder ≡ None
-    → receiving (holding capacity items) (stage feeder state drain own) stages collected ≡ line
-    (holding capacity items) (stage feeder state drain own ∷ stages) collected
-idle_receiving capacity [] None state drain own stages collected e f = refl
-idle_receiving capacity [] (Some x) state drain own stages collected e f = absurd (cc f)
-idle_receiving capacity (x ∷ items) feeder state drain own stages collected e f = absurd (cc e)
+    → receiving (holding capacity items) (station feeder state drain own) stations collected ≡ line
+    (holding capacity items) (station feeder state drain own ∷ stations) collected
+idle_receiving capacity [] None state drain own stations collected e f = refl
+idle_receiving capacity [] (Some x) state drain own stations collected e f = absurd (cc f)
+idle_receiving capacity (x ∷ items) feeder state drain own stations collected e f = absurd (cc e)
 
-idle_received : (j : ℕ) (channel : ChannelParts) (stages : List Stage) (collected : Stream) → IdleLine channel stages
-    → received j channel stages collected ≡ line channel stages collected
+idle_received : (j : ℕ) (channel : ChannelParts) (stations : List Station) (collected : Stream)
+    → IdleLine channel stations
+    → received j channel stations collected ≡ line channel stations collected
 idle_received zero channel [] collected i = ap (λ (l : List Item). collecting (first_of l) channel collected) i
 idle_received (suc j) channel [] collected i = refl
-idle_received zero channel (s ∷ stages) collected i = idle_receiving channel.capacity channel.items s.feeder s.state
-    s.drain s.channel stages collected i.0 i.1
-idle_received (suc j) channel (s ∷ stages) collected i =
-    ap (behind channel s) (idle_received j s.channel stages collected i.4)
+idle_received zero channel (s ∷ stations) collected i = idle_receiving channel.capacity channel.items s.feeder s.state
+    s.drain s.channel stations collected i.0 i.1
+idle_received (suc j) channel (s ∷ stations) collected i =
+    ap (behind channel s) (idle_received j s.channel stations collected i.4)
 
-idle_fed : (j : ℕ) (channel : ChannelParts) (stages : List Stage) → IdleLine channel stages
-    → changed_at fed_stage j stages ≡ stages
+idle_fed : (j : ℕ) (channel : ChannelParts) (stations : List Station) → IdleLine channel stations
+    → changed_at fed_station j stations ≡ stations
 idle_fed j channel [] i = refl
-idle_fed zero channel (s ∷ stages) i = ap (λ (t : Stage). t ∷ stages) (ap (λ (f : Option Item). feeding f s) i.1)
-idle_fed (suc j) channel (s ∷ stages) i = ap (λ (l : List Stage). s ∷ l) (idle_fed j s.channel stages i.4)
+idle_fed zero channel (s ∷ stations) i = ap (λ (t : Station). t ∷ stations) (ap (λ (f : Option Item). feeding f s) i.1)
+idle_fed (suc j) channel (s ∷ stations) i = ap (λ (l : List Station). s ∷ l) (idle_fed j s.channel stations i.4)
 
-idle_sent : (j : ℕ) (channel : ChannelParts) (stages : List Stage) → IdleLine channel stages
-    → changed_at sent_stage j stages ≡ stages
+idle_sent : (j : ℕ) (channel : ChannelParts) (stations : List Station) → IdleLine channel stations
+    → changed_at sent_station j stations ≡ stations
 idle_sent j channel [] i = refl
-idle_sent zero channel (s ∷ stages) i = ap (λ (t : Stage). t ∷ stages) (ap (λ (d : Option Item). sending d s) i.2)
-idle_sent (suc j) channel (s ∷ stages) i = ap (λ (l : List Stage). s ∷ l) (idle_sent j s.channel stages i.4)
+idle_sent zero channel (s ∷ stations) i = ap (λ (t : Station). t ∷ stations) (ap (λ (d : Option Item). sending d s) i.2)
+idle_sent (suc j) channel (s ∷ stations) i = ap (λ (l : List Station). s ∷ l) (idle_sent j s.channel stations i.4)
 
 -- a take that waits changes nothing
-pub waits_same : (s : Stage) → Stands s.state → s.drain ≡ None → Waits s.state
-    → stage s.feeder (after_take s.state most) (given (answer_of s.state most)) s.channel ≡ s
+pub waits_same : (s : Station) → Stands s.state → s.drain ≡ None → Waits s.state
+    → station s.feeder (after_take s.state most) (given (answer_of s.state most)) s.channel ≡ s
 waits_same s st held w =
     let causes = has_causes s.state most st (omega arith) in
     let answer : answer_of s.state most ≡ NotYet s.state.fed.bound = (causes.not_yet s.state.fed.bound).1 (w, refl) in
     let same : after_take s.state most ≡ s.state = causes.unchanged s.state.fed.bound answer in
-    ap (λ (x : State). stage s.feeder x (given (answer_of s.state most)) s.channel) same
-    ∙ ap (λ (a : Taken). stage s.feeder s.state (given a) s.channel) answer
-    ∙ ap (λ (d : Option Item). stage s.feeder s.state d s.channel) (sym held)
+    ap (λ (x : State). station s.feeder x (given (answer_of s.state most)) s.channel) same
+    ∙ ap (λ (a : Taken). station s.feeder s.state (given a) s.channel) answer
+    ∙ ap (λ (d : Option Item). station s.feeder s.state d s.channel) (sym held)
 
-idle_take : (s : Stage) (end : FlowEnd) → Stands s.state → s.state.taken.end ≡ end → s.drain ≡ None
+idle_take : (s : Station) (end : FlowEnd) → Stands s.state → s.state.taken.end ≡ end → s.drain ≡ None
     → (s.state.taken.end ≡ Open → Waits s.state) → taking None end s ≡ s
 idle_take s Open st e held waits = waits_same s st held (waits e)
 idle_take s Ended st e held waits = refl
 idle_take s Cut st e held waits = refl
 
-idle_taken : (j h : ℕ) (whole : Stream) (channel : ChannelParts) (rest : List Item) (stages : List Stage)
-    (collected : Stream) → LineStands h whole channel rest stages collected
-    → IdleLine channel stages → changed_at taken_stage j stages ≡ stages
+idle_taken : (j h : ℕ) (whole : Stream) (channel : ChannelParts) (rest : List Item) (stations : List Station)
+    (collected : Stream) → LineStands h whole channel rest stations collected
+    → IdleLine channel stations → changed_at taken_station j stations ≡ stations
 idle_taken j h whole channel rest [] collected l i = refl
-idle_taken zero h whole channel rest (s ∷ stages) collected l i =
-    ap (λ (t : Stage). t ∷ stages)
+idle_taken zero h whole channel rest (s ∷ stations) collected l i =
+    ap (λ (t : Station). t ∷ stations)
     (ap (λ (d : Option Item). taking d s.state.taken.end s) i.2 ∙ idle_take s s.state.taken.end l.2.stands refl i.2 i.3)
-idle_taken (suc j) h whole channel rest (s ∷ stages) collected l i =
-    ap (λ (l : List Stage). s ∷ l) (idle_taken j h s.state.taken s.channel (option_to_list s.drain) stages collected
+idle_taken (suc j) h whole channel rest (s ∷ stations) collected l i =
+    ap (λ (l : List Station). s ∷ l) (idle_taken j h s.state.taken s.channel (option_to_list s.drain) stations collected
     l.3 i.4)
 
-idle_act : (w : WorldParts) (a : Actor) → WorldStands w → IdleLine w.line.channel w.line.stages → w.unsent ≡ []
+idle_act : (w : WorldParts) (a : Actor) → WorldStands w → IdleLine w.line.channel w.line.stations → w.unsent ≡ []
     → act w a ≡ w
 idle_act w Source st i none = ap (λ (l : List Item). sourcing l w) none
 idle_act w (Receiver j) st i none = ap (λ (l : Line). world w.horizon w.unsent l)
-    (idle_received j w.line.channel w.line.stages w.line.collected i)
-idle_act w (Feeder j) st i none = ap (λ (l : List Stage). with_stages w l) (idle_fed j w.line.channel w.line.stages i)
+    (idle_received j w.line.channel w.line.stations w.line.collected i)
+idle_act w (Feeder j) st i none = ap (λ (l : List Station). with_stations w l)
+    (idle_fed j w.line.channel w.line.stations i)
 idle_act w (Taker j) st i none =
-    ap (λ (l : List Stage). with_stages w l)
-    (idle_taken j w.horizon (source_stream w) w.line.channel w.unsent w.line.stages w.line.collected st.line i)
-idle_act w (Sender j) st i none = ap (λ (l : List Stage). with_stages w l) (idle_sent j w.line.channel w.line.stages i)
+    ap (λ (l : List Station). with_stations w l)
+    (idle_taken j w.horizon (source_stream w) w.line.channel w.unsent w.line.stations w.line.collected st.line i)
+idle_act w (Sender j) st i none = ap (λ (l : List Station). with_stations w l)
+    (idle_sent j w.line.channel w.line.stations i)
 
 nothing_follows : (h : ℕ) (whole got : Stream) (xs : List Item) → got.end ≡ Ended → Arrives h whole got xs → xs ≡ []
 nothing_follows h whole got [] e a = refl
@@ -290,19 +296,19 @@ none_of None e = refl
 none_of (Some x) e = absurd (cc e)
 
 -- what a line is whose collector has received the end
-pub record Ends (h : ℕ) (whole : Stream) (channel : ChannelParts) (rest : List Item) (stages : List Stage) : Type 0
+pub record Ends (h : ℕ) (whole : Stream) (channel : ChannelParts) (rest : List Item) (stations : List Station) : Type 0
   where
     pub ended : whole.end ≡ Ended
-    pub idle : IdleLine channel stages
+    pub idle : IdleLine channel stations
     pub sent : rest ≡ []
-    pub passed : HavePassed h (map (λ (s : State). s.spec) (map (λ (s : Stage). s.state) stages)) whole.packets
-        (map (λ (s : Stage). s.state) stages)
-    pub logs : map state_log (map (λ (s : Stage). s.state) stages) ≡ chain_logs h
-        (map (λ (s : State). s.spec) (map (λ (s : Stage). s.state) stages)) whole.packets
+    pub passed : HavePassed h (map (λ (s : State). s.spec) (map (λ (s : Station). s.state) stations)) whole.packets
+        (map (λ (s : Station). s.state) stations)
+    pub logs : map state_log (map (λ (s : Station). s.state) stations) ≡ chain_logs h
+        (map (λ (s : State). s.spec) (map (λ (s : Station). s.state) stations)) whole.packets
 
-line_ends : (h : ℕ) (whole : Stream) (channel : ChannelParts) (rest : List Item) (stages : List Stage)
-    (collected : Stream) → LineStands h whole channel rest stages collected
-    → collected.end ≡ Ended → Ends h whole channel rest stages
+line_ends : (h : ℕ) (whole : Stream) (channel : ChannelParts) (rest : List Item) (stations : List Station)
+    (collected : Stream) → LineStands h whole channel rest stations collected
+    → collected.end ≡ Ended → Ends h whole channel rest stations
 line_ends h whole channel rest [] collected l e =
     let none = nothing_follows h whole collected (channel.items ++ rest) e l.0 in
     record {
@@ -312,8 +318,8 @@ line_ends h whole channel rest [] collected l e =
       passed = tt;
       logs = refl;
     }
-line_ends h whole channel rest (s ∷ stages) collected l e =
-    let next = line_ends h s.state.taken s.channel (option_to_list s.drain) stages collected l.3 e in
+line_ends h whole channel rest (s ∷ stations) collected l e =
+    let next = line_ends h s.state.taken s.channel (option_to_list s.drain) stations collected l.3 e in
     let st = l.2.stands in
     let items = option_to_list s.feeder ++ (channel.items ++ rest) in
     let fed = st.ended next.ended in
@@ -339,15 +345,15 @@ line_ends h whole channel rest (s ∷ stages) collected l e =
       );
       sent = second_none channel.items rest way;
       passed = (refl, l.2.horizon, packets, next.ended, next.passed);
-      logs = ap (λ (x : List Entry). x ∷ map state_log (map (λ (s : Stage). s.state) stages)) log
+      logs = ap (λ (x : List Entry). x ∷ map state_log (map (λ (s : Station). s.state) stations)) log
           ∙ ap (λ (x : List (List Entry)). whole_log s.state.spec h whole.packets ∷ x)
-          (next.logs ∙ ap (λ p. chain_logs h (map (λ (s : State). s.spec) (map (λ (s : Stage). s.state) stages)) p)
+          (next.logs ∙ ap (λ p. chain_logs h (map (λ (s : State). s.spec) (map (λ (s : Station). s.state) stations)) p)
           out);
     }
 
 pub world_ends : (w : WorldParts) → WorldStands w → IsFinished w
-    → Ends w.horizon (source_stream w) w.line.channel w.unsent w.line.stages
-world_ends w st e = line_ends w.horizon (source_stream w) w.line.channel w.unsent w.line.stages w.line.collected
+    → Ends w.horizon (source_stream w) w.line.channel w.unsent w.line.stations
+world_ends w st e = line_ends w.horizon (source_stream w) w.line.channel w.unsent w.line.stations w.line.collected
     st.line e
 
 -- a finished world is quiet, and whole

@@ -12,7 +12,7 @@ use Rattle.nest_core.specs.Promises.{arrivals_of, specs_of, KeepsFirst}
 use Rattle.nest_core.specs.Left.{left_of}
 use Rattle.nest_core.specs.inside.Standing.{WorldStands}
 use Rattle.nest_core.specs.inside.Does.{does}
-use Rattle.nest_core.proofs.Meeting.{act_source, act_specs, act_horizon, act_stages}
+use Rattle.nest_core.proofs.Meeting.{act_source, act_specs, act_horizon, act_stations}
 use Rattle.nest_core.proofs.Lessening.{act_less, act_same}
 
 pub stepped : (w new : WorldParts) (number : ℕ) (a : Actor) (r : Result Bool OutOfMemory) → actor_of number ≡ a
@@ -70,5 +70,5 @@ stepped_keeps w new a (Err e) st ok err = record {
 
 pub stepped_actors : (w new : WorldParts) (a : Actor) (r : Result Bool OutOfMemory) → OnOk r (new ≡ act w a)
     → OnErr r (new ≡ w) → actors_of new ≡ actors_of w
-stepped_actors w new a (Ok did) ok err = ap actors_of ok ∙ ap (λ n. 4 * n + 2) (act_stages w a)
+stepped_actors w new a (Ok did) ok err = ap actors_of ok ∙ ap (λ n. 4 * n + 2) (act_stations w a)
 stepped_actors w new a (Err e) ok err = ap actors_of err

@@ -1,6 +1,6 @@
 pub mod Channels
 pub mod Actors
-pub mod Stages
+pub mod Stations
 pub mod Worlds
 pub mod WorldSteps
 pub mod Promises

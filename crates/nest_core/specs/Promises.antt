@@ -15,20 +15,20 @@ use Rattle.shell_core.specs.Shells.{shell_log}
 use Rattle.shell_state.specs.States.{State}
 use Rattle.shell_state.specs.Standing.{Stands}
 use Rattle.nest_spec.specs.Nests.{NestParts, directions_of}
-use Rattle.nest_core.specs.declared.stage.Stage.{Stage}
+use Rattle.nest_core.specs.declared.station.Station.{Station}
 use Rattle.nest_spec.specs.Chains.{last_departed, chain_logs}
 use Rattle.nest_core.specs.Worlds.{WorldParts}
 use Rattle.nest_core.specs.WorldSteps.{actors_of, step_of}
 
 -- The stream that was received from the first channel: what the first shell was fed and what its feeder holds, or what
 -- was collected where there is no shell.
-abbrev pub passed_first : List Stage → Stream → Stream
+abbrev pub passed_first : List Station → Stream → Stream
 passed_first [] collected = collected
-passed_first (s ∷ stages) collected = after_all s.state.fed (option_to_list s.feeder)
+passed_first (s ∷ stations) collected = after_all s.state.fed (option_to_list s.feeder)
 
 -- The stream of all that the source has sent.
 abbrev pub sent_stream : WorldParts → Stream
-sent_stream w = after_all (passed_first w.line.stages w.line.collected) w.line.channel.items
+sent_stream w = after_all (passed_first w.line.stations w.line.collected) w.line.channel.items
 
 -- The stream of all that the source sends.
 abbrev pub source_stream : WorldParts → Stream
@@ -40,7 +40,7 @@ arrivals_of w = (source_stream w).packets
 
 -- The states of the shells, in passing order.
 abbrev pub states_of : WorldParts → List State
-states_of w = map (λ (s : Stage). s.state) w.line.stages
+states_of w = map (λ (s : Station). s.state) w.line.stations
 
 -- What the shells do, in passing order.
 abbrev pub specs_of : WorldParts → List DirSpec

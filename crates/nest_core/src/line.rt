@@ -5,7 +5,7 @@ ghost use Rattle.nest_core.specs.WorldSteps.{received};
 ghost use Rattle.nest_core.specs.inside.Does.{receives_at, MayCollect};
 
 use crate::channel::Channel;
-use crate::stage::Stage;
+use crate::station::Station;
 use packet_record::Flow;
 use text_base::OutOfMemory;
 
@@ -28,25 +28,25 @@ fn collect(channel: &mut Channel, collected: &mut Flow) -> Result<bool, OutOfMem
 // The feeder of the shell at the place `shell` receives, or past the last shell the collector. Returns whether it did.
 pub(crate) fn receive(
     channel: &mut Channel,
-    stages: &mut [Stage],
+    stations: &mut [Station],
     collected: &mut Flow,
     shell: usize,
 ) -> Result<bool, OutOfMemory>
-    requires { MayCollect channel.old stages.old collected.old.stream }
-    ensures ok { OnOk result (line channel.new stages.new collected.new.stream
-        ≡ received shell channel.old stages.old collected.old.stream) }
-    ensures did { IfOk result (λ did. did ≡ receives_at shell channel.old stages.old) }
-    ensures err { OnErr result ((channel.new ≡ channel.old) × (stages.new ≡ stages.old)
+    requires { MayCollect channel.old stations.old collected.old.stream }
+    ensures ok { OnOk result (line channel.new stations.new collected.new.stream
+        ≡ received shell channel.old stations.old collected.old.stream) }
+    ensures did { IfOk result (λ did. did ≡ receives_at shell channel.old stations.old) }
+    ensures err { OnErr result ((channel.new ≡ channel.old) × (stations.new ≡ stations.old)
         × (collected.new.stream ≡ collected.old.stream)) }
 {
-    let Some((stage, rest)) = stages.split_first_mut() else {
+    let Some((station, rest)) = stations.split_first_mut() else {
         if shell == 0 {
             return collect(channel, collected);
         }
         return Ok(false);
     };
     if shell == 0 {
-        return Ok(stage.receive(channel));
+        return Ok(station.receive(channel));
     }
-    receive(&mut stage.channel, rest, collected, shell - 1)
+    receive(&mut station.channel, rest, collected, shell - 1)
 }

@@ -5,13 +5,13 @@ ghost use Rattle.packet_record.specs.Sources.{source_items};
 ghost use Rattle.nest_spec.specs.Nests.{directions_of};
 ghost use Rattle.nest_spec.specs.Passed.{HavePassed};
 ghost use Rattle.nest_core.specs.inside.Standing.{StandAnew};
-ghost use Rattle.nest_core.specs.Worlds.{new_stages};
+ghost use Rattle.nest_core.specs.Worlds.{new_stations};
 
 use crate::actor::{Actor, actor_of};
 use crate::channel::Channel;
 use crate::line;
-use crate::source::Source;
-use crate::stage::Stage;
+use crate::station::Station;
+use crate::unsent::Unsent;
 use nest_spec::Nest;
 use packet_record::{Direction, Flow, FlowEnd, Schedule};
 use shell_state::ShellState;
@@ -29,9 +29,9 @@ use text_base::OutOfMemory;
 #[derive(Drop)]
 pub struct World<'a> {
     horizon: u64,
-    source: Source<'a>,
+    unsent: Unsent<'a>,
     channel: Channel,
-    stages: Vec<Stage>,
+    stations: Vec<Station>,
     collected: Flow,
 }
 
@@ -73,12 +73,12 @@ impl<'a> World<'a> {
         ensures run { IfOk result (λ w. IsRunOf nest.now direction schedule.now w) }
     {
         let horizon = nest.horizon();
-        let stages = new_stages(alloc, nest, direction, horizon, capacity as usize)?;
+        let stations = new_stations(alloc, nest, direction, horizon, capacity as usize)?;
         Ok(World {
             horizon,
-            source: Source::new(direction, horizon, schedule.rows()),
+            unsent: Unsent::new(direction, horizon, schedule.rows()),
             channel: Channel::new(alloc, capacity as usize)?,
-            stages,
+            stations,
             collected: Flow::new(alloc),
         })
     }
@@ -92,7 +92,7 @@ impl<'a> World<'a> {
         ensures count { result ≡ actors_of self.now }
         ensures most { result ≤ 34 }
     {
-        4 * self.stages.len() as u32 + 2
+        4 * self.stations.len() as u32 + 2
     }
 
     /// Does the step of the actor numbered `actor`, if it has something to do, and returns whether that changed the
@@ -117,7 +117,7 @@ impl<'a> World<'a> {
 
     // Does an actor's step, if it has something to do. Returns whether it had.
     fn act(&mut self, actor: Actor) -> Result<bool, OutOfMemory>
-        requires { IsAmong (length self.old.line.stages) actor }
+        requires { IsAmong (length self.old.line.stations) actor }
         ensures ok { OnOk result (self.new ≡ act self.old actor) }
         ensures did { IfOk result (λ did. did ≡ does self.old actor) }
         ensures err { OnErr result (self.new ≡ self.old) }
@@ -146,7 +146,7 @@ impl<'a> World<'a> {
         if !self.channel.has_room() {
             return false;
         }
-        match self.source.next() {
+        match self.unsent.next() {
             Some(item) => {
                 self.channel.send(item);
                 true
@@ -163,7 +163,7 @@ impl<'a> World<'a> {
     {
         line::receive(
             &mut self.channel,
-            self.stages.as_mut_slice(),
+            self.stations.as_mut_slice(),
             &mut self.collected,
             shell,
         )
@@ -171,31 +171,31 @@ impl<'a> World<'a> {
 
     // The feeder of a shell feeds.
     fn feed(&mut self, shell: usize) -> Result<bool, OutOfMemory>
-        requires { shell < length self.old.line.stages }
+        requires { shell < length self.old.line.stations }
         ensures ok { OnOk result (self.new ≡ act self.old (Actor.Feeder shell)) }
         ensures did { IfOk result (λ did. did ≡ does self.old (Actor.Feeder shell)) }
         ensures err { OnErr result (self.new ≡ self.old) }
     {
-        self.stages[shell].feed()
+        self.stations[shell].feed()
     }
 
     // The drain of a shell takes.
     fn take(&mut self, shell: usize) -> Result<bool, OutOfMemory>
-        requires { shell < length self.old.line.stages }
+        requires { shell < length self.old.line.stations }
         ensures ok { OnOk result (self.new ≡ act self.old (Actor.Taker shell)) }
         ensures did { IfOk result (λ did. did ≡ does self.old (Actor.Taker shell)) }
         ensures err { OnErr result (self.new ≡ self.old) }
     {
-        self.stages[shell].take()
+        self.stations[shell].take()
     }
 
     // The drain of a shell sends.
     fn send(&mut self, shell: usize) -> bool
-        requires { shell < length self.old.line.stages }
+        requires { shell < length self.old.line.stations }
         ensures after { self.new ≡ act self.old (Actor.Sender shell) }
         ensures did { result ≡ does self.old (Actor.Sender shell) }
     {
-        self.stages[shell].send()
+        self.stations[shell].send()
     }
 
     /// Returns what was collected. Its packets are a front of all that departs from the last shell in the chain, and no
@@ -245,35 +245,38 @@ impl<'a> World<'a> {
             (specs_of self.entry) (arrivals_of self.entry) states.items) }
     {
         self.reached(); // fact: the streams of the world fit each other
-        states_of(alloc, self.stages)
+        states_of(alloc, self.stations)
     }
 }
 
 // Returns the shells' states.
-fn states_of(alloc: Global, stages: Vec<Stage>) -> Result<Vec<ShellState>, OutOfMemory>
-    ensures { IfOk result (λ states. states.items ≡ map (λ s. s.state) stages.items) }
+fn states_of(alloc: Global, stations: Vec<Station>) -> Result<Vec<ShellState>, OutOfMemory>
+    ensures { IfOk result (λ states. states.items ≡ map (λ s. s.state) stations.items) }
 {
-    let states = stages.into_iter().map(|stage| stage.state).collect(alloc)?;
+    let states = stations
+        .into_iter()
+        .map(|station| station.state)
+        .collect(alloc)?;
     Ok(states)
 }
 
 // Makes the shells of a direction, before anything has reached them.
-fn new_stages(
+fn new_stations(
     alloc: Global,
     nest: &Nest,
     direction: Direction,
     horizon: u64,
     capacity: usize,
-) -> Result<Vec<Stage>, OutOfMemory>
+) -> Result<Vec<Station>, OutOfMemory>
     requires { horizon ≡ nest.now.horizon }
-    ensures is { IfOk result (λ stages. stages.items
-        ≡ new_stages horizon capacity (directions_of direction nest.now)) }
+    ensures is { IfOk result (λ stations. stations.items
+        ≡ new_stations horizon capacity (directions_of direction nest.now)) }
     ensures stand { OnOk result (StandAnew horizon (directions_of direction nest.now)) }
     ensures few { OnOk result (length (directions_of direction nest.now) ≤ 8) }
 {
-    let mut stages = Vec::with_capacity(alloc, nest.shells() as usize)?;
+    let mut stations = Vec::with_capacity(alloc, nest.shells() as usize)?;
     for spec in nest.directions(direction)? {
-        stages.push(Stage::new(alloc, spec, horizon, capacity)?)?;
+        stations.push(Station::new(alloc, spec, horizon, capacity)?)?;
     }
-    Ok(stages)
+    Ok(stations)
 }

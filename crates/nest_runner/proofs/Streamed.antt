@@ -13,7 +13,7 @@ use Rattle.packet_record.specs.declared.reading.ScheduleError.TheVariants as sch
 use Rattle.packet_record.specs.PartsRead.{PartRead}
 use Rattle.packet_record.specs.Rows.{entering}
 use Rattle.packet_record.specs.Schedules.{first_fault}
-use Rattle.row_source.specs.StreamParts.{AllSent, IsStreamed}
+use Rattle.shell_workers.specs.StreamParts.{AllSent, IsStreamed}
 use Rattle.nest_lanes.specs.declared.lane.Lane.{Lane}
 use Rattle.mark_channel.specs.Boths.{ByDirection, OfBoth}
 use Rattle.nest_lanes.specs.Lanes.{HasCarried, IsDonePath}

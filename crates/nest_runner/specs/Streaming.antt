@@ -14,7 +14,7 @@ use Rattle.packet_record.specs.declared.reading.ScheduleError.TheVariants as sch
 use Rattle.packet_record.specs.Schedules.{IsScheduleText, first_fault}
 use Rattle.nest_spec.specs.Nests.{NestParts, RunLists, result_of}
 use Rattle.nest_spec.specs.Once.{HaveOneFate}
-use Rattle.row_source.specs.StreamParts.{IsText}
+use Rattle.shell_workers.specs.StreamParts.{IsText}
 use Rattle.nest_runner.specs.declared.stream_error.StreamError.{StreamError}
 use Rattle.nest_runner.specs.declared.stream_error.StreamError.TheVariants as stream_errors
 

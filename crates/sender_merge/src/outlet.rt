@@ -8,7 +8,7 @@ ghost use Rattle.sender_merge.specs.Merges.{merged_row as merged_row_of};
 use mark_channel::{Run, Sender};
 use mm_base::Pace;
 use packet_record::{Both, Packet, Row, Schedule, Timed};
-use row_source::{Progress, end_both, source_row};
+use shell_workers::{Progress, end_both, source_row};
 use std::sync::Wait;
 
 // The sending ends of one sender.

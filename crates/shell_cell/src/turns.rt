@@ -43,8 +43,8 @@ impl TurnTable {
         }
     }
 
-    // Waits for the turn, and takes it with the state's slot. Returns the word, which is then odd. After 2^63 - 1 turns
-    // it waits for ever.
+    // Waits for the turn, and takes it with the state's slot. Returns the word, which is then odd. It sleeps after
+    // `LOOKS` looks, until the turn is given back. After 2^63 - 1 turns it waits for ever.
     pub(crate) fn claim<R: Wait>(&self, rt: &R, seat: &mut Seat<Slot, View>) -> u64
         requires own { seat.old.table_id ≡ self.now.table.shared.table_id }
         requires role { (seat.old.me.0.role ≡ Feeder) ⊎ (seat.old.me.0.role ≡ Drain) }
@@ -97,9 +97,9 @@ impl TurnTable {
         }
     }
 
-    // Waits until the word is neither `seen` nor `seen + 1`, which is a turn that isn't spent yet. It sleeps at once,
-    // for some feeds, or for about a millisecond after one: however many are fed meanwhile, the feeder waits for no
-    // room.
+    // Waits until the word is neither `seen` nor `seen + 1`, which is a turn that isn't spent yet. Where it must wait
+    // it sleeps without further looks, since the feeder waits for no room, however much it feeds meanwhile. A sleep
+    // ends where the feeder has fed a batch or the last item, and else by itself, after 1 to 64 milliseconds.
     pub(crate) fn wait_past<R: Wait>(&self, rt: &R, seen: u64) {
         for _ in rt.forever() {
             let heard = self.fed.listen();

@@ -13,7 +13,7 @@ pub struct Ringer {
     _before: [u64; LINE],
     // How many things make a batch.
     batch: u32,
-    // How many things it has done for a sleeper since it last rang.
+    // How many things it has done for a sleeper since it last rang for a batch or for the last thing.
     owed: u32,
     _after: [u64; LINE],
 }
@@ -38,6 +38,13 @@ impl Ringer {
         self.owed = self.owed.saturating_add(1);
         if self.owed >= self.batch {
             self.owed = 0;
+            bell.ring();
+        }
+    }
+
+    /// Rings for what was done for whoever sleeps and makes no whole batch yet. The count goes on.
+    pub fn ring_owed(&self, bell: &Bell) {
+        if self.owed > 0 && bell.has_sleeper() {
             bell.ring();
         }
     }

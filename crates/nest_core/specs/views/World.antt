@@ -2,6 +2,6 @@
 use Rattle.nest_core.specs.Worlds.{WorldParts, line, world}
 use Rattle.nest_core.specs.declared.world.World.TheInside.{Inside}
 
--- The horizon, the items that the source has left, the first channel, the stages, and the collected stream.
+-- The horizon, the items that the source has left, the first channel, the stations, and the collected stream.
 abbrev pub world_view : Inside → WorldParts
-world_view w = world w.horizon w.source (line w.channel w.stages.items w.collected.stream)
+world_view w = world w.horizon w.unsent (line w.channel w.stations.items w.collected.stream)

@@ -3,7 +3,7 @@ use Rattle.std.specs.Prelude.{◌+◌, ℕ, List, [], ◌∷◌}
 use Rattle.packet_record.specs.declared.packet.Row.{Row}
 use Rattle.mark_channel.specs.Boths.{BothKeep, OfBoth}
 use Rattle.mark_channel.specs.Ends.{IsSameEnd}
-use Rattle.row_source.specs.Sending.{IsUnsent}
+use Rattle.shell_workers.specs.Sending.{IsUnsent}
 use Rattle.sender_merge.specs.declared.outlet.Outlet.{Outlet}
 use Rattle.sender_merge.specs.inside.Feeding.{SentOrBroken}
 

@@ -10,7 +10,7 @@ use crate::ways::{open_ways, settle_ways};
 use mark_channel::{FeedEnd, Feeds, Sender};
 use mm_base::NoPace;
 use packet_record::{Direction, Row};
-use row_source::source;
+use shell_workers::source;
 use std::alloc::Global;
 use std::process::Abort;
 use std::slice;

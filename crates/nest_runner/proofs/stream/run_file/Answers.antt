@@ -10,7 +10,7 @@ use Rattle.nest_lanes.specs.Lanes.{HasCarried, HasRun, IsDonePath}
 use Rattle.nest_lanes.specs.inside.Lanes.{HasEnded}
 use Rattle.nest_runner.specs.Streaming.{HasStreamCause}
 use Rattle.nest_runner.specs.inside.Lanes.{lanes_of}
-use Rattle.row_source.specs.StreamParts.{AllSent, IsStreamed}
+use Rattle.shell_workers.specs.StreamParts.{AllSent, IsStreamed}
 use Rattle.nest_runner.proofs.BothLanes.{both_ended, both_ran}
 use Rattle.nest_runner.proofs.Streamed.{disk_cause, ok_has, streamed_lanes, text_cause}
 use Rattle.nest_runner.proofs.stream.run_file.Goals as goal

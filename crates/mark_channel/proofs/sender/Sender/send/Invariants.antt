@@ -1,8 +1,5 @@
 use Rattle.std.proofs.Common.{◌≡◌}
 use Rattle.mark_channel.proofs.sender.Sender.send.Given as goal
 
-abbrev pub invariant-loop-look : goal.invariant-loop-look
-invariant-loop-look g l = l.self ≡ l.fn.self
-
 abbrev pub invariant-loop : goal.invariant-loop
 invariant-loop g l = l.self ≡ l.fn.self

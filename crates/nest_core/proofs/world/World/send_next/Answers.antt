@@ -13,6 +13,6 @@ invariant_of-self c =
     let w = world_view c.self.inside in
     let room : has_room w.line.channel ≡ true = sym c.has_room.ensures ∙ c.if-not-has_room.false in
     subst (λ (k : ChannelParts). WorldStands
-    (world w.horizon c.next.new.self (line k w.line.stages w.line.collected))) (sym c.send.ensures)
+    (world w.horizon c.next.new.self (line k w.line.stations w.line.collected))) (sym c.send.ensures)
     (subst WorldStands (sourced w c.in-Some.item c.next.new.self room c.in-Some.ensures.items)
     (act_stands w Source c.self.invariant))

@@ -7,7 +7,7 @@ use Rattle.packet_record.specs.declared.packet.Row.{Row}
 use Rattle.packet_record.specs.declared.packet.Direction.TheVariants.{Up, Down}
 use Rattle.packet_record.specs.Rows.{Rises, entering}
 use Rattle.packet_record.proofs.RowsLemmas.{rises-in_order}
-use Rattle.row_source.specs.Sending.{SendsRow}
+use Rattle.shell_workers.specs.Sending.{SendsRow}
 use Rattle.sender_merge.specs.Merges.{merged_row}
 use Rattle.sender_merge.proofs.Sending.{all_on, items_on, none_yet, packets_on, rises_lower, schedule_numbered}
 use Rattle.sender_merge.proofs.Sending.{take_whole}

@@ -4,7 +4,7 @@ use Rattle.packet_record.specs.Rows.{Rises, entering}
 use Rattle.sender_merge.specs.Merges.{merged_row}
 use Rattle.mark_channel.specs.Boths.{BothKeep, ByDirection}
 use Rattle.mark_channel.specs.Ends.{IsSameEnd}
-use Rattle.row_source.specs.Sending.{AreAt}
+use Rattle.shell_workers.specs.Sending.{AreAt}
 use Rattle.sender_merge.specs.inside.RowMerges.{AllNumbered}
 use Rattle.sender_merge.proofs.Sending.{GoesOn}
 use Rattle.sender_merge.proofs.outlet.Outlet.send_schedule.Given as goal

@@ -1,5 +1,0 @@
-use Rattle.std.proofs.Common.{rules}
-use Rattle.nest_core.proofs.stage.Stage.send.Goals as goal
-
-pub returns-clause-after : goal.returns-clause-after
-returns-clause-after c = search rules

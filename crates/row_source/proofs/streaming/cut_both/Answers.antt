@@ -1,5 +1,0 @@
-use Rattle.std.proofs.Common.{rules}
-use Rattle.row_source.proofs.streaming.cut_both.Goals as goal
-
-pub returns-clause-broken : goal.returns-clause-broken
-returns-clause-broken g c = search rules

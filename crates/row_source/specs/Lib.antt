@@ -1,4 +1,0 @@
-pub mod Reading
-pub mod Sending
-pub mod StreamParts
-pub mod inside
