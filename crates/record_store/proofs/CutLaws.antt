@@ -7,7 +7,7 @@ use Rattle.std.proofs.Math.Seq.{take-append_seam, drop-append-add}
 use Rattle.std.proofs.lemmas.Bool.{ltb-true, lt-ltb}
 use Rattle.std.proofs.lemmas.Bool.Decides.{nat_tests}
 use Rattle.std.proofs.lemmas.List.{drop-drop, drop_more, drop_at, take_at, get_or_at, length-take-le}
-use Rattle.text_base.specs.inside.Lines.{is_one_line}
+use Rattle.text_base.specs.Lines.{is_one_line}
 use Rattle.record_store.specs.Headers.{header_line, HasPort, header_of}
 use Rattle.record_store.specs.Cuts.{request_part, response_part, cut_at_header, cut_by_header, cut_by_line, cut_of}
 use Rattle.record_store.specs.declared.header.Form.{Form}

@@ -319,13 +319,13 @@ store_text_more form rs r rest =
         ∙ sym (append_assoc (record_text form s) (records_text form (rs ++ r ∷ [])) rest)
 
 -- a record more
-pub record_read : (form : Form) (text : List ℕ) (rs ss : List Record) (place next : ℕ) (cut : Cut) (r : Record)
-    → Reaches form text rs (drop place text)
-    → cut_of form (length (store_text form rs)) (drop place text) ≡ Ok cut
-    → OneExchange cut.port (request_part cut (drop place text)) (response_part cut (drop place text)) (Some r)
-    → ss ≡ rs ++ r ∷ [] → next ≡ place + (cut.end + 1) → Reaches form text ss (drop next text)
-record_read form text rs ss place next cut r reaches cut_is found more next_is =
-    let rest = drop place text in
+pub record_read : (form : Form) (text bytes : List ℕ) (rs ss : List Record) (place next : ℕ) (cut : Cut) (r : Record)
+    → Reaches form text rs (drop place bytes)
+    → cut_of form (length (store_text form rs)) (drop place bytes) ≡ Ok cut
+    → OneExchange cut.port (request_part cut (drop place bytes)) (response_part cut (drop place bytes)) (Some r)
+    → ss ≡ rs ++ r ∷ [] → next ≡ place + (cut.end + 1) → Reaches form text ss (drop next bytes)
+record_read form text bytes rs ss place next cut r reaches cut_is found more next_is =
+    let rest = drop place bytes in
     let parts = is_cut form (length (store_text form rs)) rest cut cut_is in
     let after = drop (cut.end + 1) rest in
     let q = request_part cut rest in
@@ -337,23 +337,23 @@ record_read form text rs ss place next cut r reaches cut_is found more next_is =
     ∙ ap (λ (l : List ℕ). parts_text (header_line form r.port (length r.request.bytes) (length l)) r.request.bytes l
     after) (sym found.3) in
     let rest_is : rest ≡ record_text form r ++ after = parts.text ∙ same ∙ sym (record_parts form r after) in
-    let after_rest : after ≡ drop next text = drop-drop (cut.end + 1) place text
-    ∙ ap (λ (n : ℕ). drop n text) (sym next_is) in
+    let after_rest : after ≡ drop next bytes = drop-drop (cut.end + 1) place bytes
+    ∙ ap (λ (n : ℕ). drop n bytes) (sym next_is) in
     let own : HasPort form r.port = subst (HasPort form) (sym found.1) parts.own in
     record {
       split = reaches.split ∙ ap (λ (l : List ℕ). store_text form rs ++ l) rest_is ∙ store_text_more form rs r after
           ∙ ap (λ (l : List ℕ). store_text form (rs ++ r ∷ []) ++ l) after_rest
-          ∙ ap (λ (l : List Record). store_text form l ++ drop next text) (sym more);
+          ∙ ap (λ (l : List Record). store_text form l ++ drop next bytes) (sym more);
       records = subst (All (IsRecordIn form)) (sym more)
           (All-push (IsRecordIn form) rs r reaches.records (found.0, own));
     }
 
 -- the end of the text
-pub all_read : (form : Form) (text : List ℕ) (rs : List Record) (place : ℕ) (result : Result (List Record) StoreError)
-    → length text ≤ place → Reaches form text rs (drop place text)
+pub all_read : (form : Form) (text bytes : List ℕ) (rs : List Record) (place : ℕ) (result : Result (List Record) StoreError)
+    → length bytes ≤ place → Reaches form text rs (drop place bytes)
     → result ≡ Ok rs → StoreSays text result
-all_read form text rs place result past reaches is =
-    whole form rs (reaches.split ∙ ap (λ (l : List ℕ). store_text form rs ++ l) (drop_all place text past)
+all_read form text bytes rs place result past reaches is =
+    whole form rs (reaches.split ∙ ap (λ (l : List ℕ). store_text form rs ++ l) (drop_all place bytes past)
     ∙ append-nil (store_text form rs)) reaches.records is
 
 no_form_by : (b c : Bool) → b ≡ false → c ≡ false → None ≡ cond b (Some Two) (cond c (Some One) None)

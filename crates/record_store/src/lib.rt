@@ -10,8 +10,10 @@ mod pieces;
 mod printing;
 mod reading;
 mod record;
+mod record_reading;
 mod server;
 mod store_error;
+mod store_reader;
 
 pub use errors::PairError;
 pub use pairing::pair;
@@ -20,3 +22,4 @@ pub use printing::print_store;
 pub use reading::read_store;
 pub use record::{Record, Store};
 pub use store_error::StoreError;
+pub use store_reader::StoreReader;

@@ -1,16 +1,15 @@
 // Reads stores from their text.
-ghost use Rattle.std.specs.Prelude.{◌≡◌, ◌≢◌, List, Result, Some, Err, MatchResult, All};
+ghost use Rattle.std.specs.Prelude.{◌≡◌, ◌≢◌, List, Result, Some, Err, MatchResult, All, length};
 ghost use Rattle.record_store.specs.declared.store_error.StoreError.{StoreError as ErrorValue};
 ghost use Rattle.record_store.specs.declared.store_error.StoreError.TheVariants as errors;
 ghost use Rattle.record_store.specs.declared.header.Form.TheVariants as forms;
 ghost use Rattle.record_store.specs.declared.record.Record.{Record as RecordValue};
 ghost use Rattle.record_store.specs.Records.{IsRecord};
-ghost use Rattle.record_store.specs.StoreText.{StoreSays, store_text, form_of};
+ghost use Rattle.record_store.specs.StoreText.{StoreSays, store_text, form_of, Reaches};
 
-use crate::cutting::cut_record;
-use crate::exchange::exchange_of;
 use crate::header::Form;
 use crate::record::Store;
+use crate::record_reading::{FIRST_LINE, read_on};
 use crate::server::from_place;
 use crate::store_error::StoreError;
 use std::alloc::Global;
@@ -30,7 +29,7 @@ pub fn read_store(alloc: Global, text: &[u8]) -> Result<Store, StoreError>
 }
 
 // Reads a text.
-fn read_text(alloc: Global, text: &[u8]) -> Result<Store, StoreError>
+pub(crate) fn read_text(alloc: Global, text: &[u8]) -> Result<Store, StoreError>
     ensures { StoreSays text.now result }
 {
     match read_form(text) {
@@ -44,31 +43,31 @@ fn read_records(alloc: Global, form: Form, text: &[u8]) -> Result<Store, StoreEr
     requires { form_of text.now ≡ Some form }
     ensures { StoreSays text.now result }
 {
-    let mut store = Store::new(alloc);
-    let mut place = 10;
-    'records: while place < text.len() {
-        let rest = from_place(text, place);
-        let cut = cut_record(form, place as u64, rest)?;
-        let request = &rest[cut.request..cut.response];
-        let response = &rest[cut.response..cut.end];
-        match exchange_of(alloc, cut.port, request, response)? {
-            Some(record) => store.add(record)?,
-            None => {
-                return Err(StoreError::BadMessage {
-                    number: store.records().len() as u64 + 1,
-                });
-            }
-        }
-        place += cut.end + 1;
-    }
+    let bytes = from_place(text, FIRST_LINE);
+    read_rest(alloc, form, FIRST_LINE as u64, Store::new(alloc), bytes)
+}
+
+// Reads the rest of a text of the form, whose records so far are in `store`. The rest begins at `place`.
+pub(crate) fn read_rest(
+    alloc: Global,
+    form: Form,
+    place: u64,
+    store: Store,
+    bytes: &[u8],
+) -> Result<Store, StoreError>
+    ensures { (text : _) → Reaches form text store bytes.now → place ≡ length (store_text form store)
+        → StoreSays text result }
+{
+    let mut store = store;
+    read_on(alloc, form, place, &mut store, bytes, true)?;
     Ok(store)
 }
 
 // Returns the form that the first 10 bytes state, or `None` where they state none.
-fn read_form(text: &[u8]) -> Option<Form>
+pub(crate) fn read_form(text: &[u8]) -> Option<Form>
     ensures { result ≡ form_of text.now }
 {
-    let (first, _) = text.split_at(10usize.min(text.len()));
+    let (first, _) = text.split_at(FIRST_LINE.min(text.len()));
     if first == b"MMSTORE 2\n".as_slice() {
         Some(Form::Two)
     } else if first == b"MMSTORE 1\n".as_slice() {

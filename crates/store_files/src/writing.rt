@@ -1,7 +1,7 @@
 // The file of a store, written record by record.
-ghost use Rattle.std.specs.Prelude.{◌≡◌, ◌≤◌, ◌<◌, ℕ, length, take, IfErr, OnOk, OnErr};
+ghost use Rattle.std.specs.Prelude.{◌≡◌, IfErr, OnOk, OnErr};
 ghost use Rattle.mm_base.specs.Disk.{OnlyWrites, HasWriteCause};
-ghost use Rattle.mm_base.specs.Files.{holding, lengthened};
+ghost use Rattle.mm_base.specs.Files.{holding};
 ghost use Rattle.record_store.specs.StoreText.{store_text};
 ghost use Rattle.record_store.specs.declared.header.Form.TheVariants as forms;
 ghost use Rattle.command_ends.specs.Outputs.{HoldsSome, holding_all, named_text};
@@ -9,24 +9,9 @@ ghost use Rattle.command_ends.specs.Stops.{StopsWriting};
 ghost use Rattle.store_files.specs.Written.{store_file};
 
 use command_ends::{Cause, file_written};
-use mm_base::{Disk, DiskError};
+use mm_base::{Disk, DiskError, append_all};
 use record_store::{Store, StorePieces};
 use std::alloc::Global;
-
-// Appends `bytes` to a file. Where it stops, a front of them was appended, but not all.
-fn append_all<D: Disk>(disk: &mut D, name: &str, bytes: &[u8]) -> Result<(), DiskError>
-    ensures ok { OnOk result ((D.view disk.new).files ≡ lengthened name.now bytes.now (D.view disk.old).files) }
-    ensures err { OnErr result ((n : ℕ) × (n < length bytes.now)
-        × ((D.view disk.new).files ≡ lengthened name.now (take n bytes.now) (D.view disk.old).files)) }
-    ensures only_writes { OnlyWrites (D.view disk.old) (D.view disk.new) }
-    ensures cause { HasWriteCause (D.view disk.old) (D.view disk.new) result }
-{
-    let mut at = 0;
-    while at < bytes.len() {
-        at += disk.append(name, &bytes[at..])?;
-    }
-    Ok(())
-}
 
 // Makes the file `name` hold a store's text in form 2. Where it stops, the file is as before, or holds a front of the
 // text, but not all.

@@ -1,6 +1,5 @@
-use Rattle.std.proofs.Common.{List, ℕ, Ok, Err, subst, sym}
+use Rattle.std.proofs.Common.{subst, sym}
 use Rattle.std.proofs.lemmas.Result.{err_from_is_err_and}
-use Rattle.record_store.specs.StoreText.{StoreSays}
 use Rattle.command_ends.specs.Causes.{Text}
 use Rattle.command_ends.specs.Readings.{Done}
 use Rattle.command_ends.specs.Stops.{StopsReading}
@@ -10,28 +9,25 @@ use Rattle.store_files.specs.Stores.{StoreVerdict, reading_store}
 use Rattle.store_files.proofs.StoreLemmas.{store_at_file, store_judged}
 use Rattle.store_files.proofs.reading.load_store.Goals as goal
 
-pub returns-in_err-text-clause-stopped : goal.returns-in_err-text-clause-stopped
-returns-in_err-text-clause-stopped g c =
+pub returns-in_err-reader-clause-stopped : goal.returns-in_err-reader-clause-stopped
+returns-in_err-reader-clause-stopped g c =
     let p = err_from_is_err_and c.from_residual.result c.from_residual.ensures.1 in
     let name = c.args.name.now in
     let old = g.D.Disk.view c.args.disk.now in
-    let new = g.D.Disk.view c.read_input.new.disk in
+    let new = g.D.Disk.view c.read_store_file.new.disk in
     rw p.1 (subst (λ (k : Cause). StopsReading (reading_store name Done) old new k) (sym p.2)
-    (store_at_file name old new _ c.in_err-text.ensures.stopped))
+    (store_at_file name old new _ c.in_err-reader.ensures.stopped))
 
 pub returns-in-Ok-clause-found : goal.returns-in-Ok-clause-found
-returns-in-Ok-clause-found g c = (
-  c.in_ok-text.text,
-  c.in_ok-text.ensures.input,
-  subst (λ (t : List ℕ). StoreSays t (Ok c.in-Ok.store)) c.as_slice.ensures c.in-Ok.ensures.says,
-)
+returns-in-Ok-clause-found g c =
+    let read = c.in_ok-reader.ensures.read in
+    (read.0, read.1, c.in-Ok.ensures.says read.0 read.2)
 
-pub returns-clause-stopped : goal.returns-clause-stopped
-returns-clause-stopped g c =
+pub returns-in_ok-from_text-in-Err-clause-stopped : goal.returns-in_ok-from_text-in-Err-clause-stopped
+returns-in_ok-from_text-in-Err-clause-stopped g c =
     let name = c.args.name.now in
-    let text = c.in_ok-text.text in
-    let says = subst (λ (t : List ℕ). StoreSays t (Err c.in-Err.error)) c.as_slice.ensures c.in-Err.ensures.says in
-    store_judged name (g.D.Disk.view c.args.disk.now) (g.D.Disk.view c.read_input.new.disk) text c.store_cause.result
-    c.in_ok-text.ensures.input
-    (subst (λ (n : Text). RefusesBy (StoreVerdict n text) c.store_cause.result) c.in_ok-from_text-in-Err.ensures
-    (c.store_cause.ensures text says))
+    let read = c.in_ok-reader.ensures.read in
+    store_judged name (g.D.Disk.view c.args.disk.now) (g.D.Disk.view c.read_store_file.new.disk) read.0
+    c.store_cause.result read.1
+    (subst (λ (n : Text). RefusesBy (StoreVerdict n read.0) c.store_cause.result) c.in_ok-from_text-in-Err.ensures
+    (c.store_cause.ensures read.0 (c.in-Err.ensures.says read.0 read.2)))
