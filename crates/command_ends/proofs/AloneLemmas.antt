@@ -1,5 +1,5 @@
 -- Words that are refused leave the outside alone.
-use Rattle.std.proofs.Common.{◌≡◌, ◌≢◌, ◌∙◌, Option, Some, None, ap, refl, sym, subst}
+use Rattle.std.proofs.Common.{◌≡◌, ◌≢◌, ◌∙◌, Option, Some, None, ap, option_map, refl, sym, subst}
 use Rattle.mm_base.specs.Files.{Files}
 use Rattle.command_ends.specs.Causes.{status_of_refusal}
 use Rattle.command_ends.specs.Alone.{IsLeftAlone}
@@ -56,6 +56,14 @@ pub asked_alone : {A J V : Type 0} (found : Option J) (job : J) (reading : J →
     → Some job ≡ found → IsLeftAlone (reading job) old new → IsLeftAlone (asked found reading) old new
 asked_alone {A} {J} found job reading old new is alone =
     subst (λ (o : Option J). IsLeftAlone (asked o reading) old new) is alone
+
+-- the words of which a job with these values was read
+pub alone_job : {A J K V : Type 0} (values : J → K) (read : Option J) (job : J) (found : Option K)
+    (reading : K → Reading A) (old new : V) → read ≡ Some job → option_map values read ≡ found
+    → IsLeftAlone (reading (values job)) old new → IsLeftAlone (asked found reading) old new
+alone_job {A} {J} values read job found reading old new is found_is alone =
+    asked_alone found (values job) reading old new
+    (ap (λ (o : Option J). option_map values o) (sym is) ∙ found_is) alone
 
 first_as_mapped : {A B : Type 0} (f : A → B) (reading : Reading A)
     → refused_first (map_reading f reading) ≡ refused_first reading

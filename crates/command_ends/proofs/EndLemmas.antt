@@ -1,6 +1,6 @@
 -- How a command ends, from where it stopped.
 use Rattle.std.proofs.Common.{◌≡◌, inl, inr, ℕ, List, [], Option, Some, None, Result, Ok, Err, OnOk, IfErr, subst, refl}
-use Rattle.std.proofs.Common.{ap, sym, ◌∙◌}
+use Rattle.std.proofs.Common.{ap, option_map, sym, IsErrAnd, ◌∙◌}
 use Rattle.std.proofs.lemmas.List.{append-nil}
 use Rattle.mm_base.specs.Counts.{Rose}
 use Rattle.mm_base.specs.Disk.{DiskView, OnlyReads}
@@ -54,6 +54,31 @@ module _ {A N : Type 0} (work : A → Work N) (reading : Reading A) where
   pub ends_early : (old new : DiskView) (out : SinkView) (net : N) → KeepsFiles old new
       → Ends work reading (outside old out net) (outside new out net) (Some OutOfMemory)
   ends_early old new out net keep = Early (unchanged old new out net keep)
+
+  -- the cause of an answer that `?` hands on
+  pub ends_handed : {T : Type 0} (old new : Outside N) (cause : Cause) (result : Result T Cause)
+      → IsErrAnd result (λ handed. handed ≡ cause) → Ends work reading old new (Some cause)
+      → Ends work reading old new (cause_in result)
+  ends_handed old new cause (Ok value) none ends = absurd none
+  ends_handed old new cause (Err handed) same ends =
+      subst (λ (c : Cause). Ends work reading old new (Some c)) (sym same) ends
+
+  -- where reading stopped
+  pub handed_stopped : {T : Type 0} (old new : DiskView) (out : SinkView) (net : N) (cause : Cause)
+      (result : Result T Cause) → IsErrAnd result (λ handed. handed ≡ cause) → KeepsFiles old new
+      → StopsReading reading old new cause
+      → Ends work reading (outside old out net) (outside new out net) (cause_in result)
+  handed_stopped old new out net cause result same keep stopped =
+      ends_handed (outside old out net) (outside new out net) cause result same
+      (ends_stopped old new out net cause keep stopped)
+
+  -- where memory was wanting
+  pub handed_early : {T : Type 0} (old new : DiskView) (out : SinkView) (net : N) (result : Result T Cause)
+      → IsErrAnd result (λ handed. handed ≡ OutOfMemory) → KeepsFiles old new
+      → Ends work reading (outside old out net) (outside new out net) (cause_in result)
+  handed_early old new out net result same keep =
+      ends_handed (outside old out net) (outside new out net) OutOfMemory result same
+      (ends_early old new out net keep)
 
   -- writing the files of an output stopped at one of them
   pub ends_unwritten : (old mid new : DiskView) (out : SinkView) (net after : N) (output : Output) (cause : Cause)
@@ -176,6 +201,22 @@ module _ {A N : Type 0} (work : A → Work N) where
       → Ends work (asked found reading) old old (Some cause)
   ends_unasked {J} found reading old cause e is =
       ends_usage old (asked found reading) cause (ap (λ (o : Option J). asked o reading) e) is
+
+  -- the same of words of which a job with these values was read
+  pub ends_job : {J K : Type 0} (values : J → K) (read : Option J) (job : J) (found : Option K)
+      (reading : K → Reading A) (old new : Outside N) (answer : Option Cause) → read ≡ Some job
+      → option_map values read ≡ found → Ends work (reading (values job)) old new answer
+      → Ends work (asked found reading) old new answer
+  ends_job {J} values read job found reading old new answer is found_is ends =
+      ends_asked found (values job) reading old new answer
+      (ap (λ (o : Option J). option_map values o) (sym is) ∙ found_is) ends
+
+  -- and of which none was
+  pub ends_no_job : {J K : Type 0} (values : J → K) (read : Option J) (found : Option K) (reading : K → Reading A)
+      (old : Outside N) (cause : Cause) → read ≡ None → option_map values read ≡ found
+      → cause ≡ Refused (Words Usage) → Ends work (asked found reading) old old (Some cause)
+  ends_no_job {J} values read found reading old cause is found_is =
+      ends_unasked found reading old cause (ap (λ (o : Option J). option_map values o) (sym is) ∙ found_is)
 
   -- the same of two readings that are one
   pub ends_of : (a b : Reading A) (old new : Outside N) (answer : Option Cause) → a ≡ b → Ends work a old new answer

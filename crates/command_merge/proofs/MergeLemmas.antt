@@ -1,7 +1,7 @@
 -- Where a merge's words and files lead, and what stops it.
-use Rattle.std.proofs.Common.{◌≡◌, ◌≢◌, ◌⊎◌, inl, inr, ◌∙◌, ℕ, ◌+◌, List, [], ◌∷◌, ◌++◌, Option, Some, None, Result, Ok}
+use Rattle.std.proofs.Common.{◌≡◌, ◌∙◌, ℕ, ◌+◌, List, [], ◌∷◌, ◌++◌, Option, Some, None, Result, Ok}
 use Rattle.std.proofs.Common.{Err, map}
-use Rattle.std.proofs.Common.{ap, length, subst, sym, arith}
+use Rattle.std.proofs.Common.{ap, length, subst, sym}
 use Rattle.mm_base.specs.Disk.{DiskView, OnlyReads}
 use Rattle.mm_base.specs.Files.{Files}
 use Rattle.text_base.specs.Lines.{lines_of}
@@ -12,28 +12,24 @@ use Rattle.nest_spec.specs.Nests.{NestParts, RunLists, result_of}
 use Rattle.nest_spec.specs.Once.{HaveOneFate}
 use Rattle.nest_spec.specs.Words.{NestPlan, nest_of}
 use Rattle.nest_spec.specs.declared.error.NestError.{NestError}
-use Rattle.nest_spec.specs.declared.error.NestError.TheVariants as nest_errors
 use Rattle.sender_merge.specs.Merges.{merge_rows}
-use Rattle.command_ends.specs.Causes.{Text, status_of_refusal}
+use Rattle.command_ends.specs.Causes.{Text}
 use Rattle.command_ends.specs.inside.Ends.{FinishesOnly}
 use Rattle.command_ends.specs.Outputs.{writes}
-use Rattle.command_ends.specs.Readings.{Reading, Done, Refuses, asked, unless}
+use Rattle.command_ends.specs.Readings.{Reading, Done, asked, unless}
 use Rattle.command_ends.specs.inside.Readings.{Leads}
 use Rattle.command_ends.specs.inside.Accepted.{AcceptsWords}
-use Rattle.command_ends.specs.Stops.{IsInput, RefusesText, StopsAtFile, StopsReading, ReadingWants}
+use Rattle.command_ends.specs.Stops.{IsInput, RefusesText, StopsAtFile, StopsReading}
 use Rattle.command_ends.specs.declared.cause.Cause.{Cause}
-use Rattle.command_ends.specs.declared.cause.Cause.TheVariants.{Refused, OutOfMemory}
 use Rattle.command_ends.specs.declared.cause.Refusal.{Refusal}
-use Rattle.command_ends.proofs.AloneLemmas.{unless_accepted, unless_words}
-use Rattle.command_ends.proofs.CountLemmas.{reads_none}
+use Rattle.command_ends.proofs.AloneLemmas.{unless_words}
 use Rattle.command_ends.proofs.EndLemmas.{finishes_only}
-use Rattle.command_ends.proofs.ReadingLemmas.{HasOneEnd, found_stop, leads_text, leads_then, leads_unless, stays}
-use Rattle.command_ends.proofs.ReadingLemmas.{stops_at, stops_here, stops_later, text_stops}
+use Rattle.command_ends.proofs.ReadingLemmas.{HasOneEnd, found_stop, leads_text, leads_then, leads_unless}
+use Rattle.command_ends.proofs.ReadingLemmas.{stops_at, stops_later, text_stops}
 use Rattle.nest_command.specs.Inputs.{reading_traces, schedule_refusal, trace_refusal}
-use Rattle.nest_command.specs.Loaded.{HaveTraces}
-use Rattle.nest_command.specs.NestReading.{nest_refusal, refused_count, refused_horizon, with_nest}
+use Rattle.nest_command.specs.NestReading.{refused_count, refused_horizon, with_nest}
 use Rattle.nest_command.proofs.InputLemmas.{have_said, have_texts, leads_traces}
-use Rattle.nest_command.proofs.NestLemmas.{count_text, count_within, horizon_text, names_there}
+use Rattle.nest_command.proofs.NestLemmas.{count_text, count_within, names_there}
 use Rattle.command_merge.specs.List.{list_refusal}
 use Rattle.command_merge.specs.inside.Loaded.{AddsSchedules, HasSenders, HasTraces, HaveSchedules}
 use Rattle.command_merge.specs.Merge.{GivesMerge, MergeJob, MergeTask, merge_files, merge_of, nest_for}
@@ -60,71 +56,6 @@ after_list job plan traces list = unless (refused_listed job plan list) (schedul
 abbrev done_with : MergeJob → NestPlan → List (List ℕ) → List (List ℕ) → Reading MergeTask
 done_with job plan traces schedules =
     Done (record { job = job; plan = plan; traces = traces; schedules = schedules })
-
-nest_known : (told : Option Files) (job : MergeJob) (plan : NestPlan) → nest_of job.shells ≡ Ok plan
-    → Leads told (merge_reading job) (after_nest job plan)
-nest_known told job plan e =
-    subst (λ (r : Result NestPlan NestError). Leads told (with_nest r (λ p. after_nest job p)) (after_nest job plan))
-    (sym e) (stays (after_nest job plan))
-
--- the words name no nest
-pub nest_stop : (job : MergeJob) (error : NestError) (cause : Cause)
-    → (error ≢ nest_errors.OutOfMemory → nest_of job.shells ≡ Err error)
-    → (cause ≡ OutOfMemory) ⊎ ((error ≢ nest_errors.OutOfMemory) × (cause ≡ Refused (nest_refusal error)))
-    → (disk : DiskView) → StopsReading (merge_reading job) disk disk cause
-nest_stop job error cause e (inl is) disk = ReadingWants is
-nest_stop job error cause e (inr p) disk =
-    let there : status_of_refusal (nest_refusal error) ≢ 3 = λ h. omega arith in
-    let leads : Leads disk.files (merge_reading job) (Refuses (nest_refusal error)) =
-    subst (λ (r : Result NestPlan NestError). Leads disk.files (with_nest r (λ plan. after_nest job plan))
-    (Refuses (nest_refusal error))) (sym (e p.0)) (stays (Refuses (nest_refusal error))) in
-    subst (λ (c : Cause). StopsReading (merge_reading job) disk disk c) (sym p.1)
-    (stops_here (merge_reading job) disk disk (nest_refusal error) there leads)
-
--- a name is taken
-pub names_stop : (job : MergeJob) (plan : NestPlan) (cause : Cause) → nest_of job.shells ≡ Ok plan
-    → RefusesText (refused_outputs job plan) cause → (disk : DiskView)
-    → StopsReading (merge_reading job) disk disk cause
-names_stop job plan cause e refused disk =
-    stops_later (merge_reading job) (after_nest job plan) disk disk disk cause (nest_known disk.files job plan e)
-    (reads_none disk)
-    (found_stop (refused_outputs job plan) _ disk disk cause (names_there _ _) refused)
-
--- the horizon is past an hour
-pub horizon_stop : (job : MergeJob) (plan : NestPlan) (cause : Cause) → nest_of job.shells ≡ Ok plan
-    → refused_outputs job plan ≡ None → RefusesText (refused_horizon job.horizon) cause
-    → (disk : DiskView) → StopsReading (merge_reading job) disk disk cause
-horizon_stop job plan cause e free refused disk =
-    let rest : Reading MergeTask = unless (refused_horizon job.horizon) (merge_inputs job plan) in
-    stops_later (merge_reading job) rest disk disk disk cause
-    (leads_then (nest_known disk.files job plan e) (leads_unless disk.files (refused_outputs job plan) rest free))
-    (reads_none disk)
-    (found_stop (refused_horizon job.horizon) (merge_inputs job plan) disk disk cause
-    (λ refusal h. (horizon_text job.horizon refusal h).not_absent) refused)
-
--- nothing is refused
-pub words_read : (job : MergeJob) (plan : NestPlan) → nest_of job.shells ≡ Ok plan → refused_outputs job plan ≡ None
-    → refused_horizon job.horizon ≡ None → (disk : DiskView)
-    → Leads disk.files (merge_reading job) (merge_inputs job plan)
-words_read job plan e free within disk =
-    let rest : Reading MergeTask = unless (refused_horizon job.horizon) (merge_inputs job plan) in
-    leads_then (nest_known disk.files job plan e)
-    (leads_then (leads_unless disk.files (refused_outputs job plan) rest free)
-    (leads_unless disk.files (refused_horizon job.horizon) (merge_inputs job plan) within))
-
--- there are too many opportunities
-pub count_stop : (job : MergeJob) (plan : NestPlan) (old new : DiskView) (texts : List (List ℕ))
-    (traces : List TraceView) (cause : Cause) → HaveTraces old.files plan.traces texts traces
-    → RefusesText (refused_count job.horizon plan.shells traces) cause
-    → StopsReading (merge_inputs job plan) old new cause
-count_stop job plan old new texts traces cause have refused =
-    let said : RefusesText (refused_count job.horizon plan.shells (map trace_in texts)) cause =
-    subst (λ (l : List TraceView). RefusesText (refused_count job.horizon plan.shells l) cause) (sym (have_said have))
-    refused in
-    stops_later (merge_inputs job plan) (after_traces job plan texts) old old new cause
-    (leads_traces (after_traces job plan) have) (reads_none old)
-    (found_stop (refused_count job.horizon plan.shells (map trace_in texts)) _ old new cause
-    (λ refusal h. (count_text job.horizon plan.shells (map trace_in texts) refusal h).not_absent) said)
 
 senders_next : (told : Option Files) (job : MergeJob) (plan : NestPlan) (traces : List TraceView)
     (has : HasTraces told job plan traces) → Leads told (merge_inputs job plan) (sender_inputs job plan has.texts)
@@ -292,17 +223,8 @@ traces_accepted : (names : List Text) (next : List (List ℕ) → Reading MergeT
 traces_accepted [] next accepts = accepts
 traces_accepted (name ∷ names) next accepts = λ refusal is. cc is
 
-inputs_accepted : (job : MergeJob) (plan : NestPlan) → AcceptsWords (merge_inputs job plan)
+pub inputs_accepted : (job : MergeJob) (plan : NestPlan) → AcceptsWords (merge_inputs job plan)
 inputs_accepted job plan =
     traces_accepted plan.traces (after_traces job plan)
     (unless_words (refused_count job.horizon plan.shells []) (sender_inputs job plan [])
     (λ refusal e. (count_text job.horizon plan.shells [] refusal e).not_words) (λ refusal is. cc is))
-
--- a nest of known words whose names are free, within the horizon, is accepted
-pub words_accepted : (job : MergeJob) (plan : NestPlan) → nest_of job.shells ≡ Ok plan
-    → refused_outputs job plan ≡ None → refused_horizon job.horizon ≡ None → AcceptsWords (merge_reading job)
-words_accepted job plan known free within =
-    let inputs : Reading MergeTask = merge_inputs job plan in
-    subst (λ (r : Result NestPlan NestError). AcceptsWords (with_nest r (λ p. after_nest job p))) (sym known)
-    (unless_accepted (refused_outputs job plan) (unless (refused_horizon job.horizon) inputs) free
-    (unless_accepted (refused_horizon job.horizon) inputs within (inputs_accepted job plan)))

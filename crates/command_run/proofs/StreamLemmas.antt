@@ -12,7 +12,7 @@ use Rattle.packet_record.specs.declared.reading.ScheduleError.TheVariants.{OutOf
 use Rattle.packet_record.specs.declared.packet.Row.{Row}
 use Rattle.nest_spec.specs.Nests.{NestParts, RunLists, result_of}
 use Rattle.nest_spec.specs.Once.{HaveOneFate}
-use Rattle.row_source.specs.StreamParts.{IsText}
+use Rattle.shell_workers.specs.StreamParts.{IsText}
 use Rattle.nest_runner.specs.Streaming.{HasStreamCause, IsRefusedFor, StreamsTo}
 use Rattle.nest_runner.specs.declared.stream_error.StreamError.TheVariants.{TooLong}
 use Rattle.command_ends.specs.Causes.{Text}

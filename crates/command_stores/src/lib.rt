@@ -11,10 +11,8 @@ mod replay_job;
 mod replay_words;
 mod replaying;
 mod request_file;
-mod threading;
 
 pub use matching::answer_match;
 pub use migrating::answer_migrate;
 pub use recording::answer_record;
 pub use replaying::answer_replay;
-pub use threading::Threading;

@@ -13,12 +13,10 @@ ghost use Rattle.command_stores.specs.inside.Values.{replay_values};
 
 use crate::replay_job::ReplayJob;
 use crate::replay_words::read_replay;
-use crate::threading::Threading;
-use command_ends::Cause;
+use command_ends::{Cause, Host};
 use mm_base::{Disk, Pace, Port, Sink};
 use record_store::Store;
 use replay_server::{ServeError, Served, ServingPlan, serve, serve_pool};
-use std::alloc::Global;
 use std::marker::{Send, Sync};
 use std::sync::Wait;
 use std::thread::Threads;
@@ -36,41 +34,49 @@ fn cause_of(error: ServeError) -> Cause
 
 // Serves as many connections as the job says, or that many at a time until it is ended.
 fn serve_some<R: Threads + Wait + Sync, P: Port + Send, Q: Pace + Sync>(
-    threading: Threading<'_, R, Q>,
-    alloc: Global,
+    host: &Host<'_, R>,
     job: &ReplayJob<'_>,
     store: &Store,
     port: &mut P,
+    pace: &Q,
 ) -> Result<Served, ServeError>
     ensures serving { IsServing store.now (Some job.now.site_port) P.Conn.view job.now.until_ended
         (most_of (replay_values job.now)) (P.view port.old) (P.view port.new) result }
     ensures listens { ListensAt job.now.port (P.view port.old) (P.view port.new) result }
 {
-    let Threading { rt, pace } = threading;
     let plan = ServingPlan {
         number: job.port,
         site_port: Some(job.site_port),
         connections: job.connections,
     };
     if job.until_ended {
-        serve_pool(rt, alloc, store, port, plan, pace)
+        serve_pool(host.threads, host.alloc, store, port, plan, pace)
     } else {
         let ServingPlan {
             number,
             site_port,
             connections,
         } = plan;
-        serve(rt, alloc, store, port, number, site_port, connections, pace)
+        serve(
+            host.threads,
+            host.alloc,
+            store,
+            port,
+            number,
+            site_port,
+            connections,
+            pace,
+        )
     }
 }
 
 // Serves the connections of a job from its store.
 fn serve_job<R: Threads + Wait + Sync, P: Port + Send, Q: Pace + Sync>(
-    threading: Threading<'_, R, Q>,
-    alloc: Global,
+    host: &Host<'_, R>,
     job: &ReplayJob<'_>,
     store: &Store,
     port: &mut P,
+    pace: &Q,
 ) -> Result<Served, Cause>
     ensures served { IfOk result (λ n. IsServing store.now (Some job.now.site_port) P.Conn.view
         job.now.until_ended (most_of (replay_values job.now)) (P.view port.old) (P.view port.new) (Ok n)) }
@@ -79,7 +85,7 @@ fn serve_job<R: Threads + Wait + Sync, P: Port + Send, Q: Pace + Sync>(
         (P.view port.old) (P.view port.new) cause) }
     ensures port_counts { KeepsPort (P.view port.old) (P.view port.new) }
 {
-    match serve_some(threading, alloc, job, store, port) {
+    match serve_some(host, job, store, port, pace) {
         Ok(served) => Ok(served),
         Err(error) => Err(cause_of(error)),
     }
@@ -87,12 +93,12 @@ fn serve_job<R: Threads + Wait + Sync, P: Port + Send, Q: Pace + Sync>(
 
 // Does the job: its store is read, connections are served, and then it is printed how they ended.
 fn replay<R: Threads + Wait + Sync, D: Disk, O: Sink, P: Port + Send, Q: Pace + Sync>(
-    threading: Threading<'_, R, Q>,
-    alloc: Global,
+    host: &Host<'_, R>,
     job: &ReplayJob<'_>,
     disk: &mut D,
     out: &mut O,
     port: &mut P,
+    pace: &Q,
 ) -> Result<(), Cause>
     ensures ends { Ends (serve_work P.Conn.view) (replay_reading (replay_values job.now))
         (outside (D.view disk.old) (O.view out.old) (P.view port.old))
@@ -101,9 +107,9 @@ fn replay<R: Threads + Wait + Sync, D: Disk, O: Sink, P: Port + Send, Q: Pace + 
     ensures out_counts { CountsSinkFaults (O.view out.old) (O.view out.new) }
     ensures port_counts { KeepsPort (P.view port.old) (P.view port.new) }
 {
-    let store = load_store(alloc, disk, job.store)?;
-    let served = serve_job(threading, alloc, job, &store, port)?;
-    print_served(alloc, served, out)
+    let store = load_store(host.alloc, disk, job.store)?;
+    let served = serve_job(host, job, &store, port, pace)?;
+    print_served(host.alloc, served, out)
 }
 
 /// Does what the words after `replay` say: reads a store, listens at a port, serves its connections side by side, or
@@ -111,12 +117,12 @@ fn replay<R: Threads + Wait + Sync, D: Disk, O: Sink, P: Port + Send, Q: Pace + 
 /// `closed C bad B broken K full F`. No file is written. `NetFault` comes where the port can't be listened at, or a
 /// connection can't be accepted or finished.
 pub fn answer_replay<R: Threads + Wait + Sync, D: Disk, O: Sink, P: Port + Send, Q: Pace + Sync>(
-    threading: Threading<'_, R, Q>,
-    alloc: Global,
+    host: &Host<'_, R>,
     words: &[String],
     disk: &mut D,
     out: &mut O,
     port: &mut P,
+    pace: &Q,
 ) -> Result<(), Cause>
     ensures ends { Ends (serve_work P.Conn.view) (replay_words (map string_bytes words.now))
         (outside (D.view disk.old) (O.view out.old) (P.view port.old))
@@ -126,8 +132,8 @@ pub fn answer_replay<R: Threads + Wait + Sync, D: Disk, O: Sink, P: Port + Send,
     ensures out_counts { CountsSinkFaults (O.view out.old) (O.view out.new) }
     ensures port_counts { KeepsPort (P.view port.old) (P.view port.new) }
 {
-    match read_replay(alloc, words)? {
-        Some(job) => replay(threading, alloc, &job, disk, out, port),
+    match read_replay(host.alloc, words)? {
+        Some(job) => replay(host, &job, disk, out, port, pace),
         None => Err(Cause::usage()),
     }
 }

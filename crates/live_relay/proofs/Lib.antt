@@ -7,6 +7,9 @@ pub mod SendLemmas
 pub mod WayLemmas
 pub mod Dues
 pub mod Asking
+pub mod Feeding
+pub mod Telling
 pub mod Turning
+pub mod Ending
 pub mod Coursing
 pub mod Forgetting

@@ -7,7 +7,6 @@
 mod clock;
 mod drops;
 mod ends;
-mod fails;
 mod kept;
 mod mem_clock;
 mod mem_wire;

@@ -7,9 +7,8 @@ ghost use Rattle.live_relay.specs.Wires.{opened_after, receiving, sending_all, s
 ghost use Rattle.live_relay.specs.MemWires.{IsWireCall, cut_at, empty_wire, mem_wire_view, next_answer, rest_answers};
 ghost use Rattle.live_relay.specs.inside.MemWires.{lent_answer};
 
-use crate::fails::is_failing;
 use crate::{Received, Side, Wire};
-use mm_base::EndError;
+use mm_base::{EndError, is_failing};
 use std::alloc::Global;
 use std::collections::VecDeque;
 use std::marker::Model;

@@ -15,7 +15,7 @@ use command_make::answer_make;
 use command_merge::answer_merge;
 use command_report::answer_report;
 use command_run::answer_run;
-use command_stores::{Threading, answer_match, answer_migrate, answer_record, answer_replay};
+use command_stores::{answer_match, answer_migrate, answer_record, answer_replay};
 use mm_base::{Disk, Pace, Port, Sink};
 use std::alloc::Global;
 use std::marker::{Send, Sync};
@@ -50,13 +50,7 @@ pub(crate) fn answer<R: Threads + Wait + Sync, D: Disk, O: Sink, P: Port + Send,
         Command::Run => answer_run(host, words, disk, pace),
         Command::Report => answer_report(host.alloc, words, disk, out),
         Command::Make => answer_make(host.alloc, words, out),
-        Command::Replay => {
-            let threading = Threading {
-                rt: host.threads,
-                pace,
-            };
-            answer_replay(threading, host.alloc, words, disk, out, port)
-        }
+        Command::Replay => answer_replay(host, words, disk, out, port, pace),
         Command::Record => answer_record(host.alloc, words, disk),
         Command::Match => answer_match(host.alloc, words, disk, out),
         Command::Migrate => answer_migrate(host.alloc, words, disk),

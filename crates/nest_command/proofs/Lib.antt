@@ -2,5 +2,6 @@ pub mod WordLemmas
 pub mod TraceLemmas
 pub mod InputLemmas
 pub mod NestLemmas
+pub mod NestRefusals
 pub mod LogFileLemmas
 pub mod OutputLemmas

@@ -51,19 +51,19 @@ proxy_words_one words = job_one (proxy_job_of words)
 module _ {C X : Type 0} (client_view : C → LinkView) (server_view : X → LinkView) (old new : Net C X)
     (records : List Record) (result : Result Served ProxyError) where
   -- a serving beside each other, and one in turn, is that of a job that asks for it
-  pub serves_beside : (site connections : ℕ) (beside : Bool) → beside ≡ true
-      → ServingSays site client_view server_view true most_recorded old new [] records result
-      → ServingSays site client_view server_view beside (if beside then most_recorded else connections) old new []
+  pub serves_beside : (site_port connections : ℕ) (beside : Bool) → beside ≡ true
+      → ServingSays site_port client_view server_view true most_recorded old new [] records result
+      → ServingSays site_port client_view server_view beside (if beside then most_recorded else connections) old new []
       records result
-  serves_beside site connections true is x = x
-  serves_beside site connections false is x = absurd (cc is)
+  serves_beside site_port connections true is x = x
+  serves_beside site_port connections false is x = absurd (cc is)
 
-  pub serves_in_turn : (site connections : ℕ) (beside : Bool) → beside ≡ false
-      → ServingSays site client_view server_view false connections old new [] records result
-      → ServingSays site client_view server_view beside (if beside then most_recorded else connections) old new []
+  pub serves_in_turn : (site_port connections : ℕ) (beside : Bool) → beside ≡ false
+      → ServingSays site_port client_view server_view false connections old new [] records result
+      → ServingSays site_port client_view server_view beside (if beside then most_recorded else connections) old new []
       records result
-  serves_in_turn site connections true is x = absurd (cc is)
-  serves_in_turn site connections false is x = x
+  serves_in_turn site_port connections true is x = absurd (cc is)
+  serves_in_turn site_port connections false is x = x
 
 module _ {C X : Type 0} (client_view : C → LinkView) (server_view : X → LinkView) (job : ProxyJob) (told : Option Files)
     (old new : Net C X) where

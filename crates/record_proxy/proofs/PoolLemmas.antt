@@ -35,19 +35,20 @@ keeps_at old new a b k = record {
 }
 
 -- A pair was joined, whose links stand as one call left them.
-pub joined_pair : (site number : ℕ) (first after client server_first server_after server : LinkView)
-    (before store' : List Record) (found : ProxyEnd) → site ≡ number → before ≡ [] → IsFresh first
+pub joined_pair : (site_port number : ℕ) (first after client server_first server_after server : LinkView)
+    (before store' : List Record) (found : ProxyEnd) → site_port ≡ number → before ≡ [] → IsFresh first
     → IsFresh server_first
-    → IsStored site (links first.told server_first.told) (links after.told server_after.told) before store' (Ok found)
+    → IsStored site_port (links first.told server_first.told) (links after.told server_after.told) before store'
+    (Ok found)
     → HasFaultCause ClientFault first after (Ok found) → HasFaultCause ServerFault server_first server_after (Ok found)
     → client ≡ after → server ≡ server_after → IsJoined number client server store' found
-joined_pair site number first after client server_first server_after server before store' found at none fresh
+joined_pair site_port number first after client server_first server_after server before store' found at none fresh
     server_fresh x client_cause server_cause same server_same =
     let added : x.added ≡ store' = sym (x.behind ∙ ap (λ l. l ++ x.added) none) in
     subst (λ (n : ℕ). IsJoined n client server store' found) at
-    (subst (λ (v : LinkView). IsJoined site v server store' found) (sym same)
-    (subst (λ (v : LinkView). IsJoined site after v store' found) (sym server_same)
-    (subst (λ (l : List Record). IsJoined site after server_after l found) added (record {
+    (subst (λ (v : LinkView). IsJoined site_port v server store' found) (sym same)
+    (subst (λ (v : LinkView). IsJoined site_port after v store' found) (sym server_same)
+    (subst (λ (l : List Record). IsJoined site_port after server_after l found) added (record {
       client_first = first;
       server_first = server_first;
       client_fresh = fresh;
@@ -62,9 +63,9 @@ joined_pair site number first after client server_first server_after server befo
 pub keeps_same : {C : Type 0} (p : PortView C) → KeepsPort p p
 keeps_same p = record { counts = record { grows = omega arith; steady = λ never. (never, refl) }; stays = λ h. h }
 
-module _ {C X : Type 0} (site : ℕ) (client_view : C → LinkView) (server_view : X → LinkView) where
+module _ {C X : Type 0} (site_port : ℕ) (client_view : C → LinkView) (server_view : X → LinkView) where
   abbrev Stands : Net C X → Net C X → RecordingStanding → Type 0
-  Stands = InPool site client_view server_view
+  Stands = InPool site_port client_view server_view
 
   abbrev at : Net C X → ℕ → ℕ → ℕ → Net C X
   at n accepted dialed faults =
@@ -79,8 +80,9 @@ module _ {C X : Type 0} (site : ℕ) (client_view : C → LinkView) (server_view
     accepted = new.accepted;
     dialed = dialer.dialed;
     faults = dialer.faults;
-    serves = subst (λ (l : List Record). Serves site client_view server_view true (net old dialer) (net new dialer) [] l
-        []) (sym records) (serves_none site client_view server_view true old new dialer [] keeps finished accepted);
+    serves = subst (λ (l : List Record). Serves site_port client_view server_view true (net old dialer) (net new dialer) []
+        l []) (sym records)
+        (serves_none site_port client_view server_view true old new dialer [] keeps finished accepted);
     accepted_is = omega (arith, away);
     dialed_is = omega (arith, away);
     grows = omega arith;
@@ -102,9 +104,9 @@ module _ {C X : Type 0} (site : ℕ) (client_view : C → LinkView) (server_view
         accepted = x.accepted;
         dialed = x.dialed;
         faults = x.faults;
-        serves = subst (λ (l : List Record). Serves site client_view server_view true start
+        serves = subst (λ (l : List Record). Serves site_port client_view server_view true start
             (at (net port dialer) x.accepted x.dialed x.faults) [] l x.passages) (sym records)
-            (serves_same site client_view server_view true start (at old x.accepted x.dialed x.faults)
+            (serves_same site_port client_view server_view true start (at old x.accepted x.dialed x.faults)
             (at (net port dialer) x.accepted x.dialed x.faults) [] s.records x.passages x.serves refl finished
             (keeps_at old.port port x.accepted x.accepted keeps) refl dials_finished refl);
         accepted_is = let a = x.accepted_is in omega (arith, a, accepted, away);
@@ -117,7 +119,7 @@ module _ {C X : Type 0} (site : ℕ) (client_view : C → LinkView) (server_view
 
   -- one passage more
   module _ (start old new : Net C X) (s s' : RecordingStanding) (p : Passage C X) (x : Stands start old s)
-      (is : ∥ IsDialed site server_view (client_view p.client) p.dialed ∥₁)
+      (is : ∥ IsDialed site_port server_view (client_view p.client) p.dialed ∥₁)
       (finished : new.port.finished ≡ finished_with (p.client ∷ []) old.port.finished)
       (keeps : KeepsPort old.port new.port)
       (dials_finished : new.dialer.finished ≡ finished_with (servers_of p.dialed) old.dialer.finished)
@@ -133,10 +135,11 @@ module _ {C X : Type 0} (site : ℕ) (client_view : C → LinkView) (server_view
       accepted = x.accepted + 1;
       dialed = x.dialed + dials_of p.dialed;
       faults = new.dialer.faults;
-      serves = serves_next site client_view server_view true start (at old x.accepted x.dialed x.faults)
+      serves = serves_next site_port client_view server_view true start (at old x.accepted x.dialed x.faults)
           (at new (x.accepted + 1) (x.dialed + dials_of p.dialed) new.dialer.faults) [] s.records s'.records x.passages
           p x.serves is refl finished (keeps_at old.port new.port x.accepted (x.accepted + 1) keeps) refl dials_finished
-          (rises_later site server_view p.dialed x.faults old.dialer.faults new.dialer.faults x.grows rises) records;
+          (rises_later site_port server_view p.dialed x.faults old.dialer.faults new.dialer.faults x.grows rises)
+          records;
       accepted_is = accepted;
       dialed_is = dialed;
       grows = omega arith;
@@ -168,7 +171,7 @@ module _ {C X : Type 0} (site : ℕ) (client_view : C → LinkView) (server_view
   -- one that was away came back and was finished
   module _ (start old new : Net C X) (s s' : RecordingStanding) (client : C) (server : X) (records : List Record)
       (end : ProxyEnd) (x : Stands start old s)
-      (joined : ∥ IsJoined site (client_view client) (server_view server) records end ∥₁)
+      (joined : ∥ IsJoined site_port (client_view client) (server_view server) records end ∥₁)
       (some : 0 < s.away) (dialed : new.dialer.dialed ≡ old.dialer.dialed)
       (grows : old.dialer.faults ≤ new.dialer.faults) (accepted : new.port.accepted ≡ old.port.accepted)
       (finished : new.port.finished ≡ finished_with (client ∷ []) old.port.finished)
@@ -200,11 +203,11 @@ module _ {C X : Type 0} (site : ℕ) (client_view : C → LinkView) (server_view
   -- nobody is away, and nobody is accepted any more
   pub pool_ends : (start new : Net C X) (s : RecordingStanding) → Stands start new s → s.away ≡ 0
       → (new.port.drained ≡ true) ⊎ (s.begun ≡ most_recorded) → s.begun ≤ most_recorded
-      → IsServed site client_view server_view true most_recorded start new [] s.records s.served
+      → IsServed site_port client_view server_view true most_recorded start new [] s.records s.served
   pool_ends start new s x none stopped few = record {
     passages = x.passages;
-    serves = serves_same site client_view server_view true start (at new x.accepted x.dialed x.faults) new [] s.records
-        x.passages x.serves (let a = x.accepted_is in omega (arith, a, none)) refl
+    serves = serves_same site_port client_view server_view true start (at new x.accepted x.dialed x.faults) new []
+        s.records x.passages x.serves (let a = x.accepted_is in omega (arith, a, none)) refl
         (keeps_at new.port new.port x.accepted new.port.accepted (keeps_same new.port))
         (let a = x.dialed_is in omega (arith, a, none)) refl (x.same none);
     counts = x.counts;
@@ -221,10 +224,10 @@ module _ {C X : Type 0} (site : ℕ) (client_view : C → LinkView) (server_view
   pub served_after : (start mid new : Net C X) (s : RecordingStanding) (r : Result RecordingStanding ProxyError)
       → Stands start mid s
       → (mid.port.drained ≡ true) ⊎ (s.begun ≡ most_recorded) → s.begun ≤ most_recorded → KeepsPort mid.port new.port
-      → IfOk r (λ next. MovesPool site client_view server_view mid s new next) → IfOk r (λ next. next.away ≡ 0)
+      → IfOk r (λ next. MovesPool site_port client_view server_view mid s new next) → IfOk r (λ next. next.away ≡ 0)
       → IfOk r (λ next. next.begun ≡ s.begun)
       → IfOk r (λ next.
-      IsServed site client_view server_view true most_recorded start new [] next.records next.served)
+      IsServed site_port client_view server_view true most_recorded start new [] next.records next.served)
   served_after start mid new s (Ok next) x stopped few keeps moves none same =
       pool_ends start new next (moves start x) none
       (elim stopped [
@@ -238,8 +241,8 @@ module _ {C X : Type 0} (site : ℕ) (client_view : C → LinkView) (server_view
   pub served_listened : (old mid : PortView C) (dialer : DialerView X) (new : Net C X) (most : ℕ)
       (records : List Record) (n : Served) → KeepsPort old mid → mid.finished ≡ old.finished
       → mid.accepted ≡ old.accepted
-      → IsServed site client_view server_view true most (net mid dialer) new [] records n
-      → IsServed site client_view server_view true most (net old dialer) new [] records n
+      → IsServed site_port client_view server_view true most (net mid dialer) new [] records n
+      → IsServed site_port client_view server_view true most (net old dialer) new [] records n
   served_listened old mid dialer new most records n keeps finished accepted x =
       let s = x.serves in
       record {

@@ -45,10 +45,10 @@ pub same_finished : {C : Type 0} (told : Option (List C)) → told ≡ finished_
 same_finished None = refl
 same_finished (Some l) = ap Some (sym (append-nil l))
 
-module _ {X : Type 0} (site : ℕ) (server_view : X → LinkView) where
+module _ {X : Type 0} (site_port : ℕ) (server_view : X → LinkView) where
   pub not_dialed : (client : LinkView) (old new : DialerView X) (store : List Record) → IsFresh client
       → new.dialed ≡ old.dialed → new.finished ≡ old.finished → old.faults ≤ new.faults → Rose old.faults new.faults
-      → Dials site server_view client old new store store None
+      → Dials site_port server_view client old new store store None
   not_dialed client old new store fresh count finished grows rose = record {
     dialed = NotDialed;
     is = fresh;
@@ -61,14 +61,14 @@ module _ {X : Type 0} (site : ℕ) (server_view : X → LinkView) where
 
   module _ (first after client server_first server_after : LinkView) (server : X) (old last : DialerView X)
       (store store' : List Record) (found : ProxyEnd) (fresh : IsFresh first) (server_fresh : IsFresh server_first)
-      (x : IsStored site (links first.told server_first.told) (links after.told server_after.told) store store'
+      (x : IsStored site_port (links first.told server_first.told) (links after.told server_after.told) store store'
       (Ok found))
       (client_cause : HasFaultCause ClientFault first after (Ok found))
       (server_cause : HasFaultCause ServerFault server_first server_after (Ok found))
       (same : client ≡ after) (server_same : server_view server ≡ server_after) where
-    joined : IsJoined site client (server_view server) x.added found
-    joined = subst (λ (v : LinkView). IsJoined site v (server_view server) x.added found) (sym same)
-        (subst (λ (v : LinkView). IsJoined site after v x.added found) (sym server_same) record {
+    joined : IsJoined site_port client (server_view server) x.added found
+    joined = subst (λ (v : LinkView). IsJoined site_port v (server_view server) x.added found) (sym same)
+        (subst (λ (v : LinkView). IsJoined site_port after v x.added found) (sym server_same) record {
           client_first = first;
           server_first = server_first;
           client_fresh = fresh;
@@ -83,7 +83,7 @@ module _ {X : Type 0} (site : ℕ) (server_view : X → LinkView) where
         → last.dialed ≡ old.dialed → old.faults ≤ last.faults
         → (IsErrOf done Failed → Rose old.faults last.faults)
         → (counted : Option ProxyEnd) → EndsWith found done counted
-        → Joins site server_view client old last store store' counted
+        → Joins site_port server_view client old last store store' counted
     joins_so (Ok u) finished dialed later rose counted is = record {
       dialed = Joined server x.added found;
       is = joined;
@@ -117,8 +117,8 @@ module _ {X : Type 0} (site : ℕ) (server_view : X → LinkView) where
 
   pub dials_joined : (client : LinkView) (old mid new : DialerView X) (store store' : List Record)
       (end : Option ProxyEnd) → mid.dialed ≡ old.dialed + 1 → mid.finished ≡ old.finished → old.faults ≤ mid.faults
-      → Joins site server_view client mid new store store' end
-      → Dials site server_view client old new store store' end
+      → Joins site_port server_view client mid new store store' end
+      → Dials site_port server_view client old new store store' end
   dials_joined client old mid new store store' end count kept grows j = record {
     dialed = j.dialed;
     is = j.is;
@@ -179,17 +179,17 @@ tally_push {C} {X} ps p end is =
     (sym (sum_push (part (λ s. s.full)) ps p))
 
 -- the passage of a client that was served
-abbrev pub passage_of : {C X : Type 0} {site : ℕ} {client_view : C → LinkView} {server_view : X → LinkView}
+abbrev pub passage_of : {C X : Type 0} {site_port : ℕ} {client_view : C → LinkView} {server_view : X → LinkView}
     {old new : Net C X} {store store' : List Record} {end : Option ProxyEnd}
-    → ServesOne site client_view server_view old new store store' end → Passage C X
+    → ServesOne site_port client_view server_view old new store store' end → Passage C X
 passage_of one = record { client = one.client; dialed = one.dials.dialed }
 
-module _ {C X : Type 0} (site : ℕ) (client_view : C → LinkView) (server_view : X → LinkView) (beside : Bool) where
+module _ {C X : Type 0} (site_port : ℕ) (client_view : C → LinkView) (server_view : X → LinkView) (beside : Bool) where
   abbrev Each : Passage C X → Type 0
-  Each q = Known beside (IsDialed site server_view (client_view q.client) q.dialed)
+  Each q = Known beside (IsDialed site_port server_view (client_view q.client) q.dialed)
 
   abbrev So : Net C X → Net C X → List Record → List Record → List (Passage C X) → Type 0
-  So old new store store' ps = Serves site client_view server_view beside old new store store' ps
+  So old new store store' ps = Serves site_port client_view server_view beside old new store store' ps
 
   -- it listens, and no client was accepted
   pub serves_none : (old new : PortView C) (dialer : DialerView X) (store : List Record) → KeepsPort old new
@@ -266,16 +266,16 @@ module _ {C X : Type 0} (site : ℕ) (client_view : C → LinkView) (server_view
         keeps = keeps_then s.keeps keeps;
       }
 
-module _ {C X : Type 0} (site : ℕ) (client_view : C → LinkView) (server_view : X → LinkView) where
+module _ {C X : Type 0} (site_port : ℕ) (client_view : C → LinkView) (server_view : X → LinkView) where
   pub serves_push : (old mid new : Net C X) (port : PortView C) (store mid_store store' : List Record)
       (ps : List (Passage C X))
-      → Serves site client_view server_view false old mid store mid_store ps
+      → Serves site_port client_view server_view false old mid store mid_store ps
       → port.accepted ≡ mid.port.accepted + 1 → port.finished ≡ mid.port.finished → KeepsPort mid.port port
       → (end : Option ProxyEnd)
-      → (one : ServesOne site client_view server_view (net port mid.dialer) new mid_store store' end)
-      → Serves site client_view server_view false old new store store'
+      → (one : ServesOne site_port client_view server_view (net port mid.dialer) new mid_store store' end)
+      → Serves site_port client_view server_view false old new store store'
       (ps ++ passage_of one ∷ [])
   serves_push old mid new port store mid_store store' ps s accepted kept keeps end one =
-      serves_next site client_view server_view false old mid new store mid_store store' ps (passage_of one) s
+      serves_next site_port client_view server_view false old mid new store mid_store store' ps (passage_of one) s
       one.dials.is (one.accepted ∙ accepted) (one.finished ∙ ap (finished_with (one.client ∷ [])) kept)
       (keeps_then keeps one.keeps) one.dials.count one.dials.finished one.dials.rises one.dials.records

@@ -28,7 +28,7 @@ use Rattle.record_proxy.specs.declared.ends.ProxyError.TheVariants as errors
 -- is recorded until ended, how many are served at a time
 pub record ProxyJob : Type 0 where
   pub port : ℕ
-  pub site : ℕ
+  pub site_port : ℕ
   pub connections : ℕ
   pub out : Text
   pub until_ended : Bool
@@ -41,11 +41,11 @@ most_of job = if job.until_ended then most_recorded else job.connections
 unfoldable pub proxy_job_with : ProxyTexts → Option ProxyJob
 proxy_job_with texts = do
   port ← port_of texts.port
-  site ← port_of texts.to
+  site_port ← port_of texts.to
   connections ← number_within (if texts.until_ended then 1 else 0) 64 texts.connections
   Some (record {
     port = port;
-    site = site;
+    site_port = site_port;
     connections = connections;
     out = texts.out;
     until_ended = texts.until_ended;
@@ -85,13 +85,13 @@ proxy_output job records served = record { files = proxy_files job records; prin
 -- A job asks its port once to listen, at the port that it names, and its dialer at no port but the site's.
 pub record AsksAt {C X : Type 0} (job : ProxyJob) (old new : Net C X) (result : Result Served ProxyError) : Type 0 where
   pub listens : ListensAt job.port old.port new.port result
-  pub dials : OnlyAsks job.site old.dialer.asked new.dialer.asked
+  pub dials : OnlyAsks job.site_port old.dialer.asked new.dialer.asked
 
 module _ {C X : Type 0} (client_view : C → LinkView) (server_view : X → LinkView) where
   -- What the serving of a job did, from no records on: one client after the other, or many beside each other.
   abbrev pub ServesJob : ProxyJob → Net C X → Net C X → List Record → Result Served ProxyError → Type 0
   ServesJob job old new records result =
-      ServingSays job.site client_view server_view job.until_ended (most_of job) old new [] records result
+      ServingSays job.site_port client_view server_view job.until_ended (most_of job) old new [] records result
 
   module _ (job : ProxyJob) (old new : Net C X) where
     -- The serving stopped by itself, for this cause.

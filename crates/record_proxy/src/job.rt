@@ -6,7 +6,7 @@ ghost use Rattle.std.specs.Prelude.{◌≤◌};
 #[derive(Drop)]
 pub(crate) struct ProxyJob<'a> {
     pub port: u16,
-    pub site: u16,
+    pub site_port: u16,
     pub connections: u32,
     pub out: &'a str,
     pub until_ended: bool,

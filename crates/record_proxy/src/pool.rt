@@ -341,7 +341,7 @@ fn run_pool<K: Site + Send + Sync, P: Port + Send, X: Dialer + Send, R: Threads 
     port: &mut P,
     dialer: &mut X,
 ) -> Result<RecordingStanding, ProxyError>
-    requires { job.now.site ≡ K.port }
+    requires { job.now.site_port ≡ K.port }
     ensures serving { IfOk result (λ next. IsServed K.port P.Conn.view X.Conn.view true most_recorded
         (net (P.view port.old) (X.view dialer.old)) (net (P.view port.new) (X.view dialer.new)) []
         next.records next.served) }
@@ -360,7 +360,7 @@ fn run_pool<K: Site + Send + Sync, P: Port + Send, X: Dialer + Send, R: Threads 
     ) else {
         return Err(ProxyError::OutOfMemory);
     };
-    let site_port = job.site;
+    let site_port = job.site_port;
     let workers = RecordingWorkers {
         alloc,
         site_port,
@@ -388,10 +388,10 @@ pub fn serve_until_ended<P: Port + Send, X: Dialer + Send, R: Threads + Wait + S
     dialer: &mut X,
     store: &mut Store,
 ) -> Result<Served, ProxyError>
-    ensures serving { ServingSays job.now.site P.Conn.view X.Conn.view true most_recorded
+    ensures serving { ServingSays job.now.site_port P.Conn.view X.Conn.view true most_recorded
         (net (P.view port.old) (X.view dialer.old)) (net (P.view port.new) (X.view dialer.new)) [] store.new result }
     ensures listens { ListensAt job.now.port (P.view port.old) (P.view port.new) result }
-    ensures asks { OnlyAsks job.now.site (X.view dialer.old).asked (X.view dialer.new).asked }
+    ensures asks { OnlyAsks job.now.site_port (X.view dialer.old).asked (X.view dialer.new).asked }
     ensures keeps { KeepsPort (P.view port.old) (P.view port.new) }
 {
     if let Err(error) = port.listen(job.port) {

@@ -1,18 +1,16 @@
 // A proxied connection, from its first byte to its end.
-ghost use Rattle.std.specs.Prelude.{◌≡◌, ◌<◌, length, IfOk, vec_len};
+ghost use Rattle.std.specs.Prelude.{◌<◌, length};
 ghost use Rattle.mm_base.specs.Link.{CountsLinkFaults};
 ghost use Rattle.record_proxy.specs.Links.{IsStored, HasFaultCause, links};
 
 use crate::ends::ProxyEnd;
 use crate::exchange::step;
 use crate::proxy_state::ProxyState;
-use mm_base::Link;
+use mm_base::{Link, piece_buffer};
 use record_store::Store;
 use std::alloc::Global;
 use text_base::OutOfMemory;
-
-/// How many bytes a read asks for at most.
-const PIECE: usize = 65_536;
+use text_base::limits::PIECE_BYTES;
 
 /// Goes on step by step, until the connection ends.
 fn converse<A: Link, B: Link>(
@@ -39,13 +37,6 @@ fn converse<A: Link, B: Link>(
     }
 }
 
-/// `count` bytes of 0.
-fn zeros(alloc: Global, count: usize) -> Result<Vec<u8>, OutOfMemory>
-    ensures { IfOk result (λ v. vec_len v ≡ count) }
-{
-    Ok(vec![in alloc; 0u8; count]?)
-}
-
 /// Passes the bytes of one connection between a client and a server unchanged, and adds what passed to the store, with
 /// the site at that port. It does one exchange after the other: it reads one whole request (RFC 9112), gives it to the
 /// server, reads responses until one with a status of 200 or more, gives each whole one to the client, and adds the
@@ -70,7 +61,7 @@ pub fn proxy_conn<A: Link, B: Link>(
     ensures client_cause { HasFaultCause ProxyEnd.ClientFault (A.view client.old) (A.view client.new) result }
     ensures server_cause { HasFaultCause ProxyEnd.ServerFault (B.view server.old) (B.view server.new) result }
 {
-    match zeros(alloc, PIECE) {
+    match piece_buffer(alloc, PIECE_BYTES) {
         Ok(mut buf) => converse(alloc, client, server, buf.as_mut_slice(), port, store),
         Err(error) => Err(error),
     }

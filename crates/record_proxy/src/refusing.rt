@@ -8,9 +8,9 @@ ghost use Rattle.refusal_lines.specs.Explanations.{IsTold, explained};
 ghost use Rattle.refusal_words.specs.declared.command.Program.TheVariants.{Record};
 
 use crate::words::read_proxy;
-use command_ends::{Cause, conclude};
+use command_ends::Cause;
 use mm_base::Sink;
-use refusal_lines::{Ending, tell};
+use refusal_lines::{Ending, conclude_told};
 use refusal_words::Program;
 use std::alloc::Global;
 use text_base::{OutOfMemory, Text};
@@ -55,11 +55,5 @@ pub fn refuse_store<O: Sink, T: Sink>(
         (T.view told.old) (T.view told.new) result.told }
 {
     let answer = Err(write_fault(alloc, name));
-    let status = conclude(&answer, out);
-    let told = tell(Program::Record, words, &answer, told);
-    Ending {
-        answer,
-        status,
-        told,
-    }
+    conclude_told(Program::Record, words, answer, out, told)
 }

@@ -179,11 +179,11 @@ pub fn serve<P: Port, X: Dialer>(
     dialer: &mut X,
     store: &mut Store,
 ) -> Result<Served, ProxyError>
-    ensures serving { ServingSays job.now.site P.Conn.view X.Conn.view false job.now.connections
+    ensures serving { ServingSays job.now.site_port P.Conn.view X.Conn.view false job.now.connections
         (net (P.view port.old) (X.view dialer.old)) (net (P.view port.new) (X.view dialer.new)) store.old store.new
         result }
     ensures listens { ListensAt job.now.port (P.view port.old) (P.view port.new) result }
-    ensures asks { OnlyAsks job.now.site (X.view dialer.old).asked (X.view dialer.new).asked }
+    ensures asks { OnlyAsks job.now.site_port (X.view dialer.old).asked (X.view dialer.new).asked }
     ensures keeps { KeepsPort (P.view port.old) (P.view port.new) }
 {
     if let Err(error) = port.listen(job.port) {
@@ -193,7 +193,14 @@ pub fn serve<P: Port, X: Dialer>(
     let mut left = job.connections;
     'clients: while left > 0 {
         match port.accept() {
-            Ok(Some(client)) => match serve_client(alloc, job.site, client, port, dialer, store) {
+            Ok(Some(client)) => match serve_client(
+                alloc,
+                job.site_port,
+                client,
+                port,
+                dialer,
+                store,
+            ) {
                 Ok(end) => served = with_end(end, served),
                 Err(error) => return Err(error),
             },

@@ -15,12 +15,12 @@ fn with_numbers<'a>(texts: ProxyWords<'a>) -> Option<ProxyJob<'a>>
     ensures { option_map proxy_values result ≡ proxy_job_with (proxy_texts_of texts.entry) }
 {
     let port = read_port(texts.port)?;
-    let site = read_port(texts.to)?;
+    let site_port = read_port(texts.to)?;
     let least = if texts.until_ended { 1 } else { 0 };
     let connections = read_within(texts.connections, least, 64)?;
     Some(ProxyJob {
         port,
-        site,
+        site_port,
         connections: connections as u32,
         out: texts.out,
         until_ended: texts.until_ended,

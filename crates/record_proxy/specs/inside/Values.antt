@@ -6,7 +6,7 @@ abbrev pub proxy_values : ProxyJob → proxying.ProxyJob
 proxy_values job =
     record {
       port = job.port;
-      site = job.site;
+      site_port = job.site_port;
       connections = job.connections;
       out = job.out.now;
       until_ended = job.until_ended;

@@ -1,4 +1,4 @@
-use Rattle.std.proofs.Common.{List, ℕ, ◌≤◌, subst, sym}
+use Rattle.std.proofs.Common.{List, ◌≤◌, subst, sym}
 use Rattle.std.proofs.lemmas.Result.{err_from_is_err_and}
 use Rattle.trace_reader.specs.Traces.{TraceView}
 use Rattle.nest_spec.specs.Nests.{opportunities_of}
@@ -12,7 +12,9 @@ use Rattle.nest_command.specs.NestReading.{refused_count}
 use Rattle.nest_command.proofs.InputLemmas.{traces_stop_before}
 use Rattle.command_merge.specs.MergeReading.{merge_inputs}
 use Rattle.command_merge.specs.inside.Values.{merge_values}
-use Rattle.command_merge.proofs.MergeLemmas.{after_traces, count_stop}
+use Rattle.nest_command.proofs.NestRefusals.{count_stop}
+use Rattle.command_merge.specs.MergeReading.{sender_inputs}
+use Rattle.command_merge.proofs.MergeLemmas.{after_traces}
 use Rattle.command_merge.proofs.inputs.load_nest_traces.Goals as goal
 
 pub returns-in_err-traces-clause-stopped : goal.returns-in_err-traces-clause-stopped
@@ -42,7 +44,8 @@ returns-in_err-check_count-clause-stopped g c =
     let refused = subst (λ (l : List TraceView). RefusesText (refused_count job.horizon nest.shells l)
     c.in_err-check_count.field-0.0) c.as_slice.ensures.value c.in_err-check_count.ensures.refused in
     rw p.1 (subst (λ (k : Cause). StopsReading (merge_inputs job nest) old new k) (sym p.2)
-    (count_stop job nest old new found.0 traces c.in_err-check_count.field-0.0 have refused))
+    (count_stop job.horizon nest (sender_inputs job nest) old new found.0 traces c.in_err-check_count.field-0.0 have
+    refused))
 
 pub returns-clause-found : goal.returns-clause-found
 returns-clause-found g c =

@@ -1,10 +1,8 @@
-use Rattle.std.proofs.Common.{◌∙◌, List, Some, ap, subst, sym, ℕ}
-use Rattle.std.proofs.lemmas.Result.{err_from_is_err_and}
-use Rattle.command_ends.specs.Ends.{Ends, outside}
+use Rattle.std.proofs.Common.{◌∙◌, List, ap, ℕ}
+use Rattle.command_ends.specs.Ends.{outside}
 use Rattle.command_ends.specs.Outputs.{Output, holding_all}
-use Rattle.command_ends.specs.declared.cause.Cause.{Cause}
 use Rattle.command_ends.proofs.CountLemmas.{reads_none}
-use Rattle.command_ends.proofs.EndLemmas.{ends_stopped, ends_unwritten, ends_whole, keeps, keeps_all}
+use Rattle.command_ends.proofs.EndLemmas.{ends_handed, ends_unwritten, ends_whole, handed_stopped, keeps, keeps_all}
 use Rattle.command_ends.proofs.ReadingLemmas.{stops_later}
 use Rattle.nest_command.specs.RunFiles.{run_files}
 use Rattle.live_relay.specs.declared.outcome.RelayResult.{RelayResult}
@@ -20,48 +18,34 @@ output_of out r = record { files = run_files out r.run; printed = relay_line r }
 
 pub returns-in_err-words-clause-ends : goal.returns-in_err-words-clause-ends
 returns-in_err-words-clause-ends g c =
-    let p = err_from_is_err_and c.from_residual.result c.from_residual.ensures.1 in
-    let reading = relay_reading (relay_values c.args.job.now) in
-    let disk = g.D.Disk.view c.args.disk.now in
-    let out = g.O.Sink.view c.args.out.now in
-    let before = net (g.C.Clock.view c.args.clock.now) (g.W.Wire.view c.args.wire.now) in
-    rw p.1 (subst (λ (k : Cause). Ends relay_work reading (outside disk out before) (outside disk out before) (Some k))
-    (sym p.2)
-    (ends_stopped relay_work reading disk disk out before _ (keeps_all disk) (c.in_err-words.ensures.read disk)))
+    handed_stopped relay_work (relay_reading (relay_values c.args.job.now)) _ _ _ _ _ c.from_residual.result
+    c.from_residual.ensures.1 (keeps_all _) (c.in_err-words.ensures.read _)
 
 pub returns-in_err-nest-clause-ends : goal.returns-in_err-nest-clause-ends
 returns-in_err-nest-clause-ends g c =
-    let p = err_from_is_err_and c.from_residual-in_err-nest.result c.from_residual-in_err-nest.ensures.1 in
     let job = relay_values c.args.job.now in
     let disk = g.D.Disk.view c.args.disk.now in
-    let mid = g.D.Disk.view c.load_nest.new.disk in
-    let out = g.O.Sink.view c.args.out.now in
-    let before = net (g.C.Clock.view c.args.clock.now) (g.W.Wire.view c.args.wire.now) in
-    rw p.1 (subst (λ (k : Cause). Ends relay_work (relay_reading job) (outside disk out before)
-    (outside mid out before) (Some k)) (sym p.2)
-    (ends_stopped relay_work (relay_reading job) disk mid out before _ (keeps c.load_nest.ensures.only_reads)
-    (stops_later (relay_reading job) (relay_inputs job c.in_ok-words.words) disk disk mid _
-    (c.in_ok-words.ensures.read disk) (reads_none disk) c.in_err-nest.ensures.stopped)))
+    handed_stopped relay_work (relay_reading job) _ _ _ _ _ c.from_residual-in_err-nest.result
+    c.from_residual-in_err-nest.ensures.1 (keeps c.load_nest.ensures.only_reads)
+    (stops_later (relay_reading job) (relay_inputs job c.in_ok-words.words) disk disk _ _
+    (c.in_ok-words.ensures.read disk) (reads_none disk) c.in_err-nest.ensures.stopped)
 
 pub returns-in_err-relayed-clause-ends : goal.returns-in_err-relayed-clause-ends
 returns-in_err-relayed-clause-ends g c =
-    let p = err_from_is_err_and c.from_residual-in_err-relayed.result c.from_residual-in_err-relayed.ensures.1 in
     let job = relay_values c.args.job.now in
     let disk = g.D.Disk.view c.args.disk.now in
     let mid = g.D.Disk.view c.load_nest.new.disk in
     let out = g.O.Sink.view c.args.out.now in
     let before = net (g.C.Clock.view c.args.clock.now) (g.W.Wire.view c.args.wire.now) in
     let after = net (g.C.Clock.view c.relay_job.new.clock) (g.W.Wire.view c.relay_job.new.wire) in
-    rw p.1 (subst (λ (k : Cause). Ends relay_work (relay_reading job) (outside disk out before)
-    (outside mid out after) (Some k)) (sym p.2)
+    ends_handed relay_work (relay_reading job) (outside disk out before) (outside mid out after) _
+    c.from_residual-in_err-relayed.result c.from_residual-in_err-relayed.ensures.1
     (ends_relaying job c.in_ok-words.words c.in_ok-nest.nest disk mid out before after _
     (c.in_ok-words.ensures.read disk) c.in_ok-nest.ensures.found c.load_nest.ensures.only_reads
-    c.in_err-relayed.ensures.stopped))
+    c.in_err-relayed.ensures.stopped)
 
 pub returns-in_err-write_whole-clause-ends : goal.returns-in_err-write_whole-clause-ends
 returns-in_err-write_whole-clause-ends g c =
-    let p = err_from_is_err_and c.from_residual-in_err-write_whole.result
-    c.from_residual-in_err-write_whole.ensures.1 in
     let job = relay_values c.args.job.now in
     let disk = g.D.Disk.view c.args.disk.now in
     let mid = g.D.Disk.view c.load_nest.new.disk in
@@ -70,12 +54,12 @@ returns-in_err-write_whole-clause-ends g c =
     let before = net (g.C.Clock.view c.args.clock.now) (g.W.Wire.view c.args.wire.now) in
     let after = net (g.C.Clock.view c.relay_job.new.clock) (g.W.Wire.view c.relay_job.new.wire) in
     let r = c.in_ok-relayed.relayed in
-    rw p.1 (subst (λ (k : Cause). Ends relay_work (relay_reading job) (outside disk out before)
-    (outside new out after) (Some k)) (sym p.2)
+    ends_handed relay_work (relay_reading job) (outside disk out before) (outside new out after) _
+    c.from_residual-in_err-write_whole.result c.from_residual-in_err-write_whole.ensures.1
     (ends_unwritten relay_work (relay_reading job) disk mid new out before after (output_of job.out r) _
     (relay_finishes job c.in_ok-words.words c.in_ok-nest.nest disk.files (c.in_ok-words.ensures.read disk)
     c.in_ok-nest.ensures.found before after r c.in_ok-relayed.ensures.relayed)
-    c.load_nest.ensures.only_reads c.in_err-write_whole.ensures.stopped))
+    c.load_nest.ensures.only_reads c.in_err-write_whole.ensures.stopped)
 
 pub returns-clause-ends : goal.returns-clause-ends
 returns-clause-ends g c =

@@ -11,7 +11,8 @@ use Rattle.nest_command.specs.NestReading.{refused_count}
 use Rattle.command_relay.specs.Relaying.{relay_inputs}
 use Rattle.command_relay.specs.inside.Values.{relay_values}
 use Rattle.nest_command.proofs.InputLemmas.{traces_stop_before}
-use Rattle.command_relay.proofs.RelayLemmas.{after_traces, count_stop}
+use Rattle.nest_command.proofs.NestRefusals.{count_stop}
+use Rattle.command_relay.proofs.RelayLemmas.{after_traces, done_with}
 use Rattle.command_relay.proofs.inputs.load_nest.Goals as goal
 
 pub returns-in_err-traces-clause-stopped : goal.returns-in_err-traces-clause-stopped
@@ -39,4 +40,5 @@ returns-in_err-check_count-clause-stopped g c =
     let refused = subst (λ (l : List TraceView). RefusesText (refused_count job.horizon c.args.words.shells l)
     c.in_err-check_count.field-0.0) c.as_slice.ensures.value c.in_err-check_count.ensures.refused in
     rw p.1 (subst (λ (k : Cause). StopsReading (relay_inputs job c.args.words) old new k) (sym p.2)
-    (count_stop job c.args.words old new found.0 traces c.in_err-check_count.field-0.0 have refused))
+    (count_stop job.horizon c.args.words (done_with job c.args.words) old new found.0 traces
+    c.in_err-check_count.field-0.0 have refused))

@@ -11,7 +11,9 @@ use Rattle.nest_command.specs.NestReading.{refused_count}
 use Rattle.command_run.specs.RunReading.{run_inputs}
 use Rattle.command_run.specs.inside.Values.{run_values}
 use Rattle.nest_command.proofs.InputLemmas.{traces_stop_before}
-use Rattle.command_run.proofs.RunLemmas.{after_traces, count_stop}
+use Rattle.nest_command.proofs.NestRefusals.{count_stop}
+use Rattle.command_run.specs.RunReading.{reading_order}
+use Rattle.command_run.proofs.RunLemmas.{after_order, after_traces}
 use Rattle.command_run.proofs.run.load_nest.Goals as goal
 
 pub returns-in_err-traces-clause-stopped : goal.returns-in_err-traces-clause-stopped
@@ -39,7 +41,8 @@ returns-in_err-check_count-clause-stopped g c =
     let refused = subst (λ (l : List TraceView). RefusesText (refused_count job.horizon c.args.words.shells l)
     c.in_err-check_count.field-0.0) c.as_slice.ensures.value c.in_err-check_count.ensures.refused in
     rw p.1 (subst (λ (k : Cause). StopsReading (run_inputs job c.args.words) old new k) (sym p.2)
-    (count_stop job c.args.words old new found.0 traces c.in_err-check_count.field-0.0 have refused))
+    (count_stop job.horizon c.args.words (λ texts. reading_order job.order (after_order job c.args.words texts)) old new
+    found.0 traces c.in_err-check_count.field-0.0 have refused))
 
 pub returns-clause-found : goal.returns-clause-found
 returns-clause-found g c = search rules

@@ -1,8 +1,5 @@
-use Rattle.std.proofs.Common.{Some, subst, sym}
-use Rattle.std.proofs.lemmas.Result.{err_from_is_err_and}
-use Rattle.command_ends.specs.Ends.{Ends, outside}
-use Rattle.command_ends.specs.declared.cause.Cause.{Cause}
-use Rattle.command_ends.proofs.EndLemmas.{ends_unwritten, ends_whole}
+use Rattle.command_ends.specs.Ends.{outside}
+use Rattle.command_ends.proofs.EndLemmas.{ends_handed, ends_unwritten, ends_whole}
 use Rattle.record_proxy.specs.Proxying.{proxy_output, proxy_reading, proxy_work}
 use Rattle.record_proxy.specs.Servings.{net}
 use Rattle.record_proxy.specs.inside.Values.{proxy_values}
@@ -11,21 +8,17 @@ use Rattle.record_proxy.proofs.command.record.Goals as goal
 
 pub returns-in_err-served-clause-ends : goal.returns-in_err-served-clause-ends
 returns-in_err-served-clause-ends g c =
-    let p = err_from_is_err_and c.from_residual.result c.from_residual.ensures.1 in
     let job = proxy_values c.args.job.now in
     let out = g.O.Sink.view c.args.out.now in
     let disk = g.D.Disk.view c.args.disk.now in
     let before = net (g.P.Port.view c.args.port.now) (g.X.Dialer.view c.args.dialer.now) in
     let after = net (g.P.Port.view c.serve_job.new.port) (g.X.Dialer.view c.serve_job.new.dialer) in
-    let work = proxy_work g.P.Conn.Link.view g.X.Conn.Link.view in
-    rw p.1 (subst (λ (k : Cause). Ends work (proxy_reading job) (outside disk out before) (outside disk out after)
-    (Some k)) (sym p.2)
-    (ends_serving g.P.Conn.Link.view g.X.Conn.Link.view job disk out before after _ c.in_err-served.ensures.stopped))
+    ends_handed (proxy_work g.P.Conn.Link.view g.X.Conn.Link.view) (proxy_reading job) (outside disk out before)
+    (outside disk out after) _ c.from_residual.result c.from_residual.ensures.1
+    (ends_serving g.P.Conn.Link.view g.X.Conn.Link.view job disk out before after _ c.in_err-served.ensures.stopped)
 
 pub returns-in_err-write_recorded-clause-ends : goal.returns-in_err-write_recorded-clause-ends
 returns-in_err-write_recorded-clause-ends g c =
-    let p = err_from_is_err_and c.from_residual-in_err-write_recorded.result
-    c.from_residual-in_err-write_recorded.ensures.1 in
     let job = proxy_values c.args.job.now in
     let out = g.O.Sink.view c.args.out.now in
     let disk = g.D.Disk.view c.args.disk.now in
@@ -34,13 +27,13 @@ returns-in_err-write_recorded-clause-ends g c =
     let after = net (g.P.Port.view c.serve_job.new.port) (g.X.Dialer.view c.serve_job.new.dialer) in
     let work = proxy_work g.P.Conn.Link.view g.X.Conn.Link.view in
     let records = c.serve_job.new.store in
-    rw p.1 (subst (λ (k : Cause). Ends work (proxy_reading job) (outside disk out before) (outside written out after)
-    (Some k)) (sym p.2)
+    ends_handed work (proxy_reading job) (outside disk out before) (outside written out after) _
+    c.from_residual-in_err-write_recorded.result c.from_residual-in_err-write_recorded.ensures.1
     (ends_unwritten work (proxy_reading job) disk disk written out before after
     (proxy_output job records c.in_ok-served.served) _
     (finishes g.P.Conn.Link.view g.X.Conn.Link.view job disk.files before after records c.in_ok-served.served
     c.in_ok-served.ensures.served c.in_ok-served.ensures.asks)
-    (reads_nothing disk) c.in_err-write_recorded.ensures.stopped))
+    (reads_nothing disk) c.in_err-write_recorded.ensures.stopped)
 
 pub returns-clause-ends : goal.returns-clause-ends
 returns-clause-ends g c =

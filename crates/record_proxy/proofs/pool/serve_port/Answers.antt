@@ -5,7 +5,7 @@ use Rattle.record_proxy.proofs.pool.serve_port.Goals as goal
 
 pub returns-clause-serving : goal.returns-clause-serving
 returns-clause-serving g c =
-    let site = g.K.Site.port in
+    let site_port = g.K.Site.port in
     let client_view = g.P.Conn.Link.view in
     let server_view = g.X.Conn.Link.view in
     let port = g.P.Port.view c.args.port.now in
@@ -13,11 +13,11 @@ returns-clause-serving g c =
     let first = c.new-standing.ensures in
     let admitted = c.in_ok-standing.ensures in
     let taken = c.take_all.ensures in
-    served_after site client_view server_view (net port dialer)
+    served_after site_port client_view server_view (net port dialer)
     (net (g.P.Port.view c.admit_all.new.port) (g.X.Dialer.view c.admit_all.new.dialer))
     (net (g.P.Port.view c.take_all.new.port) (g.X.Dialer.view c.take_all.new.dialer)) c.in_ok-standing.standing
     c.take_all.result
     (admitted.moves (net port dialer)
-    (pool_none site client_view server_view port port dialer c.new-standing.result (keeps_same port) refl refl
+    (pool_none site_port client_view server_view port port dialer c.new-standing.result (keeps_same port) refl refl
     first.records first.served first.none.0 first.none.1))
     admitted.stopped admitted.few taken.keeps taken.moves taken.none taken.same

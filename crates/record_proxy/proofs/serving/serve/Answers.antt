@@ -10,7 +10,7 @@ pub clients-init : goal.clients-init
 clients-init g c = record {
   so_far = record {
     passages = [];
-    serves = serves_none c.args.job.now.site g.P.Conn.Link.view g.X.Conn.Link.view false _ _ _ _
+    serves = serves_none c.args.job.now.site_port g.P.Conn.Link.view g.X.Conn.Link.view false _ _ _ _
         c.in_default.ensures.keeps c.in_default.ensures.finished c.in_default.ensures.accepted;
     counts = c.none-served.ensures;
     few = omega arith;
@@ -18,7 +18,7 @@ clients-init g c = record {
   };
   few = c.args.job.now.few;
   listens = search rules;
-  asks = asks_none c.args.job.now.site (g.X.Dialer.view c.args.dialer.now).asked;
+  asks = asks_none c.args.job.now.site_port (g.X.Dialer.view c.args.dialer.now).asked;
 }
 
 pub clients-preserved : goal.clients-preserved
@@ -32,7 +32,7 @@ clients-preserved g c =
     record {
       so_far = record {
         passages = ps ++ p ∷ [];
-        serves = serves_push c.args.job.now.site g.P.Conn.Link.view g.X.Conn.Link.view _ _ _ asked _ _ _ ps
+        serves = serves_push c.args.job.now.site_port g.P.Conn.Link.view g.X.Conn.Link.view _ _ _ asked _ _ _ ps
             so_far.serves told
             c.in-Ok-Some.ensures.finished c.in-Ok-Some.ensures.keeps _ one;
         counts = c.with_end-served.ensures.one ∙ ap (λ n. plus n (counted_as c.in-Ok.end)) so_far.counts
@@ -54,5 +54,5 @@ clients-preserved g c =
       };
       few = c.clients.invariant.few;
       listens = search rules;
-      asks = asks_once c.args.job.now.site _ _ _ c.clients.invariant.asks c.in-Ok.ensures.asks;
+      asks = asks_once c.args.job.now.site_port _ _ _ c.clients.invariant.asks c.in-Ok.ensures.asks;
     }

@@ -7,13 +7,13 @@ use Rattle.record_proxy.proofs.serving.serve.Given as goal
 
 abbrev pub invariant-clients : goal.invariant-clients
 invariant-clients g l = record {
-  so_far : ServesSoFar l.job.site g.P.Conn.Link.view g.X.Conn.Link.view (net (g.P.Port.view l.fn.port)
+  so_far : ServesSoFar l.job.site_port g.P.Conn.Link.view g.X.Conn.Link.view (net (g.P.Port.view l.fn.port)
       (g.X.Dialer.view l.fn.dialer)) (net (g.P.Port.view l.port) (g.X.Dialer.view l.dialer)) l.fn.store l.store l.served
       l.left
       l.job.connections;
   few : l.job.connections ≤ 64;
   listens : (g.P.Port.view l.port).listened ≡ listened_at l.job.port (g.P.Port.view l.fn.port).listened;
-  asks : OnlyAsks l.job.site (g.X.Dialer.view l.fn.dialer).asked (g.X.Dialer.view l.dialer).asked;
+  asks : OnlyAsks l.job.site_port (g.X.Dialer.view l.fn.dialer).asked (g.X.Dialer.view l.dialer).asked;
 }
 
 abbrev pub decreases-clients : goal.decreases-clients

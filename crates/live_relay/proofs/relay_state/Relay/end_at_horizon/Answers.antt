@@ -2,7 +2,8 @@ use Rattle.std.proofs.Common.{◌∙◌, subst, sym, rules}
 use Rattle.packet_record.specs.Rows.{AreApart}
 use Rattle.live_relay.proofs.Results.{on_err_any}
 use Rattle.live_relay.proofs.Stamping.{apart}
-use Rattle.live_relay.proofs.Turning.{ends_past, knows_ended, stops_gathering, stops_ending, stops_past}
+use Rattle.live_relay.proofs.Ending.{ends_past, stops_gathering, stops_ending, stops_past}
+use Rattle.live_relay.proofs.Feeding.{knows_ended}
 use Rattle.live_relay.proofs.relay_state.Relay.end_at_horizon.Goals as goal
 
 pub returns-in_err-relay-clause-err : goal.returns-in_err-relay-clause-err

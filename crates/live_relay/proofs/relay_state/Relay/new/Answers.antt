@@ -1,5 +1,5 @@
 use Rattle.packet_record.specs.declared.packet.Direction.TheVariants.{Up, Down}
-use Rattle.live_relay.proofs.Turning.{first_way}
+use Rattle.live_relay.proofs.Feeding.{first_way}
 use Rattle.live_relay.proofs.relay_state.Relay.new.Goals as goal
 
 pub returns : goal.returns

@@ -1,5 +1,5 @@
 use Rattle.live_relay.specs.Wires.{datagram_in}
-use Rattle.live_relay.proofs.Turning.{has_fed}
+use Rattle.live_relay.proofs.Feeding.{has_fed}
 use Rattle.live_relay.proofs.relay_state.Relay.pass.Goals as goal
 
 pub returns : goal.returns

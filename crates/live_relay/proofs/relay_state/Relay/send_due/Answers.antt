@@ -5,7 +5,7 @@ use Rattle.live_relay.specs.inside.Ways.{StopsSending}
 use Rattle.live_relay.specs.declared.side.Side.TheVariants.{Client, Server}
 use Rattle.live_relay.specs.Wires.{WireTold, sending_all}
 use Rattle.live_relay.proofs.Results.{on_err_any}
-use Rattle.live_relay.proofs.Turning.{map_twice}
+use Rattle.live_relay.proofs.Telling.{map_twice}
 use Rattle.live_relay.proofs.relay_state.Relay.send_due.Goals as goal
 
 pub returns-in_err-send_due-clause-err : goal.returns-in_err-send_due-clause-err

@@ -1,7 +1,8 @@
 use Rattle.std.proofs.Common.{◌≡◌, ◌∙◌, ℕ, List, Option, length, option_map, subst}
 use Rattle.live_relay.specs.Wires.{Datagram, WireTold, datagram_in, receiving}
 use Rattle.live_relay.proofs.Results.{on_err_any}
-use Rattle.live_relay.proofs.Turning.{knows_fed, stops_passing, stops_receiving, stops_sending, turned}
+use Rattle.live_relay.proofs.Feeding.{knows_fed}
+use Rattle.live_relay.proofs.Turning.{stops_passing, stops_receiving, stops_sending, turned}
 use Rattle.live_relay.proofs.relay_state.Relay.turn.Goals as goal
 
 -- a receive has the room that it is given
