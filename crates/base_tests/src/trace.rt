@@ -1,7 +1,7 @@
 // Tests of traces that are read, printed and made.
 use std::alloc::Global;
 use text_base::OutOfMemory;
-use trace_reader::{Form, Trace, TraceError, make_trace, print_trace, read_trace};
+use trace_reader::{Trace, TraceError, TraceForm, make_trace, print_trace, read_trace};
 
 fn is_shared<T: Send + Sync>(_: &T) {}
 
@@ -27,7 +27,7 @@ fn is_copied(alloc: Global, text: &[u8], said: &[u8]) -> Result<bool, TraceError
 // Returns whether a text that states bytes is read and printed again.
 fn is_stated(alloc: Global, text: &[u8]) -> Result<bool, TraceError> {
     let trace = trace_of(alloc, text)?;
-    Ok(trace.form() == Form::MomentsAndBytes && prints(alloc, &trace, text)?)
+    Ok(trace.form() == TraceForm::MomentsAndBytes && prints(alloc, &trace, text)?)
 }
 
 // A text that states bytes.

@@ -7,7 +7,7 @@ use Rattle.packet_record.specs.Schedules.{said}
 use Rattle.packet_record.specs.Loads.{load_of}
 use Rattle.trace_reader.specs.Made.{made_moments}
 use Rattle.trace_reader.specs.Traces.{TraceView, IsTrace}
-use Rattle.trace_reader.specs.declared.opportunity.Form.TheVariants.{Moments}
+use Rattle.trace_reader.specs.declared.opportunity.TraceForm.TheVariants.{Moments}
 use Rattle.nest_spec.specs.Words.{NestPlan, nest_of}
 use Rattle.nest_spec.specs.Nests.{NestParts, built}
 

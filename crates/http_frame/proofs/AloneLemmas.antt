@@ -10,7 +10,7 @@ use Rattle.http_frame.specs.Messages.{IsRequest}
 use Rattle.http_frame.specs.Frames.{Frames, NextSays, MoreCause, FaultCause, GivesFault, GivesMore}
 use Rattle.http_frame.specs.inside.Frames.{FindSays}
 use Rattle.http_frame.specs.HeadsAlone.{head_alone, NextHeadSays, GivesHead}
-use Rattle.http_frame.specs.declared.head.Found.{Found}
+use Rattle.http_frame.specs.declared.head.FoundMessage.{FoundMessage}
 use Rattle.http_frame.specs.declared.errors.Step.{Step}
 use Rattle.http_frame.specs.declared.errors.Step.TheVariants as steps
 use Rattle.http_frame.specs.declared.errors.FrameError.{FrameError}
@@ -25,7 +25,8 @@ use Rattle.http_frame.proofs.RunLemmas.{prefix_free, request_stops}
 
 -- ---- from what stands at the front
 
-pub taken_head : (old mid new : Frames) (m : Found RequestHead) → FindSays request_form old (Ok (steps.Message m)) mid
+pub taken_head : (old mid new : Frames) (m : FoundMessage RequestHead)
+    → FindSays request_form old (Ok (steps.Message m)) mid
     → new ≡ record mid { unread = drop m.len mid.unread } → NextHeadSays old (Ok (steps.Message m.head)) new
 taken_head old mid new m x is = record {
   whole = Ok (steps.Message (record { head = m.head; bytes = take m.len old.unread }));

@@ -15,7 +15,7 @@ pub struct HeadRead<H> {
 
 /// A message at the front.
 #[derive(Drop)]
-pub struct Found<H> {
+pub struct FoundMessage<H> {
     /// What the head says.
     pub head: H,
     /// How many bytes the message has.

@@ -7,7 +7,7 @@ use crate::body::{BodyStep, read_body};
 use crate::chunks::from_place;
 use crate::errors::FrameError;
 use crate::framing::Framing;
-use crate::head::Found;
+use crate::head::FoundMessage;
 
 /// A head that was read, and where its body is to be read on.
 #[derive(Drop)]
@@ -26,7 +26,7 @@ pub struct Pending<H> {
 #[derive(Drop)]
 pub enum Outcome<H> {
     /// The whole message is there.
-    Message(Found<H>),
+    Message(FoundMessage<H>),
     /// More bytes are needed.
     More,
     /// There is no message, and none can come.
@@ -46,7 +46,7 @@ pub fn finish<H: Drop>(
     let rest = from_place(unread, pending.len);
     match read_body(rest, pending.framing, ended, pending.place) {
         BodyStep::Whole(more) => {
-            let found = Found {
+            let found = FoundMessage {
                 head: pending.head,
                 len: pending.len + more,
             };

@@ -16,7 +16,7 @@ ghost use Rattle.http_frame.specs.HeadsAlone.{NextHeadSays, GivesHead};
 
 use crate::buffer::Buffer;
 use crate::errors::{FrameError, FrameFault, Step};
-use crate::head::{Found, HeadStep};
+use crate::head::{FoundMessage, HeadStep};
 use crate::messages::{Request, RequestHead};
 use crate::pending::{Outcome, Pending, finish};
 use crate::request_head::read_request;
@@ -204,7 +204,7 @@ impl RequestFrames {
     }
 
     /// Finds the first request, which stays at the front.
-    fn find(&mut self) -> Result<Step<Found<RequestHead>>, FrameFault>
+    fn find(&mut self) -> Result<Step<FoundMessage<RequestHead>>, FrameFault>
         ensures { FindSays request_form self.old result self.new }
     {
         if let Some(error) = self.failed {

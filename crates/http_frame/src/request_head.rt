@@ -62,7 +62,8 @@ fn head_of(
     requires minor { minor ≤ 1 }
     requires within { (name : List ℕ) → All (IsSpanWithin (length front.now)) (get_all fields.now name) }
     ensures { IfOk result (λ head. head ≡ request_said method.now target.now minor
-        (map (span_bytes front.now) (get_all fields.now (codes "host"))) (map (span_bytes front.now) (get_all fields.now (codes "user-agent")))
+        (map (span_bytes front.now) (get_all fields.now (codes "host")))
+        (map (span_bytes front.now) (get_all fields.now (codes "user-agent")))
         (map (span_bytes front.now) (get_all fields.now (codes "connection")))) }
 {
     let line = line_of(alloc, method, target, minor)?;

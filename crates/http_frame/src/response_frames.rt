@@ -11,7 +11,7 @@ ghost use Rattle.http_frame.specs.inside.Frames.{IsPending, AdvanceSays, FindSay
 
 use crate::buffer::Buffer;
 use crate::errors::{FrameError, FrameFault, Step};
-use crate::head::{Found, HeadStep};
+use crate::head::{FoundMessage, HeadStep};
 use crate::messages::{Response, ResponseHead};
 use crate::pending::{Outcome, Pending, finish};
 use crate::response_head::read_response;
@@ -191,7 +191,7 @@ impl ResponseFrames {
     }
 
     /// Finds the first response, which stays at the front.
-    fn find(&mut self, head_request: bool) -> Result<Step<Found<ResponseHead>>, FrameFault>
+    fn find(&mut self, head_request: bool) -> Result<Step<FoundMessage<ResponseHead>>, FrameFault>
         ensures { FindSays (response_form head_request) self.old result self.new }
     {
         if let Some(error) = self.failed {

@@ -9,7 +9,7 @@ ghost use Rattle.mark_channel.specs.inside.Carrying.{nothing};
 ghost use Rattle.mark_channel.specs.inside.Rules.{opening, sending, getting};
 
 use crate::bells::open_bells;
-use crate::rule::{InOrder, Limit, Roles, Together, Total, View};
+use crate::rule::{InOrder, HasHorizon, Roles, Together, Total, View};
 use crate::{Receiver, Sender};
 use crossbeam_channel::{Pass, RuledSender, bounded_with};
 use packet_record::Item;
@@ -47,7 +47,7 @@ pub fn open(alloc: Global, capacity: u32, horizon: u64) -> Result<(Sender, Recei
 }
 
 // Makes the receiver's pass, and fixes the horizon of both ends.
-fn split<L: Limit>(
+fn split<L: HasHorizon>(
     end: &RuledSender<Item, View, InOrder>,
     pass: &mut Pass<Item, View>,
     horizon: u64,

@@ -4,7 +4,7 @@ use Rattle.std.proofs.Common.{tests}
 use Rattle.std.proofs.lemmas.Bool.{leb-true}
 use Rattle.text_base.specs.Lines.{lines_of}
 use Rattle.trace_reader.specs.declared.opportunity.Opportunity.{Opportunity}
-use Rattle.trace_reader.specs.declared.opportunity.Form.{Form}
+use Rattle.trace_reader.specs.declared.opportunity.TraceForm.{TraceForm}
 use Rattle.trace_reader.specs.TraceText.{IsTraceText, said, said_of, stated}
 use Rattle.trace_reader.specs.Traces.{TraceView}
 use Rattle.trace_reader.proofs.Fields.{same_opportunity}
@@ -24,7 +24,7 @@ said_again o =
     let most : nat_le o.bytes 1000000 ≡ true = search (rules, tests, o.most) in
     within o.moment o.bytes (nat_le 1 o.bytes) (nat_le o.bytes 1000000) refl refl o some most refl refl
 
-pub all_said : (form : Form) (lines : List (List ℕ)) (opps : List Opportunity)
+pub all_said : (form : TraceForm) (lines : List (List ℕ)) (opps : List Opportunity)
     → map (said_of form) lines ≡ map (λ o. Some (said o)) opps → opportunities_said form lines ≡ opps
 all_said form [] [] e = refl
 all_said form [] (o ∷ opps) e = absurd (cc e)
@@ -38,7 +38,7 @@ all_said form (line ∷ lines) (o ∷ opps) e =
 pub trace_is : (text : List ℕ) (t : TraceView) → IsTraceText text t → trace_in text ≡ t
 unfolding trace_in
 trace_is text t is =
-    ap (λ (form : Form). record { form = form; opportunities = opportunities_said form (stated (lines_of text)) })
+    ap (λ (form : TraceForm). record { form = form; opportunities = opportunities_said form (stated (lines_of text)) })
     is.form
     ∙ ap (λ (opps : List Opportunity). record { form = t.form; opportunities = opps })
     (all_said t.form (stated (lines_of text)) t.opportunities is.said)

@@ -26,7 +26,8 @@ ok_has {T} {E} result value P is has = subst (λ (r : Result T E). OnOk r P) is 
 
 -- the cause of an error of the disk
 pub disk_cause : {T : Type 0} (old new : DiskView) (name : List ℕ) (result : Result T DiskError) (error : DiskError)
-    → result ≡ Err error → (IsErrOf result disk_errors.Absent → IsAbsent old.files name) → HasReadCause name old new result
+    → result ≡ Err error → (IsErrOf result disk_errors.Absent → IsAbsent old.files name)
+    → HasReadCause name old new result
     → HasStreamCause old new name (of_disk error)
 disk_cause old new name result disk_errors.Absent is absent cause = (absent is, cause.absent is)
 disk_cause old new name result disk_errors.Failed is absent cause = cause.failed is

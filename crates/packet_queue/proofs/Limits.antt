@@ -46,14 +46,6 @@ second_of_both false b e = cc
 pub fits_none : (q : QueueSpec) → fits q [] ≡ true
 fits_none q = both (is_within q.packets 0) (is_within q.bytes 0) (within_none q.packets) (within_none q.bytes)
 
-pub fits_rest : (q : QueueSpec) (t : Timed) (ts : List Timed) → fits q (t ∷ ts) ≡ true → fits q ts ≡ true
-fits_rest q t ts e =
-    both (is_within q.packets (length ts)) (is_within q.bytes (bytes ts))
-    (within_less q.packets (length ts) (length (t ∷ ts))
-    (first_of_both (is_within q.packets (length (t ∷ ts))) (is_within q.bytes (bytes (t ∷ ts))) e) (omega arith))
-    (within_less q.bytes (bytes ts) (bytes (t ∷ ts))
-    (second_of_both (is_within q.packets (length (t ∷ ts))) (is_within q.bytes (bytes (t ∷ ts))) e) (omega arith))
-
 pub fitting_fits : (q : QueueSpec) (ts : List Timed) → fits q (fitting q ts) ≡ true
 fitting_fits q [] = fits_none q
 fitting_fits q (t ∷ ts) = elim (fits q (t ∷ ts)) as (λ b. fits q (t ∷ ts) ≡ b

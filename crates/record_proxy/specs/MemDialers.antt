@@ -3,12 +3,12 @@ use Rattle.std.specs.Prelude.{◌+◌, ℕ, Some}
 use Rattle.mm_base.specs.MemLink.{MemLinkState}
 use Rattle.mm_base.specs.MemPort.{MemPortState}
 use Rattle.record_proxy.specs.Dialers.{DialerView}
-use Rattle.record_proxy.specs.declared.asked.Asked.{Asked}
+use Rattle.record_proxy.specs.declared.ports_asked.PortsAsked.{PortsAsked}
 
 -- at which ports it was asked, the links as a port in memory gives them, and how often one was dialed where none was
 -- left
 pub record MemDialerState : Type 0 where
-  pub asked : Asked
+  pub asked : PortsAsked
   pub links : MemPortState
   pub missing : ℕ
 

@@ -1,7 +1,6 @@
 //! A proxy that records what passes between clients and one site.
 #![tactic(auto)]
 
-mod asked;
 mod command;
 mod dialer;
 mod ends;
@@ -10,6 +9,7 @@ mod job;
 mod mem_dialer;
 mod messages;
 mod pool;
+mod ports_asked;
 mod proxy;
 mod proxy_state;
 mod refusing;
@@ -21,11 +21,11 @@ mod telling;
 mod words;
 mod workers;
 
-pub use asked::Asked;
 pub use command::proxy_main;
 pub use dialer::Dialer;
 pub use ends::ProxyEnd;
 pub use mem_dialer::MemDialer;
+pub use ports_asked::PortsAsked;
 pub use proxy::proxy_conn;
 pub use refusing::{refuse_store, store_name};
 pub use tcp_dialer::TcpDialer;

@@ -10,10 +10,10 @@ ghost use Rattle.mm_base.specs.Port.{after_finish};
 ghost use Rattle.record_proxy.specs.Asking.{asked_at};
 ghost use Rattle.record_proxy.specs.Dialers.{CountsDials};
 ghost use Rattle.record_proxy.specs.MemDialers.{mem_dialer_view};
-ghost use Rattle.record_proxy.specs.declared.asked.Asked.TheVariants.{Never};
+ghost use Rattle.record_proxy.specs.declared.ports_asked.PortsAsked.TheVariants.{Never};
 
-use crate::asked::Asked;
 use crate::dialer::Dialer;
+use crate::ports_asked::PortsAsked;
 use mm_base::{EndError, MemLink, MemPort, Port};
 use std::alloc::Global;
 use std::marker::Model;
@@ -22,7 +22,7 @@ use std::marker::Model;
 /// was asked, counts its calls from 1, and fails those that its list names, and a `dial` where no link is left.
 #[derive(Drop)]
 pub struct MemDialer {
-    asked: Asked,
+    asked: PortsAsked,
     links: MemPort,
     missing: u64,
 }
@@ -52,14 +52,14 @@ impl MemDialer {
         ensures asked { result.asked ≡ Never }
     {
         MemDialer {
-            asked: Asked::Never,
+            asked: PortsAsked::Never,
             links: MemPort::new(alloc, links, fails),
             missing: 0,
         }
     }
 
     /// At which ports it was asked for links.
-    pub fn asked(&self) -> Asked
+    pub fn asked(&self) -> PortsAsked
         ensures { result ≡ self.now.asked }
     {
         self.asked

@@ -2,10 +2,10 @@
 ghost use Rattle.std.specs.Prelude.{◌≡◌, ◌≤◌, ◌<◌, ◌-◌, ◌^◌, None, IfOk, OnOk};
 ghost use Rattle.mm_base.specs.Counts.{Rose};
 ghost use Rattle.record_proxy.specs.Asking.{asked_at};
-ghost use Rattle.record_proxy.specs.declared.asked.Asked.TheVariants.{Never};
+ghost use Rattle.record_proxy.specs.declared.ports_asked.PortsAsked.TheVariants.{Never};
 
-use crate::asked::Asked;
 use crate::dialer::Dialer;
+use crate::ports_asked::PortsAsked;
 use end_watch::EndWatch;
 use ended_port::{EndedLink, Silence};
 use mm_base::{EndError, TcpLimits};
@@ -26,7 +26,7 @@ pub struct TcpDialer<'a, R: Net<Stream = TcpStream, Listener = TcpListener> + Cl
     rt: R,
     limits: TcpLimits,
     watch: &'a EndWatch,
-    asked: Asked,
+    asked: PortsAsked,
     dialed: u64,
     faults: u64,
     last_error: Option<i32>,
@@ -51,7 +51,7 @@ impl<'a, R: Net<Stream = TcpStream, Listener = TcpListener> + Clock + Copy + Dro
             rt,
             limits,
             watch,
-            asked: Asked::Never,
+            asked: PortsAsked::Never,
             dialed: 0,
             faults: 0,
             last_error: None,

@@ -10,7 +10,7 @@ use Rattle.std.proofs.lemmas.List.{drop-drop, drop_more, drop_at, take_at, get_o
 use Rattle.text_base.specs.Lines.{is_one_line}
 use Rattle.record_store.specs.Headers.{header_line, HasPort, header_of}
 use Rattle.record_store.specs.Cuts.{request_part, response_part, cut_at_header, cut_by_header, cut_by_line, cut_of}
-use Rattle.record_store.specs.declared.header.Form.{Form}
+use Rattle.record_store.specs.declared.header.StoreForm.{StoreForm}
 use Rattle.record_store.specs.declared.header.Header.{Header}
 use Rattle.record_store.specs.declared.cutting.Cut.{Cut}
 use Rattle.record_store.specs.declared.store_error.StoreError.{StoreError}
@@ -71,7 +71,7 @@ module _ (line q s after : List ℕ) (m n : ℕ) (q_long : length q ≡ m) (s_lo
       ∙ drop-append-add ((line ++ 10 ∷ q) ++ s) (10 ∷ after) 1
 
 -- a record's text is cut into its parts
-pub cut_of-text : (form : Form) (place : ℕ) (line q s after : List ℕ) (h : Header) → is_one_line line ≡ true
+pub cut_of-text : (form : StoreForm) (place : ℕ) (line q s after : List ℕ) (h : Header) → is_one_line line ≡ true
     → header_of form place line ≡ Ok h
     → length q ≡ h.request → length s ≡ h.response
     → cut_of form place (parts_text line q s after) ≡ Ok (cut_after h.port (length line + 1) h.request h.response)
@@ -92,7 +92,7 @@ cut_of-text form place line q s after h one header q_long s_long =
 
 -- ---- and what is cut is the text of its parts
 
-pub record IsCut (form : Form) (bytes : List ℕ) (cut : Cut) : Type 0 where
+pub record IsCut (form : StoreForm) (bytes : List ℕ) (cut : Cut) : Type 0 where
   pub text : bytes ≡ parts_text (header_line form cut.port (length (request_part cut bytes))
       (length (response_part cut bytes)))
       (request_part cut bytes) (response_part cut bytes) (drop (cut.end + 1) bytes)
@@ -115,7 +115,7 @@ piece xs i j le =
 piece_long : (xs : List ℕ) (i j : ℕ) → i ≤ j → j ≤ length xs → length (take (j - i) (drop i xs)) ≡ j - i
 piece_long xs i j le fits = length-take-le (j - i) (drop i xs) (omega (arith, length-drop i xs))
 
-parts_found : (form : Form) (place : ℕ) (bytes : List ℕ) (n : ℕ) (h : Header) (cut : Cut)
+parts_found : (form : StoreForm) (place : ℕ) (bytes : List ℕ) (n : ℕ) (h : Header) (cut : Cut)
     → position (λ byte. byte == 10) bytes ≡ Some n
     → header_of form place (take n bytes) ≡ Ok h → cut_at_header place bytes (n + 1) h ≡ Ok cut → IsCut form bytes cut
 parts_found form place bytes n h cut at header is =
@@ -147,19 +147,19 @@ parts_found form place bytes n h cut at header is =
     } in
     subst (IsCut form bytes) t.2 whole
 
-by_header : (form : Form) (place : ℕ) (bytes : List ℕ) (n : ℕ) (cut : Cut) (r : Result Header StoreError)
+by_header : (form : StoreForm) (place : ℕ) (bytes : List ℕ) (n : ℕ) (cut : Cut) (r : Result Header StoreError)
     → position (λ byte. byte == 10) bytes ≡ Some n
     → header_of form place (take n bytes) ≡ r → cut_by_header place bytes (n + 1) r ≡ Ok cut → IsCut form bytes cut
 by_header form place bytes n cut (Ok h) at header is = parts_found form place bytes n h cut at header is
 by_header form place bytes n cut (Err e) at header is = cc
 
-by_line : (form : Form) (place : ℕ) (bytes : List ℕ) (cut : Cut) (o : Option ℕ)
+by_line : (form : StoreForm) (place : ℕ) (bytes : List ℕ) (cut : Cut) (o : Option ℕ)
     → position (λ byte. byte == 10) bytes ≡ o
     → cut_by_line form place bytes o ≡ Ok cut → IsCut form bytes cut
 by_line form place bytes cut None at is = cc
 by_line form place bytes cut (Some n) at is = by_header form place bytes n cut (header_of form place (take n bytes))
     at refl is
 
-pub is_cut : (form : Form) (place : ℕ) (bytes : List ℕ) (cut : Cut) → cut_of form place bytes ≡ Ok cut
+pub is_cut : (form : StoreForm) (place : ℕ) (bytes : List ℕ) (cut : Cut) → cut_of form place bytes ≡ Ok cut
     → IsCut form bytes cut
 is_cut form place bytes cut is = by_line form place bytes cut (position (λ byte. byte == 10) bytes) refl is

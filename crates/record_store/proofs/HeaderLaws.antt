@@ -15,8 +15,8 @@ use Rattle.text_base.specs.Words.{first_word, other_words}
 use Rattle.record_store.specs.Headers.{header_line, HasPort, if_at_most, number_up_to, most_length, lengths_of}
 use Rattle.record_store.specs.Headers.{port_and_lengths_of, is_scheme, with_scheme, header_by_form, header_of}
 use Rattle.record_store.specs.inside.Headers.{IsShort}
-use Rattle.record_store.specs.declared.header.Form.{Form}
-use Rattle.record_store.specs.declared.header.Form.TheVariants.{One, Two}
+use Rattle.record_store.specs.declared.header.StoreForm.{StoreForm}
+use Rattle.record_store.specs.declared.header.StoreForm.TheVariants.{One, Two}
 use Rattle.record_store.specs.declared.header.Header.{Header}
 use Rattle.record_store.specs.declared.store_error.StoreError.{StoreError}
 use Rattle.record_store.specs.declared.store_error.StoreError.TheVariants as errors
@@ -142,7 +142,7 @@ is_port_and_lengths rest h e =
 
 -- ---- whole lines
 
-by_record : (form : Form) (place : ℕ) (rest : List ℕ)
+by_record : (form : StoreForm) (place : ℕ) (rest : List ℕ)
     → header_of form place (codes "record" ++ 32 ∷ rest) ≡ header_by_form form place rest
 by_record form place rest =
     let line : List ℕ = codes "record" ++ 32 ∷ rest in
@@ -160,7 +160,7 @@ by_http place rest =
     (other_words-spaced (codes "http") rest refl)
 
 -- a header line is read
-pub header_of-line : (form : Form) (place port m n : ℕ) → port ≤ 65535 → HasPort form port → m ≤ most_length
+pub header_of-line : (form : StoreForm) (place port m n : ℕ) → port ≤ 65535 → HasPort form port → m ≤ most_length
     → n ≤ most_length
     → header_of form place (header_line form port m n) ≡ Ok (record { port = port; request = m; response = n })
 header_of-line One place port m n small own p q =
@@ -173,7 +173,7 @@ header_of-line Two place port m n small own p q =
     ∙ ap (with_scheme place (codes "http")) (port_and_lengths_of-line port m n small p q)
 
 -- what is read is a header line
-pub record IsHeader (form : Form) (line : List ℕ) (h : Header) : Type 0 where
+pub record IsHeader (form : StoreForm) (line : List ℕ) (h : Header) : Type 0 where
   pub text : line ≡ header_line form h.port h.request h.response
   pub port : h.port ≤ 65535
   pub own : HasPort form h.port
@@ -210,7 +210,7 @@ two_words line rest word others some first =
     spaced_again line (subst (λ (l : List ℕ). 0 < length l) (sym others) some)
     ∙ ap (λ (l : List ℕ). l ++ 32 ∷ other_words line) first ∙ ap (λ (l : List ℕ). word ++ 32 ∷ l) others
 
-by_form : (form : Form) (place : ℕ) (line : List ℕ) (h : Header) → first_word line ≡ codes "record"
+by_form : (form : StoreForm) (place : ℕ) (line : List ℕ) (h : Header) → first_word line ≡ codes "record"
     → header_by_form form place (other_words line) ≡ Ok h → IsHeader form line h
 by_form One place line h first is =
     let found = is_lengths 0 (other_words line) h (some_of (lengths_of 0 (other_words line)) (errors.BadHeader place)
@@ -235,7 +235,7 @@ by_form Two place line h first is =
       own = tt;
     }
 
-pub is_header : (form : Form) (place : ℕ) (line : List ℕ) (h : Header) → header_of form place line ≡ Ok h
+pub is_header : (form : StoreForm) (place : ℕ) (line : List ℕ) (h : Header) → header_of form place line ≡ Ok h
     → IsHeader form line h
 is_header form place line h e =
     let t = passed (bytes_eq (first_word line) (codes "record")) (header_by_form form place (other_words line))
@@ -243,7 +243,7 @@ is_header form place line h e =
     by_form form place line h (same_word (first_word line) (codes "record") t.0) t.1
 
 -- a header line is one line
-pub is_one_line-header : (form : Form) (port m n : ℕ) → port ≤ 65535 → m ≤ most_length → n ≤ most_length
+pub is_one_line-header : (form : StoreForm) (port m n : ℕ) → port ≤ 65535 → m ≤ most_length → n ≤ most_length
     → is_one_line (header_line form port m n) ≡ true
 is_one_line-header One port m n o p q =
     is_one_line-append (decimal m) (32 ∷ decimal n) (is_one_line-decimal m (omega (arith, p)))

@@ -15,8 +15,8 @@ use Rattle.record_store.specs.Cuts.{cut_of}
 use Rattle.record_store.specs.StoreText.{store_text, form_of, magic, Reaches, StoreSays, no_form, no_parts, no_exchange}
 use Rattle.record_store.specs.inside.Cuts.{IsInside}
 use Rattle.record_store.specs.inside.CutsMore.{is_cut_off}
-use Rattle.record_store.specs.declared.header.Form.{Form}
-use Rattle.record_store.specs.declared.header.Form.TheVariants.{One, Two}
+use Rattle.record_store.specs.declared.header.StoreForm.{StoreForm}
+use Rattle.record_store.specs.declared.header.StoreForm.TheVariants.{One, Two}
 use Rattle.record_store.specs.declared.header.Header.{Header}
 use Rattle.record_store.specs.declared.cutting.Cut.{Cut}
 use Rattle.record_store.specs.declared.record.Record.{Record}
@@ -87,7 +87,7 @@ header_more place bytes more start (Ok h) r settled is =
     } in
     end_more place bytes more cut r (nat_lt cut.end (length bytes)) settled refl is
 
-line_more : (form : Form) (place : ℕ) (bytes more : List ℕ) (r : Result Cut StoreError) (o : Option ℕ)
+line_more : (form : StoreForm) (place : ℕ) (bytes more : List ℕ) (r : Result Cut StoreError) (o : Option ℕ)
     → is_settled r ≡ true → position (λ byte. byte == 10) bytes ≡ o → cut_by_line form place bytes o ≡ r
     → cut_of form place (bytes ++ more) ≡ r
 line_more form place bytes more r None settled at is = unsettled place r settled is
@@ -99,7 +99,7 @@ line_more form place bytes more r (Some n) settled at is =
     ∙ header_more place bytes more (n + 1) (header_of form place (take n bytes)) r settled is
 
 -- the parts, or a refusal of them, where the text doesn't just end too soon
-pub cut_more : (form : Form) (place : ℕ) (bytes more : List ℕ) (r : Result Cut StoreError) → is_settled r ≡ true
+pub cut_more : (form : StoreForm) (place : ℕ) (bytes more : List ℕ) (r : Result Cut StoreError) → is_settled r ≡ true
     → cut_of form place bytes ≡ r → cut_of form place (bytes ++ more) ≡ r
 cut_more form place bytes more r settled is =
     line_more form place bytes more r (position (λ byte. byte == 10) bytes) settled refl is
@@ -120,15 +120,15 @@ response_more cut bytes more inside =
 
 -- ---- a text
 
-pub reaches_more : (form : Form) (text : List ℕ) (rs : List Record) (rest more : List ℕ) → Reaches form text rs rest
-    → Reaches form (text ++ more) rs (rest ++ more)
+pub reaches_more : (form : StoreForm) (text : List ℕ) (rs : List Record) (rest more : List ℕ)
+    → Reaches form text rs rest → Reaches form (text ++ more) rs (rest ++ more)
 reaches_more form text rs rest more reaches = record {
   split = ap (λ (l : List ℕ). l ++ more) reaches.split ∙ append_assoc (store_text form rs) rest more;
   records = reaches.records;
 }
 
 -- what follows can't be cut
-pub refused_more : (form : Form) (text rest more : List ℕ) (rs : List Record) (e : StoreError)
+pub refused_more : (form : StoreForm) (text rest more : List ℕ) (rs : List Record) (e : StoreError)
     → Reaches form text rs rest → 0 < length rest
     → cut_of form (length (store_text form rs)) (rest ++ more) ≡ Err e → StoreSays (text ++ more) (Err e)
 refused_more form text rest more rs e reaches some cut =
@@ -136,7 +136,7 @@ refused_more form text rest more rs e reaches some cut =
     (omega (arith, length-append rest more, some)) cut refl
 
 -- what was cut is no exchange
-pub unmatched_more : (form : Form) (text rest more : List ℕ) (rs : List Record) (cut : Cut) (e : StoreError)
+pub unmatched_more : (form : StoreForm) (text rest more : List ℕ) (rs : List Record) (cut : Cut) (e : StoreError)
     → Reaches form text rs rest → IsInside rest cut → cut_of form (length (store_text form rs)) rest ≡ Ok cut
     → (IsExchange (request_part cut rest) (response_part cut rest) → ⊥)
     → e ≡ errors.BadMessage (length rs + 1) → StoreSays (text ++ more) (Err e)
@@ -156,7 +156,7 @@ formless_more text more long none =
     (cond (bytes_eq l (magic One)) (Some One) None)) (take-append-le 10 text more long) ∙ none) refl
 
 -- where a text goes on, behind more records
-pub place_on : (form : Form) (text bytes : List ℕ) (rs ss : List Record) (n place : ℕ) → n ≤ length bytes
+pub place_on : (form : StoreForm) (text bytes : List ℕ) (rs ss : List Record) (n place : ℕ) → n ≤ length bytes
     → Reaches form text rs bytes → Reaches form text ss (drop n bytes) → place ≡ length (store_text form rs)
     → place + n ≡ length (store_text form ss)
 place_on form text bytes rs ss n place within before after at =

@@ -6,7 +6,7 @@ use Rattle.std.proofs.lemmas.List.{take_more, flat_map_more}
 use Rattle.record_store.specs.StoreText.{magic, record_text, records_text, store_text}
 use Rattle.record_store.specs.Headers.{header_line}
 use Rattle.record_store.specs.views.Pieces.{text_left}
-use Rattle.record_store.specs.declared.header.Form.TheVariants.{Two}
+use Rattle.record_store.specs.declared.header.StoreForm.TheVariants.{Two}
 use Rattle.record_store.specs.declared.record.Record.{Record}
 
 pub on_ok : {X E : Type 0} (r : Result X E) (P Q : Type 0) → (P → Q) → OnOk r P → OnOk r Q

@@ -4,7 +4,7 @@ use Rattle.std.proofs.Common.{append_assoc, append-nil}
 use Rattle.std.specs.Prelude.{is_some}
 use Rattle.record_store.specs.StoreText.{StoreSays, Reaches, store_text}
 use Rattle.record_store.specs.StoreReaders.{HasRead, HasReadTo, HasReadForm}
-use Rattle.record_store.specs.declared.header.Form.{Form}
+use Rattle.record_store.specs.declared.header.StoreForm.{StoreForm}
 use Rattle.record_store.specs.declared.record.Record.{Record}
 use Rattle.record_store.specs.declared.store_error.StoreError.{StoreError}
 use Rattle.record_store.specs.declared.store_reader.StoreReader.{StoreReader}
@@ -18,17 +18,17 @@ refused_says text reader error is has =
     (subst (HasReadTo text reader) is has [])
 
 -- what a reader that isn't refused has read, by its form
-pub going_has : (text : List ℕ) (reader : StoreReader) (form : Option Form) → reader.refused ≡ None
+pub going_has : (text : List ℕ) (reader : StoreReader) (form : Option StoreForm) → reader.refused ≡ None
     → reader.form ≡ form → HasRead text reader → HasReadForm text reader form
 going_has text reader form going is has = subst (HasReadForm text reader) is (subst (HasReadTo text reader) going has)
 
-pub going_read : (text : List ℕ) (reader : StoreReader) (form : Option Form) → reader.refused ≡ None
+pub going_read : (text : List ℕ) (reader : StoreReader) (form : Option StoreForm) → reader.refused ≡ None
     → reader.form ≡ form → HasReadForm text reader form → HasRead text reader
 going_read text reader form going is has =
     subst (HasReadTo text reader) (sym going) (subst (HasReadForm text reader) (sym is) has)
 
 -- a piece is kept
-kept_form : (text piece : List ℕ) (old new : StoreReader) (form : Option Form)
+kept_form : (text piece : List ℕ) (old new : StoreReader) (form : Option StoreForm)
     → new.kept.items ≡ old.kept.items ++ piece → new.store ≡ old.store → new.place ≡ old.place
     → HasReadForm text old form → HasReadForm (text ++ piece) new form
 kept_form text piece old new None kept store place has =

@@ -14,8 +14,8 @@ use Rattle.record_store.specs.Exchanges.{IsExchange}
 use Rattle.record_store.specs.inside.Exchanges.{OneExchange}
 use Rattle.record_store.specs.StoreText.{magic, record_text, records_text, store_text, IsRecordIn, form_of, Reaches}
 use Rattle.record_store.specs.StoreText.{StoreSays, whole, no_form, no_parts, no_exchange, no_memory}
-use Rattle.record_store.specs.declared.header.Form.{Form}
-use Rattle.record_store.specs.declared.header.Form.TheVariants.{One, Two}
+use Rattle.record_store.specs.declared.header.StoreForm.{StoreForm}
+use Rattle.record_store.specs.declared.header.StoreForm.TheVariants.{One, Two}
 use Rattle.record_store.specs.declared.record.Record.{Record}
 use Rattle.record_store.specs.declared.cutting.Cut.{Cut}
 use Rattle.record_store.specs.declared.store_error.StoreError.{StoreError}
@@ -26,13 +26,13 @@ use Rattle.record_store.proofs.ExchangeLaws.{request_short, response_short, same
 
 -- ---- one record at the front
 
-abbrev line_of : Form → Record → List ℕ
+abbrev line_of : StoreForm → Record → List ℕ
 line_of form r = header_line form r.port (length r.request.bytes) (length r.response.bytes)
 
-abbrev cut_for : Form → Record → Cut
+abbrev cut_for : StoreForm → Record → Cut
 cut_for form r = cut_after r.port (length (line_of form r) + 1) (length r.request.bytes) (length r.response.bytes)
 
-record_parts : (form : Form) (r : Record) (after : List ℕ) → record_text form r
+record_parts : (form : StoreForm) (r : Record) (after : List ℕ) → record_text form r
     ++ after ≡ parts_text (line_of form r) r.request.bytes r.response.bytes after
 record_parts form r after =
     let q = r.request.bytes in
@@ -41,7 +41,7 @@ record_parts form r after =
     ∙ ap (λ (l : List ℕ). line_of form r ++ 10 ∷ l) (append_assoc q (s ++ 10 ∷ []) after
     ∙ ap (λ (l : List ℕ). q ++ l) (append_assoc s (10 ∷ []) after))
 
-record_cut : (form : Form) (place : ℕ) (r : Record) (after : List ℕ) → IsRecordIn form r
+record_cut : (form : StoreForm) (place : ℕ) (r : Record) (after : List ℕ) → IsRecordIn form r
     → cut_of form place (record_text form r ++ after) ≡ Ok (cut_for form r)
 record_cut form place r after is =
     let m = length r.request.bytes in
@@ -54,21 +54,21 @@ record_cut form place r after is =
     (is_one_line-header form r.port m n is.0.port p q) (header_of-line form place r.port m n is.0.port is.1 p q) refl
     refl
 
-record_request : (form : Form) (r : Record) (after : List ℕ)
+record_request : (form : StoreForm) (r : Record) (after : List ℕ)
     → request_part (cut_for form r) (record_text form r ++ after) ≡ r.request.bytes
 record_request form r after =
     ap (request_part (cut_for form r)) (record_parts form r after)
     ∙ request_is (line_of form r) r.request.bytes r.response.bytes after (length r.request.bytes)
     (length r.response.bytes) refl refl r.port
 
-record_response : (form : Form) (r : Record) (after : List ℕ)
+record_response : (form : StoreForm) (r : Record) (after : List ℕ)
     → response_part (cut_for form r) (record_text form r ++ after) ≡ r.response.bytes
 record_response form r after =
     ap (response_part (cut_for form r)) (record_parts form r after)
     ∙ response_is (line_of form r) r.request.bytes r.response.bytes after (length r.request.bytes)
     (length r.response.bytes) refl refl r.port
 
-record_after : (form : Form) (r : Record) (after : List ℕ)
+record_after : (form : StoreForm) (r : Record) (after : List ℕ)
     → drop ((cut_for form r).end + 1) (record_text form r ++ after) ≡ after
 record_after form r after =
     ap (drop ((cut_for form r).end + 1)) (record_parts form r after)
@@ -79,7 +79,7 @@ same_cut : (a b : Cut) (r : Result Cut StoreError) → r ≡ Ok a → r ≡ Ok b
 same_cut a b r p q = let e : r ≡ Ok b = q in cc
 
 -- two records with which one text begins are the same
-pub same_front : (form : Form) (r s : Record) (a b : List ℕ) → IsRecordIn form r → IsRecordIn form s
+pub same_front : (form : StoreForm) (r s : Record) (a b : List ℕ) → IsRecordIn form r → IsRecordIn form s
     → record_text form r ++ a ≡ record_text form s ++ b → (r ≡ s) × (a ≡ b)
 same_front form r s a b p q e =
     let text = record_text form s ++ b in
@@ -99,10 +99,10 @@ same_front form r s a b p q e =
 -- ---- many
 
 -- no record stands at the front
-abbrev Stops : Form → List ℕ → Type 0
+abbrev Stops : StoreForm → List ℕ → Type 0
 Stops form rest = (r : Record) (after : List ℕ) → IsRecordIn form r → rest ≡ record_text form r ++ after → ⊥
 
-same_run : (form : Form) (rs ss : List Record) (x y : List ℕ) → All (IsRecordIn form) rs → All (IsRecordIn form) ss
+same_run : (form : StoreForm) (rs ss : List Record) (x y : List ℕ) → All (IsRecordIn form) rs → All (IsRecordIn form) ss
     → Stops form x → Stops form y
     → records_text form rs ++ x ≡ records_text form ss ++ y → (rs ≡ ss) × (x ≡ y)
 same_run form [] [] x y p q stop stop' e = (refl, e)
@@ -122,22 +122,23 @@ same_run form (r ∷ rs) (s ∷ ss) x y p q stop stop' e =
     (λ i. front.0 i ∷ later.0 i, later.1)
 
 -- the form is known by the first 10 bytes
-form_reached : (form : Form) (text : List ℕ) (rs : List Record) (rest : List ℕ) → text ≡ store_text form rs ++ rest
+form_reached : (form : StoreForm) (text : List ℕ) (rs : List Record) (rest : List ℕ) → text ≡ store_text form rs ++ rest
     → form_of text ≡ Some form
 form_reached One text rs rest e = ap form_of e
 form_reached Two text rs rest e = ap form_of e
 
-some_form : (a b : Form) (o : Option Form) → o ≡ Some a → o ≡ Some b → a ≡ b
+some_form : (a b : StoreForm) (o : Option StoreForm) → o ≡ Some a → o ≡ Some b → a ≡ b
 some_form a b o p q = let e : o ≡ Some b = q in cc
 
-after_magic : (form : Form) (rs ss : List Record) (x y : List ℕ) → store_text form rs ++ x ≡ store_text form ss ++ y
-    → records_text form rs ++ x ≡ records_text form ss ++ y
+after_magic : (form : StoreForm) (rs ss : List Record) (x y : List ℕ)
+    → store_text form rs ++ x ≡ store_text form ss ++ y → records_text form rs ++ x ≡ records_text form ss ++ y
 after_magic One rs ss x y e = ap (drop 10) e
 after_magic Two rs ss x y e = ap (drop 10) e
 
 -- ---- what a text says, by what stands after its records
 
-data Says (form : Form) (rs : List Record) (rest : List ℕ) (result : Result (List Record) StoreError) : Type 0 where
+data Says (form : StoreForm) (rs : List Record) (rest : List ℕ) (result : Result (List Record) StoreError) : Type 0
+    where
   ends : rest ≡ [] → result ≡ Ok rs → Says form rs rest result
   uncut : 0 < length rest → (e : StoreError) → cut_of form (length (store_text form rs)) rest ≡ Err e → result ≡ Err e
       → Says form rs rest result
@@ -146,7 +147,7 @@ data Says (form : Form) (rs : List Record) (rest : List ℕ) (result : Result (L
       → result ≡ Err (errors.BadMessage (length rs + 1)) → Says form rs rest result
 
 record Reading (text : List ℕ) (result : Result (List Record) StoreError) : Type 0 where
-  pub form : Form
+  pub form : StoreForm
   pub records : List Record
   pub rest : List ℕ
   pub reaches : Reaches form text records rest
@@ -173,11 +174,11 @@ kind_of text result (no_exchange form rs rest parts reaches cut none r) =
     formed (record { form = form; records = rs; rest = rest; reaches = reaches; says = unmatched parts cut none r })
 kind_of text result (no_memory r) = forgotten r
 
-some_line : (form : Form) (r : Record) (after : List ℕ) → 0 < length (record_text form r ++ after)
+some_line : (form : StoreForm) (r : Record) (after : List ℕ) → 0 < length (record_text form r ++ after)
 some_line One r after = omega arith
 some_line Two r after = omega arith
 
-stops_so : (form : Form) (rs : List Record) (rest : List ℕ) (result : Result (List Record) StoreError)
+stops_so : (form : StoreForm) (rs : List Record) (rest : List ℕ) (result : Result (List Record) StoreError)
     → Says form rs rest result → Stops form rest
 stops_so form rs rest result (ends none r) = λ s after is e. let long = some_line form s after
     in let zero = ap length (sym none ∙ e) in absurd (omega arith)
@@ -196,7 +197,7 @@ stops_so form rs rest result (unmatched parts cut none r) = λ s after is e.
       sym (ap (response_part parts) e ∙ ap (λ (c : Cut). response_part c text) cuts ∙ record_response form s after),
     )
 
-says_once : (form : Form) (rs : List Record) (rest : List ℕ) (a b : Result (List Record) StoreError)
+says_once : (form : StoreForm) (rs : List Record) (rest : List ℕ) (a b : Result (List Record) StoreError)
     → Says form rs rest a → Says form rs rest b → a ≡ b
 says_once form rs rest a b (ends none r) (ends none' r') = r ∙ sym r'
 says_once form rs rest a b (ends none r) (uncut some fault cut r') = let zero = ap length none in absurd (omega arith)
@@ -215,9 +216,9 @@ readings_same text a b x y =
     let forms : x.form ≡ y.form = some_form x.form y.form (form_of text)
     (form_reached x.form text x.records x.rest x.reaches.split)
     (form_reached y.form text y.records y.rest y.reaches.split) in
-    let reaches : Reaches y.form text x.records x.rest = subst (λ (f : Form). Reaches f text x.records x.rest) forms
-    x.reaches in
-    let says : Says y.form x.records x.rest a = subst (λ (f : Form). Says f x.records x.rest a) forms x.says in
+    let reaches : Reaches y.form text x.records x.rest =
+        subst (λ (f : StoreForm). Reaches f text x.records x.rest) forms x.reaches in
+    let says : Says y.form x.records x.rest a = subst (λ (f : StoreForm). Says f x.records x.rest a) forms x.says in
     let run = same_run y.form x.records y.records x.rest y.rest reaches.records y.reaches.records
     (stops_so y.form x.records x.rest a says) (stops_so y.form y.records y.rest b y.says)
     (after_magic y.form x.records y.records x.rest y.rest (sym reaches.split ∙ y.reaches.split)) in
@@ -269,19 +270,19 @@ take_known : (text known : List ℕ) → bytes_eq (take 10 text) known ≡ true 
 take_known text known e = sym (take-append-drop 10 text)
     ∙ ap (λ (l : List ℕ). l ++ drop 10 text) ((bytes_eq-Decides (take 10 text) known).0 e)
 
-by_magic : (b c : Bool) (form : Form) → cond b (Some Two) (cond c (Some One) None) ≡ Some form
+by_magic : (b c : Bool) (form : StoreForm) → cond b (Some Two) (cond c (Some One) None) ≡ Some form
     → ((form ≡ Two) × (b ≡ true)) ⊎ ((form ≡ One) × (c ≡ true))
 by_magic true c form e = inl (cc, refl)
 by_magic false true form e = inr (cc, refl)
 by_magic false false form e = cc
 
-pub begins : (form : Form) (text : List ℕ) (rs : List Record) → form_of text ≡ Some form → rs ≡ []
+pub begins : (form : StoreForm) (text : List ℕ) (rs : List Record) → form_of text ≡ Some form → rs ≡ []
     → (10 ≤ length text) × Reaches form text rs (drop 10 text)
 begins form text rs e none =
     let parts : text ≡ magic form ++ drop 10 text =
     elim (by_magic (bytes_eq (take 10 text) (magic Two)) (bytes_eq (take 10 text) (magic One)) form e) [
-      | inl two ↦ take_known text (magic Two) two.1 ∙ ap (λ (f : Form). magic f ++ drop 10 text) (sym two.0)
-      | inr one ↦ take_known text (magic One) one.1 ∙ ap (λ (f : Form). magic f ++ drop 10 text) (sym one.0)
+      | inl two ↦ take_known text (magic Two) two.1 ∙ ap (λ (f : StoreForm). magic f ++ drop 10 text) (sym two.0)
+      | inr one ↦ take_known text (magic One) one.1 ∙ ap (λ (f : StoreForm). magic f ++ drop 10 text) (sym one.0)
     ] in
     let long : length (magic form) ≡ 10 = magic_long form in
     let here : text ≡ store_text form [] ++ drop 10 text = parts
@@ -293,17 +294,17 @@ begins form text rs e none =
       },
     )
   where
-    magic_long : (form : Form) → length (magic form) ≡ 10
+    magic_long : (form : StoreForm) → length (magic form) ≡ 10
     magic_long One = refl
     magic_long Two = refl
 
 -- where the rest stands
-pub place_of_rest : (form : Form) (text : List ℕ) (rs : List Record) (place : ℕ) → place ≤ length text
+pub place_of_rest : (form : StoreForm) (text : List ℕ) (rs : List Record) (place : ℕ) → place ≤ length text
     → Reaches form text rs (drop place text) → place ≡ length (store_text form rs)
 place_of_rest form text rs place inside reaches =
     omega (arith, ap length reaches.split, length-append (store_text form rs) (drop place text), length-drop place text)
 
-store_text_more : (form : Form) (rs : List Record) (r : Record) (rest : List ℕ) → store_text form rs
+store_text_more : (form : StoreForm) (rs : List Record) (r : Record) (rest : List ℕ) → store_text form rs
     ++ (record_text form r ++ rest) ≡ store_text form (rs ++ r ∷ []) ++ rest
 store_text_more form rs r rest =
     append_assoc (magic form) (records_text form rs) (record_text form r ++ rest)
@@ -319,8 +320,8 @@ store_text_more form rs r rest =
         ∙ sym (append_assoc (record_text form s) (records_text form (rs ++ r ∷ [])) rest)
 
 -- a record more
-pub record_read : (form : Form) (text bytes : List ℕ) (rs ss : List Record) (place next : ℕ) (cut : Cut) (r : Record)
-    → Reaches form text rs (drop place bytes)
+pub record_read : (form : StoreForm) (text bytes : List ℕ) (rs ss : List Record) (place next : ℕ) (cut : Cut)
+    (r : Record) → Reaches form text rs (drop place bytes)
     → cut_of form (length (store_text form rs)) (drop place bytes) ≡ Ok cut
     → OneExchange cut.port (request_part cut (drop place bytes)) (response_part cut (drop place bytes)) (Some r)
     → ss ≡ rs ++ r ∷ [] → next ≡ place + (cut.end + 1) → Reaches form text ss (drop next bytes)
@@ -349,8 +350,8 @@ record_read form text bytes rs ss place next cut r reaches cut_is found more nex
     }
 
 -- the end of the text
-pub all_read : (form : Form) (text bytes : List ℕ) (rs : List Record) (place : ℕ) (result : Result (List Record) StoreError)
-    → length bytes ≤ place → Reaches form text rs (drop place bytes)
+pub all_read : (form : StoreForm) (text bytes : List ℕ) (rs : List Record) (place : ℕ)
+    (result : Result (List Record) StoreError) → length bytes ≤ place → Reaches form text rs (drop place bytes)
     → result ≡ Ok rs → StoreSays text result
 all_read form text bytes rs place result past reaches is =
     whole form rs (reaches.split ∙ ap (λ (l : List ℕ). store_text form rs ++ l) (drop_all place bytes past)

@@ -2,7 +2,7 @@
 use Rattle.std.specs.Prelude.{ℕ, ◌+◌, ◌-◌, ◌==◌, List, length, take, drop, Option, Some, None, Result, Ok}
 use Rattle.std.specs.Prelude.{Err, nat_lt, position, slice_index, if◌then◌else◌}
 use Rattle.record_store.specs.Headers.{header_of}
-use Rattle.record_store.specs.declared.header.Form.{Form}
+use Rattle.record_store.specs.declared.header.StoreForm.{StoreForm}
 use Rattle.record_store.specs.declared.header.Header.{Header}
 use Rattle.record_store.specs.declared.cutting.Cut.{Cut}
 use Rattle.record_store.specs.declared.store_error.StoreError.{StoreError}
@@ -39,10 +39,10 @@ cut_by_header place bytes start (Ok header) = cut_at_header place bytes start he
 cut_by_header place bytes start (Err e) = Err e
 
 -- The parts of the record whose header line ends at `end`, if it ends.
-abbrev pub cut_by_line : Form → ℕ → List ℕ → Option ℕ → Result Cut StoreError
+abbrev pub cut_by_line : StoreForm → ℕ → List ℕ → Option ℕ → Result Cut StoreError
 cut_by_line form place bytes None = Err (errors.Truncated place)
 cut_by_line form place bytes (Some end) = cut_by_header place bytes (end + 1) (header_of form place (take end bytes))
 
 -- The parts of the record at `place`, from which on the text is `bytes`, or the first refusal there.
-abbrev pub cut_of : Form → ℕ → List ℕ → Result Cut StoreError
+abbrev pub cut_of : StoreForm → ℕ → List ℕ → Result Cut StoreError
 cut_of form place bytes = cut_by_line form place bytes (position (λ byte. byte == 10) bytes)

@@ -7,20 +7,20 @@ use Rattle.std.specs.Str.{bytes_eq}
 use Rattle.text_base.specs.Numbers.{canonical_of}
 use Rattle.text_base.specs.Words.{first_word, other_words}
 use Rattle.record_store.specs.Words.{spaced}
-use Rattle.record_store.specs.declared.header.Form.{Form}
-use Rattle.record_store.specs.declared.header.Form.TheVariants.{One, Two}
+use Rattle.record_store.specs.declared.header.StoreForm.{StoreForm}
+use Rattle.record_store.specs.declared.header.StoreForm.TheVariants.{One, Two}
 use Rattle.record_store.specs.declared.header.Header.{Header}
 use Rattle.record_store.specs.declared.store_error.StoreError.{StoreError}
 use Rattle.record_store.specs.declared.store_error.StoreError.TheVariants as errors
 
 -- The header line of a form: `record REQLEN RESLEN` in form 1, `record http PORT REQLEN RESLEN` in form 2.
-abbrev pub header_line : Form → ℕ → ℕ → ℕ → List ℕ
+abbrev pub header_line : StoreForm → ℕ → ℕ → ℕ → List ℕ
 header_line One port request response = spaced (codes "record" ∷ decimal request ∷ decimal response ∷ [])
 header_line Two port request response =
     spaced (codes "record" ∷ codes "http" ∷ decimal port ∷ decimal request ∷ decimal response ∷ [])
 
 -- A record of the form may have the port. Form 1 states no port, and its records have port 0.
-abbrev pub HasPort : Form → ℕ → Type 0
+abbrev pub HasPort : StoreForm → ℕ → Type 0
 HasPort One port = port ≡ 0
 HasPort Two port = Unit {0}
 
@@ -76,12 +76,12 @@ with_scheme place scheme None = Err (errors.BadHeader place)
 with_scheme place scheme (Some header) = check_scheme place scheme header
 
 -- What the words after the first one say.
-abbrev pub header_by_form : Form → ℕ → List ℕ → Result Header StoreError
+abbrev pub header_by_form : StoreForm → ℕ → List ℕ → Result Header StoreError
 header_by_form One place rest = ok_or (lengths_of 0 rest) (errors.BadHeader place)
 header_by_form Two place rest = with_scheme place (first_word rest) (port_and_lengths_of (other_words rest))
 
 -- What the line at `place` says, or why it is no header.
-abbrev pub header_of : Form → ℕ → List ℕ → Result Header StoreError
+abbrev pub header_of : StoreForm → ℕ → List ℕ → Result Header StoreError
 header_of form place line =
     if bytes_eq (first_word line) (codes "record") then header_by_form form place (other_words line)
     else Err (errors.BadHeader place)

@@ -4,7 +4,7 @@ ghost use Rattle.record_store.specs.inside.Headers.{IsShort};
 ghost use Rattle.record_store.specs.Cuts.{cut_at_header, cut_of};
 ghost use Rattle.record_store.specs.inside.Cuts.{IsInside};
 
-use crate::header::{Form, Header, read_header};
+use crate::header::{Header, StoreForm, read_header};
 use crate::store_error::StoreError;
 
 /// A record's port, and where its parts are, counted in bytes from the record's place: where the request begins, where
@@ -29,7 +29,7 @@ fn line_end(text: &[u8]) -> Option<usize>
 ///
 /// Returns `Truncated` where its header line has no end or the parts aren't all there, and `BadHeader` or `BadScheme`
 /// as `StoreError` says.
-pub fn cut_record(form: Form, place: u64, bytes: &[u8]) -> Result<Cut, StoreError>
+pub fn cut_record(form: StoreForm, place: u64, bytes: &[u8]) -> Result<Cut, StoreError>
     requires { place + length bytes.now < 2 ^ 64 }
     ensures cut { result ≡ cut_of form place bytes.now }
     ensures inside { IfOk result (IsInside bytes.now) }

@@ -10,7 +10,7 @@ use text_base::{read_canonical, split_word};
 
 /// The two forms of a store's text. Records of form 1 have port 0.
 #[derive(Clone, Copy, PartialEq, Eq)]
-pub enum Form {
+pub enum StoreForm {
     /// `MMSTORE 1`
     One,
     /// `MMSTORE 2`
@@ -26,7 +26,7 @@ pub struct Header {
 }
 
 /// Returns what the line at `place` says, or `BadHeader` or `BadScheme` where it is no header of the form.
-pub fn read_header(form: Form, place: u64, line: &[u8]) -> Result<Header, StoreError>
+pub fn read_header(form: StoreForm, place: u64, line: &[u8]) -> Result<Header, StoreError>
     ensures header { result ≡ header_of form place line.now }
     ensures short { IfOk result IsShort }
 {
@@ -38,13 +38,13 @@ pub fn read_header(form: Form, place: u64, line: &[u8]) -> Result<Header, StoreE
 }
 
 // Reads the words after the first one.
-fn read_by_form(form: Form, place: u64, rest: &[u8]) -> Result<Header, StoreError>
+fn read_by_form(form: StoreForm, place: u64, rest: &[u8]) -> Result<Header, StoreError>
     ensures header { result ≡ header_by_form form place rest.now }
     ensures short { IfOk result IsShort }
 {
     match form {
-        Form::One => read_lengths(0, rest).ok_or(StoreError::BadHeader { place }),
-        Form::Two => {
+        StoreForm::One => read_lengths(0, rest).ok_or(StoreError::BadHeader { place }),
+        StoreForm::Two => {
             let (scheme, rest) = split_word(rest);
             match read_port_and_lengths(rest) {
                 Some(header) => with_scheme(place, scheme, header),

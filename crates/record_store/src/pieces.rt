@@ -1,6 +1,6 @@
 // Writes a store's text piece by piece, so that it is never in memory as a whole.
 ghost use Rattle.std.specs.Prelude.{◌≡◌, ◌<◌, ◌++◌, [], IsTrue, IfOk, OnErr, length};
-ghost use Rattle.record_store.specs.declared.header.Form.TheVariants as forms;
+ghost use Rattle.record_store.specs.declared.header.StoreForm.TheVariants as forms;
 ghost use Rattle.record_store.specs.StoreText.{records_text, store_text};
 
 use crate::printing::write_record;

@@ -1,6 +1,6 @@
 // Writes stores as text.
 ghost use Rattle.std.specs.Prelude.{◌≡◌, ◌++◌, ◌∷◌, [], IfOk, OnOk, decimal};
-ghost use Rattle.record_store.specs.declared.header.Form.TheVariants as forms;
+ghost use Rattle.record_store.specs.declared.header.StoreForm.TheVariants as forms;
 ghost use Rattle.record_store.specs.Words.{spaced};
 ghost use Rattle.record_store.specs.Headers.{header_line};
 ghost use Rattle.record_store.specs.StoreText.{record_text, store_text};

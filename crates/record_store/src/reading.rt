@@ -2,12 +2,12 @@
 ghost use Rattle.std.specs.Prelude.{◌≡◌, ◌≢◌, List, Result, Some, Err, MatchResult, All, length};
 ghost use Rattle.record_store.specs.declared.store_error.StoreError.{StoreError as ErrorValue};
 ghost use Rattle.record_store.specs.declared.store_error.StoreError.TheVariants as errors;
-ghost use Rattle.record_store.specs.declared.header.Form.TheVariants as forms;
+ghost use Rattle.record_store.specs.declared.header.StoreForm.TheVariants as forms;
 ghost use Rattle.record_store.specs.declared.record.Record.{Record as RecordValue};
 ghost use Rattle.record_store.specs.Records.{IsRecord};
 ghost use Rattle.record_store.specs.StoreText.{StoreSays, store_text, form_of, Reaches};
 
-use crate::header::Form;
+use crate::header::StoreForm;
 use crate::record::Store;
 use crate::record_reading::{FIRST_LINE, read_on};
 use crate::server::from_place;
@@ -39,7 +39,7 @@ pub(crate) fn read_text(alloc: Global, text: &[u8]) -> Result<Store, StoreError>
 }
 
 // Reads the records of a text of the form.
-fn read_records(alloc: Global, form: Form, text: &[u8]) -> Result<Store, StoreError>
+fn read_records(alloc: Global, form: StoreForm, text: &[u8]) -> Result<Store, StoreError>
     requires { form_of text.now ≡ Some form }
     ensures { StoreSays text.now result }
 {
@@ -50,7 +50,7 @@ fn read_records(alloc: Global, form: Form, text: &[u8]) -> Result<Store, StoreEr
 // Reads the rest of a text of the form, whose records so far are in `store`. The rest begins at `place`.
 pub(crate) fn read_rest(
     alloc: Global,
-    form: Form,
+    form: StoreForm,
     place: u64,
     store: Store,
     bytes: &[u8],
@@ -64,14 +64,14 @@ pub(crate) fn read_rest(
 }
 
 // Returns the form that the first 10 bytes state, or `None` where they state none.
-pub(crate) fn read_form(text: &[u8]) -> Option<Form>
+pub(crate) fn read_form(text: &[u8]) -> Option<StoreForm>
     ensures { result ≡ form_of text.now }
 {
     let (first, _) = text.split_at(FIRST_LINE.min(text.len()));
     if first == b"MMSTORE 2\n".as_slice() {
-        Some(Form::Two)
+        Some(StoreForm::Two)
     } else if first == b"MMSTORE 1\n".as_slice() {
-        Some(Form::One)
+        Some(StoreForm::One)
     } else {
         None
     }

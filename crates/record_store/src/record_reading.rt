@@ -8,7 +8,7 @@ ghost use Rattle.record_store.specs.inside.CutsMore.{is_cut_off};
 
 use crate::cutting::{Cut, cut_record};
 use crate::exchange::exchange_of;
-use crate::header::Form;
+use crate::header::StoreForm;
 use crate::record::Store;
 use crate::server::from_place;
 use crate::store_error::StoreError;
@@ -36,7 +36,12 @@ fn cut_off(error: StoreError) -> bool
 
 // Returns the parts of the record at `place`, from which on the text so far is `bytes`. Returns `None` where it isn't
 // whole, and the text hasn't ended. A refusal stays the same however the text goes on.
-fn next_cut(form: Form, place: u64, bytes: &[u8], ended: bool) -> Result<Option<Cut>, StoreError>
+fn next_cut(
+    form: StoreForm,
+    place: u64,
+    bytes: &[u8],
+    ended: bool,
+) -> Result<Option<Cut>, StoreError>
     requires { place + length bytes.now < 2 ^ 64 }
     ensures cut { IfOk result (λ found. IfSome found (λ cut. cut_of form place bytes.now ≡ Ok cut)) }
     ensures inside { IfOk result (λ found. IfSome found (IsInside bytes.now)) }
@@ -63,7 +68,7 @@ fn next_cut(form: Form, place: u64, bytes: &[u8], ended: bool) -> Result<Option<
 /// `OutOfMemory` also comes where `place` is past 4,611,686,018,427,387,904.
 pub(crate) fn read_on(
     alloc: Global,
-    form: Form,
+    form: StoreForm,
     place: u64,
     store: &mut Store,
     bytes: &[u8],

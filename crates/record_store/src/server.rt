@@ -8,7 +8,7 @@ use std::alloc::Global;
 
 /// The response to a request, and where it ends in the server's bytes, interim responses before it included.
 #[derive(Drop)]
-pub struct Answer {
+pub struct FoundResponse {
     pub response: Response,
     pub end: usize,
 }
@@ -25,7 +25,12 @@ pub(crate) fn from_place(bytes: &[u8], place: usize) -> &[u8]
 ///
 /// Returns `Unanswered` where the bytes end before it, `BadResponse` where something stands in its place that is
 /// refused or cut off, and `OutOfMemory` where an allocation fails.
-pub fn answer_at(alloc: Global, n: u64, to_head: bool, bytes: &[u8]) -> Result<Answer, PairError>
+pub fn answer_at(
+    alloc: Global,
+    n: u64,
+    to_head: bool,
+    bytes: &[u8],
+) -> Result<FoundResponse, PairError>
     ensures { AnswerSays n to_head bytes.now result }
 {
     let mut place = 0;
@@ -34,7 +39,7 @@ pub fn answer_at(alloc: Global, n: u64, to_head: bool, bytes: &[u8]) -> Result<A
             Some(response) => {
                 let end = place + response.bytes.len();
                 if response.head.status >= 200 {
-                    return Ok(Answer { response, end });
+                    return Ok(FoundResponse { response, end });
                 }
                 place = end;
             }

@@ -5,7 +5,7 @@ ghost use Rattle.record_store.specs.declared.store_error.StoreError.{StoreError 
 ghost use Rattle.record_store.specs.declared.store_error.StoreError.TheVariants as errors;
 ghost use Rattle.record_store.specs.StoreText.{StoreSays};
 
-use crate::header::Form;
+use crate::header::StoreForm;
 use crate::reading::{read_form, read_rest, read_text};
 use crate::record::Store;
 use crate::record_reading::{FIRST_LINE, read_on};
@@ -20,7 +20,7 @@ use text_base::{OutOfMemory, PieceReader};
 pub struct StoreReader {
     alloc: Global,
     /// The form of the text, once its first line was read.
-    form: Option<Form>,
+    form: Option<StoreForm>,
     /// The records so far.
     store: Store,
     /// How many bytes of the text the first line and the records so far have.

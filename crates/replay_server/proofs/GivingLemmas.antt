@@ -6,7 +6,7 @@ use Rattle.std.specs.Option.{option_map}
 use Rattle.std.proofs.lemmas.List.{take-append-drop}
 use Rattle.mm_base.specs.Link.{LinkBytes, giving}
 use Rattle.replay_server.specs.Giving.{Breaks}
-use Rattle.replay_server.specs.inside.Giving.{Pours, Spills}
+use Rattle.replay_server.specs.inside.Giving.{Pours}
 
 pub giving_more : (a b : List ℕ) (told : Option LinkBytes)
     → option_map (giving b) (option_map (giving a) told) ≡ option_map (giving (a ++ b)) told
@@ -39,14 +39,6 @@ broken piece at f old mid new short before same refused = record {
   told = refused ∙ kept f same mid ∙ before;
   split = sym (take-append-drop at piece);
   some = omega (arith, short, length-drop at piece);
-}
-
--- Where not all was given, a front was.
-pub spilt : (old new : Option LinkBytes) (whole : List ℕ) → Breaks old new whole → Spills old new whole
-spilt old new whole broke = record {
-  poured = broke.given;
-  told = broke.told;
-  front = (broke.more, broke.split);
 }
 
 -- What was gathered is given, and then a piece at once.

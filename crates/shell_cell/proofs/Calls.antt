@@ -9,7 +9,7 @@ use Rattle.shell_state.specs.States.{State}
 use Rattle.shell_state.specs.Steps.{after_feed}
 use Rattle.shell_cell.specs.declared.view.DrainCall.{DrainCall}
 use Rattle.shell_cell.specs.declared.view.View.{View}
-use Rattle.shell_cell.specs.declared.view.Role.TheVariants.{Whole, Feeder, Drain}
+use Rattle.shell_cell.specs.declared.view.SeatRole.TheVariants.{Whole, Feeder, Drain}
 use Rattle.shell_cell.specs.declared.view.Call.TheVariants.{Feeds, Drains}
 use Rattle.shell_cell.specs.History.{IsPast, MayFeed, Answers, after_drain}
 use Rattle.shell_cell.specs.inside.Rule.{view, note_of, Kept, Place, IsDone, IsUndone, IsTaken, HasTaken, left_of}

@@ -19,7 +19,7 @@ use Rattle.shell_cell.specs.declared.view.DrainTurn.{DrainTurn}
 use Rattle.shell_cell.specs.declared.view.DrainCall.{DrainCall}
 use Rattle.shell_cell.specs.declared.view.DrainCall.TheVariants.{Takes}
 use Rattle.shell_cell.specs.declared.view.View.{View}
-use Rattle.shell_cell.specs.declared.view.Role.TheVariants.{Feeder, Drain}
+use Rattle.shell_cell.specs.declared.view.SeatRole.TheVariants.{Feeder, Drain}
 use Rattle.shell_cell.specs.declared.view.Call.TheVariants.{Feeds, Drains}
 use Rattle.shell_cell.specs.History.{fed_flow, taken_flow, flow_after, MayFeed, after_drain}
 use Rattle.shell_cell.specs.inside.Rule.{Place, IsTaken, with_turn, without_note, broken_in, broken_by, number_in}

@@ -22,8 +22,8 @@ use Rattle.shell_cell.specs.declared.view.FeedTurn.{FeedTurn}
 use Rattle.shell_cell.specs.declared.view.DrainTurn.{DrainTurn}
 use Rattle.shell_cell.specs.declared.view.Note.{Note}
 use Rattle.shell_cell.specs.declared.view.View.{View}
-use Rattle.shell_cell.specs.declared.view.Role.{Role}
-use Rattle.shell_cell.specs.declared.view.Role.TheVariants.{Whole, Feeder, Drain, Joined}
+use Rattle.shell_cell.specs.declared.view.SeatRole.{SeatRole}
+use Rattle.shell_cell.specs.declared.view.SeatRole.TheVariants.{Whole, Feeder, Drain, Joined}
 use Rattle.shell_cell.specs.declared.view.Call.{Call}
 use Rattle.shell_cell.specs.declared.view.Call.TheVariants.{Feeds, Drains}
 use Rattle.shell_cell.specs.History.{IsPast, fed_flow, taken_flow, MayFeed, Answers, after_drain}
@@ -252,8 +252,8 @@ module _ (x : State) where
       }
 
   -- a seat whose view has a note holds the turn, and the note is right
-  pub record Mine (s : St) (r : Kept x s) (v : View) (m : Note) (holder : Holder) (role : Role) (fed : List FeedTurn)
-      (drained : List DrainTurn) : Type 0 where
+  pub record Mine (s : St) (r : Kept x s) (v : View) (m : Note) (holder : Holder) (role : SeatRole)
+      (fed : List FeedTurn) (drained : List DrainTurn) : Type 0 where
     pub holds : r.holder ≡ holder
     pub state : r.left ≡ m.state
     pub turns : r.turns ≡ m.spent

@@ -8,8 +8,8 @@ use Rattle.shell_cell.specs.declared.view.FeedTurn.{FeedTurn}
 use Rattle.shell_cell.specs.declared.view.DrainTurn.{DrainTurn}
 use Rattle.shell_cell.specs.declared.view.Note.{Note}
 use Rattle.shell_cell.specs.declared.view.View.{View}
-use Rattle.shell_cell.specs.declared.view.Role.{Role}
-use Rattle.shell_cell.specs.declared.view.Role.TheVariants.{Whole, Feeder, Drain, Joined}
+use Rattle.shell_cell.specs.declared.view.SeatRole.{SeatRole}
+use Rattle.shell_cell.specs.declared.view.SeatRole.TheVariants.{Whole, Feeder, Drain, Joined}
 use Rattle.shell_cell.specs.inside.Rule.{Stage, whole, shared, joined, Holder, nobody, feeder, drain, view, views_of}
 use Rattle.shell_cell.specs.inside.Rule.{feeder_note, drain_note, word_of}
 
@@ -19,7 +19,7 @@ pub record SitsAt (stage now : Stage) (id place : ℕ) (v w : View) : Type 0 whe
   pub view_is : v ≡ w
 
 -- a seat with this view and another role is none
-other_role : (u v : View) (r : Role) → some u ≡ some v → v.role ≡ r → u.role ≡ r
+other_role : (u v : View) (r : SeatRole) → some u ≡ some v → v.role ≡ r → u.role ≡ r
 other_role u v r e is = ap (λ (w : View). w.role) (some-injective u v e) ∙ is
 
 pub feeder_sits : (stage : Stage) (x : State) (fed : List FeedTurn) (drained : List DrainTurn) (f d : Bool)

@@ -16,7 +16,7 @@ pub struct Turns;
 
 impl TableRule<Slot, View, Opening> for Turns {
     ghost use Rattle.std.specs.Prelude.{[], None, false};
-    ghost use Rattle.shell_cell.specs.declared.view.Role.TheVariants.{Whole};
+    ghost use Rattle.shell_cell.specs.declared.view.SeatRole.TheVariants.{Whole};
     ghost use Rattle.shell_cell.specs.inside.Rule.{Kept, view};
 
     ghost holds = { λ key. Kept key.value };

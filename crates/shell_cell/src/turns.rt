@@ -1,6 +1,6 @@
 //! The turn of a cell: how a seat takes it, and gives it back.
 ghost use Rattle.std.specs.Prelude.{◌≡◌, ◌+◌, ◌%◌, ◌<◌, ◌^◌, ◌⊎◌, [], None, IsTrue, IfSome, IfNone};
-ghost use Rattle.shell_cell.specs.declared.view.Role.TheVariants.{Feeder, Drain};
+ghost use Rattle.shell_cell.specs.declared.view.SeatRole.TheVariants.{Feeder, Drain};
 ghost use Rattle.shell_cell.specs.inside.Rule.{HasTaken, IsDone, IsUndone, IsAbove, number_in, with_turn, without_note};
 
 use crate::rule::{Claim, GiveUp, Opening, Slot, Spend, Spending, Turns};

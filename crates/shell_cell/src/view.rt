@@ -37,7 +37,7 @@ pub enum Call {
 }
 
 /// Who sits at a seat.
-pub enum Role {
+pub enum SeatRole {
     /// Both, before the seats are split.
     Whole,
     /// The feeder.
@@ -61,7 +61,7 @@ pub struct Note {
 /// What a seat knows.
 pub struct View {
     /// Who sits at the seat.
-    pub role: Role,
+    pub role: SeatRole,
     /// The state that the cell was opened with.
     pub opening: ShellState,
     /// The turns that the feeder spent, where the seat is the feeder's.

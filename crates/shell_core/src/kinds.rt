@@ -94,7 +94,7 @@ impl Core {
                 stream,
             },
             DirSpec::Link { trace, once, queue } => {
-                let _ = trace.form();
+                let _ = trace.form(); // fact: what IsTrace says of a trace
                 Inner::Link(LinkCore::new(alloc, trace, once, queue, horizon)?)
             }
         };

@@ -1,4 +1,4 @@
-// The lists that a direction leaves.
+// What a direction leaves of a whole list of packets, and a link run over one.
 ghost use Rattle.std.specs.Prelude.{◌≡◌, ◌≤◌, Some, None, [], length, map, IfOk};
 ghost use Rattle.packet_record.specs.Moments.{AreUpTo, Rise};
 ghost use Rattle.trace_reader.specs.Opps.{opps};
@@ -66,6 +66,6 @@ pub(crate) fn link(
     ensures log { IfOk result (λ p. p.log ≡ Some (whole_log (DirSpec.Link trace once queue) horizon packets.items)) }
     ensures built { IsTrace trace }
 {
-    let _ = trace.form();
+    let _ = trace.form(); // fact: what IsTrace says of a trace
     run_link(alloc, trace, once, queue, horizon, packets)
 }

@@ -9,7 +9,7 @@ use Rattle.mm_base.specs.Files.{Files, holding, lengthened}
 use Rattle.mm_base.specs.declared.errors.DiskError.{DiskError}
 use Rattle.mm_base.proofs.FilesLemmas.{holding-lengthened}
 use Rattle.record_store.specs.StoreText.{records_text, store_text}
-use Rattle.record_store.specs.declared.header.Form.TheVariants.{Two}
+use Rattle.record_store.specs.declared.header.StoreForm.TheVariants.{Two}
 use Rattle.record_store.specs.declared.record.Record.{Record}
 use Rattle.command_ends.specs.Outputs.{HoldsSome, NamedText, named_text}
 use Rattle.command_ends.specs.Stops.{StopsAtOutput, StopsWriting}

@@ -1,7 +1,7 @@
 -- The file that a store is written to.
 use Rattle.std.specs.Prelude.{ℕ, List, [], ◌∷◌}
 use Rattle.record_store.specs.StoreText.{store_text}
-use Rattle.record_store.specs.declared.header.Form.TheVariants.{Two}
+use Rattle.record_store.specs.declared.header.StoreForm.TheVariants.{Two}
 use Rattle.record_store.specs.declared.record.Record.{Record}
 use Rattle.command_ends.specs.Causes.{Text}
 use Rattle.command_ends.specs.Outputs.{NamedText, named_text}

@@ -3,7 +3,7 @@ ghost use Rattle.std.specs.Prelude.{◌≡◌, IfErr, OnOk, OnErr};
 ghost use Rattle.mm_base.specs.Disk.{OnlyWrites, HasWriteCause};
 ghost use Rattle.mm_base.specs.Files.{holding};
 ghost use Rattle.record_store.specs.StoreText.{store_text};
-ghost use Rattle.record_store.specs.declared.header.Form.TheVariants as forms;
+ghost use Rattle.record_store.specs.declared.header.StoreForm.TheVariants as forms;
 ghost use Rattle.command_ends.specs.Outputs.{HoldsSome, holding_all, named_text};
 ghost use Rattle.command_ends.specs.Stops.{StopsWriting};
 ghost use Rattle.store_files.specs.Written.{store_file};

@@ -12,8 +12,8 @@ pub struct Lines<'a> {
     rest: &'a [u8],
 }
 
-/// Cuts a text at its first line feed: returns what stands before it, and what follows it. Returns `None` where there is
-/// none.
+/// Cuts a text at its first line feed: returns what stands before it, and what follows it. Returns `None` where there
+/// is none.
 pub fn cut_line(text: &[u8]) -> Option<(&[u8], &[u8])>
     ensures { MatchOption result (is_one_line text.now ≡ true)
         (λ cut. (text.now ≡ cut.0.now ++ 10 ∷ cut.1.now) × (is_one_line cut.0.now ≡ true)) }

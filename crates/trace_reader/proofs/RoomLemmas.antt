@@ -3,19 +3,19 @@ use Rattle.std.proofs.Common.{◌≡◌, ℕ, zero, suc, ◌+◌, ◌*◌, ◌/�
 use Rattle.std.proofs.Common.{arith}
 use Rattle.text_base.specs.Lines.{lines_of}
 use Rattle.packet_record.proofs.RoomLemmas.{room_of, lines_fit}
-use Rattle.trace_reader.specs.declared.opportunity.Form.{Form}
-use Rattle.trace_reader.specs.declared.opportunity.Form.TheVariants.{Moments, MomentsAndBytes}
+use Rattle.trace_reader.specs.declared.opportunity.TraceForm.{TraceForm}
+use Rattle.trace_reader.specs.declared.opportunity.TraceForm.TheVariants.{Moments, MomentsAndBytes}
 use Rattle.trace_reader.specs.declared.opportunity.Opportunity.{Opportunity}
 use Rattle.trace_reader.specs.TraceText.{form_of, lines_before, stated, said_of, said, IsTraceText}
 use Rattle.trace_reader.specs.Traces.{TraceView}
 
 -- a line that says something has a byte
-some_bytes : (form : Form) (line : List ℕ) (s : ℕ × ℕ) → said_of form line ≡ Some s → 1 ≤ length line
+some_bytes : (form : TraceForm) (line : List ℕ) (s : ℕ × ℕ) → said_of form line ≡ Some s → 1 ≤ length line
 some_bytes Moments [] s e = let none : None ≡ Some s = e in absurd cc
 some_bytes MomentsAndBytes [] s e = let none : None ≡ Some s = e in absurd cc
 some_bytes form (byte ∷ bytes) s e = omega arith
 
-lines_room : (form : Form) (lines : List (List ℕ)) (opps : List Opportunity)
+lines_room : (form : TraceForm) (lines : List (List ℕ)) (opps : List Opportunity)
     → map (said_of form) lines ≡ map (λ o. Some (said o)) opps
     → 2 * length opps ≤ room_of lines
 unfolding room_of

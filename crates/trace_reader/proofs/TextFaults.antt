@@ -10,8 +10,8 @@ use Rattle.text_base.specs.Lines.{lines_of}
 use Rattle.text_base.specs.Numbers.{decimal_of}
 use Rattle.text_base.proofs.NumbersLemmas.{decimal_of-Some}
 use Rattle.trace_reader.specs.declared.opportunity.Opportunity.{Opportunity}
-use Rattle.trace_reader.specs.declared.opportunity.Form.{Form}
-use Rattle.trace_reader.specs.declared.opportunity.Form.TheVariants.{Moments, MomentsAndBytes}
+use Rattle.trace_reader.specs.declared.opportunity.TraceForm.{TraceForm}
+use Rattle.trace_reader.specs.declared.opportunity.TraceForm.TheVariants.{Moments, MomentsAndBytes}
 use Rattle.trace_reader.specs.declared.reading.TraceError.{TraceError}
 use Rattle.trace_reader.specs.declared.reading.TraceError.TheVariants as errors
 use Rattle.trace_reader.specs.Orders.{Each, AreRising}
@@ -45,7 +45,7 @@ climb low (o ∷ opps) from r = (from.0, climb o.moment opps r.0 r.1)
 no_fault : (line low : ℕ) (o : Opportunity) → low ≤ o.moment → fault_of line low (Some (said o)) ≡ None
 no_fault line low o le = let some = o.some in let most = o.most in grind (arith, nat_tests)
 
-lines_no_fault : (form : Form) (count low : ℕ) (lines : List (List ℕ)) (opps : List Opportunity)
+lines_no_fault : (form : TraceForm) (count low : ℕ) (lines : List (List ℕ)) (opps : List Opportunity)
     → map (said_of form) lines ≡ map (λ o. Some (said o)) opps
     → count + length opps ≤ 1000000 → Climb low opps
     → first_fault form count low lines ≡ end_fault (count + length opps) (last_from low opps)
@@ -74,7 +74,7 @@ text_no_fault text t is =
     let few = trace.few in
     let lines : map (said_of (form_of (lines_of text))) (stated (lines_of text)) ≡ map (λ o. Some (said o))
     t.opportunities =
-    ap (λ (f : Form). map (said_of f) (stated (lines_of text))) is.form ∙ is.said in
+    ap (λ (f : TraceForm). map (said_of f) (stated (lines_of text))) is.form ∙ is.said in
     lines_no_fault (form_of (lines_of text)) 0 0 (stated (lines_of text)) t.opportunities lines (omega arith)
     (climb 0 t.opportunities (from_zero t.opportunities) trace.rising)
     ∙ no_end_fault t.opportunities trace.some trace.last_some
@@ -120,17 +120,17 @@ pub every_printed : (text : List ℕ) (result : Result TraceView TraceError)
 every_printed text result found exact t is e = every_text text result found exact t (printed_text text t is e)
 
 -- What was read so far: these opportunities, the last at this moment.
-pub record IsRead (form : Form) (opps : List Opportunity) (low : ℕ) : Type 0 where
+pub record IsRead (form : TraceForm) (opps : List Opportunity) (low : ℕ) : Type 0 where
   pub rising : AreRising opps
   pub last : low ≡ last_moment opps
   pub short : low ≤ 9999999999
   pub bytes : AreOfForm form opps
 
-pub none_read : (form : Form) (opps : List Opportunity) → opps ≡ [] → IsRead form opps 0
+pub none_read : (form : TraceForm) (opps : List Opportunity) → opps ≡ [] → IsRead form opps 0
 none_read form opps e = subst (λ (l : List Opportunity). IsRead form l 0) (sym e)
     (record { rising = tt; last = refl; short = omega arith; bytes = no_bytes form })
   where
-    no_bytes : (form : Form) → AreOfForm form []
+    no_bytes : (form : TraceForm) → AreOfForm form []
     no_bytes Moments = tt
     no_bytes MomentsAndBytes = tt
 
@@ -139,7 +139,7 @@ and_then : {X Y : Type 0} (o : Option X) (f : X → Option Y) (y : Y) → option
 and_then None f y e = cc
 and_then (Some x) f y e = (x, refl, e)
 
-pub said_short : (form : Form) (line : List ℕ) (o : Opportunity) → said_of form line ≡ Some (said o)
+pub said_short : (form : TraceForm) (line : List ℕ) (o : Opportunity) → said_of form line ≡ Some (said o)
     → o.moment ≤ 9999999999
 said_short Moments line o e =
     let m = and_then (decimal_of line) (λ (m : ℕ). Some (m, 1504)) (said o) e in
@@ -156,7 +156,7 @@ said_short MomentsAndBytes line o e =
     let same : m.0 ≡ o.moment = ap (λ p. p.0) pair in
     omega arith
 
-said_bytes : (form : Form) (line : List ℕ) (o : Opportunity) → said_of form line ≡ Some (said o)
+said_bytes : (form : TraceForm) (line : List ℕ) (o : Opportunity) → said_of form line ≡ Some (said o)
     → AreOfForm form (o ∷ [])
 said_bytes Moments line o e =
     let m = and_then (decimal_of line) (λ (m : ℕ). Some (m, 1504)) (said o) e in
@@ -164,7 +164,7 @@ said_bytes Moments line o e =
     (sym (ap (λ p. p.1) pair), tt)
 said_bytes MomentsAndBytes line o e = tt
 
-of_form-append : (form : Form) (xs ys : List Opportunity) → AreOfForm form xs → AreOfForm form ys
+of_form-append : (form : TraceForm) (xs ys : List Opportunity) → AreOfForm form xs → AreOfForm form ys
     → AreOfForm form (xs ++ ys)
 of_form-append Moments xs ys a b = each_append (λ o. o.bytes ≡ 1504) xs ys a b
 of_form-append MomentsAndBytes xs ys a b = tt
@@ -175,7 +175,7 @@ last_moment-push (p ∷ []) o = refl
 last_moment-push (p ∷ q ∷ qs) o = last_moment-push (q ∷ qs) o
 
 -- and one opportunity more
-pub add_one : (form : Form) (opps opps' : List Opportunity) (low : ℕ) (o : Opportunity) → IsRead form opps low
+pub add_one : (form : TraceForm) (opps opps' : List Opportunity) (low : ℕ) (o : Opportunity) → IsRead form opps low
     → low ≤ o.moment → o.moment ≤ 9999999999 → AreOfForm form (o ∷ [])
     → opps' ≡ opps ++ o ∷ [] → IsRead form opps' o.moment
 add_one form opps opps' low o is le short plain more =
@@ -189,13 +189,13 @@ add_one form opps opps' low o is le short plain more =
       bytes = of_form-append form opps (o ∷ []) is.bytes plain;
     })
 
-pub read_more : (form : Form) (opps opps' : List Opportunity) (low : ℕ) (line : List ℕ) (o : Opportunity)
+pub read_more : (form : TraceForm) (opps opps' : List Opportunity) (low : ℕ) (line : List ℕ) (o : Opportunity)
     → IsRead form opps low → said_of form line ≡ Some (said o)
     → low ≤ o.moment → opps' ≡ opps ++ o ∷ [] → IsRead form opps' o.moment
 read_more form opps opps' low line o is e le more = add_one form opps opps' low o is le (said_short form line o e)
     (said_bytes form line o e) more
 
-pub said_more : (form : Form) (lines rest : List (List ℕ)) (line : List ℕ) (opps opps' : List Opportunity)
+pub said_more : (form : TraceForm) (lines rest : List (List ℕ)) (line : List ℕ) (opps opps' : List Opportunity)
     (o : Opportunity)
     → map (said_of form) lines ≡ map (λ p. Some (said p)) opps ++ map (said_of form) (line ∷ rest)
     → said_of form line ≡ Some (said o) → opps' ≡ opps ++ o ∷ []
@@ -207,7 +207,7 @@ said_more form lines rest line opps opps' o all e more =
     ∙ ap (λ l. l ++ map (said_of form) rest) (sym (map-append (λ (p : Opportunity). Some (said p)) opps (o ∷ [])))
     ∙ ap (λ (l : List Opportunity). map (λ (p : Opportunity). Some (said p)) l ++ map (said_of form) rest) (sym more)
 
-pub all_read : (form : Form) (opps : List Opportunity) (low : ℕ) → IsRead form opps low → 0 < length opps
+pub all_read : (form : TraceForm) (opps : List Opportunity) (low : ℕ) → IsRead form opps low → 0 < length opps
     → length opps ≤ 1000000 → low ≢ 0
     → IsTrace (record { form = form; opportunities = opps })
 all_read form opps low is some few other =

@@ -12,8 +12,8 @@ use Rattle.text_base.specs.Numbers.{decimal_of}
 use Rattle.text_base.proofs.NumbersLemmas.{decimal_of-decimal, no_space-decimal, is_one_line-decimal}
 use Rattle.text_base.proofs.TextLemmas.{lines_of-printed, is_one_line-append}
 use Rattle.trace_reader.specs.declared.opportunity.Opportunity.{Opportunity}
-use Rattle.trace_reader.specs.declared.opportunity.Form.{Form}
-use Rattle.trace_reader.specs.declared.opportunity.Form.TheVariants.{Moments, MomentsAndBytes}
+use Rattle.trace_reader.specs.declared.opportunity.TraceForm.{TraceForm}
+use Rattle.trace_reader.specs.declared.opportunity.TraceForm.TheVariants.{Moments, MomentsAndBytes}
 use Rattle.trace_reader.specs.Orders.{Each}
 use Rattle.trace_reader.specs.Opps.{last_moment}
 use Rattle.trace_reader.specs.Traces.{TraceView, IsTrace, AreOfForm}
@@ -47,7 +47,7 @@ pair_said o short =
     (λ (m : ℕ). option_and_then (λ (b : ℕ). Some (m, b)) (decimal_of (other_words line))) d) first
     ∙ ap (λ (d : Option ℕ). option_and_then (λ (b : ℕ). Some (o.moment, b)) d) second
 
-lines_said : (form : Form) (opps : List Opportunity) → Each (λ o. o.moment ≤ 9999999999) opps → AreOfForm form opps
+lines_said : (form : TraceForm) (opps : List Opportunity) → Each (λ o. o.moment ≤ 9999999999) opps → AreOfForm form opps
     → map (said_of form) (map (line_of form) opps) ≡ map (λ o. Some (said o)) opps
 lines_said Moments [] short plain = refl
 lines_said Moments (o ∷ opps) short plain =
@@ -59,21 +59,21 @@ lines_said MomentsAndBytes (o ∷ opps) short plain =
     ∙ ap (λ l. Some (said o) ∷ l) (lines_said MomentsAndBytes opps short.1 plain)
 
 -- no printed line has a line feed
-one_line : (form : Form) (o : Opportunity) → o.moment ≤ 9999999999 → is_one_line (line_of form o) ≡ true
+one_line : (form : TraceForm) (o : Opportunity) → o.moment ≤ 9999999999 → is_one_line (line_of form o) ≡ true
 one_line Moments o short = is_one_line-decimal o.moment (omega arith)
 one_line MomentsAndBytes o short =
     let most = o.most in
     is_one_line-append (decimal o.moment) (32 ∷ decimal o.bytes) (is_one_line-decimal o.moment (omega arith))
     (is_one_line-decimal o.bytes (omega arith))
 
-all_one : (form : Form) (opps : List Opportunity) → Each (λ o. o.moment ≤ 9999999999) opps
+all_one : (form : TraceForm) (opps : List Opportunity) → Each (λ o. o.moment ≤ 9999999999) opps
     → list_all (λ o. is_one_line (line_of form o)) opps ≡ true
 all_one form [] short = refl
 all_one form (o ∷ opps) short =
     ap (λ b. b && list_all (λ (p : Opportunity). is_one_line (line_of form p)) opps) (one_line form o short.0)
     ∙ all_one form opps short.1
 
-printed_lines : (form : Form) (opps : List Opportunity) → Each (λ o. o.moment ≤ 9999999999) opps
+printed_lines : (form : TraceForm) (opps : List Opportunity) → Each (λ o. o.moment ≤ 9999999999) opps
     → lines_of (flat_map (λ o. line_of form o ++ 10 ∷ []) opps) ≡ map (line_of form) opps
 printed_lines form opps short = lines_of-printed (line_of form) opps (all_one form opps short)
 
@@ -101,7 +101,7 @@ plain_form : (opps : List Opportunity) → 0 < length opps → Each (λ o. o.mom
 plain_form [] some short = absurd (omega arith)
 plain_form (o ∷ opps) some short = ap (λ b. cond b MomentsAndBytes Moments) (not_header o.moment short.0)
 
-abbrev dropped : Form → List (List ℕ) → List (List ℕ)
+abbrev dropped : TraceForm → List (List ℕ) → List (List ℕ)
 dropped form lines = drop (lines_before form) lines
 
 plain_text : (opps : List Opportunity) → IsTrace (record { form = Moments; opportunities = opps })
@@ -122,7 +122,8 @@ plain_text opps is =
   where
     undropped : (opps : List Opportunity) → 0 < length opps → Each (λ o. o.moment ≤ 9999999999) opps
         → stated (map (line_of Moments) opps) ≡ map (line_of Moments) opps
-    undropped opps some short = ap (λ (f : Form). dropped f (map (line_of Moments) opps)) (plain_form opps some short)
+    undropped opps some short = ap (λ (f : TraceForm). dropped f (map (line_of Moments) opps))
+        (plain_form opps some short)
 
 pair_text : (opps : List Opportunity) → IsTrace (record { form = MomentsAndBytes; opportunities = opps })
     → IsTraceText (trace_text (record { form = MomentsAndBytes; opportunities = opps }))
@@ -139,7 +140,7 @@ pair_text opps is =
       trace = is;
     }
 
-by_form : (form : Form) (opps : List Opportunity) → IsTrace (record { form = form; opportunities = opps })
+by_form : (form : TraceForm) (opps : List Opportunity) → IsTrace (record { form = form; opportunities = opps })
     → IsTraceText (trace_text (record { form = form; opportunities = opps }))
     (record { form = form; opportunities = opps })
 by_form Moments opps is = plain_text opps is
@@ -164,6 +165,6 @@ pub same_trace : (text : List ℕ) (t u : TraceView) → IsTraceText text t → 
 same_trace text t u is is' =
     let form : t.form ≡ u.form = sym is.form ∙ is'.form in
     let lines : map (λ o. Some (said o)) t.opportunities ≡ map (λ o. Some (said o)) u.opportunities =
-    sym is.said ∙ ap (λ (f : Form). map (said_of f) (stated (lines_of text))) form ∙ is'.said in
-    ap (λ (f : Form). record t { form = f }) form ∙ ap (λ (l : List Opportunity). record u { opportunities = l })
+    sym is.said ∙ ap (λ (f : TraceForm). map (said_of f) (stated (lines_of text))) form ∙ is'.said in
+    ap (λ (f : TraceForm). record t { form = f }) form ∙ ap (λ (l : List Opportunity). record u { opportunities = l })
     (same_list t.opportunities u.opportunities lines)

@@ -3,7 +3,7 @@ use Rattle.std.specs.Prelude.{ℕ, ◌+◌, ◌&&◌, ◌==◌, List, [], ◌∷
 use Rattle.text_base.specs.declared.limits.TheConstants.{MOST_LINES}
 use Rattle.text_base.specs.Lines.{lines_of}
 use Rattle.text_base.specs.Refusals.{or_later}
-use Rattle.trace_reader.specs.declared.opportunity.Form.{Form}
+use Rattle.trace_reader.specs.declared.opportunity.TraceForm.{TraceForm}
 use Rattle.trace_reader.specs.declared.reading.TraceError.{TraceError}
 use Rattle.trace_reader.specs.declared.reading.TraceError.TheVariants as errors
 use Rattle.trace_reader.specs.TraceText.{form_of, lines_before, stated, said_of}
@@ -44,7 +44,7 @@ moment_after None = 0
 moment_after (Some said) = said.0
 
 -- the first refusal of the lines that follow `count` opportunities, of which the last is at this moment
-abbrev pub first_fault : Form → ℕ → ℕ → List (List ℕ) → Option TraceError
+abbrev pub first_fault : TraceForm → ℕ → ℕ → List (List ℕ) → Option TraceError
 first_fault form count low [] = end_fault count low
 first_fault form count low (line ∷ lines) =
     if nat_le MOST_LINES count then Some errors.TooManyLines

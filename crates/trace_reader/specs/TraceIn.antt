@@ -4,7 +4,7 @@ use Rattle.std.specs.List.{flat_map}
 use Rattle.std.proofs.lemmas.Bool.{leb-true}
 use Rattle.text_base.specs.Lines.{lines_of}
 use Rattle.trace_reader.specs.declared.opportunity.Opportunity.{Opportunity}
-use Rattle.trace_reader.specs.declared.opportunity.Form.{Form}
+use Rattle.trace_reader.specs.declared.opportunity.TraceForm.{TraceForm}
 use Rattle.trace_reader.specs.TraceText.{form_of, said_of, stated}
 use Rattle.trace_reader.specs.Traces.{TraceView}
 
@@ -24,7 +24,7 @@ abbrev pub opportunity_said : Option (ℕ × ℕ) → List Opportunity
 opportunity_said None = []
 opportunity_said (Some said) = opportunity_within said.0 said.1 (nat_le 1 said.1) (nat_le said.1 1000000) refl refl
 
-abbrev pub opportunities_said : Form → List (List ℕ) → List Opportunity
+abbrev pub opportunities_said : TraceForm → List (List ℕ) → List Opportunity
 opportunities_said form lines = flat_map (λ line. opportunity_said (said_of form line)) lines
 
 -- the trace of which this is the text, where it is one

@@ -7,8 +7,8 @@ use Rattle.text_base.specs.Lines.{lines_of}
 use Rattle.text_base.specs.Numbers.{decimal_of}
 use Rattle.text_base.specs.Words.{first_word, other_words}
 use Rattle.trace_reader.specs.declared.opportunity.Opportunity.{Opportunity}
-use Rattle.trace_reader.specs.declared.opportunity.Form.{Form}
-use Rattle.trace_reader.specs.declared.opportunity.Form.TheVariants.{Moments, MomentsAndBytes}
+use Rattle.trace_reader.specs.declared.opportunity.TraceForm.{TraceForm}
+use Rattle.trace_reader.specs.declared.opportunity.TraceForm.TheVariants.{Moments, MomentsAndBytes}
 use Rattle.trace_reader.specs.Traces.{TraceView, IsTrace}
 
 -- the first line of a text that states bytes
@@ -16,12 +16,12 @@ abbrev pub bytes_header : List ℕ
 bytes_header = codes "# mm-trace 2"
 
 -- the form of a text with these lines
-abbrev pub form_of : List (List ℕ) → Form
+abbrev pub form_of : List (List ℕ) → TraceForm
 form_of [] = Moments
 form_of (line ∷ lines) = if bytes_eq line bytes_header then MomentsAndBytes else Moments
 
 -- how many lines stand before those of the opportunities
-abbrev pub lines_before : Form → ℕ
+abbrev pub lines_before : TraceForm → ℕ
 lines_before Moments = 0
 lines_before MomentsAndBytes = 1
 
@@ -34,7 +34,7 @@ abbrev pub ◌>>=◌ : {A B : Type 0} → Option A → (A → Option B) → Opti
 o >>= f = option_and_then f o
 
 -- the moment and the bytes that a line states, before any range is looked at: a decimal, or two with a single space
-abbrev pub said_of : Form → List ℕ → Option (ℕ × ℕ)
+abbrev pub said_of : TraceForm → List ℕ → Option (ℕ × ℕ)
 said_of Moments line = do
   moment ← decimal_of line
   Some (moment, 1504)
@@ -54,11 +54,11 @@ pub record IsTraceText (text : List ℕ) (t : TraceView) : Type 0 where
   pub trace : IsTrace t
 
 -- the line that is printed of an opportunity
-abbrev pub line_of : Form → Opportunity → List ℕ
+abbrev pub line_of : TraceForm → Opportunity → List ℕ
 line_of Moments o = decimal o.moment
 line_of MomentsAndBytes o = decimal o.moment ++ 32 ∷ decimal o.bytes
 
-abbrev pub header_text : Form → List ℕ
+abbrev pub header_text : TraceForm → List ℕ
 header_text Moments = []
 header_text MomentsAndBytes = bytes_header ++ 10 ∷ []
 

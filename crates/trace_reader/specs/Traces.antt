@@ -2,17 +2,17 @@
 use Rattle.std.specs.Prelude.{◌≡◌, ◌<◌, ◌≤◌, List, length}
 use Rattle.text_base.specs.declared.limits.TheConstants.{GREATEST_MOMENT, MOST_LINES}
 use Rattle.trace_reader.specs.declared.opportunity.Opportunity.{Opportunity}
-use Rattle.trace_reader.specs.declared.opportunity.Form.{Form}
-use Rattle.trace_reader.specs.declared.opportunity.Form.TheVariants.{Moments, MomentsAndBytes}
+use Rattle.trace_reader.specs.declared.opportunity.TraceForm.{TraceForm}
+use Rattle.trace_reader.specs.declared.opportunity.TraceForm.TheVariants.{Moments, MomentsAndBytes}
 use Rattle.trace_reader.specs.Orders.{Each, AreRising}
 use Rattle.trace_reader.specs.Opps.{last_moment}
 
 pub record TraceView : Type 0 where
-  pub form : Form
+  pub form : TraceForm
   pub opportunities : List Opportunity
 
 -- in the form of moments alone each opportunity has 1504 bytes
-abbrev pub AreOfForm : Form → List Opportunity → Type 0
+abbrev pub AreOfForm : TraceForm → List Opportunity → Type 0
 AreOfForm Moments opps = Each (λ o. o.bytes ≡ 1504) opps
 AreOfForm MomentsAndBytes opps = Unit {0}
 

@@ -10,7 +10,7 @@ mod reading;
 mod trace;
 
 pub use making::make_trace;
-pub use opportunity::{Form, Opportunity};
+pub use opportunity::{Opportunity, TraceForm};
 pub use printing::print_trace;
 pub use reading::{TraceError, read_trace};
 pub use trace::Trace;

@@ -4,7 +4,7 @@ ghost use Rattle.text_base.specs.Lines.{lines_of};
 ghost use Rattle.text_base.specs.Numbers.{decimal_of};
 ghost use Rattle.trace_reader.specs.TraceText.{said_of};
 
-use crate::Form;
+use crate::TraceForm;
 use text_base::{first_line, read_decimal, split_decimal, split_word};
 
 // What each opportunity of a trace of moments alone can deliver, in bytes.
@@ -12,13 +12,13 @@ const PACKET_BYTES: u64 = 1504;
 
 // What the first line of a text states, if anything, and what follows that line.
 #[inline]
-pub(crate) fn read_first(form: Form, text: &[u8]) -> (Option<(u64, u64)>, &[u8])
+pub(crate) fn read_first(form: TraceForm, text: &[u8]) -> (Option<(u64, u64)>, &[u8])
     requires { 0 < length text.now }
     ensures said { (line : List ℕ) × (lines_of text.now ≡ line ∷ lines_of result.1.now)
         × (said_of form line ≡ result.0) }
     ensures shorter { length result.1.now < length text.now }
 {
-    if form == Form::Moments {
+    if form == TraceForm::Moments {
         if let Some((moment, rest)) = split_moment(text) {
             return (Some((moment, PACKET_BYTES)), rest);
         }
@@ -43,17 +43,17 @@ fn split_moment(text: &[u8]) -> Option<(u64, &[u8])>
 }
 
 // The moment and the bytes that a line states.
-fn read_line(form: Form, line: &[u8]) -> Option<(u64, u64)>
+fn read_line(form: TraceForm, line: &[u8]) -> Option<(u64, u64)>
     ensures { result ≡ said_of form line.now }
 {
     match form {
-        Form::Moments => Some((read_decimal(line)?, PACKET_BYTES)),
-        Form::MomentsAndBytes => read_pair(line),
+        TraceForm::Moments => Some((read_decimal(line)?, PACKET_BYTES)),
+        TraceForm::MomentsAndBytes => read_pair(line),
     }
 }
 
 fn read_pair(line: &[u8]) -> Option<(u64, u64)>
-    ensures { result ≡ said_of Form.MomentsAndBytes line.now }
+    ensures { result ≡ said_of TraceForm.MomentsAndBytes line.now }
 {
     let (first, rest) = split_word(line);
     let moment = read_decimal(first)?;

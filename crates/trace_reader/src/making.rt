@@ -2,10 +2,10 @@
 ghost use Rattle.std.specs.Prelude.{◌≡◌, ◌≤◌, ◌<◌, ◌+◌, ◌*◌, ◌%◌, map, IfOk};
 ghost use Rattle.packet_record.specs.Draws.{next_draw};
 ghost use Rattle.trace_reader.specs.Made.{made_moments};
-ghost use Rattle.trace_reader.specs.declared.opportunity.Form.TheVariants as forms;
+ghost use Rattle.trace_reader.specs.declared.opportunity.TraceForm.TheVariants as forms;
 
 use crate::packed::PackedOpportunity;
-use crate::{Form, Opportunity, Trace};
+use crate::{Opportunity, Trace, TraceForm};
 use packet_record::Draws;
 use std::alloc::Global;
 use text_base::OutOfMemory;
@@ -27,5 +27,5 @@ pub fn make_trace(alloc: Global, number: u64) -> Result<Trace, OutOfMemory>
             bytes: 1504,
         }))?;
     }
-    Trace::from_list(Form::Moments, list)
+    Trace::from_list(TraceForm::Moments, list)
 }

@@ -14,7 +14,7 @@ pub struct Opportunity {
 
 /// What the lines of a trace's text state.
 #[derive(Clone, Copy, PartialEq, Eq)]
-pub enum Form {
+pub enum TraceForm {
     /// A moment alone; each opportunity has 1504 bytes, which is 1500 and the 4 bytes of the TUN header (mm-link).
     Moments,
     /// A moment and a number of bytes, below the first line `# mm-trace 2`.

@@ -3,7 +3,7 @@ ghost use Rattle.std.specs.Prelude.{◌≡◌, ◌≤◌, ◌++◌, ◌∷◌, [
 ghost use Rattle.trace_reader.specs.TraceText.{line_of, header_text, trace_text, IsTraceText};
 
 use crate::packed::PackedOpportunity;
-use crate::{Form, Opportunity, Trace};
+use crate::{Opportunity, Trace, TraceForm};
 use std::alloc::Global;
 use text_base::{Bytes, OutOfMemory, write_decimal};
 
@@ -22,20 +22,20 @@ pub fn print_trace(alloc: Global, trace: &Trace) -> Result<Bytes, OutOfMemory>
     Ok(out)
 }
 
-fn write_header(out: &mut Bytes, form: Form) -> Result<(), OutOfMemory>
+fn write_header(out: &mut Bytes, form: TraceForm) -> Result<(), OutOfMemory>
     ensures { OnOk result (out.new ≡ out.old ++ header_text form) }
 {
     match form {
-        Form::Moments => Ok(()),
-        Form::MomentsAndBytes => out.append(b"# mm-trace 2\n"),
+        TraceForm::Moments => Ok(()),
+        TraceForm::MomentsAndBytes => out.append(b"# mm-trace 2\n"),
     }
 }
 
-fn write_line(out: &mut Bytes, form: Form, o: Opportunity) -> Result<(), OutOfMemory>
+fn write_line(out: &mut Bytes, form: TraceForm, o: Opportunity) -> Result<(), OutOfMemory>
     ensures { OnOk result (out.new ≡ out.old ++ (line_of form o ++ 10 ∷ [])) }
 {
     write_decimal(out, o.moment)?;
-    if form == Form::MomentsAndBytes {
+    if form == TraceForm::MomentsAndBytes {
         out.push(b' ')?;
         write_decimal(out, u64::from(o.bytes))?;
     }

@@ -10,7 +10,7 @@ ghost use Rattle.text_base.specs.Lines.{lines_of};
 
 use crate::line::read_first;
 use crate::packed::PackedOpportunity;
-use crate::{Form, Opportunity, Trace};
+use crate::{Opportunity, Trace, TraceForm};
 use std::alloc::{AllocError, AllocFailed, Global};
 use text_base::limits::MOST_LINES;
 use text_base::{OutOfMemory, first_line};
@@ -143,25 +143,25 @@ fn most_lines(bytes: usize) -> usize
 }
 
 // The form of a text, and the text of the lines of its opportunities.
-fn open(text: &[u8]) -> (Form, &[u8])
+fn open(text: &[u8]) -> (TraceForm, &[u8])
     ensures form { result.0 ≡ form_of (lines_of text.now) }
     ensures lines { lines_of result.1.now ≡ stated (lines_of text.now) }
 {
     if text.is_empty() {
-        return (Form::Moments, text);
+        return (TraceForm::Moments, text);
     }
     let (line, rest) = first_line(text);
     if line == b"# mm-trace 2".as_slice() {
-        (Form::MomentsAndBytes, rest)
+        (TraceForm::MomentsAndBytes, rest)
     } else {
-        (Form::Moments, text)
+        (TraceForm::Moments, text)
     }
 }
 
 // The opportunity of what a line states, behind `count` opportunities, the last of them at the moment `low`.
 #[inline]
 fn opportunity_of(
-    form: Form,
+    form: TraceForm,
     count: usize,
     low: u64,
     says: Option<(u64, u64)>,
@@ -194,12 +194,12 @@ fn opportunity_of(
 }
 
 // How many lines stand before those of the opportunities.
-fn count_before(form: Form) -> u32
+fn count_before(form: TraceForm) -> u32
     ensures count { result ≡ lines_before form }
     ensures few { result ≤ 1 }
 {
     match form {
-        Form::Moments => 0,
-        Form::MomentsAndBytes => 1,
+        TraceForm::Moments => 0,
+        TraceForm::MomentsAndBytes => 1,
     }
 }

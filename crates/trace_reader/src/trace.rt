@@ -5,7 +5,7 @@ ghost use Rattle.trace_reader.specs.Opps.{up_to, last_moment, opportunity_at, op
 ghost use Rattle.trace_reader.specs.Traces.{IsTrace};
 
 use crate::packed::PackedOpportunity;
-use crate::{Form, Opportunity};
+use crate::{Opportunity, TraceForm};
 use std::marker::Model;
 use std::sync::ArcSlice;
 use text_base::OutOfMemory;
@@ -15,7 +15,7 @@ use text_base::OutOfMemory;
 /// opportunities is shared by its copies. Contracts see its form and its list of opportunities.
 #[derive(Drop)]
 pub struct Trace {
-    form: Form,
+    form: TraceForm,
     list: ArcSlice<PackedOpportunity>,
 }
 
@@ -34,7 +34,10 @@ impl Trace {
     ghost use Rattle.trace_reader.specs.declared.opportunity.Opportunity.{Opportunity as OpportunityValue};
 
     // The trace of this form with the opportunities of `list`, or out of memory.
-    pub(crate) fn from_list(form: Form, list: Vec<PackedOpportunity>) -> Result<Self, OutOfMemory>
+    pub(crate) fn from_list(
+        form: TraceForm,
+        list: Vec<PackedOpportunity>,
+    ) -> Result<Self, OutOfMemory>
         requires { IsTrace (record { form = form; opportunities = list.items }) }
         ensures { IfOk result (λ t. t ≡ record { form = form; opportunities = list.items }) }
     {
@@ -45,7 +48,7 @@ impl Trace {
     }
 
     /// What the trace's text states.
-    pub fn form(&self) -> Form
+    pub fn form(&self) -> TraceForm
         ensures form { result ≡ self.now.form }
         ensures trace { IsTrace self.now }
     {

@@ -14,7 +14,7 @@ use Rattle.http_frame.specs.declared.errors.FrameFault.TheVariants as faults
 use Rattle.http_frame.specs.declared.errors.FrameError.TheVariants.{BadHead, HeadTooLong, TooManyHeaders, BadLength}
 use Rattle.http_frame.specs.declared.errors.FrameError.TheVariants.{BadCoding, BadChunk, BodyTooLong, Refused}
 use Rattle.http_frame.specs.declared.pending.Pending.{Pending}
-use Rattle.http_frame.specs.declared.head.Found.{Found}
+use Rattle.http_frame.specs.declared.head.FoundMessage.{FoundMessage}
 use Rattle.http_frame.specs.declared.pending.Outcome.{Outcome}
 use Rattle.http_frame.specs.declared.pending.Outcome.TheVariants as outcomes
 use Rattle.http_frame.specs.Frames.{Frames, StaysOpen, BeginsMessage, MoreCause, FaultCause, Fails}
@@ -57,7 +57,7 @@ module _ {Tree Said Message : Type 0} (form : Form Tree Said Message) where
   AdvanceSays ended bytes p (Err e) = IsPending bytes p
 
   -- What each result of finding the first message says. The message stays at the front.
-  abbrev pub FindSays : Frames → Result (Step (Found Said)) FrameFault → Frames → Type 0
+  abbrev pub FindSays : Frames → Result (Step (FoundMessage Said)) FrameFault → Frames → Type 0
   FindSays old (Ok (steps.Message m)) new =
       StaysOpen old new × (m.len ≤ length old.unread)
       × BeginsMessage form old.ended old.unread m.head (take m.len old.unread)

@@ -7,7 +7,7 @@ ghost use Rattle.mm_base.specs.MemLink.{mem_link_view};
 use super::status_of;
 use crate::links::{REQUEST, RESPONSE};
 use mm_base::{EndError, Link, Listened, MemLink, Port};
-use record_proxy::{Asked, Dialer};
+use record_proxy::{Dialer, PortsAsked};
 use std::alloc::Global;
 use std::marker::Sync;
 use std::sync::Wait;
@@ -78,7 +78,7 @@ pub struct WatchedNet {
     given: u64,
     well: u32,
     listened: Listened,
-    asked: Asked,
+    asked: PortsAsked,
     number: u16,
 }
 
@@ -92,7 +92,7 @@ impl WatchedNet {
             given: 0,
             well: 0,
             listened: Listened::never(),
-            asked: Asked::Never,
+            asked: PortsAsked::Never,
             number: 0,
         }
     }

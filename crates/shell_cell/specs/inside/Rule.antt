@@ -12,8 +12,8 @@ use Rattle.shell_cell.specs.declared.view.FeedTurn.{FeedTurn}
 use Rattle.shell_cell.specs.declared.view.DrainTurn.{DrainTurn}
 use Rattle.shell_cell.specs.declared.view.Note.{Note}
 use Rattle.shell_cell.specs.declared.view.View.{View}
-use Rattle.shell_cell.specs.declared.view.Role.{Role}
-use Rattle.shell_cell.specs.declared.view.Role.TheVariants.{Whole, Feeder, Drain, Joined, Spent}
+use Rattle.shell_cell.specs.declared.view.SeatRole.{SeatRole}
+use Rattle.shell_cell.specs.declared.view.SeatRole.TheVariants.{Whole, Feeder, Drain, Joined, Spent}
 use Rattle.shell_cell.specs.declared.view.Call.{Call}
 use Rattle.shell_cell.specs.declared.view.Call.TheVariants.{Feeds, Drains}
 use Rattle.shell_cell.specs.History.{IsPast, fed_flow, taken_flow, MayFeed, Answers, after_drain}
@@ -31,7 +31,7 @@ pub data Holder : Type 0 where
   drain : Holder
 
 -- What a seat knows, of its parts.
-abbrev pub view : Role → State → List FeedTurn → List DrainTurn → Bool → Option Note → View
+abbrev pub view : SeatRole → State → List FeedTurn → List DrainTurn → Bool → Option Note → View
 view role opening fed drained broken note = record {
   role = role;
   opening = opening;
@@ -186,7 +186,7 @@ abbrev pub both_of : View → View → View
 both_of v w = view Joined v.opening v.fed w.drained (v.broken || w.broken) None
 
 -- A seat of the role may make the call in the state `y`, and the call has the state's answer.
-abbrev pub IsMade : Call → Role → State → Type 0
+abbrev pub IsMade : Call → SeatRole → State → Type 0
 IsMade (Feeds item) role y = (role ≡ Feeder) × MayFeed y item
 IsMade (Drains call) role y = (role ≡ Drain) × Answers y call
 

@@ -1,6 +1,6 @@
 -- For proofs alone: what is true of each seat between two calls.
 use Rattle.std.specs.Prelude.{◌≡◌, [], None}
-use Rattle.shell_cell.specs.declared.view.Role.TheVariants.{Feeder, Drain}
+use Rattle.shell_cell.specs.declared.view.SeatRole.TheVariants.{Feeder, Drain}
 use Rattle.shell_cell.specs.declared.seats.FeedSeat.TheInside.{Inside as FeedInside}
 use Rattle.shell_cell.specs.declared.seats.DrainSeat.TheInside.{Inside as DrainInside}
 

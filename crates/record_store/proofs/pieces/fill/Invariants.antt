@@ -1,6 +1,6 @@
 use Rattle.std.proofs.Common.{◌≡◌, ◌≤◌, ◌++◌, length}
 use Rattle.record_store.specs.StoreText.{records_text}
-use Rattle.record_store.specs.declared.header.Form.TheVariants as forms
+use Rattle.record_store.specs.declared.header.StoreForm.TheVariants as forms
 use Rattle.record_store.proofs.pieces.fill.Given as goal
 
 abbrev pub invariant-records : goal.invariant-records

@@ -1,5 +1,5 @@
 use Rattle.std.proofs.Common.{◌≡◌, take}
-use Rattle.record_store.specs.declared.header.Form.TheVariants.{Two}
+use Rattle.record_store.specs.declared.header.StoreForm.TheVariants.{Two}
 use Rattle.record_store.specs.StoreText.{store_text}
 use Rattle.record_store.proofs.printing.print_store.Given as goal
 

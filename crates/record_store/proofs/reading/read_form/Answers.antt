@@ -1,7 +1,7 @@
 use Rattle.std.proofs.Common.{◌≡◌, ◌∙◌, ℕ, take, false, sym, ap}
 use Rattle.std.specs.Str.{bytes_eq}
 use Rattle.std.proofs.lemmas.List.{take_min}
-use Rattle.record_store.specs.declared.header.Form.TheVariants.{One, Two}
+use Rattle.record_store.specs.declared.header.StoreForm.TheVariants.{One, Two}
 use Rattle.record_store.specs.StoreText.{magic}
 use Rattle.record_store.proofs.StoreLaws.{no_magic}
 use Rattle.record_store.proofs.reading.read_form.Goals as goal

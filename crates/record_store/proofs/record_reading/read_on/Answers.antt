@@ -7,7 +7,7 @@ use Rattle.record_store.specs.StoreText.{store_text, StoreSays}
 use Rattle.record_store.specs.inside.Cuts.{IsInside}
 use Rattle.record_store.specs.inside.Exchanges.{OneExchange}
 use Rattle.record_store.specs.declared.cutting.Cut.{Cut}
-use Rattle.record_store.specs.declared.header.Form.{Form}
+use Rattle.record_store.specs.declared.header.StoreForm.{StoreForm}
 use Rattle.record_store.specs.declared.record.Record.{Record}
 use Rattle.record_store.specs.declared.store_error.StoreError.{StoreError}
 use Rattle.record_store.specs.declared.store_error.StoreError.TheVariants as errors
@@ -16,7 +16,7 @@ use Rattle.record_store.proofs.MoreLaws.{place_on, refused_more, unmatched_more}
 use Rattle.record_store.proofs.record_reading.read_on.Goals as goal
 
 -- what was cut at a place was cut where the rest stands
-cut_there : (form : Form) (place k : ℕ) (bytes rest : List ℕ) (r : Result Cut StoreError)
+cut_there : (form : StoreForm) (place k : ℕ) (bytes rest : List ℕ) (r : Result Cut StoreError)
     → cut_of form place bytes ≡ r → bytes ≡ rest → place ≡ k → cut_of form k rest ≡ r
 cut_there form place k bytes rest r cut same at = ap (λ (n : ℕ). cut_of form n rest) (sym at)
     ∙ ap (cut_of form place) (sym same) ∙ cut

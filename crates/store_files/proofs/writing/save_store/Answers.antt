@@ -2,7 +2,7 @@ use Rattle.std.proofs.Common.{[], ◌++◌, ap, sym, ◌∙◌}
 use Rattle.mm_base.proofs.LineTextsLemmas.{on_err}
 use Rattle.mm_base.proofs.Then.{OnlyWrites-then}
 use Rattle.record_store.specs.StoreText.{store_text}
-use Rattle.record_store.specs.declared.header.Form.TheVariants.{Two}
+use Rattle.record_store.specs.declared.header.StoreForm.TheVariants.{Two}
 use Rattle.store_files.proofs.WritingLemmas.{all_written, at_false, front_held, none_held, piece_held, piece_written}
 use Rattle.store_files.proofs.writing.save_store.Goals as goal
 

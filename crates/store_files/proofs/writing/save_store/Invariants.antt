@@ -2,7 +2,7 @@ use Rattle.std.proofs.Common.{◌≡◌, ◌++◌, ℕ, List, length}
 use Rattle.mm_base.specs.Files.{holding}
 use Rattle.mm_base.specs.Disk.{OnlyWrites}
 use Rattle.record_store.specs.StoreText.{store_text}
-use Rattle.record_store.specs.declared.header.Form.TheVariants.{Two}
+use Rattle.record_store.specs.declared.header.StoreForm.TheVariants.{Two}
 use Rattle.store_files.proofs.writing.save_store.Given as goal
 
 abbrev pub invariant-pieces : goal.invariant-pieces

@@ -1,5 +1,5 @@
 use Rattle.record_store.specs.StoreText.{store_text}
-use Rattle.record_store.specs.declared.header.Form.TheVariants.{Two}
+use Rattle.record_store.specs.declared.header.StoreForm.TheVariants.{Two}
 use Rattle.command_ends.specs.Outputs.{named_text}
 use Rattle.store_files.proofs.WritingLemmas.{written_stops}
 use Rattle.store_files.proofs.writing.write_store.Goals as goal

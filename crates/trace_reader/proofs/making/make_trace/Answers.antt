@@ -1,7 +1,7 @@
 use Rattle.std.proofs.Common.{◌≡◌, ◌≤◌, ◌+◌, ◌%◌, ◌++◌, ◌∷◌, [], ℕ, List, length, ap, refl, ◌∙◌, arith, rules}
 use Rattle.packet_record.specs.Draws.{next_draw}
 use Rattle.trace_reader.specs.declared.opportunity.Opportunity.{Opportunity}
-use Rattle.trace_reader.specs.declared.opportunity.Form.TheVariants.{Moments}
+use Rattle.trace_reader.specs.declared.opportunity.TraceForm.TheVariants.{Moments}
 use Rattle.trace_reader.specs.Made.{made_moments, moments_from}
 use Rattle.trace_reader.proofs.TextFaults.{none_read, add_one}
 use Rattle.trace_reader.proofs.MadeLemmas.{moments, moments_more, moments_end, if_made}

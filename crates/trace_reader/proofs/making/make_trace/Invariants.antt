@@ -1,5 +1,5 @@
 use Rattle.std.proofs.Common.{◌≡◌, ◌-◌, ◌*◌, ◌≤◌, ◌++◌, length}
-use Rattle.trace_reader.specs.declared.opportunity.Form.TheVariants.{Moments}
+use Rattle.trace_reader.specs.declared.opportunity.TraceForm.TheVariants.{Moments}
 use Rattle.trace_reader.specs.Made.{moments_from, made_moments}
 use Rattle.trace_reader.proofs.TextFaults.{IsRead}
 use Rattle.trace_reader.proofs.MadeLemmas.{moments}

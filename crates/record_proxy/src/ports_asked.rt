@@ -4,7 +4,7 @@ ghost use Rattle.record_proxy.specs.Asking.{asked_at};
 
 /// At which ports a dialer was asked for connections, whether it gave them or not.
 #[derive(Clone, Copy, Debug, PartialEq, Eq)]
-pub enum Asked {
+pub enum PortsAsked {
     /// At none yet.
     Never,
     /// At the port of this number alone.
@@ -13,19 +13,19 @@ pub enum Asked {
     Several,
 }
 
-impl Asked {
+impl PortsAsked {
     /// The dialer is asked once more, at the port of this number.
     pub fn ask(&mut self, number: u16)
         ensures { self.new ≡ asked_at number self.old }
     {
         match *self {
-            Asked::Never => *self = Asked::Alone(number),
-            Asked::Alone(before) => {
+            PortsAsked::Never => *self = PortsAsked::Alone(number),
+            PortsAsked::Alone(before) => {
                 if before != number {
-                    *self = Asked::Several;
+                    *self = PortsAsked::Several;
                 }
             }
-            Asked::Several => {}
+            PortsAsked::Several => {}
         }
     }
 }
