@@ -4,7 +4,7 @@ use Rattle.mm_base.specs.Files.{Files, file}
 use Rattle.mm_base.proofs.FilesLemmas.{is_held}
 use Rattle.mm_base.specs.inside.Pieces.{WholeIsRead}
 use Rattle.command_ends.specs.Causes.{Text}
-use Rattle.command_ends.specs.Stops.{InputIsRead, IsInput}
+use Rattle.command_ends.specs.Stops.{InputIsRead}
 
 -- a file of these bytes is an input
 pub whole_input : {R : Type 0} (has_read : List ℕ → R → Type 0) (told : Option Files) (name : Text) (old new : R)

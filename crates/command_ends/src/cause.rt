@@ -1,5 +1,5 @@
 // Why a command line isn't done.
-ghost use Rattle.std.specs.Prelude.{◌≡◌, Some};
+ghost use Rattle.std.specs.Prelude.{◌≡◌};
 ghost use Rattle.command_ends.specs.Causes.{status_of};
 ghost use Rattle.command_ends.specs.declared.cause.Cause.TheVariants as causes;
 

@@ -1,5 +1,5 @@
 // The one line that explains a cause. It is written in pieces that take no memory.
-ghost use Rattle.std.specs.Prelude.{◌∷◌, [], Some, codes, decimal};
+ghost use Rattle.std.specs.Prelude.{◌∷◌, [], Some, codes};
 ghost use Rattle.std.specs.List.{flat_map};
 ghost use Rattle.command_ends.specs.Answers.{Concludes, cause_in};
 ghost use Rattle.command_ends.specs.Causes.{inner_pieces, limit_pieces, line_of, named_pieces, refusal_pieces};

@@ -1,5 +1,5 @@
 -- What the stated words say.
-use Rattle.std.proofs.Common.{◌≡◌, ℕ, ◌+◌, ◌≤◌, false, List, [], ◌∷◌, Some, None, Result, Ok, Err, length, map, codes}
+use Rattle.std.proofs.Common.{◌≡◌, ℕ, ◌+◌, ◌≤◌, false, List, [], ◌∷◌, Some, None, Ok, Err, length, codes}
 use Rattle.std.proofs.Common.{refl, ap, sym, subst, ◌∙◌, arith}
 use Rattle.packet_queue.specs.declared.spec.QueueKind.TheVariants.{DropTail, DropHead}
 use Rattle.trace_reader.specs.declared.trace.Trace.{Trace}

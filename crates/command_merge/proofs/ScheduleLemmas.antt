@@ -1,5 +1,5 @@
 -- Schedules that are read one after another, and what stops them.
-use Rattle.std.proofs.Common.{◌≡◌, ◌≢◌, ◌∙◌, inr, ℕ, suc, ◌+◌, ◌<◌, ◌≤◌, Bool, true, false, cond, nat_lt, List, [], ◌∷◌}
+use Rattle.std.proofs.Common.{◌≡◌, ◌∙◌, inr, ℕ, suc, ◌+◌, ◌<◌, ◌≤◌, Bool, true, false, cond, nat_lt, List, [], ◌∷◌}
 use Rattle.std.proofs.Common.{◌++◌, Option, Some, None, Result, Ok, Err, IfErr, length, ap, subst, sym, refl, rules}
 use Rattle.std.proofs.Common.{tests, arith}
 use Rattle.std.proofs.lemmas.List.{append-nil, append_assoc}

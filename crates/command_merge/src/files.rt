@@ -1,5 +1,5 @@
 // The files that a merge writes: its logs in order, and then its fates.
-ghost use Rattle.std.specs.Prelude.{◌≡◌, ◌⊎◌, ◌≤◌, ◌-◌, ℕ, length, take, map, IfErr, OnOk, OnErr};
+ghost use Rattle.std.specs.Prelude.{◌≡◌, ◌-◌, map, IfErr, OnOk, OnErr};
 ghost use Rattle.mm_base.specs.Disk.{OnlyWrites};
 ghost use Rattle.mm_base.specs.Files.{holding};
 ghost use Rattle.command_ends.specs.Outputs.{HoldsSome, holding_all, named_text};

@@ -1,6 +1,6 @@
 -- The log of a report, and what stops it.
 use Rattle.std.proofs.Common.{◌≡◌, ◌≢◌, inr, ℕ, List, Option, Some, None, Result, Ok, Err, IfOk, IfErr, MatchResult}
-use Rattle.std.proofs.Common.{subst, refl, ap, sym, ◌∙◌, arith}
+use Rattle.std.proofs.Common.{refl, ap}
 use Rattle.mm_base.specs.Disk.{DiskView}
 use Rattle.mm_base.specs.Files.{Files}
 use Rattle.shell_log.specs.Reading.{line_named, log_fault, number_of}
@@ -8,7 +8,7 @@ use Rattle.shell_log.specs.declared.reading.LogError.{LogError}
 use Rattle.shell_log.specs.declared.reading.LogError.TheVariants as errors
 use Rattle.log_report.specs.ReportText.{report_text}
 use Rattle.log_report.specs.declared.figures.Report.{Report}
-use Rattle.command_ends.specs.Causes.{Text, status_of_refusal}
+use Rattle.command_ends.specs.Causes.{Text}
 use Rattle.command_ends.specs.inside.Ends.{FinishesOnly}
 use Rattle.command_ends.specs.Outputs.{prints}
 use Rattle.command_ends.specs.Readings.{Done}

@@ -1,5 +1,5 @@
 -- The store and the request of a match.
-use Rattle.std.proofs.Common.{◌≡◌, ◌∙◌, ℕ, ◌<◌, ◌∷◌, List, Option, Some, Ok, length, refl, ap, subst, arith}
+use Rattle.std.proofs.Common.{ℕ, ◌<◌, ◌∷◌, List, Option, Ok, length, refl, ap, subst, arith}
 use Rattle.std.proofs.Common.{length-append}
 use Rattle.mm_base.specs.Disk.{DiskView, OnlyReads}
 use Rattle.mm_base.specs.Files.{Files}

@@ -1,6 +1,6 @@
 -- An output that has the name of an input is refused.
 use Rattle.std.proofs.Common.{◌≡◌, ◌≢◌, inr, List, [], ◌∷◌, Option, Some, None, Result, Ok, Err}
-use Rattle.std.proofs.Common.{MatchResult, OnOk, sym, ap, arith}
+use Rattle.std.proofs.Common.{MatchResult, OnOk, ap, arith}
 use Rattle.mm_base.specs.Disk.{DiskView}
 use Rattle.command_ends.specs.Causes.{Text, status_of_refusal}
 use Rattle.command_ends.specs.Names.{first_taken, refused_name, refused_names}

@@ -8,7 +8,7 @@ use Rattle.record_store.specs.declared.record.Record.{Record}
 use Rattle.record_store.specs.declared.errors.PairError.{PairError}
 use Rattle.record_store.specs.declared.errors.PairError.TheVariants as errors
 use Rattle.record_store.proofs.PairLaws.{one_pairing}
-use Rattle.command_ends.specs.Causes.{Text, status_of_refusal}
+use Rattle.command_ends.specs.Causes.{status_of_refusal}
 use Rattle.command_ends.specs.inside.Ends.{FinishesOnly}
 use Rattle.command_ends.specs.Outputs.{writes}
 use Rattle.command_ends.specs.Readings.{Reading, Done, Reads, Judges}

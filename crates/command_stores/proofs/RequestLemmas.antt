@@ -27,7 +27,7 @@ use Rattle.command_ends.specs.declared.cause.Cause.TheVariants.{Refused}
 use Rattle.command_ends.specs.declared.cause.Refusal.{Refusal}
 use Rattle.command_ends.specs.declared.cause.Refusal.TheVariants.{BadInput}
 use Rattle.command_ends.proofs.ReadingLemmas.{AreAlike, IsJudgement, judged_stopped, stops_at}
-use Rattle.command_stores.specs.Requests.{HasOthers, IsNoRequest, IsOneRequest, RefusesRequest, RequestVerdict}
+use Rattle.command_stores.specs.Requests.{IsNoRequest, IsOneRequest, RefusesRequest, RequestVerdict}
 use Rattle.command_stores.specs.Requests.{number_of}
 use Rattle.command_stores.specs.Requests.{reading_request}
 use Rattle.command_stores.specs.declared.request_file.RequestError.{RequestError}

@@ -1,5 +1,5 @@
 // The command `record`: its words, the two streams of a connection, and the store that is made of them.
-ghost use Rattle.std.specs.Prelude.{◌≡◌, ◌≢◌, ℕ, List, Err, IfOk, IfErr, map, string_bytes, OnOk};
+ghost use Rattle.std.specs.Prelude.{◌≡◌, ℕ, List, Err, IfOk, IfErr, map, string_bytes, OnOk};
 ghost use Rattle.std.specs.Option.{option_map};
 ghost use Rattle.mm_base.specs.Disk.{DiskView, OnlyReads};
 ghost use Rattle.mm_base.specs.Sink.{SinkView};

@@ -1,5 +1,5 @@
 // A request from a file that has nothing else.
-ghost use Rattle.std.specs.Prelude.{◌≡◌, ◌≢◌, ℕ, false, List, [], None, IfOk, IfErr};
+ghost use Rattle.std.specs.Prelude.{◌≡◌, ℕ, false, List, [], None, IfOk, IfErr};
 ghost use Rattle.mm_base.specs.Disk.{OnlyReads};
 ghost use Rattle.command_ends.specs.Readings.{Done};
 ghost use Rattle.command_ends.specs.Stops.{IsInput, StopsReading};

@@ -1,5 +1,5 @@
 // How long a connection waits for its peer, before and after its user has asked it to end.
-ghost use Rattle.std.specs.Prelude.{◌≡◌, ◌≤◌, ◌<◌, length, IfOk};
+ghost use Rattle.std.specs.Prelude.{◌≤◌, ◌<◌, length, IfOk};
 
 use end_watch::{EndWatch, Waking, Wanted, wait_for};
 use mm_base::{EndError, GIVING_WAITS, TcpLink};

@@ -1,5 +1,5 @@
 // A connection over TCP that waits no longer for its peer once its user has asked it to end. It tells no content.
-ghost use Rattle.std.specs.Prelude.{◌≡◌, ◌≤◌, ◌<◌, length, None, false, IfOk};
+ghost use Rattle.std.specs.Prelude.{◌≡◌, ◌≤◌, ◌<◌, None, false, IfOk};
 ghost use Rattle.mm_base.specs.Counts.{Rose};
 
 use crate::ending::{Ending, Wait};

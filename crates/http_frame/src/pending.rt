@@ -1,5 +1,5 @@
 // A message that is being read: its head was read, and a part of its body.
-ghost use Rattle.std.specs.Prelude.{◌≡◌, ◌≤◌, ℕ, length, drop};
+ghost use Rattle.std.specs.Prelude.{◌≤◌, length, drop};
 ghost use Rattle.http_frame.specs.inside.Bodies.{MayGoOn};
 ghost use Rattle.http_frame.specs.inside.Frames.{FinishSays};
 

@@ -3,7 +3,6 @@ ghost use Rattle.std.specs.Prelude.{◌≡◌, ◌≤◌, ◌++◌, ℕ, List, [
 ghost use Rattle.httparse.specs.Grammar.{RequestHead as Head, IsRequestHead, print_request};
 ghost use Rattle.http_frame.specs.Window.{NeverHas};
 ghost use Rattle.http_frame.specs.Forms.{request_form};
-ghost use Rattle.http_frame.specs.Forms.{Form};
 ghost use Rattle.http_frame.specs.Messages.{IsRequest};
 ghost use Rattle.http_frame.specs.inside.Runs.{Messages};
 ghost use Rattle.http_frame.specs.declared.messages.Request.{Request as RequestValue};

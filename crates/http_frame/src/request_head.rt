@@ -1,5 +1,5 @@
 // Reads the heads of requests.
-ghost use Rattle.std.specs.Prelude.{◌≡◌, ◌==◌, ◌||◌, ℕ, ◌+◌, ◌<◌, ◌≤◌, List, length, take, map, IfOk, All, IfSome};
+ghost use Rattle.std.specs.Prelude.{◌≡◌, ◌==◌, ◌||◌, ℕ, ◌+◌, ◌<◌, ◌≤◌, List, length, map, IfOk, All, IfSome};
 ghost use Rattle.std.specs.Prelude.{option_map, codes};
 ghost use Rattle.httparse.specs.Spans.{span_bytes, IsWithin as IsSpanWithin, IsRequestWithin, IsRequestAt};
 ghost use Rattle.httparse.specs.Grammar.{RequestHead as Head};

@@ -1,5 +1,5 @@
 // Reads the heads of responses.
-ghost use Rattle.std.specs.Prelude.{◌≡◌, ◌≤◌, ◌||◌, ℕ, List, length, map, IfOk, All, codes};
+ghost use Rattle.std.specs.Prelude.{◌≡◌, ◌≤◌, ◌||◌, length, map, IfOk, All, codes};
 ghost use Rattle.httparse.specs.Spans.{span_bytes, IsWithin as IsSpanWithin, IsResponseWithin, IsResponseAt};
 ghost use Rattle.httparse.specs.Grammar.{ResponseHead as Answer};
 ghost use Rattle.http_header.specs.HeaderMap.{get_all};

@@ -1,12 +1,11 @@
 -- How many opportunities come up to a moment.
-use Rattle.std.proofs.Common.{◌≡◌, ℕ, zero, suc, ◌<◌, ◌≤◌, All, List, [], ◌∷◌, length, take, drop, Some, slice_get}
+use Rattle.std.proofs.Common.{◌≡◌, ℕ, zero, suc, ◌<◌, ◌≤◌, List, [], ◌∷◌, length, take, drop, Some, slice_get}
 use Rattle.std.proofs.Common.{arith, refl, ap, sym, subst, inl, inr}
 use Rattle.std.proofs.lemmas.Bool.{cases_lt, le-leb, lt-leb}
 use Rattle.trace_reader.specs.declared.opportunity.Opportunity.{Opportunity}
 use Rattle.trace_reader.specs.Orders.{Each, AreRising}
 use Rattle.trace_reader.specs.Opps.{up_to}
 use Rattle.link_core.proofs.SentLemmas.{each_map}
-use Rattle.link_core.proofs.SoundLemmas.{each_from_all}
 
 up_to_in : (m : ℕ) (o : Opportunity) (opps : List Opportunity) → o.moment ≤ m → up_to m (o ∷ opps) ≡ o ∷ up_to m opps
 up_to_in m o opps le = rw (le-leb o.moment m le)

@@ -1,21 +1,15 @@
 -- The departures, opportunity by opportunity, are those packet by packet. And what each kind of queue keeps.
-use Rattle.std.proofs.Common.{◌≡◌, ℕ, ◌+◌, ◌-◌, ◌<◌, ◌≤◌, ◌++◌, true, false, cond, List, [], ◌∷◌, Option, Some, None}
+use Rattle.std.proofs.Common.{◌≡◌, ℕ, ◌+◌, ◌-◌, ◌<◌, ◌≤◌, ◌++◌, cond, List, [], ◌∷◌, Option, Some, None}
 use Rattle.std.proofs.Common.{nat_le, map, arith, refl, ap, sym, ◌∙◌, inl, inr}
 use Rattle.std.proofs.lemmas.Bool.{cases_lt, le-leb, lt-leb}
-use Rattle.std.proofs.lemmas.List.{append_assoc}
 use Rattle.packet_record.specs.declared.packet.Timed.{Timed}
-use Rattle.packet_queue.specs.declared.spec.QueueSpec.{QueueSpec}
-use Rattle.packet_queue.specs.declared.spec.QueueKind.TheVariants.{Infinite, DropTail}
 use Rattle.packet_record.specs.Packets.{moved_to}
-use Rattle.packet_queue.specs.Queues.{fits}
-use Rattle.packet_queue.proofs.Sizes.{by_infinite, by_tail_in, by_tail_out}
 use Rattle.trace_reader.specs.declared.opportunity.Opportunity.{Opportunity}
-use Rattle.link_core.specs.Stream.{waiting, ahead}
 use Rattle.link_core.specs.inside.Stream.{ending}
 use Rattle.link_core.specs.inside.Orders.{AreFalling}
-use Rattle.link_core.specs.inside.Back.{sent, ended, departures, entered}
+use Rattle.link_core.specs.inside.Back.{sent, ended, departures}
 use Rattle.link_core.proofs.Least.{or_then, moment_sent, onto_some, departing}
-use Rattle.link_core.proofs.StreamLemmas.{ahead_waiting, ending_in, ending_before, ending_after}
+use Rattle.link_core.proofs.StreamLemmas.{ending_in, ending_before, ending_after}
 use Rattle.link_core.proofs.SentLemmas.{sent_more}
 
 moment_now : (kept : List Timed) (o : Opportunity) (earlier : List Opportunity) (n : ℕ)

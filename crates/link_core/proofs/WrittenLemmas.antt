@@ -1,5 +1,5 @@
 -- What a link keeps of entries.
-use Rattle.std.proofs.Common.{◌≡◌, ℕ, ◌++◌, Bool, true, false, List, [], ◌∷◌, refl}
+use Rattle.std.proofs.Common.{◌≡◌, ℕ, ◌++◌, Bool, true, false, List, refl}
 use Rattle.shell_log.specs.declared.entry.Entry.{Entry}
 use Rattle.shell_log.specs.Entries.{AreUpTo}
 use Rattle.link_core.specs.inside.Written.{written}

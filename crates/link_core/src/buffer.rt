@@ -1,9 +1,7 @@
 // The packets inside a link: the one in transit, and the queue behind it.
 ghost use Rattle.std.specs.Prelude.{◌≡◌, ◌+◌, ◌<◌, ◌≤◌, ◌++◌, Option, Some, None, [], MatchOption, option_to_list};
 ghost use Rattle.std.specs.Prelude.{length, map, ◌^◌, IfOk};
-ghost use Rattle.packet_record.specs.Packets.{moved_to};
-ghost use Rattle.packet_queue.specs.Queues.{enqueued, dropped};
-ghost use Rattle.packet_queue.specs.View.{Queue};
+ghost use Rattle.packet_queue.specs.Queues.{dropped};
 ghost use Rattle.link_core.specs.inside.Stream.{carried, rest, begun};
 ghost use Rattle.link_core.specs.inside.State.{IsPart, IsIdle, inside_buffer};
 

@@ -4,7 +4,7 @@ ghost use Prim.Native.Nat.{min};
 ghost use Rattle.link_core.specs.inside.State.{inside_buffer};
 ghost use Rattle.trace_reader.specs.Opps.{up_to};
 ghost use Rattle.packet_record.specs.Moments.{AreUpTo};
-ghost use Rattle.link_core.specs.views.Span.{Span, span_opps};
+ghost use Rattle.link_core.specs.views.Span.{span_opps};
 ghost use Rattle.link_core.specs.inside.Sound.{Gone, IsSoundAfter, IsSound};
 ghost use Rattle.link_core.specs.inside.Moves.{IsSettled, HasRoomTo, CanEnter};
 ghost use Rattle.link_core.specs.inside.Same.{IsSameLink};

@@ -1,6 +1,6 @@
 // A link that goes over a list of arrivals step by step, and burns its first `last` opportunities: to the end, or until
 // there is a piece of its log.
-ghost use Rattle.std.specs.Prelude.{◌≡◌, ◌<◌, ◌≤◌, ◌++◌, ◌∷◌, [], IsTrue, true, length, drop, IfOk, OnOk, OnErr};
+ghost use Rattle.std.specs.Prelude.{◌≡◌, ◌<◌, ◌++◌, ◌∷◌, [], IsTrue, true, length, drop, IfOk, OnOk, OnErr};
 ghost use Rattle.link_core.specs.inside.Sound.{Gone, IsSoundAfter};
 ghost use Rattle.link_core.specs.inside.Same.{IsSameLink};
 ghost use Rattle.link_core.specs.inside.Play.{CanPlay, IsPlayed, all_arrivals, work, gone_with};

@@ -1,7 +1,7 @@
 // What an opportunity carries, and what is written down of it and of an arrival.
 ghost use Rattle.std.specs.Prelude.{◌≡◌, ◌+◌, ◌<◌, ◌≤◌, ◌++◌, ◌∷◌, length, map, vec_len, vec_capacity};
 ghost use Rattle.packet_record.specs.Packets.{moved_to};
-ghost use Rattle.shell_log.specs.Entries.{AreUpTo, IsEntry};
+ghost use Rattle.shell_log.specs.Entries.{AreUpTo};
 ghost use Rattle.link_core.specs.inside.Written.{HasWritten};
 ghost use Rattle.link_core.specs.inside.Served.{IsServed, served};
 ghost use Rattle.link_core.specs.Links.{drop_line_by};

@@ -1,5 +1,5 @@
 -- The bytes that a relay keeps while their packets may still leave.
-use Rattle.std.proofs.Common.{◌≡◌, ℕ, ◌-◌, ◌+◌, ◌∙◌, refl, List, [], ◌∷◌, ◌++◌, Option, Some, None}
+use Rattle.std.proofs.Common.{◌≡◌, ℕ, ◌-◌, ◌+◌, ◌∙◌, refl, List, [], ◌∷◌, ◌++◌, Some, None}
 use Rattle.std.proofs.Common.{ap, arith, get_or, length, nat_eq, sym, ⊎_elim}
 use Rattle.std.proofs.lemmas.Bool.{cases_eq}
 use Rattle.std.proofs.lemmas.List.{length-append}

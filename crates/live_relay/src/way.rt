@@ -1,11 +1,11 @@
 // One direction of a relay: what passes it, and what of it was sent.
-ghost use Rattle.std.specs.Prelude.{◌≡◌, ◌≤◌, ◌++◌, List, None, ℕ, length, map, IfOk, IfSome, IsErrOf, OnErr};
+ghost use Rattle.std.specs.Prelude.{◌≡◌, ◌≤◌, List, None, ℕ, length, map, IfOk, IfSome, IsErrOf, OnErr};
 ghost use Rattle.std.specs.Prelude.{OnOk};
 ghost use Rattle.std.specs.Option.{option_map};
 ghost use Rattle.mm_base.specs.Counts.{Rose};
 ghost use Rattle.packet_record.specs.Moments.{Rise};
 ghost use Rattle.packet_record.specs.Packets.{number};
-ghost use Rattle.packet_record.specs.declared.item.FlowEnd.TheVariants.{Ended, Open};
+ghost use Rattle.packet_record.specs.declared.item.FlowEnd.TheVariants.{Open};
 ghost use Rattle.packet_record.specs.Streams.{no_items};
 ghost use Rattle.nest_spec.specs.Nests.{directions_of};
 ghost use Rattle.nest_line.specs.Lines.{IsSettled, number_all, up_to};

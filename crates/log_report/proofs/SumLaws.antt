@@ -1,6 +1,6 @@
 -- Sums over entries, one entry more.
 use Rattle.std.proofs.Common.{get_or, zero, suc, ◌≡◌, ℕ, ◌+◌, ◌<◌, ◌==◌, ◌++◌, Bool, true, false, cond, List, [], ◌∷◌}
-use Rattle.std.proofs.Common.{length, Option, Some, None, refl, ap, sym, subst, ◌∙◌, arith, length-append, append-nil}
+use Rattle.std.proofs.Common.{length, Option, refl, ap, sym, ◌∙◌, arith, length-append, append-nil}
 use Rattle.std.specs.Prelude.{fold}
 use Rattle.std.specs.List.{filter_map, sum}
 use Rattle.std.proofs.lemmas.Bool.{eqb-true}
@@ -8,13 +8,9 @@ use Rattle.std.proofs.lemmas.List.Sums.{sum_by-cons, sum_by-append}
 use Rattle.std.proofs.lemmas.List.Elements.{filter_map-append}
 use Rattle.shell_log.specs.declared.entry.Entry.{Entry}
 use Rattle.shell_log.specs.Entries.{IsEntry, IsLog, moment_of}
-use Rattle.shell_log.specs.LogParts.{last_moment}
-use Rattle.log_report.specs.declared.figures.Delays.{Delays}
-use Rattle.log_report.specs.declared.figures.Report.{Report}
 use Rattle.log_report.specs.declared.sums.Sum.{Sum}
-use Rattle.log_report.specs.Ranks.{delays_of}
-use Rattle.log_report.specs.Reports.{arrived_bytes, offered_bytes, departed_bytes, delay_of, dropped_packets}
-use Rattle.log_report.specs.Reports.{dropped_bytes, count_in, sum_in, first_moment, thousandths, report_over, report_of}
+use Rattle.log_report.specs.Reports.{delay_of, dropped_packets}
+use Rattle.log_report.specs.Reports.{dropped_bytes, count_in, sum_in, first_moment}
 use Rattle.log_report.specs.Summed.{ArePassed, IsSum, AreDrops}
 
 said_no : (said : Entry → Option ℕ) (es : List Entry) (e : Entry) → filter_map said (e ∷ []) ≡ []

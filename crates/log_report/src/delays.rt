@@ -1,5 +1,5 @@
 // The delays of departures, kept as far as their ranks need it.
-ghost use Rattle.std.specs.Prelude.{◌≡◌, ◌≤◌, ◌<◌, ◌+◌, ◌++◌, ◌∷◌, ℕ, List, [], length, sum, vec_len, OnOk, IfOk};
+ghost use Rattle.std.specs.Prelude.{◌≡◌, ◌≤◌, ◌<◌, ◌+◌, ◌++◌, ◌∷◌, ℕ, List, [], length, sum, OnOk, IfOk};
 ghost use Rattle.log_report.specs.Ranks.{at_rank, delays_of};
 
 use crate::Delays;

@@ -1,5 +1,5 @@
 // Writes reports as text.
-ghost use Rattle.std.specs.Prelude.{◌≡◌, ◌++◌, ◌∷◌, Some, [], decimal, IfOk, OnOk};
+ghost use Rattle.std.specs.Prelude.{◌≡◌, ◌++◌, Some, IfOk, OnOk};
 ghost use Rattle.log_report.specs.ReportText.{report_text, number_line, pair_line, used_line, delay_line};
 
 use crate::{Delays, Report};

@@ -1,5 +1,5 @@
 // Makes the report of a log while the log's text is read piece by piece.
-ghost use Rattle.std.specs.Prelude.{◌≡◌, ◌≢◌, ◌++◌, ℕ, List, [], None, Some, IfOk, MatchResult};
+ghost use Rattle.std.specs.Prelude.{◌≡◌, ◌≢◌, ℕ, List, [], None, Some, IfOk, MatchResult};
 ghost use Rattle.shell_log.specs.declared.entry.Entry.{Entry as EntryValue};
 ghost use Rattle.shell_log.specs.Entries.{IsLog};
 ghost use Rattle.shell_log.specs.LogText.{log_text};

@@ -1,5 +1,5 @@
 // The words that a loss draws.
-ghost use Rattle.std.specs.Prelude.{◌≡◌, ℕ, ◌+◌, ◌^◌, ◌<◌, ◌≤◌, slice_index};
+ghost use Rattle.std.specs.Prelude.{◌≡◌, ℕ, ◌+◌, ◌^◌, ◌<◌, slice_index};
 ghost use Rattle.loss_core.specs.Losses.{cha_word};
 
 use rand_chacha::ChaCha20Rng;

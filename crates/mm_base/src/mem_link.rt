@@ -27,7 +27,6 @@ pub struct MemLink {
 
 impl Model for MemLink {
     ghost use Rattle.std.specs.Prelude.{◌≤◌, length, take, drop};
-    ghost use Rattle.mm_base.specs.Link.{LinkBytes};
     ghost use Rattle.mm_base.specs.MemLink.{MemLinkState};
 
     ghost Value = { MemLinkState };

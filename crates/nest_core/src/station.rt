@@ -1,5 +1,5 @@
 // A station of a world: one shell with its feeder, its drain, and the channel that the drain sends into.
-ghost use Rattle.std.specs.Prelude.{◌≡◌, ◌≤◌, ◌&&◌, OnOk, OnErr, IfOk, length, is_some};
+ghost use Rattle.std.specs.Prelude.{◌≡◌, ◌≤◌, OnOk, OnErr, IfOk, length, is_some};
 ghost use Rattle.shell_core.specs.Shells.{IsInRange, opportunities};
 ghost use Rattle.shell_state.specs.States.{new_state};
 ghost use Rattle.shell_state.specs.Standing.{Stands};

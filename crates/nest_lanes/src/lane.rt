@@ -1,5 +1,5 @@
 // One direction of a run: how it is opened before any thread starts, and closed after all have ended.
-ghost use Rattle.std.specs.Prelude.{◌≡◌, ◌≤◌, [], length, map, IfOk};
+ghost use Rattle.std.specs.Prelude.{◌≡◌, ◌≤◌, length, IfOk};
 ghost use Rattle.packet_record.specs.declared.item.FlowEnd.TheVariants.{Ended as IsOver};
 ghost use Rattle.packet_record.specs.Streams.{no_items};
 ghost use Rattle.shell_core.specs.Shells.{IsInRange, opportunities};

@@ -1,5 +1,5 @@
 -- How items pass the shells of a line.
-use Rattle.std.proofs.Common.{◌≡◌, ◌⊎◌, inl, inr, ℕ, ◌≤◌, ◌<◌, ◌+◌, Bool, true, false, List, [], ◌∷◌, ◌++◌, length, map}
+use Rattle.std.proofs.Common.{◌≡◌, ◌⊎◌, inl, inr, ℕ, ◌≤◌, ◌<◌, ◌+◌, Bool, true, false, List, [], ◌∷◌, ◌++◌, length}
 use Rattle.std.proofs.Common.{take, drop, ◌-◌}
 use Rattle.std.proofs.Common.{get_or, ap, sym, subst, ◌∙◌, refl, arith, add-one, drop-cons}
 use Rattle.std.proofs.lemmas.List.{append-nil}

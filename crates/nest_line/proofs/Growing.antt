@@ -1,5 +1,5 @@
 -- Streams that go on.
-use Rattle.std.proofs.Common.{◌≡◌, ℕ, ◌≤◌, Bool, false, cond, List, [], ◌∷◌, ◌++◌, length, take, drop, map, ap, sym}
+use Rattle.std.proofs.Common.{◌≡◌, ℕ, ◌≤◌, Bool, false, cond, List, [], ◌∷◌, ◌++◌, length, take, drop, ap, sym}
 use Rattle.std.proofs.Common.{subst, ◌∙◌}
 use Rattle.std.proofs.Common.{refl, append_assoc, arith, ◌-◌}
 use Rattle.std.proofs.lemmas.List.{append-nil, length-append}
@@ -9,7 +9,7 @@ use Rattle.packet_record.specs.declared.item.Item.{Item}
 use Rattle.packet_record.specs.declared.item.Item.TheVariants.{Packet, Mark, End, Broken}
 use Rattle.packet_record.specs.declared.item.Stream.{Stream}
 use Rattle.packet_record.specs.declared.item.FlowEnd.{FlowEnd}
-use Rattle.packet_record.specs.declared.item.FlowEnd.TheVariants.{Open, Ended, Broken as Cut}
+use Rattle.packet_record.specs.declared.item.FlowEnd.TheVariants.{Open}
 use Rattle.packet_record.specs.Streams.{stream, after, after_all, AllFollow, MayFollow, IsFrom}
 use Rattle.packet_record.specs.Moments.{AreFrom, AreUpTo, Rise}
 use Rattle.packet_record.proofs.MomentsLemmas.{from_lower, from-append, up_to_back, rise_rest}

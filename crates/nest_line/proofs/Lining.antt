@@ -1,8 +1,7 @@
 -- A line by the states of its shells.
-use Rattle.std.proofs.Common.{◌≡◌, ℕ, ◌≤◌, List, [], ◌∷◌, length, ap, sym, ◌∙◌, refl, arith}
+use Rattle.std.proofs.Common.{◌≡◌, ℕ, ◌≤◌, List, [], ◌∷◌, length, ap, arith}
 use Rattle.std.proofs.lemmas.List.{length-map}
 use Rattle.packet_record.specs.declared.packet.Direction.{Direction}
-use Rattle.packet_record.specs.declared.item.Stream.{Stream}
 use Rattle.packet_record.specs.declared.item.FlowEnd.TheVariants.{Ended, Broken as Cut}
 use Rattle.packet_record.specs.Moments.{Rise}
 use Rattle.shell_state.specs.States.{State}

@@ -1,6 +1,6 @@
 -- What has left the last shell of a line.
 use Rattle.std.proofs.Common.{◌≡◌, ◌⊎◌, inl, inr, ℕ, ◌+◌, ◌≤◌, ◌<◌, Bool, true, false, cond, List, [], ◌∷◌, ◌++◌}
-use Rattle.std.proofs.Common.{length, map, filter, nat_le, ap, sym, subst, ◌∙◌, refl, append_assoc, arith, rules, tests}
+use Rattle.std.proofs.Common.{length, nat_le, ap, sym, subst, ◌∙◌, refl, arith, rules, tests}
 use Rattle.std.proofs.lemmas.List.{append-nil, length-append, nil_from_length}
 use Rattle.std.proofs.lemmas.List.Elements.{filter-append}
 use Rattle.packet_record.specs.declared.packet.Packet.{Packet}
@@ -8,7 +8,7 @@ use Rattle.packet_record.specs.declared.packet.Timed.{Timed}
 use Rattle.packet_record.specs.declared.item.Stream.{Stream}
 use Rattle.packet_record.specs.declared.item.FlowEnd.{FlowEnd}
 use Rattle.packet_record.specs.declared.item.FlowEnd.TheVariants.{Open, Ended, Broken as Cut}
-use Rattle.packet_record.specs.Moments.{AreFrom, AreUpTo, Rise}
+use Rattle.packet_record.specs.Moments.{AreFrom, Rise}
 use Rattle.packet_record.proofs.MomentsLemmas.{from_lower, up_to_higher, rise-append, rise_rest}
 use Rattle.packet_record.specs.Packets.{number}
 use Rattle.link_core.specs.Promises.{count_to}
@@ -26,7 +26,7 @@ use Rattle.shell_state.proofs.Foretelling.{foretells_more, out_goes_on, finished
 use Rattle.shell_state.proofs.GoingOn.{keeps_up}
 use Rattle.nest_spec.specs.Passed.{HavePassed}
 use Rattle.nest_line.specs.Lines.{IsFront, last_out, number_all, up_to}
-use Rattle.nest_line.specs.inside.Meeting.{IsSound, Rests, Meet}
+use Rattle.nest_line.specs.inside.Meeting.{Rests, Meet}
 use Rattle.nest_line.specs.views.Meeting.{last_taken, lost_of, specs_of}
 
 le_or_lt : (m n : ℕ) → (m ≤ n) ⊎ (n < m)

@@ -1,5 +1,5 @@
 // A line: one direction of a nest, which is fed items one by one.
-ghost use Rattle.std.specs.Prelude.{◌≡◌, ◌≤◌, [], false, get_or, length, IfOk};
+ghost use Rattle.std.specs.Prelude.{◌≡◌, [], false, get_or, IfOk};
 ghost use Rattle.packet_record.specs.declared.item.FlowEnd.TheVariants.{Ended};
 ghost use Rattle.packet_record.specs.Streams.{MayFollow, IsUpTo, no_items};
 ghost use Rattle.shell_state.specs.Steps.{breaks};

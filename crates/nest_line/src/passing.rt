@@ -7,7 +7,7 @@ ghost use Rattle.packet_record.specs.Streams.{after, after_all, AllFollow, MayFo
 ghost use Rattle.shell_state.specs.Causes.{Waits};
 ghost use Rattle.shell_state.specs.Steps.{breaks};
 ghost use Rattle.nest_line.specs.Lines.{IsFront};
-ghost use Rattle.nest_line.specs.inside.Meeting.{Caught, Follow, Grows, IsSameShell, IsSound, Meet, Rests, TakesFewer};
+ghost use Rattle.nest_line.specs.inside.Meeting.{Caught, Follow, Grows, IsSameShell, IsSound, Meet, TakesFewer};
 ghost use Rattle.nest_line.specs.inside.Meeting.{goes_on, packet_items};
 ghost use Rattle.nest_line.specs.views.Meeting.{fed_of, last_taken, specs_of};
 

@@ -3,7 +3,7 @@ ghost use Rattle.std.specs.Prelude.{◌≡◌, false, true, is_some, Some, None,
 ghost use Rattle.std.specs.Prelude.{MatchResult};
 ghost use Rattle.nest_spec.specs.Words.{nothing_given, side, with_side, given, give, has_traces, give_trace};
 ghost use Rattle.nest_spec.specs.Words.{begins_with_hyphen, is_empty, name_in, value_in, option_named, own_value};
-ghost use Rattle.nest_spec.specs.Words.{is_name_missing, next_value, valued, known_option, option_word, option_read};
+ghost use Rattle.nest_spec.specs.Words.{is_name_missing, next_value, known_option, option_word, option_read};
 ghost use Rattle.nest_spec.specs.Words.{link_from};
 
 use crate::NestError;

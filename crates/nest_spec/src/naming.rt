@@ -1,5 +1,5 @@
 // Puts what shells have in each direction, as their logs, into the nest's order.
-ghost use Rattle.std.specs.Prelude.{◌≡◌, ◌++◌, ◌↔◌, length, option_to_list, OnOk, IfOk};
+ghost use Rattle.std.specs.Prelude.{◌≡◌, ◌++◌, length, option_to_list, OnOk, IfOk};
 ghost use Rattle.nest_spec.specs.Walk.{in_nest_order};
 
 use std::alloc::Global;

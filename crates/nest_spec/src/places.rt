@@ -1,5 +1,5 @@
 // Finds the row of a packet by its number.
-ghost use Rattle.std.specs.Prelude.{◌≡◌, ◌≤◌, ◌-◌, ◌+◌, ℕ, length, MatchOption, IfOk};
+ghost use Rattle.std.specs.Prelude.{◌-◌, ◌+◌, MatchOption, IfOk};
 ghost use Rattle.packet_record.specs.Rows.{AreApart};
 ghost use Rattle.nest_spec.specs.inside.Index.{IsIndex, IsNowhere, IsOnlyAt, AreFromOne};
 ghost use Rattle.nest_spec.specs.inside.Places.{ArePlaces};

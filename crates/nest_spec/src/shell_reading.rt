@@ -1,9 +1,9 @@
 // Reads the words of one shell.
-ghost use Rattle.std.specs.Prelude.{◌≡◌, Some, None, Ok, Err, map, string_bytes, unwrap_or, codes, [], option_map};
+ghost use Rattle.std.specs.Prelude.{◌≡◌, Some, None, Ok, Err, map, string_bytes, unwrap_or, codes, []};
 ghost use Rattle.std.specs.Prelude.{MatchResult};
 ghost use Rattle.text_base.specs.Numbers.{decimal_of};
 ghost use Rattle.nest_spec.specs.Words.{shell_read, delay_ms, delay_words, loss_direction, loss_rate, rate_words};
-ghost use Rattle.nest_spec.specs.Words.{loss_words, queue_given, side_words, queues_read, link_end, link_words};
+ghost use Rattle.nest_spec.specs.Words.{loss_words, queue_given, side_words, link_end, link_words};
 ghost use Rattle.nest_spec.specs.Words.{is_shell, shell_words};
 ghost use Rattle.loss_core.specs.RateValues.{rate_value};
 ghost use Rattle.nest_spec.specs.inside.LinkWords.{side_given, rest_given};

@@ -1,5 +1,5 @@
 // What the words of a link say of one direction, and the places of words.
-ghost use Rattle.std.specs.Prelude.{◌≡◌, ◌+◌, min};
+ghost use Rattle.std.specs.Prelude.{◌≡◌, ◌+◌};
 ghost use Rattle.nest_spec.specs.Words.{next};
 
 use packet_queue::QueueSpec;

@@ -4,7 +4,7 @@ ghost use Rattle.std.specs.Bool.{OnTrue};
 ghost use Rattle.packet_record.specs.Moments.{AreUpTo};
 ghost use Rattle.trace_reader.specs.Opps.{opps};
 ghost use Rattle.link_core.specs.Promises.{count_to};
-ghost use Rattle.link_core.specs.View.{Link, opps_of};
+ghost use Rattle.link_core.specs.View.{opps_of};
 
 use crate::checks::check;
 use crate::packets::in_order;

@@ -1,10 +1,10 @@
 -- What the matches of a parse hold of each option of a table whose names differ.
 use Rattle.std.proofs.Common.{◌≡◌, ◌∙◌, ◌&&◌, ◌||◌, ◌<◌, ◌+◌, ◌++◌, ℕ, zero, suc, Bool, true, false, cond, not, refl}
-use Rattle.std.proofs.Common.{sym, ap, subst, List, [], ◌∷◌, length, get_or, map, take, Option, Some, None, arith}
+use Rattle.std.proofs.Common.{sym, ap, subst, List, [], ◌∷◌, length, get_or, map, take, Some, None, arith}
 use Rattle.std.specs.List.{list_any}
 use Rattle.std.proofs.lemmas.List.{map-append, length-map, get_or-map}
 use Rattle.std.specs.Str.{bytes_eq}
-use Rattle.clap.specs.Walk.{Text, Row, rows_of}
+use Rattle.clap.specs.Walk.{Text, rows_of}
 use Rattle.clap.specs.Matches.{found_of}
 use Rattle.clap.specs.declared.parser.matches.ArgMatches.{ArgMatches}
 use Rattle.option_words.specs.Options.{Opt, Use, options}

@@ -1,7 +1,7 @@
 // A queue of packets that may drop some.
-ghost use Rattle.std.specs.Prelude.{◌≡◌, ◌+◌, ◌-◌, ◌*◌, ◌^◌, ◌<◌, ◌≤◌, ◌≢◌, ◌&&◌, ◌++◌, ◌∷◌, [], length, map, IfOk};
+ghost use Rattle.std.specs.Prelude.{◌≡◌, ◌+◌, ◌-◌, ◌*◌, ◌^◌, ◌<◌, ◌≤◌, ◌&&◌, ◌++◌, ◌∷◌, [], length, map, IfOk};
 ghost use Rattle.std.specs.Prelude.{OnOk, OnErr, ◌↔◌, IsSome, option_to_list, vec_len, vec_capacity};
-ghost use Rattle.std.specs.VecDeque.{deque_len, deque_capacity};
+ghost use Rattle.std.specs.VecDeque.{deque_capacity};
 ghost use Rattle.packet_record.specs.Packets.{bytes, moved_to};
 ghost use Rattle.packet_queue.specs.Queues.{is_within, fits, fitting, excess, enqueued, dropped};
 ghost use Rattle.packet_queue.specs.View.{Queue};

@@ -1,5 +1,5 @@
 // The program `mm-record`: its words, the clients that it serves, the store that it writes and the line that it prints.
-ghost use Rattle.std.specs.Prelude.{◌≡◌, [], Ok, IfOk, IfErr, OnErr, OnOk, map, string_bytes};
+ghost use Rattle.std.specs.Prelude.{◌≡◌, [], Ok, IfOk, IfErr, OnOk, map, string_bytes};
 ghost use Rattle.mm_base.specs.Port.{KeepsPort};
 ghost use Rattle.mm_base.specs.Sink.{CountsSinkFaults};
 ghost use Rattle.command_ends.specs.Alone.{IsLeftAlone};

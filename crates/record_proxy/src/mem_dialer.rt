@@ -1,5 +1,5 @@
 // A dialer in memory, which fails by a list.
-ghost use Rattle.std.specs.Prelude.{◌≡◌, ◌⊎◌, ◌≤◌, ◌+◌, ◌∷◌, [], Some, IfOk, OnErr, IsErrOf, IsOk, Contains};
+ghost use Rattle.std.specs.Prelude.{◌≡◌, ◌⊎◌, ◌+◌, ◌∷◌, [], Some, IfOk, OnErr, IsErrOf, IsOk, Contains};
 ghost use Rattle.std.specs.Prelude.{MatchResult};
 ghost use Rattle.mm_base.specs.Counts.{Rose, one_more};
 ghost use Rattle.mm_base.specs.Link.{IsFresh};

@@ -3,7 +3,7 @@ ghost use Rattle.std.specs.Prelude.{◌≡◌, ◌⊎◌, IfOk, Some, map, strin
 ghost use Rattle.std.specs.Option.{option_map};
 ghost use Rattle.command_ends.specs.Answers.{Concludes, cause_in};
 ghost use Rattle.command_ends.specs.declared.cause.Cause.TheVariants as causes;
-ghost use Rattle.record_proxy.specs.Proxying.{proxy_job_of, store_named};
+ghost use Rattle.record_proxy.specs.Proxying.{store_named};
 ghost use Rattle.refusal_lines.specs.Explanations.{IsTold, explained};
 ghost use Rattle.refusal_words.specs.declared.command.Program.TheVariants.{Record};
 

@@ -1,7 +1,6 @@
 // A dialer of TCP on this machine alone. It tells no content.
 ghost use Rattle.std.specs.Prelude.{◌≡◌, ◌≤◌, ◌<◌, ◌-◌, ◌^◌, None, IfOk, OnOk};
 ghost use Rattle.mm_base.specs.Counts.{Rose};
-ghost use Rattle.record_proxy.specs.Asking.{asked_at};
 ghost use Rattle.record_proxy.specs.declared.ports_asked.PortsAsked.TheVariants.{Never};
 
 use crate::dialer::Dialer;

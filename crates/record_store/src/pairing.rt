@@ -1,5 +1,5 @@
 // Pairs a client's requests with a server's responses.
-ghost use Rattle.std.specs.Prelude.{◌≡◌, ◌≢◌, ◌≤◌, List, [], length, drop, Result, Err, IfOk, IfErr};
+ghost use Rattle.std.specs.Prelude.{◌≡◌, ◌≢◌, List, [], Result, Err, IfOk, IfErr};
 ghost use Rattle.record_store.specs.declared.errors.PairError.{PairError as ErrorValue};
 ghost use Rattle.record_store.specs.declared.errors.PairError.TheVariants as errors;
 ghost use Rattle.record_store.specs.declared.record.Record.{Record as RecordValue};

@@ -1,5 +1,5 @@
 // The pieces of what is said of a cause.
-ghost use Rattle.std.specs.Prelude.{◌≡◌, decimal, map, string_bytes};
+ghost use Rattle.std.specs.Prelude.{◌≡◌, map, string_bytes};
 ghost use Rattle.refusal_lines.specs.Explanations.{cause_parts, cause_pieces, place_of, refusal_parts, words_parts};
 
 use crate::files::{absent_parts, input_parts, limit_parts, net_parts, taken_parts};

@@ -1,5 +1,5 @@
 // The texts of the faults of words.
-ghost use Rattle.std.specs.Prelude.{◌≡◌, map, option_map, string_bytes};
+ghost use Rattle.std.specs.Prelude.{◌≡◌, map, string_bytes};
 ghost use Rattle.refusal_words.specs.FaultTexts.{fault_parts, known_text, near_option};
 ghost use Rattle.refusal_words.specs.FaultTexts.{stray_parts, unknown_parts};
 ghost use Rattle.refusal_words.specs.View.{fault_of};

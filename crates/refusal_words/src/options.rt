@@ -1,6 +1,6 @@
 // The first fault of a command's words.
-ghost use Rattle.std.specs.Prelude.{◌≡◌, None, option_map, map, string_bytes, length};
-ghost use Rattle.refusal_words.specs.Faults.{bad_option, bad_use, bad_value, bad_word, begins_with_hyphen, faulty_word};
+ghost use Rattle.std.specs.Prelude.{◌≡◌, None, option_map, map, string_bytes};
+ghost use Rattle.refusal_words.specs.Faults.{bad_use, bad_value, bad_word, begins_with_hyphen, faulty_word};
 ghost use Rattle.refusal_words.specs.Faults.{has_end, known, lacking, name_in, names, next_fault, next_waiting};
 ghost use Rattle.refusal_words.specs.Faults.{options_fault, repeated, stands_in};
 ghost use Rattle.refusal_words.specs.Faults.{stands_twice, value_in, waits, word_fault, excluded, first_of};

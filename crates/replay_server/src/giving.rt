@@ -1,5 +1,5 @@
 // Bytes that are given to a link.
-ghost use Rattle.std.specs.Prelude.{◌≡◌, take, drop, OnOk, OnErr, IsErrOf};
+ghost use Rattle.std.specs.Prelude.{◌≡◌, OnOk, OnErr, IsErrOf};
 ghost use Rattle.std.specs.Option.{option_map};
 ghost use Rattle.mm_base.specs.Counts.{Rose};
 ghost use Rattle.mm_base.specs.Link.{CountsLinkFaults, giving};

@@ -1,5 +1,5 @@
 // A session: one connection, from its first byte to its end.
-ghost use Rattle.std.specs.Prelude.{◌≡◌, ◌<◌, ℕ, Option, length, IfSome, IfNone, IfOk, vec_len};
+ghost use Rattle.std.specs.Prelude.{◌≡◌, ◌<◌, Option, length, IfSome, IfNone, IfOk, vec_len};
 ghost use Rattle.mm_base.specs.Link.{LinkBytes, CountsLinkFaults};
 ghost use Rattle.replay_server.specs.Links.{IsServed, HasFaultCause};
 ghost use Rattle.replay_server.specs.inside.Progress.{Progress, GoesOn, to_do};

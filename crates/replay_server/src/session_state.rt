@@ -1,7 +1,5 @@
 // A session, step by step.
-ghost use Rattle.std.specs.Prelude.{◌≡◌, ◌<◌, ◌≤◌, [], false, length, Option, None, Some, IfSome, IsErrOf};
-ghost use Rattle.mm_base.specs.Counts.{Rose};
-ghost use Rattle.mm_base.specs.Link.{LinkBytes, CountsLinkFaults};
+ghost use Rattle.std.specs.Prelude.{◌≡◌, ◌<◌, [], false, None, Some};
 
 use crate::ends::ConnEnd;
 use http_frame::RequestFrames;

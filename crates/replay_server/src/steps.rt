@@ -2,7 +2,6 @@
 ghost use Rattle.std.specs.Prelude.{◌≡◌, ◌<◌, ◌≤◌, ◌+◌, ◌++◌, ℕ, List, [], Option, length, IfSome, IfNone};
 ghost use Rattle.http_frame.specs.Runs.{IsRequestOf, BeginsWithNone};
 ghost use Rattle.http_frame.specs.declared.messages.Request.{Request};
-ghost use Rattle.mm_base.specs.Counts.{Rose};
 ghost use Rattle.mm_base.specs.Link.{LinkBytes, CountsLinkFaults};
 ghost use Rattle.record_store.specs.declared.record.Record.{Record};
 ghost use Rattle.replay_server.specs.Answers.{IsAnswer};

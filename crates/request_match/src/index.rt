@@ -1,5 +1,5 @@
 // An index of a store's records by what must agree with a request.
-ghost use Rattle.std.specs.Prelude.{◌≡◌, ◌<◌, ◌≤◌, ℕ, List, Option, IfOk, All, length, slice_index_or};
+ghost use Rattle.std.specs.Prelude.{◌≡◌, ◌<◌, ◌≤◌, ℕ, Option, IfOk, length, slice_index_or};
 ghost use Rattle.request_match.specs.Match.{BestCause};
 ghost use Rattle.request_match.specs.inside.Index.{Entry, IsIndex as IsIndexOf};
 

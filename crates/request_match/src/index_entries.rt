@@ -1,5 +1,5 @@
 // The entries of an index: keys and places in order, and what neighbours have in common.
-ghost use Rattle.std.specs.Prelude.{◌≡◌, ◌<◌, ℕ, Option, IfOk, IfSome, OnOk, All, IsPermutation, length};
+ghost use Rattle.std.specs.Prelude.{◌<◌, Option, IfOk, IfSome, OnOk, All, IsPermutation, length};
 ghost use Rattle.std.specs.List.Sorted.{IsNonDecreasingBy};
 ghost use Rattle.request_match.specs.inside.Index.{Entry, IsEntry, HasAllTo, IsShared, HasFront, HasFrontsTo};
 

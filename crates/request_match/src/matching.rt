@@ -1,6 +1,5 @@
 // Finds the best record of a store for a request.
-ghost use Rattle.std.specs.Prelude.{◌≡◌, ◌==◌, ◌≤◌, ◌+◌, List, ℕ, Option, Decides, false, length, drop, option_map};
-ghost use Rattle.std.specs.List.{before_first};
+ghost use Rattle.std.specs.Prelude.{◌≡◌, ◌==◌, ◌≤◌, ◌+◌, ℕ, Option, Decides, false, length, drop, option_map};
 ghost use Rattle.request_match.specs.inside.Compared.{FitsFields, IsAtMost};
 ghost use Rattle.request_match.specs.inside.Index.{WithRecord};
 ghost use Rattle.request_match.specs.Match.{stripped, common, score, FitsPort, Agrees, BestCause};

@@ -7,10 +7,9 @@
 // A merge waits for senders alone. A sender waits until all threads have begun, but not for ever. If it sees that they
 // have, none of them has ended before, so each has a thread of its own. If it doesn't, it breaks off, and so do all
 // senders that wait; their channels have room for that.
-ghost use Rattle.std.specs.Prelude.{◌≡◌, ◌≢◌, ◌≤◌, ◌+◌, List, length};
+ghost use Rattle.std.specs.Prelude.{◌≡◌, ◌≢◌, ◌≤◌, ◌+◌, length};
 ghost use Rattle.std.specs.Thread.{IsSync};
 ghost use Rattle.packet_record.specs.declared.item.FlowEnd.TheVariants.{Open};
-ghost use Rattle.packet_record.specs.declared.packet.Direction.TheVariants.{Up, Down};
 ghost use Rattle.packet_record.specs.Streams.{no_items};
 ghost use Rattle.mark_channel.specs.Ends.{IsSameEnd};
 ghost use Rattle.mark_channel.specs.Feedings.{IfFed};

@@ -1,5 +1,5 @@
 // The channels of all senders. They are opened before any thread starts, and settled after all have ended.
-ghost use Rattle.std.specs.Prelude.{◌≡◌, ◌≢◌, ◌≤◌, ◌+◌, length, IfOk, OnOk};
+ghost use Rattle.std.specs.Prelude.{◌≡◌, ◌≢◌, ◌+◌, length, IfOk, OnOk};
 ghost use Rattle.packet_record.specs.declared.item.FlowEnd.TheVariants.{Open};
 ghost use Rattle.sender_merge.specs.inside.Gates.{AllEnds, AllFresh, AreEnds, AreSettled, IsFresh, IsSettled};
 ghost use Rattle.sender_merge.specs.inside.Inlets.{AllClosed};

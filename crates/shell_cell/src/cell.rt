@@ -102,7 +102,7 @@ impl ShellCell {
     ghost use Rattle.shell_state.specs.declared.taken.Taken.TheVariants.{Item as Gives};
     ghost use Rattle.shell_cell.specs.declared.view.DrainCall.TheVariants.{Takes, Breaks};
     ghost use Rattle.shell_cell.specs.Seats.{MayFeedAt, SpendsFeed, FindsBroken, Fed, SpendsDrain, Found, Took};
-    ghost use Rattle.shell_cell.specs.Seats.{IsUnspent, IsSameSeat, HasHistory};
+    ghost use Rattle.shell_cell.specs.Seats.{IsSameSeat, HasHistory};
 
     /// Waits for the turn and feeds the item, which spends the turn.
     ///

@@ -1,6 +1,6 @@
 // Logs written as text.
-ghost use Rattle.std.specs.Prelude.{◌≡◌, ◌+◌, ◌≤◌, ◌++◌, ◌∷◌, ℕ, List, [], length, decimal, IfOk};
-ghost use Rattle.shell_log.specs.LogText.{header, line_of, log_text};
+ghost use Rattle.std.specs.Prelude.{◌≡◌, ◌+◌, ◌≤◌, ◌++◌, ◌∷◌, [], length, decimal, IfOk};
+ghost use Rattle.shell_log.specs.LogText.{line_of, log_text};
 
 use crate::{Entry, Log};
 use std::alloc::Global;

@@ -1,10 +1,10 @@
 // How a log is read from its whole text.
-ghost use Rattle.std.specs.Prelude.{◌≡◌, ◌≢◌, ◌≤◌, ◌+◌, List, Option, Some, None, MatchResult, IfOk, length};
+ghost use Rattle.std.specs.Prelude.{◌≡◌, ◌≢◌, List, Some, None, MatchResult, IfOk};
 ghost use Rattle.shell_log.specs.declared.reading.LogError.TheVariants as errors;
 ghost use Rattle.shell_log.specs.declared.entry.Entry.{Entry as EntryValue};
-ghost use Rattle.shell_log.specs.Entries.{IsEntry, IsLog, moment_of};
+ghost use Rattle.shell_log.specs.Entries.{IsLog};
 ghost use Rattle.shell_log.specs.LogText.{log_text};
-ghost use Rattle.shell_log.specs.Reading.{entry_of, fault_of, log_fault};
+ghost use Rattle.shell_log.specs.Reading.{log_fault};
 
 use crate::{Log, LogText};
 use std::alloc::Global;

@@ -1,6 +1,6 @@
 // The drain of a direction of a shell: from the shell's state to the channel behind it.
 ghost use Rattle.std.specs.Prelude.{◌≡◌, ◌≢◌, ◌≤◌, true};
-ghost use Rattle.packet_record.specs.declared.item.FlowEnd.TheVariants.{Open, Ended as IsOver, Broken as IsCut};
+ghost use Rattle.packet_record.specs.declared.item.FlowEnd.TheVariants.{Open, Broken as IsCut};
 ghost use Rattle.packet_record.specs.Streams.{no_items};
 ghost use Rattle.mark_channel.specs.Ends.{IsSameEnd};
 ghost use Rattle.shell_cell.specs.Seats.{IsSameSeat};

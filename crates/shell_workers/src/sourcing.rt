@@ -2,7 +2,7 @@
 ghost use Rattle.std.specs.Prelude.{◌≡◌, ◌≤◌, ◌+◌, ◌++◌, ◌∷◌, [], min};
 ghost use Rattle.packet_record.specs.declared.item.FlowEnd.TheVariants.{Open, Ended as IsOver};
 ghost use Rattle.packet_record.specs.declared.packet.Direction.TheVariants.{Up, Down};
-ghost use Rattle.packet_record.specs.Rows.{Rises, entering};
+ghost use Rattle.packet_record.specs.Rows.{Rises};
 ghost use Rattle.packet_record.specs.Sources.{source_items};
 ghost use Rattle.packet_record.specs.Streams.{no_items};
 ghost use Rattle.mark_channel.specs.Boths.{BothKeep, ByDirection, OfBoth};

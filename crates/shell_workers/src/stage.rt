@@ -1,6 +1,5 @@
 // A stage: a direction of one shell between two channels, with its two workers.
 ghost use Rattle.std.specs.Prelude.{◌≡◌, ◌≢◌, ◌≤◌, true};
-ghost use Rattle.std.specs.Thread.{IsSync};
 ghost use Rattle.packet_record.specs.declared.item.FlowEnd.TheVariants.{Open, Ended as IsOver, Broken as IsCut};
 ghost use Rattle.packet_record.specs.Streams.{no_items};
 ghost use Rattle.mark_channel.specs.Ends.{IsSameEnd};

@@ -1,5 +1,5 @@
 // The source whose schedule is read from a file while its packets pass the nest.
-ghost use Rattle.std.specs.Prelude.{◌≡◌, ◌≢◌, ◌≤◌, ◌<◌, ℕ, List, [], None, IfOk, OnErr, OnOk};
+ghost use Rattle.std.specs.Prelude.{◌≡◌, ◌≢◌, ◌≤◌, ◌<◌, ℕ, List, None, IfOk, OnErr, OnOk};
 ghost use Rattle.mm_base.specs.Pieces.{HasSize};
 ghost use Rattle.packet_record.specs.declared.item.FlowEnd.TheVariants.{Open, Broken as IsCut};
 ghost use Rattle.packet_record.specs.PartsRead.{HasRead, HasReadAll};

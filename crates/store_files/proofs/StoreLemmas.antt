@@ -1,5 +1,5 @@
 -- A store's text is accepted or refused, and a command goes on from it.
-use Rattle.std.proofs.Common.{◌≡◌, ◌≢◌, ◌∙◌, inl, inr, ℕ, List, Option, Some, None, Ok, Err, refl, sym, ap, subst}
+use Rattle.std.proofs.Common.{◌≡◌, ◌≢◌, ◌∙◌, inr, ℕ, List, Option, Some, None, Ok, Err, refl, sym, ap}
 use Rattle.std.proofs.Common.{arith}
 use Rattle.mm_base.specs.Disk.{DiskView}
 use Rattle.mm_base.specs.Files.{Files}

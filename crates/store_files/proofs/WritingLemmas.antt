@@ -1,5 +1,5 @@
 -- The text of a store, a front of which is written.
-use Rattle.std.proofs.Common.{◌≡◌, ◌⊎◌, inl, inr, ◌↔◌, ℕ, ◌<◌, ◌≤◌, ◌-◌, ◌++◌, Bool, true, false, IsTrue, List, [], ◌∷◌}
+use Rattle.std.proofs.Common.{◌≡◌, ◌⊎◌, inl, inr, ◌↔◌, ℕ, ◌<◌, ◌-◌, ◌++◌, Bool, true, false, IsTrue, List, [], ◌∷◌}
 use Rattle.std.proofs.Common.{Option, Result, Ok, Err, IsOk, OnErr, IfErr, length, take, drop, refl, ap, sym, ◌∙◌}
 use Rattle.std.proofs.Common.{arith}
 use Rattle.std.proofs.Common.{length-append, length-drop}
@@ -8,7 +8,7 @@ use Rattle.mm_base.specs.Disk.{DiskView}
 use Rattle.mm_base.specs.Files.{Files, holding, lengthened}
 use Rattle.mm_base.specs.declared.errors.DiskError.{DiskError}
 use Rattle.mm_base.proofs.FilesLemmas.{holding-lengthened}
-use Rattle.record_store.specs.StoreText.{records_text, store_text}
+use Rattle.record_store.specs.StoreText.{store_text}
 use Rattle.record_store.specs.declared.header.StoreForm.TheVariants.{Two}
 use Rattle.record_store.specs.declared.record.Record.{Record}
 use Rattle.command_ends.specs.Outputs.{HoldsSome, NamedText, named_text}

@@ -1,5 +1,5 @@
 -- The file that a store is written to.
-use Rattle.std.specs.Prelude.{ℕ, List, [], ◌∷◌}
+use Rattle.std.specs.Prelude.{List, [], ◌∷◌}
 use Rattle.record_store.specs.StoreText.{store_text}
 use Rattle.record_store.specs.declared.header.StoreForm.TheVariants.{Two}
 use Rattle.record_store.specs.declared.record.Record.{Record}

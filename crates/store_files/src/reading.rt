@@ -1,5 +1,5 @@
 // Stores that are read from files.
-ghost use Rattle.std.specs.Prelude.{◌≡◌, ◌≢◌, ℕ, List, Ok, Err, IfOk, IfErr};
+ghost use Rattle.std.specs.Prelude.{ℕ, List, Ok, Err, IfOk, IfErr};
 ghost use Rattle.mm_base.specs.Disk.{OnlyReads};
 ghost use Rattle.record_store.specs.StoreText.{StoreSays};
 ghost use Rattle.record_store.specs.StoreReaders.{HasRead};

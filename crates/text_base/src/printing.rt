@@ -1,5 +1,5 @@
 // Texts of lines, made whole.
-ghost use Rattle.std.specs.Prelude.{◌≡◌, ◌+◌, ◌≤◌, ◌<◌, ◌++◌, ℕ, List, [], length, true, IfOk};
+ghost use Rattle.std.specs.Prelude.{◌≡◌, ◌+◌, ◌≤◌, ◌<◌, ◌++◌, ℕ, List, length, true, IfOk};
 ghost use Rattle.std.specs.List.{flat_map};
 ghost use Rattle.text_base.specs.Lines.{is_ended};
 

@@ -1,5 +1,5 @@
 // How the lines of a trace's text are read.
-ghost use Rattle.std.specs.Prelude.{◌≡◌, ◌<◌, ◌∷◌, ◌++◌, ℕ, List, Some, IfSome, length};
+ghost use Rattle.std.specs.Prelude.{◌≡◌, ◌<◌, ◌∷◌, ℕ, List, Some, IfSome, length};
 ghost use Rattle.text_base.specs.Lines.{lines_of};
 ghost use Rattle.text_base.specs.Numbers.{decimal_of};
 ghost use Rattle.trace_reader.specs.TraceText.{said_of};

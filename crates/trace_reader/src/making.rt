@@ -1,6 +1,5 @@
 // Traces made from a number.
-ghost use Rattle.std.specs.Prelude.{◌≡◌, ◌≤◌, ◌<◌, ◌+◌, ◌*◌, ◌%◌, map, IfOk};
-ghost use Rattle.packet_record.specs.Draws.{next_draw};
+ghost use Rattle.std.specs.Prelude.{◌≡◌, ◌<◌, ◌+◌, ◌*◌, ◌%◌, map, IfOk};
 ghost use Rattle.trace_reader.specs.Made.{made_moments};
 ghost use Rattle.trace_reader.specs.declared.opportunity.TraceForm.TheVariants as forms;
 

@@ -1,5 +1,5 @@
 // How a trace is written as text.
-ghost use Rattle.std.specs.Prelude.{◌≡◌, ◌≤◌, ◌++◌, ◌∷◌, [], IfOk, OnOk, decimal};
+ghost use Rattle.std.specs.Prelude.{◌≡◌, ◌≤◌, ◌++◌, ◌∷◌, [], IfOk, OnOk};
 ghost use Rattle.trace_reader.specs.TraceText.{line_of, header_text, trace_text, IsTraceText};
 
 use crate::packed::PackedOpportunity;

@@ -1,7 +1,6 @@
 -- What an opportunity makes of the packets inside.
 use Rattle.std.specs.Prelude.{◌≡◌, ◌+◌, List}
 use Rattle.packet_record.specs.declared.packet.Timed.{Timed}
-use Rattle.packet_queue.specs.View.{Queue}
 use Rattle.trace_reader.specs.declared.opportunity.Opportunity.{Opportunity}
 use Rattle.link_core.specs.declared.buffer.Buffer.{Buffer}
 use Rattle.link_core.specs.inside.State.{IsPart, inside_buffer}

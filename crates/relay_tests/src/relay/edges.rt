@@ -1,5 +1,4 @@
 // The machine's network, of which no clause tells what it gives.
-ghost use Rattle.std.specs.Prelude.{◌≤◌, length};
 
 use live_relay::{Pulse, Side, UdpWire, Wire, drops_at, is_loss};
 use mm_base::EndError;

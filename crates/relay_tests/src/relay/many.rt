@@ -1,5 +1,5 @@
 // Some thousand datagrams.
-ghost use Rattle.std.specs.Prelude.{◌≡◌, ◌≤◌};
+ghost use Rattle.std.specs.Prelude.{◌≤◌};
 
 use super::{Answer, Done, has_text, relay_by, text_of, wire_of};
 use crate::nests::nest_of;

@@ -1,5 +1,5 @@
 // Recordings until ended: clients that wait for each other.
-ghost use Rattle.std.specs.Prelude.{◌≡◌, ◌==◌, None, false, IfOk, IsErrOf};
+ghost use Rattle.std.specs.Prelude.{◌==◌, None, false, IfOk, IsErrOf};
 ghost use Rattle.mm_base.specs.Link.{IsFresh};
 ghost use Rattle.mm_base.specs.MemLink.{mem_link_view};
 

@@ -1,5 +1,4 @@
 // A serving over a port that gives its second connection only once the first one was answered.
-ghost use Rattle.std.specs.Prelude.{◌≤◌};
 ghost use Rattle.mm_base.specs.MemPort.{mem_port_view};
 
 use super::TWO;

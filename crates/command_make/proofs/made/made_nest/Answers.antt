@@ -1,4 +1,4 @@
-use Rattle.std.proofs.Common.{◌≡◌, ◌≤◌, List, [], ◌∷◌, length, IfOk, Result, Ok, Err, ap, sym, subst, ◌∙◌}
+use Rattle.std.proofs.Common.{◌≡◌, ◌≤◌, List, length, IfOk, Result, Ok, Err, ap, sym, subst, ◌∙◌}
 use Rattle.trace_reader.specs.declared.trace.Trace.{Trace}
 use Rattle.nest_spec.specs.Nests.{NestParts, built, opportunities_of}
 use Rattle.command_make.specs.Made.{IsMadeNest}

@@ -1,7 +1,6 @@
-use Rattle.std.proofs.Common.{◌≡◌, ℕ, ◌≤◌, List, length, IfOk, Result, Ok, Err, ap, sym, subst, ◌∙◌, arith}
+use Rattle.std.proofs.Common.{◌≡◌, ℕ, ◌≤◌, List, length, IfOk, Result, Ok, Err, ap, sym, subst, ◌∙◌}
 use Rattle.std.proofs.lemmas.List.{length-map}
 use Rattle.packet_record.specs.declared.packet.Row.{Row}
-use Rattle.nest_spec.specs.declared.fate.FateRow.{FateRow}
 use Rattle.nest_spec.specs.Fates.{fate_row}
 use Rattle.nest_spec.specs.Nests.{NestParts, RunLists, fate_of, result_of}
 use Rattle.command_make.specs.Made.{IsMadeNest, made_horizon}

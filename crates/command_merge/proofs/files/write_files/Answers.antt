@@ -1,4 +1,4 @@
-use Rattle.std.proofs.Common.{◌≡◌, ◌∙◌, map, ap}
+use Rattle.std.proofs.Common.{◌∙◌, map, ap}
 use Rattle.std.proofs.lemmas.Result.{err_from_is_err_and}
 use Rattle.nest_plain.specs.Unwritten.{unwritten}
 use Rattle.command_merge.proofs.FileLemmas.{fates_stop, fates_written, unwritten_stop}

@@ -1,4 +1,4 @@
-use Rattle.std.proofs.Common.{◌≡◌, ◌+◌, ◌∙◌, length, ap, subst, sym}
+use Rattle.std.proofs.Common.{◌+◌, length, ap, subst, sym}
 use Rattle.std.proofs.lemmas.Result.{err_from_is_err_and}
 use Rattle.command_ends.specs.Readings.{Done}
 use Rattle.command_ends.specs.Stops.{StopsReading}

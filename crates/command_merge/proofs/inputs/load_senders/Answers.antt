@@ -1,11 +1,8 @@
-use Rattle.std.proofs.Common.{◌≡◌, ◌∙◌, ◌≤◌, ◌++◌, List, Option, ℕ, [], map, ap, length, subst, sym, arith}
+use Rattle.std.proofs.Common.{◌≡◌, ◌∙◌, ◌++◌, List, ℕ, map, ap, length, subst, sym, arith}
 use Rattle.std.proofs.lemmas.List.{length-map}
 use Rattle.std.proofs.lemmas.Result.{err_from_is_err_and}
 use Rattle.text_base.specs.Lines.{lines_of}
-use Rattle.mm_base.proofs.Then.{OnlyReads-then}
-use Rattle.packet_record.specs.declared.packet.Row.{Row}
 use Rattle.sender_merge.specs.RowLists.{rows_in}
-use Rattle.command_ends.specs.Causes.{Text}
 use Rattle.command_ends.specs.Stops.{RefusesText, StopsReading}
 use Rattle.command_ends.specs.declared.cause.Cause.{Cause}
 use Rattle.command_merge.specs.List.{list_refusal}

@@ -1,4 +1,3 @@
-use Rattle.std.proofs.Common.{Ok, Err, Result, IfOk, IfErr}
 use Rattle.command_stores.specs.inside.Values.{migrate_values}
 use Rattle.command_stores.proofs.MigrateLemmas.{old_finishes, old_stopped}
 use Rattle.command_stores.proofs.migrating.load_old.Goals as goal

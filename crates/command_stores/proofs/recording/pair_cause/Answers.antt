@@ -1,4 +1,3 @@
-use Rattle.std.proofs.Common.{◌∙◌, ap, inl}
 use Rattle.command_stores.specs.inside.Values.{record_values}
 use Rattle.command_stores.proofs.RecordLemmas.{pairs_refused}
 use Rattle.command_stores.proofs.recording.pair_cause.Goals as goal

@@ -1,4 +1,4 @@
-use Rattle.std.proofs.Common.{◌≡◌, ◌++◌, ◌∙◌, [], List, Ok, Err, ap, sym}
+use Rattle.std.proofs.Common.{◌≡◌, ◌++◌, ◌∙◌, Ok, Err, ap, sym}
 use Rattle.http_frame.specs.Frames.{Frames}
 use Rattle.http_frame.specs.declared.errors.FrameFault.{FrameFault}
 use Rattle.http_frame.specs.declared.errors.Step.{Step}

@@ -1,4 +1,4 @@
-use Rattle.std.proofs.Common.{◌≡◌, ◌∙◌, ap, arith, refl, take}
+use Rattle.std.proofs.Common.{◌∙◌, ap, arith, refl, take}
 use Rattle.std.proofs.lemmas.List.{take_all}
 use Rattle.packet_record.specs.Packets.{number}
 use Rattle.live_relay.specs.inside.Pieces.{has_number}

@@ -1,4 +1,4 @@
-use Rattle.std.proofs.Common.{◌<◌, List, length, get_or, ap, sym, subst, arith}
+use Rattle.std.proofs.Common.{◌<◌, List, length, get_or, sym, subst, arith}
 use Rattle.std.proofs.lemmas.Grind.{common_steps}
 use Rattle.shell_log.specs.declared.entry.Entry.{Entry}
 use Rattle.shell_log.specs.declared.entry.Entry.TheVariants.{Arrival}

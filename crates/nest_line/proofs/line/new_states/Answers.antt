@@ -1,11 +1,8 @@
-use Rattle.std.proofs.Common.{◌≡◌, ◌∙◌, ◌++◌, ◌∷◌, [], List, subst, sym, ap, length, rules, arith, append_assoc}
-use Rattle.std.proofs.lemmas.List.{append-nil, length-map}
+use Rattle.std.proofs.Common.{◌≡◌, ◌∙◌, ◌++◌, ◌∷◌, [], List, subst, sym, ap, rules, append_assoc}
 use Rattle.std.specs.Vec.Iter.{into_iter_items}
 use Rattle.shell_core.specs.declared.spec.DirSpec.{DirSpec}
 use Rattle.shell_state.specs.States.{State, new_state}
-use Rattle.nest_spec.specs.declared.shell.ShellDirection.{ShellDirection}
-use Rattle.nest_spec.specs.Nests.{AllFit, directions_of, shells_in}
-use Rattle.nest_spec.proofs.NestLemmas.{shells_long}
+use Rattle.nest_spec.specs.Nests.{AllFit}
 use Rattle.nest_line.specs.inside.Meeting.{AreNew}
 use Rattle.nest_line.specs.views.Meeting.{specs_of}
 use Rattle.nest_line.proofs.Carrying.{new-snoc, specs-snoc}

@@ -1,12 +1,11 @@
-use Rattle.std.proofs.Common.{◌≡◌, ◌∙◌, ap, sym, subst, List}
+use Rattle.std.proofs.Common.{◌∙◌, ap, sym, subst, List}
 use Rattle.std.proofs.lemmas.Result.{on_ok_weaker}
 use Rattle.packet_record.specs.declared.item.Stream.{Stream}
-use Rattle.packet_record.specs.declared.packet.Timed.{Timed}
 use Rattle.packet_record.specs.Streams.{after}
 use Rattle.shell_state.specs.States.{State}
 use Rattle.nest_line.specs.Lines.{IsFront}
 use Rattle.nest_line.specs.views.Meeting.{fed_of, last_taken, specs_of}
-use Rattle.nest_line.proofs.Carrying.{fed_fed, fed_same, fed_taken, follow_on, for_first, past_item, specs-cons}
+use Rattle.nest_line.proofs.Carrying.{fed_same, fed_taken, follow_on, for_first, past_item, specs-cons}
 use Rattle.nest_line.proofs.Growing.{front_of}
 use Rattle.nest_line.proofs.passing.advance.Goals as goal
 

@@ -1,4 +1,4 @@
-use Rattle.std.proofs.Common.{◌≡◌, drop, false}
+use Rattle.std.proofs.Common.{◌≡◌, drop}
 use Rattle.packet_record.specs.Streams.{after_all, AllFollow}
 use Rattle.nest_line.specs.inside.Meeting.{IsSameShell, packet_items}
 use Rattle.nest_line.proofs.passing.feed_packets.Given as goal

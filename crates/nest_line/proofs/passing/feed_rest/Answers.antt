@@ -1,4 +1,4 @@
-use Rattle.std.proofs.Common.{◌≡◌, ◌∙◌, inl, ap}
+use Rattle.std.proofs.Common.{◌∙◌, inl, ap}
 use Rattle.std.proofs.lemmas.Result.{on_ok_weaker}
 use Rattle.packet_record.specs.declared.item.Stream.{Stream}
 use Rattle.nest_line.proofs.Carrying.{catches, has_caught, mark_may}

@@ -1,15 +1,12 @@
-use Rattle.std.proofs.Common.{◌≡◌, ◌∙◌, None, subst, sym}
+use Rattle.std.proofs.Common.{◌≡◌, None, subst, sym}
 use Rattle.std.proofs.lemmas.Result.{err_from_is_err_and}
-use Rattle.packet_record.specs.declared.packet.Direction.TheVariants.{Up, Down}
-use Rattle.packet_record.specs.Rows.{entering}
 use Rattle.shell_workers.specs.declared.ends.WorkEnd.{WorkEnd}
 use Rattle.nest_runner.specs.declared.stream_error.StreamError.{StreamError}
 use Rattle.shell_workers.specs.Ends.{IfEnded}
 use Rattle.mark_channel.specs.Boths.{ByDirection, OfBoth}
-use Rattle.nest_lanes.specs.Lanes.{HasCarried, HasRun, IsDonePath}
+use Rattle.nest_lanes.specs.Lanes.{HasRun, IsDonePath}
 use Rattle.nest_lanes.specs.inside.Lanes.{HasEnded}
 use Rattle.nest_runner.specs.Streaming.{HasStreamCause}
-use Rattle.nest_runner.specs.inside.Lanes.{lanes_of}
 use Rattle.shell_workers.specs.StreamParts.{AllSent, IsStreamed}
 use Rattle.nest_runner.proofs.BothLanes.{both_ended, both_ran}
 use Rattle.nest_runner.proofs.Streamed.{disk_cause, ok_has, streamed_lanes, text_cause}

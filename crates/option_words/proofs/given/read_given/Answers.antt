@@ -1,10 +1,9 @@
-use Rattle.std.proofs.Common.{◌≡◌, ◌+◌, ◌++◌, ◌∷◌, ◌≤◌, [], ℕ, List, Option, Some, None, length, get_or, map, take}
+use Rattle.std.proofs.Common.{◌≡◌, ◌+◌, ℕ, List, Some, length, map, take}
 use Rattle.std.proofs.Common.{string_bytes, sym, ap, subst, ◌∙◌, arith}
 use Rattle.std.specs.Option.{option_map}
 use Rattle.std.proofs.Math.Seq.{take-length}
 use Rattle.std.proofs.lemmas.List.{length-map}
-use Rattle.clap.specs.Walk.{Text}
-use Rattle.option_words.specs.Options.{Opt, Use}
+use Rattle.option_words.specs.Options.{Opt}
 use Rattle.option_words.specs.Givens.{given}
 use Rattle.option_words.specs.inside.Found.{IsMatchOf}
 use Rattle.option_words.specs.inside.Values.{opt}

@@ -1,4 +1,4 @@
-use Rattle.std.proofs.Common.{◌≡◌, ◌++◌, ◌∷◌, [], drop, length, ap, sym, subst, rules, arith, ◌∙◌}
+use Rattle.std.proofs.Common.{◌≡◌, ◌++◌, ◌∷◌, [], drop, length, ap, sym, subst, arith, ◌∙◌}
 use Rattle.packet_record.specs.Moments.{AreUpTo}
 use Rattle.trace_reader.specs.Opps.{up_to}
 use Rattle.link_core.specs.Promises.{count_to}

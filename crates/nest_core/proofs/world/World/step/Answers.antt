@@ -1,5 +1,4 @@
 use Rattle.std.proofs.Common.{sym}
-use Rattle.nest_core.proofs.Changing.{among}
 use Rattle.nest_core.proofs.Stepping.{stepped, stepped_less, stepped_same, stepped_changed, stepped_keeps}
 use Rattle.nest_core.proofs.Stepping.{stepped_actors}
 use Rattle.nest_core.proofs.world.World.step.Goals as goal

@@ -1,4 +1,4 @@
-use Rattle.std.proofs.Common.{◌≡◌, ◌∙◌, [], ap, sym, subst}
+use Rattle.std.proofs.Common.{◌∙◌, [], ap, subst}
 use Rattle.nest_line.specs.Lines.{LineParts, IsSettled}
 use Rattle.nest_line.specs.views.Meeting.{fed_of, last_taken}
 use Rattle.nest_line.proofs.Carrying.{last_any}

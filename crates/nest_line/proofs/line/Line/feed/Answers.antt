@@ -1,4 +1,4 @@
-use Rattle.std.proofs.Common.{◌≡◌, ◌∙◌, ap, sym, subst, List}
+use Rattle.std.proofs.Common.{◌∙◌, ap, sym, subst, List}
 use Rattle.shell_state.specs.States.{State}
 use Rattle.nest_line.specs.Lines.{LineParts}
 use Rattle.nest_line.specs.inside.Meeting.{Follow}

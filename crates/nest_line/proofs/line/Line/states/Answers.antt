@@ -1,5 +1,4 @@
-use Rattle.std.proofs.Common.{◌≡◌, ◌∙◌, ap, sym, subst, List}
-use Rattle.packet_record.specs.declared.item.FlowEnd.TheVariants.{Ended}
+use Rattle.std.proofs.Common.{◌∙◌, ap, sym, subst, List}
 use Rattle.shell_state.specs.States.{State}
 use Rattle.nest_spec.specs.Passed.{HavePassed}
 use Rattle.nest_line.specs.Lines.{LineParts}

@@ -5,7 +5,7 @@ use Rattle.std.proofs.lemmas.List.{drop_more, take_more}
 use Rattle.packet_record.specs.declared.item.Stream.{Stream}
 use Rattle.packet_record.specs.declared.packet.Row.{Row}
 use Rattle.packet_record.specs.declared.packet.Direction.TheVariants.{Up, Down}
-use Rattle.packet_record.specs.Rows.{Rises, entering}
+use Rattle.packet_record.specs.Rows.{Rises}
 use Rattle.packet_record.proofs.RowsLemmas.{rises-in_order}
 use Rattle.shell_workers.specs.Sending.{SendsRow}
 use Rattle.sender_merge.specs.Merges.{merged_row}
