@@ -9,7 +9,7 @@ ghost use Rattle.mark_channel.specs.inside.Carrying.{nothing};
 ghost use Rattle.mark_channel.specs.inside.Rules.{opening, sending, getting};
 
 use crate::bells::open_bells;
-use crate::rule::{InOrder, HasHorizon, Roles, Together, Total, View};
+use crate::rule::{HasHorizon, InOrder, Roles, Together, Total, View};
 use crate::{Receiver, Sender};
 use crossbeam_channel::{Pass, RuledSender, bounded_with};
 use packet_record::Item;

@@ -138,13 +138,13 @@ after_magic Two rs ss x y e = ap (drop 10) e
 -- ---- what a text says, by what stands after its records
 
 data Says (form : StoreForm) (rs : List Record) (rest : List ℕ) (result : Result (List Record) StoreError) : Type 0
-    where
-  ends : rest ≡ [] → result ≡ Ok rs → Says form rs rest result
-  uncut : 0 < length rest → (e : StoreError) → cut_of form (length (store_text form rs)) rest ≡ Err e → result ≡ Err e
-      → Says form rs rest result
-  unmatched : (cut : Cut) → cut_of form (length (store_text form rs)) rest ≡ Ok cut
-      → (IsExchange (request_part cut rest) (response_part cut rest) → ⊥)
-      → result ≡ Err (errors.BadMessage (length rs + 1)) → Says form rs rest result
+  where
+    ends : rest ≡ [] → result ≡ Ok rs → Says form rs rest result
+    uncut : 0 < length rest → (e : StoreError) → cut_of form (length (store_text form rs)) rest ≡ Err e → result ≡ Err e
+        → Says form rs rest result
+    unmatched : (cut : Cut) → cut_of form (length (store_text form rs)) rest ≡ Ok cut
+        → (IsExchange (request_part cut rest) (response_part cut rest) → ⊥)
+        → result ≡ Err (errors.BadMessage (length rs + 1)) → Says form rs rest result
 
 record Reading (text : List ℕ) (result : Result (List Record) StoreError) : Type 0 where
   pub form : StoreForm
@@ -217,7 +217,7 @@ readings_same text a b x y =
     (form_reached x.form text x.records x.rest x.reaches.split)
     (form_reached y.form text y.records y.rest y.reaches.split) in
     let reaches : Reaches y.form text x.records x.rest =
-        subst (λ (f : StoreForm). Reaches f text x.records x.rest) forms x.reaches in
+    subst (λ (f : StoreForm). Reaches f text x.records x.rest) forms x.reaches in
     let says : Says y.form x.records x.rest a = subst (λ (f : StoreForm). Says f x.records x.rest a) forms x.says in
     let run = same_run y.form x.records y.records x.rest y.rest reaches.records y.reaches.records
     (stops_so y.form x.records x.rest a says) (stops_so y.form y.records y.rest b y.says)

@@ -8,7 +8,7 @@ use Rattle.command_make.proofs.make.answer_make.Goals as goal
 pub returns-in-Some-clause-ends : goal.returns-in-Some-clause-ends
 returns-in-Some-clause-ends g c = λ disk.
     ends_job (only GivesMake) make_values _ _ _ make_reading _ _ _ c.in-Some.is c.in_ok-job.ensures
-        (c.make.ensures.ends disk)
+    (c.make.ensures.ends disk)
 
 pub returns-in-None-clause-ends : goal.returns-in-None-clause-ends
 returns-in-None-clause-ends g c = λ disk.
