@@ -54,7 +54,7 @@ fn ends_as(
 ) -> Result<bool, OutOfMemory> {
     match reading.finish() {
         Ok(schedule) => {
-            let printed = print_schedule(alloc, &schedule)?;
+            let printed = print_schedule(alloc, &schedule.unpack(alloc)?)?;
             Ok(said == Ok(printed.as_slice()))
         }
         Err(fault) => Ok(said == Err((fault.number(), fault.line()))),
@@ -92,7 +92,7 @@ fn is_read(
 }
 
 // Texts, and what is printed of the rows of each, or the number of its refusal and the line that it names.
-static READ: [(&[u8], Result<&[u8], (u32, u64)>); 8] = [
+static READ: [(&[u8], Result<&[u8], (u32, u64)>); 9] = [
     (
         b"05 up 0100\n7 down 1504\n7 up 1",
         Ok(b"5 up 100\n7 down 1504\n7 up 1\n"),
@@ -100,6 +100,10 @@ static READ: [(&[u8], Result<&[u8], (u32, u64)>); 8] = [
     (
         b"0000000001 down 0000000002\n1 up 3\n",
         Ok(b"1 down 2\n1 up 3\n"),
+    ),
+    (
+        b"4294967295 up 1\n4294967296 up 1504\n9999999999 down 1504",
+        Ok(b"4294967295 up 1\n4294967296 up 1504\n9999999999 down 1504\n"),
     ),
     (b"", Ok(b"")),
     (b"5 up 1\n\n6 up 1\n", Err((1, 2))),

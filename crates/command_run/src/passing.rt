@@ -12,9 +12,9 @@ ghost use Rattle.command_run.specs.inside.Modes.{mode_of};
 
 use command_ends::{Cause, Host, Limit, Refusal};
 use mm_base::{Disk, Pace};
-use nest_command::{load_schedule, schedule_cause};
+use nest_command::{load_packed, load_schedule, schedule_cause};
 use nest_core::run_order;
-use nest_plain::{NestRun, run_nest};
+use nest_plain::{NestRun, run_packed};
 use nest_runner::{StreamError, run_nest_stream};
 use nest_spec::{Nest, RunResult};
 use std::marker::Sync;
@@ -105,8 +105,8 @@ pub(crate) fn pass_packets<R: Threads + Wait + Sync, D: Disk, Q: Pace + Sync>(
             Ok(Passed::InPieces(run))
         }
         RunMode::ShellByShell => {
-            let schedule = load_schedule(host.alloc, disk, name)?;
-            Ok(Passed::InPieces(run_nest(host.alloc, nest, &schedule)?))
+            let schedule = load_packed(host.alloc, disk, name)?;
+            Ok(Passed::InPieces(run_packed(host.alloc, nest, &schedule)?))
         }
         RunMode::Steps(order) => {
             let schedule = load_schedule(host.alloc, disk, name)?;

@@ -14,7 +14,7 @@ ghost use Rattle.nest_command.specs.Loaded.{HasSchedule, HasTrace, HaveTraces};
 
 use command_ends::{Cause, Limit, Refusal, input_size, read_input, read_pieces};
 use mm_base::Disk;
-use packet_record::{Schedule, ScheduleError, ScheduleText};
+use packet_record::{PackedSchedule, Schedule, ScheduleError, ScheduleText};
 use std::alloc::Global;
 use text_base::Text;
 use trace_reader::{Trace, TraceError, read_trace};
@@ -115,7 +115,7 @@ fn read_schedule_file<D: Disk>(
 }
 
 // Returns the schedule whose text was read. A refusal names the file `name`.
-fn schedule_of(alloc: Global, name: &str, text: ScheduleText) -> Result<Schedule, Cause>
+fn schedule_of(alloc: Global, name: &str, text: ScheduleText) -> Result<PackedSchedule, Cause>
     ensures rows { (bytes : List ℕ) → HasRead bytes text → IfOk result (λ rows. IsScheduleText bytes rows) }
     ensures refused { (bytes : List ℕ) → HasRead bytes text
         → MatchResult result (λ _. schedule_refusal name.now bytes ≡ None)
@@ -127,9 +127,13 @@ fn schedule_of(alloc: Global, name: &str, text: ScheduleText) -> Result<Schedule
     }
 }
 
-/// Returns the schedule in the file `name`. The cause of what can't be read is its refusal, a fault of the disk, or out
-/// of memory.
-pub fn load_schedule<D: Disk>(alloc: Global, disk: &mut D, name: &str) -> Result<Schedule, Cause>
+/// Returns the schedule in the file `name`, packed. The cause of what can't be read is its refusal, a fault of the disk,
+/// or out of memory.
+pub fn load_packed<D: Disk>(
+    alloc: Global,
+    disk: &mut D,
+    name: &str,
+) -> Result<PackedSchedule, Cause>
     ensures found { IfOk result (λ rows. ((text : List ℕ) × HasSchedule (D.view disk.old).files name.now text rows)) }
     ensures stopped { IfErr result (λ cause. StopsReading (reading_schedule name.now Done) (D.view disk.old)
         (D.view disk.new) cause) }
@@ -137,4 +141,15 @@ pub fn load_schedule<D: Disk>(alloc: Global, disk: &mut D, name: &str) -> Result
 {
     let text = read_schedule_file(alloc, disk, name)?;
     schedule_of(alloc, name, text)
+}
+
+/// Returns the schedule in the file `name`, as `load_packed` does, with whole rows.
+pub fn load_schedule<D: Disk>(alloc: Global, disk: &mut D, name: &str) -> Result<Schedule, Cause>
+    ensures found { IfOk result (λ rows. ((text : List ℕ) × HasSchedule (D.view disk.old).files name.now text rows)) }
+    ensures stopped { IfErr result (λ cause. StopsReading (reading_schedule name.now Done) (D.view disk.old)
+        (D.view disk.new) cause) }
+    ensures only_reads { OnlyReads (D.view disk.old) (D.view disk.new) }
+{
+    let packed = load_packed(alloc, disk, name)?;
+    Ok(packed.unpack(alloc)?)
 }

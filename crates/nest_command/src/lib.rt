@@ -9,6 +9,6 @@ mod whole_logs;
 mod words;
 
 pub use checks::{check_count, check_horizon, check_outputs, names_of, nest_cause};
-pub use inputs::{load_schedule, load_traces, schedule_cause};
+pub use inputs::{load_packed, load_schedule, load_traces, schedule_cause};
 pub use run_files::{write_in_pieces, write_logs, write_whole};
 pub use words::end_of_options;

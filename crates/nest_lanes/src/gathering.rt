@@ -27,7 +27,7 @@ ghost use Rattle.nest_lanes.specs.Lanes.{HasRun};
 use crate::lane::Lane;
 use nest_plain::{NestRun, UnwrittenLog};
 use nest_spec::{Marking, Named, Nest, ShellDirection, in_nest_order};
-use packet_record::{Direction, Schedule, Timed};
+use packet_record::{Direction, PackedSchedule, Schedule, Timed};
 use shell_core::Passage;
 use shell_state::ShellState;
 use std::alloc::Global;
@@ -200,5 +200,23 @@ pub fn gather_lanes(
 {
     schedule.rows(); // fact: no two rows of a schedule have one number
     let marking = Marking::of_schedule(alloc, schedule)?;
+    gather_marked(alloc, nest, marking, up, down)
+}
+
+/// Returns the result of a run whose lanes have carried the rows of a packed schedule, as `gather_marked` does.
+pub fn gather_packed(
+    alloc: Global,
+    nest: &Nest,
+    schedule: &PackedSchedule,
+    up: Lane,
+    down: Lane,
+) -> Result<NestRun, OutOfMemory>
+    requires up { HasRun Up nest.now schedule.now up }
+    requires down { HasRun Down nest.now schedule.now down }
+    ensures value { IfOk result (λ r. r ≡ result_of nest.now schedule.now) }
+    ensures once { OnOk result (HaveOneFate nest.now schedule.now) }
+{
+    schedule.rows(); // fact: no two rows of a schedule have one number
+    let marking = Marking::of_packed(alloc, schedule)?;
     gather_marked(alloc, nest, marking, up, down)
 }

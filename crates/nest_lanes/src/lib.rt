@@ -9,6 +9,6 @@ mod lane;
 mod paths;
 
 pub use begun::none_begun;
-pub use gathering::{gather_lanes, gather_marked};
+pub use gathering::{gather_lanes, gather_marked, gather_packed};
 pub use lane::{Lane, Path};
 pub use paths::run_paths;

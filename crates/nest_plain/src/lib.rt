@@ -6,4 +6,4 @@ mod plain;
 mod shell;
 
 pub use nest_run::{NestRun, UnwrittenLog};
-pub use plain::{run_nest, run_plain};
+pub use plain::{run_nest, run_packed, run_plain};

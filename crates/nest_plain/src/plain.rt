@@ -1,7 +1,7 @@
 // Runs a schedule through a nest, shell by shell.
-ghost use Rattle.std.specs.Prelude.{◌≡◌, map, option_map, IfOk, OnOk};
+ghost use Rattle.std.specs.Prelude.{◌≡◌, ◌&&◌, [], nat_le, map, option_map, IfOk, OnOk};
 ghost use Rattle.packet_record.specs.declared.packet.Row.{Row as RowValue};
-ghost use Rattle.packet_record.specs.Rows.{entering, Rises};
+ghost use Rattle.packet_record.specs.Rows.{entering, goes, Rises};
 ghost use Rattle.nest_spec.specs.declared.fate.Fate.{Fate as FateValue};
 ghost use Rattle.nest_spec.specs.Fates.{fated};
 ghost use Rattle.nest_spec.specs.inside.Links.{AreBuilt};
@@ -15,67 +15,93 @@ use crate::NestRun;
 use crate::nest_run::UnwrittenLog;
 use crate::shell::run_shells;
 use nest_spec::{Marking, Nest, RunResult, in_nest_order};
-use packet_record::{Direction, Row, Schedule, Timed};
+use packet_record::{Direction, PackedRow, PackedSchedule, Schedule, Timed};
 use std::alloc::Global;
 use text_base::OutOfMemory;
 
-// Returns the packets of a direction up to the horizon.
+// Returns whether a row goes in a direction, up to the horizon.
+#[inline(always)]
+fn enters(direction: Direction, horizon: u64, row: &PackedRow) -> bool
+    ensures { result ≡ (goes direction row.now.direction && nat_le row.now.timed.moment horizon) }
+{
+    row.direction() == direction && row.moment() <= horizon
+}
+
+// Returns the packets of a direction up to the horizon, in the room of an empty list.
 fn entering(
-    alloc: Global,
     direction: Direction,
     horizon: u64,
-    rows: &[Row],
+    rows: &[PackedRow],
+    room: Vec<Timed>,
 ) -> Result<Vec<Timed>, OutOfMemory>
+    requires { room.items ≡ [] }
     ensures { IfOk result (λ packets. packets.items ≡ entering direction horizon rows.now) }
 {
-    let packets = rows
-        .iter()
-        .filter(|row| row.direction == direction && row.timed.moment <= horizon)
-        .map(|row| row.timed)
-        .collect(alloc)?;
+    let mut packets = room;
+    for row in rows {
+        if enters(direction, horizon, row) {
+            packets.push(row.timed())?;
+        }
+    }
     Ok(packets)
 }
 
 // Runs a direction's packets through its shells and marks their fates. Returns the logs of the shells in passing order,
-// `None` for one without a name.
+// `None` for one without a name, and an empty list. The packets take the room of `room`, and leave theirs in that list.
 fn run_direction(
     alloc: Global,
     nest: &Nest,
     direction: Direction,
-    rows: &[Row],
+    rows: &[PackedRow],
     marking: &mut Marking<'_>,
-) -> Result<Vec<Option<UnwrittenLog>>, OutOfMemory>
-    requires { Rises 0 rows.now }
+    room: Vec<Timed>,
+) -> Result<(Vec<Option<UnwrittenLog>>, Vec<Timed>), OutOfMemory>
+    requires rises { Rises 0 rows.now }
+    requires empty { room.items ≡ [] }
     ensures rows { marking.new.rows ≡ marking.old.rows }
     ensures fates { OnOk result ((f : RowValue → FateValue) → marking.old.fates ≡ fated f marking.old.rows
         → marking.new.fates
         ≡ fated (marked_through nest.now.horizon (shells_in direction nest.now)
         (entering direction nest.now.horizon rows.now) f)
         marking.old.rows) }
-    ensures logs { IfOk result (λ logs. map (option_map unwritten_log) logs.items
+    ensures logs { IfOk result (λ r. map (option_map unwritten_log) r.0.items
         ≡ map named_log (walk_of direction nest.now rows.now)) }
     ensures built { OnOk result (AreBuilt (directions_of direction nest.now)) }
+    ensures empty { IfOk result (λ r. r.1.items ≡ []) }
 {
     let horizon = nest.horizon();
-    let arrived = entering(alloc, direction, horizon, rows)?;
+    let arrived = entering(direction, horizon, rows, room)?;
     let shells = nest.shells_in(direction)?;
     let mut logs = Vec::with_capacity(alloc, shells.len())?;
-    run_shells(marking, &mut logs, horizon, shells.into_iter(), arrived)?;
-    Ok(logs)
+    let room = run_shells(marking, &mut logs, horizon, shells.into_iter(), arrived)?;
+    Ok((logs, room))
 }
 
 /// Runs the schedule through the nest, each shell over its whole list of arrivals and then the next. Returns the fate
 /// of each packet and the named logs, which aren't written out. Returns `OutOfMemory` where an allocation fails.
-pub fn run_nest(alloc: Global, nest: &Nest, schedule: &Schedule) -> Result<NestRun, OutOfMemory>
+pub fn run_packed(
+    alloc: Global,
+    nest: &Nest,
+    schedule: &PackedSchedule,
+) -> Result<NestRun, OutOfMemory>
     ensures value { IfOk result (λ r. r ≡ result_of nest.now schedule.now) }
     ensures once { OnOk result (HaveOneFate nest.now schedule.now) }
 {
     let rows = schedule.rows();
-    let mut marking = Marking::of_schedule(alloc, schedule)?;
-    let up = run_direction(alloc, nest, Direction::Up, rows, &mut marking)?;
-    let down = run_direction(alloc, nest, Direction::Down, rows, &mut marking)?;
+    let mut marking = Marking::of_packed(alloc, schedule)?;
+    let room = Vec::new(alloc);
+    let (up, room) = run_direction(alloc, nest, Direction::Up, rows, &mut marking, room)?;
+    let (down, _) = run_direction(alloc, nest, Direction::Down, rows, &mut marking, room)?;
     let logs = in_nest_order(alloc, up, down)?;
     Ok(NestRun::new(marking.into_fates(), logs))
+}
+
+/// Runs the schedule through the nest as `run_packed` does, over a packed copy of it.
+pub fn run_nest(alloc: Global, nest: &Nest, schedule: &Schedule) -> Result<NestRun, OutOfMemory>
+    ensures value { IfOk result (λ r. r ≡ result_of nest.now schedule.now) }
+    ensures once { OnOk result (HaveOneFate nest.now schedule.now) }
+{
+    run_packed(alloc, nest, &schedule.pack(alloc)?)
 }
 
 /// Runs the schedule through the nest as `run_nest` does, and writes the logs out. Returns `OutOfMemory` where an

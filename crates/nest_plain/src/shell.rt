@@ -1,5 +1,5 @@
 // Runs shells one after the other, each over its whole list of arrivals.
-ghost use Rattle.std.specs.Prelude.{◌≡◌, ◌≤◌, ◌++◌, IsSome, length, map, option_map, OnOk, IfOk};
+ghost use Rattle.std.specs.Prelude.{◌≡◌, ◌≤◌, ◌++◌, [], IsSome, length, map, option_map, OnOk, IfOk};
 ghost use Rattle.std.specs.Vec.Iter.{into_iter_items};
 ghost use Rattle.packet_record.specs.declared.packet.Row.{Row as RowValue};
 ghost use Rattle.packet_record.specs.Moments.{AreUpTo, Rise};
@@ -63,14 +63,14 @@ fn run_shell(
 }
 
 // Runs each shell over what departed from the one before it. Adds the log of each to `logs`, or `None` where it has no
-// name.
+// name. Returns an empty list, with the room of what departed from the last shell.
 pub(crate) fn run_shells(
     marking: &mut Marking<'_>,
     logs: &mut Vec<Option<UnwrittenLog>>,
     horizon: u64,
     mut shells: IntoIter<ShellDirection>,
     arrived: Vec<Timed>,
-) -> Result<(), OutOfMemory>
+) -> Result<Vec<Timed>, OutOfMemory>
     requires fit { AllFit horizon (specs_in (into_iter_items shells)) }
     requires links { NamedAreLinks (into_iter_items shells) }
     requires horizon { horizon ≤ 3600000 }
@@ -84,10 +84,13 @@ pub(crate) fn run_shells(
         ≡ map (option_map unwritten_log) logs.old.items
         ++ map named_log (walk horizon (into_iter_items shells) arrived.items)) }
     ensures built { OnOk result (AreBuilt (specs_in (into_iter_items shells))) }
+    ensures empty { IfOk result (λ room. room.items ≡ []) }
 {
     let Some(shell) = shells.next() else {
         marking.depart(arrived.as_slice());
-        return Ok(());
+        let mut room = arrived;
+        room.clear();
+        return Ok(room);
     };
     let alloc = *logs.allocator();
     let (departed, log) = run_shell(alloc, marking, horizon, shell, arrived)?;

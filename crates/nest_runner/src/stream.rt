@@ -18,10 +18,10 @@ use crate::StreamError;
 use crate::lanes::Lanes;
 use mark_channel::Run;
 use mm_base::{Disk, DiskError, FilePlace, Pace, piece_buffer, size_within};
-use nest_lanes::{Lane, gather_lanes, none_begun, run_paths};
+use nest_lanes::{Lane, gather_packed, none_begun, run_paths};
 use nest_plain::NestRun;
 use nest_spec::{Nest, RunResult};
-use packet_record::{Both, Schedule, ScheduleText};
+use packet_record::{Both, PackedSchedule, ScheduleText};
 use shell_workers::{ScheduleFile, WorkEnd, stream_source};
 use std::alloc::Global;
 use std::marker::Sync;
@@ -54,7 +54,7 @@ pub fn run_nest_stream<D: Disk, Q: Pace + Sync, R: Threads + Wait + Sync>(
     let place = FilePlace { name, at: 0, size };
     let (schedule, lanes) = run_file(rt, alloc, nest, disk, &place, pace)?;
     let Both { up, down } = lanes;
-    Ok(gather_lanes(alloc, nest, &schedule, up, down)?)
+    Ok(gather_packed(alloc, nest, &schedule, up, down)?)
 }
 
 /// Runs the schedule in the file `name` as `run_nest_stream` does, and writes the logs out.
@@ -84,7 +84,7 @@ fn run_file<D: Disk, Q: Pace + Sync, R: Threads + Wait + Sync>(
     disk: &mut D,
     place: &FilePlace<'_>,
     pace: &Q,
-) -> Result<(Schedule, Both<Lane>), StreamError>
+) -> Result<(PackedSchedule, Both<Lane>), StreamError>
     requires size { HasSize (D.view disk.old).files place.now.name.now place.now.size }
     requires start { place.now.at ≡ 0 }
     ensures ended { IfOk result (λ r. OfBoth HasEnded r.1) }

@@ -3,6 +3,7 @@ pub mod ShellLemmas
 pub mod PlanLemmas
 pub mod CountLemmas
 pub mod Indexing
+pub mod Listing
 pub mod MarkLemmas
 pub mod NumberLemmas
 pub mod Natural

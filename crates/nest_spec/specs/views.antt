@@ -1,4 +1,5 @@
 -- What contracts see of each public type (`.now`), by its fields.
+pub mod MarkedRows
 pub mod Marking
 pub mod Nest
 pub mod NestWords

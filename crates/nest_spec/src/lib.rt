@@ -9,6 +9,7 @@ mod fates_text;
 mod gathering;
 mod link_words;
 mod mark;
+mod marked_rows;
 mod marking;
 mod naming;
 mod nest;

@@ -9,11 +9,13 @@ ghost use Rattle.packet_record.specs.Moments.{AreUpTo};
 ghost use Rattle.packet_record.specs.Rows.{AreApart};
 ghost use Rattle.nest_spec.specs.inside.PackedFates.{IsShort};
 ghost use Rattle.nest_spec.specs.inside.Places.{ArePlaces};
+ghost use Rattle.nest_spec.specs.views.MarkedRows.{rows_in};
 
 use crate::mark::{Mark, fate_by};
+use crate::marked_rows::MarkedRows;
 use crate::places::{Places, place_of, places_of};
 use crate::{Fate, FateRow, PackedFate};
-use packet_record::{Row, Schedule, Timed};
+use packet_record::{PackedRow, PackedSchedule, Row, Schedule, Timed};
 use std::alloc::Global;
 use std::marker::Model;
 use text_base::OutOfMemory;
@@ -21,7 +23,7 @@ use text_base::OutOfMemory;
 /// The rows of a run, and a fate for each, which changes while packets pass the shells. Contracts see both lists.
 #[derive(Drop)]
 pub struct Marking<'a> {
-    rows: &'a [Row],
+    rows: MarkedRows<'a>,
     places: Places,
     list: Vec<PackedFate>,
 }
@@ -47,7 +49,7 @@ impl<'a> Marking<'a> {
         ensures { IfOk result (λ m. m ≡ marks rows.now (fated (λ _. Fate.Unsent) rows.now)) }
     {
         Ok(Marking {
-            rows,
+            rows: MarkedRows::Whole(rows),
             places: places_of(alloc, rows)?,
             list: all_unsent(alloc, rows)?,
         })
@@ -60,9 +62,24 @@ impl<'a> Marking<'a> {
     {
         let rows = schedule.rows();
         Ok(Marking {
-            rows,
+            rows: MarkedRows::Whole(rows),
             places: Places::Numbered,
             list: all_unsent(alloc, rows)?,
+        })
+    }
+
+    /// Begins a marking of a packed schedule's rows, as `of_schedule`.
+    pub fn of_packed(
+        alloc: Global,
+        schedule: &'a PackedSchedule,
+    ) -> Result<Marking<'a>, OutOfMemory>
+        ensures { IfOk result (λ m. m ≡ marks schedule.now (fated (λ _. Fate.Unsent) schedule.now)) }
+    {
+        let rows = schedule.rows();
+        Ok(Marking {
+            rows: MarkedRows::Packed(rows),
+            places: Places::Numbered,
+            list: all_packed_unsent(alloc, rows)?,
         })
     }
 
@@ -105,13 +122,13 @@ impl<'a> Marking<'a> {
 
 // Gives the row of the number `id` a fate. Nothing happens where no row has that number.
 #[inline(always)]
-fn put(places: &Places, rows: &[Row], id: u32, fate: Fate, list: &mut Vec<PackedFate>)
+fn put(places: &Places, rows: MarkedRows<'_>, id: u32, fate: Fate, list: &mut Vec<PackedFate>)
     requires short { IsShort fate }
-    requires places { ArePlaces rows.now places.now }
-    requires length { length list.old.items ≡ length rows.now }
-    ensures length { length list.new.items ≡ length rows.now }
-    ensures fates { (f : RowValue → FateValue) → list.old.items ≡ fated f rows.now
-        → list.new.items ≡ fated (put id fate f) rows.now }
+    requires places { ArePlaces (rows_in rows) places.now }
+    requires length { length list.old.items ≡ length (rows_in rows) }
+    ensures length { length list.new.items ≡ length (rows_in rows.entry) }
+    ensures fates { (f : RowValue → FateValue) → list.old.items ≡ fated f (rows_in rows.entry)
+        → list.new.items ≡ fated (put id fate f) (rows_in rows.entry) }
 {
     if let Some(place) = place_of(places, rows, id) {
         let row = list[place].row();
@@ -122,17 +139,17 @@ fn put(places: &Places, rows: &[Row], id: u32, fate: Fate, list: &mut Vec<Packed
 // Marks the row of each packet. Where two packets have one number, the first counts.
 fn mark_all(
     places: &Places,
-    rows: &[Row],
+    rows: MarkedRows<'_>,
     packets: &[Timed],
     mark: Mark,
     list: &mut Vec<PackedFate>,
 )
     requires short { AreUpTo 3600000 packets.now }
-    requires places { ArePlaces rows.now places.now }
-    requires length { length list.old.items ≡ length rows.now }
-    ensures length { length list.new.items ≡ length rows.now }
-    ensures fates { (f : RowValue → FateValue) → list.old.items ≡ fated f rows.now
-        → list.new.items ≡ fated (marked packets.now mark f) rows.now }
+    requires places { ArePlaces (rows_in rows) places.now }
+    requires length { length list.old.items ≡ length (rows_in rows) }
+    ensures length { length list.new.items ≡ length (rows_in rows.entry) }
+    ensures fates { (f : RowValue → FateValue) → list.old.items ≡ fated f (rows_in rows.entry)
+        → list.new.items ≡ fated (marked packets.now mark f) (rows_in rows.entry) }
 {
     let mut left = packets.len();
     'packets: while left > 0 {
@@ -143,12 +160,18 @@ fn mark_all(
 }
 
 // Marks the rows numbered in `ids` as inside `shell`.
-fn hold_all(places: &Places, rows: &[Row], ids: &[u32], shell: u32, list: &mut Vec<PackedFate>)
-    requires places { ArePlaces rows.now places.now }
-    requires length { length list.old.items ≡ length rows.now }
-    ensures length { length list.new.items ≡ length rows.now }
-    ensures fates { (f : RowValue → FateValue) → list.old.items ≡ fated f rows.now
-        → list.new.items ≡ fated (held_in ids.now shell f) rows.now }
+fn hold_all(
+    places: &Places,
+    rows: MarkedRows<'_>,
+    ids: &[u32],
+    shell: u32,
+    list: &mut Vec<PackedFate>,
+)
+    requires places { ArePlaces (rows_in rows) places.now }
+    requires length { length list.old.items ≡ length (rows_in rows) }
+    ensures length { length list.new.items ≡ length (rows_in rows.entry) }
+    ensures fates { (f : RowValue → FateValue) → list.old.items ≡ fated f (rows_in rows.entry)
+        → list.new.items ≡ fated (held_in ids.now shell f) (rows_in rows.entry) }
 {
     let mut left = ids.len();
     'ids: while left > 0 {
@@ -174,5 +197,13 @@ fn all_unsent(alloc: Global, rows: &[Row]) -> Result<Vec<PackedFate>, OutOfMemor
     ensures { IfOk result (λ v. v.items ≡ fated (λ _. Fate.Unsent) rows.now) }
 {
     let list = rows.iter().map(|row| unsent(*row)).collect(alloc)?;
+    Ok(list)
+}
+
+// Returns the packed rows as unsent.
+fn all_packed_unsent(alloc: Global, rows: &[PackedRow]) -> Result<Vec<PackedFate>, OutOfMemory>
+    ensures { IfOk result (λ v. v.items ≡ fated (λ _. Fate.Unsent) rows.now) }
+{
+    let list = rows.iter().map(|row| unsent(row.row())).collect(alloc)?;
     Ok(list)
 }

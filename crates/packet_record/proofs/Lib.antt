@@ -3,6 +3,7 @@ pub mod LineLemmas
 pub mod SaidLemmas
 pub mod Faults
 pub mod OneList
+pub mod PackedRows
 pub mod OrdersLemmas
 pub mod PrintingLemmas
 pub mod LoadLemmas

@@ -2,5 +2,6 @@
 pub mod Flow
 pub mod Gathered
 pub mod Gatherers
+pub mod PackedRow
 pub mod Readers
 pub mod TextReaders

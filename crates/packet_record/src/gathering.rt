@@ -7,7 +7,7 @@ ghost use Rattle.packet_record.specs.Said.{said_of};
 ghost use Rattle.packet_record.specs.Schedules.{AreRows, first_fault};
 
 use crate::reading::row_of;
-use crate::{Direction, Row, Schedule, ScheduleError};
+use crate::{Direction, PackedRow, PackedSchedule, ScheduleError};
 use std::alloc::Global;
 use std::marker::Model;
 use text_base::OutOfMemory;
@@ -16,7 +16,7 @@ use text_base::limits::GREATEST_MOMENT;
 // The rows of the lines so far, the moment of the last (0 at first), and the first refusal; out of memory is one too.
 #[derive(Drop)]
 pub(crate) struct ScheduleRows {
-    rows: Vec<Row>,
+    rows: Vec<PackedRow>,
     low: u64,
     refused: Option<ScheduleError>,
 }
@@ -39,7 +39,7 @@ impl ScheduleRows {
     ghost use Rattle.packet_record.specs.inside.Gathered.{none_gathered, refusing};
 
     // The rows of the lines so far.
-    pub(crate) fn rows(&self) -> &[Row]
+    pub(crate) fn rows(&self) -> &[PackedRow]
         ensures rows { result.now ≡ self.now.rows }
         ensures schedule { IsSchedule self.now.rows }
     {
@@ -70,7 +70,7 @@ impl ScheduleRows {
         ensures grows { IsPrefix self.old.rows self.new.rows }
     {
         let row = row_of(self.rows.len() as u32, self.low, says)?;
-        self.rows.push(row)?;
+        self.rows.push(PackedRow::new(row))?;
         self.low = row.timed.moment;
         Ok(())
     }
@@ -106,7 +106,7 @@ impl ScheduleRows {
     }
 
     // The schedule, or the first refusal.
-    pub(crate) fn finish(self) -> Result<Schedule, ScheduleError>
+    pub(crate) fn finish(self) -> Result<PackedSchedule, ScheduleError>
         ensures found { (all : List (List ℕ)) → Awaits all [] self → IfOk result (λ rows. AreRows 1 0 all rows) }
         ensures exact { (all : List (List ℕ)) → Awaits all [] self → MatchResult result
             (λ _. first_fault 1 0 all ≡ None)
@@ -116,7 +116,7 @@ impl ScheduleRows {
     {
         match self.refused {
             Some(fault) => Err(fault),
-            None => Ok(Schedule::from_rows(self.rows)),
+            None => Ok(PackedSchedule::from_rows(self.rows)),
         }
     }
 }

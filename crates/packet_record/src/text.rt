@@ -9,7 +9,7 @@ ghost use Rattle.packet_record.specs.declared.packet.Row.{Row as RowValue};
 
 use crate::gathering::ScheduleRows;
 use crate::line::{read_line, split_line};
-use crate::{Row, Schedule, ScheduleError};
+use crate::{PackedRow, PackedSchedule, ScheduleError};
 use std::alloc::Global;
 use std::marker::Model;
 use text_base::limits::MOST_LINES;
@@ -55,7 +55,7 @@ impl ScheduleText {
     }
 
     /// The rows of the lines so far. They stay as more is read, and more may follow.
-    pub fn rows(&self) -> &[Row]
+    pub fn rows(&self) -> &[PackedRow]
         ensures rows { result.now ≡ self.now.gathered.rows }
         ensures schedule { IsSchedule self.now.gathered.rows }
     {
@@ -134,7 +134,7 @@ impl ScheduleText {
     }
 
     /// The schedule of the text that was read to its end, or its first refusal.
-    pub fn into_schedule(self) -> Result<Schedule, ScheduleError>
+    pub fn into_schedule(self) -> Result<PackedSchedule, ScheduleError>
         ensures found { (text : List ℕ) → HasReadAll text self → IfOk result (λ rows. IsScheduleText text rows) }
         ensures exact { (text : List ℕ) → HasReadAll text self → MatchResult result
             (λ _. first_fault 1 0 (lines_of text) ≡ None)
@@ -146,7 +146,7 @@ impl ScheduleText {
     }
 
     /// The schedule of the text that was read, or its first refusal, as `read_schedule` returns them for the text.
-    pub fn finish(mut self) -> Result<Schedule, ScheduleError>
+    pub fn finish(mut self) -> Result<PackedSchedule, ScheduleError>
         ensures found { (text : List ℕ) → HasRead text self → IfOk result (λ rows. IsScheduleText text rows) }
         ensures exact { (text : List ℕ) → HasRead text self → MatchResult result
             (λ _. first_fault 1 0 (lines_of text) ≡ None)

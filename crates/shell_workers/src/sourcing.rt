@@ -13,7 +13,7 @@ ghost use Rattle.shell_workers.specs.Sending.{AreAt, IsAt, SendsRow};
 
 use mark_channel::{Run, Sender};
 use mm_base::{Pace, Role};
-use packet_record::{Both, Direction, Item, Row, source_item};
+use packet_record::{Both, Direction, Item, PackedRow, Row, source_item};
 use std::sync::Wait;
 
 /// How far a source has come.
@@ -59,8 +59,8 @@ pub fn source_rows<Q: Pace, R: Wait>(
     ensures flow { ByDirection (λ d head. HasSentRows d horizon rows.now head.flow) heads.new }
     ensures same { BothKeep IsSameEnd heads.old heads.new }
 {
-    send_rows(run, rows, horizon, Progress::new(), heads);
-    end_both(run.rt, heads);
+    let Both { up, down } = heads;
+    source(run.rt, rows, horizon, up, down, run.pace);
 }
 
 /// Sends the end in both directions.
@@ -78,7 +78,7 @@ pub fn end_both<R: Wait>(rt: &R, heads: &mut Both<Sender>)
 // Sends what `rows` give in both directions, behind the rows of `sent`, and returns how far the source has come then.
 pub(crate) fn send_rows<Q: Pace, R: Wait>(
     run: &Run<'_, Q, R>,
-    rows: &[Row],
+    rows: &[PackedRow],
     horizon: u64,
     sent: Progress,
     heads: &mut Both<Sender>,
@@ -92,7 +92,7 @@ pub(crate) fn send_rows<Q: Pace, R: Wait>(
 {
     let mut sent = sent;
     for row in rows {
-        sent = source_row(run, row, horizon, sent, heads);
+        sent = source_row(run, &row.row(), horizon, sent, heads);
     }
     sent
 }

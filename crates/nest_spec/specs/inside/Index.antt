@@ -1,9 +1,12 @@
 -- For proofs alone: where the row of each number stands.
-use Rattle.std.specs.Prelude.{◌≡◌, ◌≢◌, ◌<◌, ◌+◌, ℕ, List, Some, length, get_or, nat_eq}
+use Rattle.std.specs.Prelude.{◌≡◌, ◌≢◌, ◌<◌, ◌+◌, ◌/◌, ◌%◌, ℕ, List, [], ◌∷◌, Option, None, Some, Vec, length, get_or}
+use Rattle.std.specs.Prelude.{nat_eq, slice_get, suc, zero}
+use Rattle.std.specs.declared.alloc.Global.{Global}
 use Rattle.std.specs.declared.hash.FoldHasher.{FoldHasher}
 use Rattle.std.specs.declared.hash.BuildHasherDefault.{BuildHasherDefault}
 use Rattle.std.specs.HashMap.{get, HashMap}
 use Rattle.packet_record.specs.declared.packet.Row.{Row}
+use Rattle.packet_record.specs.Rows.{AreApart}
 
 -- The index leads from the number of each row to the row's place, and from no other number.
 pub record IsIndex (rows : List Row) (index : HashMap ℕ ℕ (BuildHasherDefault FoldHasher)) : Type 0 where
@@ -24,3 +27,18 @@ pub record IsOnlyAt (rows : List Row) (id i : ℕ) : Type 0 where
 -- The rows are numbered 1, 2, 3 and so on.
 abbrev pub AreFromOne : List Row → Type 0
 AreFromOne rows = (i : ℕ) (d : Row) → i < length rows → (get_or rows i d).timed.packet.id ≡ i + 1
+
+-- what the list `n` has at `k`
+abbrev pub listed : List (Vec ℕ Global) → ℕ → ℕ → Option ℕ
+listed [] n k = None
+listed (list ∷ lists) zero k = slice_get list.items k
+listed (list ∷ lists) (suc n) k = listed lists n k
+
+-- the place that the lists have for the number `id`
+abbrev pub place_in : List (Vec ℕ Global) → ℕ → Option ℕ
+place_in lists id = listed lists (id % 16) (id / 16)
+
+-- No two rows have one number, and the lists have the place of each.
+pub record AreListed (rows : List Row) (lists : List (Vec ℕ Global)) : Type 0 where
+  pub apart : AreApart rows
+  pub leads : (i : ℕ) (d : Row) → i < length rows → place_in lists (get_or rows i d).timed.packet.id ≡ Some i

@@ -5,7 +5,7 @@ use Rattle.nest_plain.proofs.plain.run_direction.Goals as goal
 
 pub run_shells-requires-clause-rises : goal.run_shells-requires-clause-rises
 run_shells-requires-clause-rises c = subst Rise (sym c.in_ok-arrived.ensures)
-    (rise-entering c.args.direction c.horizon-horizon.result 0 c.args.rows.now c.requires)
+    (rise-entering c.args.direction c.horizon-horizon.result 0 c.args.rows.now c.requires.rises)
 
 pub run_shells-requires-clause-within : goal.run_shells-requires-clause-within
 run_shells-requires-clause-within c =

@@ -3,6 +3,7 @@ use Rattle.packet_record.proofs.MomentsLemmas.{up_to_read}
 use Rattle.nest_spec.specs.Fates.{fated}
 use Rattle.nest_spec.specs.Marks.{marked}
 use Rattle.nest_spec.specs.inside.Marks.{put}
+use Rattle.nest_spec.specs.views.MarkedRows.{rows_in}
 use Rattle.nest_spec.proofs.MarkLemmas.{marks_none_yet, marks_more}
 use Rattle.nest_spec.proofs.marking.mark_all.Goals as goal
 
@@ -18,23 +19,23 @@ packets-preserved c =
       long = c.put.ensures.length;
       fates = λ f e.
           c.put.ensures.fates (marked (drop (suc left) a.packets.now) a.mark f)
-          (c.packets.invariant.fates f e ∙ ap (λ n. fated (marked (drop n a.packets.now) a.mark f) a.rows.now) back)
-          ∙ ap (λ x. fated (put t.packet.id x (marked (drop (suc left) a.packets.now) a.mark f)) a.rows.now)
+          (c.packets.invariant.fates f e ∙ ap (λ n. fated (marked (drop n a.packets.now) a.mark f) (rows_in a.rows)) back)
+          ∙ ap (λ x. fated (put t.packet.id x (marked (drop (suc left) a.packets.now) a.mark f)) (rows_in a.rows))
           c.fate_by.ensures.fate
-          ∙ marks_more a.packets.now left t a.mark f a.rows.now le c.index-packets-left.is;
+          ∙ marks_more a.packets.now left t a.mark f (rows_in a.rows) le c.index-packets-left.is;
     }
 
 pub packets-init : goal.packets-init
 packets-init c = record {
   left = omega arith;
   long = c.requires.length;
-  fates = λ f e. e ∙ marks_none_yet c.args.packets.now c.args.mark f c.args.rows.now;
+  fates = λ f e. e ∙ marks_none_yet c.args.packets.now c.args.mark f (rows_in c.args.rows);
 }
 
 pub returns-clause-fates : goal.returns-clause-fates
 returns-clause-fates c = λ f e.
     let done : c.packets.left ≡ 0 = omega arith in
-    c.packets.invariant.fates f e ∙ ap (λ n. fated (marked (drop n c.args.packets.now) c.args.mark f) c.args.rows.now)
+    c.packets.invariant.fates f e ∙ ap (λ n. fated (marked (drop n c.args.packets.now) c.args.mark f) (rows_in c.args.rows))
     done
 
 pub put-requires-clause-short : goal.put-requires-clause-short

@@ -1,4 +1,4 @@
-use Rattle.std.proofs.Common.{◌≡◌, ◌+◌, ◌∙◌, ◌++◌, ◌∷◌, [], drop, take, subst, sym, ap, arith}
+use Rattle.std.proofs.Common.{◌≡◌, ◌+◌, ◌∙◌, ◌++◌, ◌∷◌, [], drop, get_or, take, subst, sym, ap, arith}
 use Rattle.std.proofs.lemmas.List.{drop_more, take_all, take_more}
 use Rattle.packet_record.specs.declared.packet.Direction.TheVariants.{Up, Down}
 use Rattle.packet_record.specs.declared.packet.Row.{Row}
@@ -13,13 +13,15 @@ loop-row-preserved g c =
     let rows = c.args.rows.now in
     let n = c.loop-row.row-index in
     let h = c.args.horizon in
-    let row = c.row-item.result in
+    let item = c.row-item.result in
+    let row = c.row.result in
+    let is : get_or rows n item ≡ row = sym c.row-item.is ∙ sym c.row.ensures in
     let rest = drop (n + 1) rows in
     let sent = c.source_row-sent.ensures in
-    let split : drop n rows ≡ row ∷ rest = drop_more rows n row c.loop-row-test.true
-    ∙ ap (λ (r : Row). r ∷ rest) (sym c.row-item.is) in
-    let front : take (n + 1) rows ≡ take n rows ++ row ∷ [] = take_more rows n row c.loop-row-test.true
-    ∙ ap (λ (r : Row). take n rows ++ r ∷ []) (sym c.row-item.is) in
+    let split : drop n rows ≡ row ∷ rest = drop_more rows n item c.loop-row-test.true
+    ∙ ap (λ (r : Row). r ∷ rest) is in
+    let front : take (n + 1) rows ≡ take n rows ++ row ∷ [] = take_more rows n item c.loop-row-test.true
+    ∙ ap (λ (r : Row). take n rows ++ r ∷ []) is in
     let up : Rises c.loop-row.sent.up (row ∷ rest) = subst (Rises c.loop-row.sent.up) split i.rises.0 in
     let down : Rises c.loop-row.sent.down (row ∷ rest) = subst (Rises c.loop-row.sent.down) split i.rises.1 in
     record {

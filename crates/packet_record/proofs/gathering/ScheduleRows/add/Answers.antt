@@ -1,4 +1,5 @@
-use Rattle.std.proofs.Common.{IfSome, ◌≤◌, subst, sym, arith}
+use Rattle.std.proofs.Common.{IfSome, [], ◌∷◌, ◌++◌, ◌∙◌, ◌≤◌, ap, subst, sym, arith}
+use Rattle.packet_record.specs.declared.packet.Row.{Row}
 use Rattle.packet_record.specs.Orders.{AreWithin, IsSchedule}
 use Rattle.packet_record.proofs.GatheringLemmas.{schedule_more, below_more}
 use Rattle.packet_record.proofs.gathering.ScheduleRows.add.Goals as goal
@@ -9,12 +10,13 @@ invariant_of-self-2 c =
     let low = c.self.inside.low in
     let row = c.in_ok-row.row in
     let said = c.in_ok-row.ensures in
+    let more = c.in_ok-push.ensures.items ∙ ap (λ (r : Row). rows ++ r ∷ []) c.new.ensures in
     let within : row.timed.moment ≤ 9999999999 = subst (λ o. IfSome o (λ s. s.0 ≤ 9999999999)) said.said
     c.requires.within in
     record {
-      schedule = subst IsSchedule (sym c.in_ok-push.ensures.items)
+      schedule = subst IsSchedule (sym more)
           (schedule_more low rows row c.self.invariant.schedule c.self.invariant.below said.order within
           (omega (arith, said.id)) (omega (arith, said.few)));
-      below = subst (AreWithin row.timed.moment) (sym c.in_ok-push.ensures.items)
+      below = subst (AreWithin row.timed.moment) (sym more)
           (below_more low rows row c.self.invariant.below said.order);
     }

@@ -12,14 +12,14 @@ use Rattle.nest_spec.proofs.OnceLemmas.{one_fate}
 use Rattle.nest_spec.proofs.Results.{same_long, result_is}
 use Rattle.nest_spec.proofs.Scheduled.{apart}
 use Rattle.nest_plain.specs.Unwritten.{unwritten}
-use Rattle.nest_plain.proofs.plain.run_nest.Goals as goal
+use Rattle.nest_plain.proofs.plain.run_packed.Goals as goal
 
-pub run_direction-requires : goal.run_direction-requires
-run_direction-requires c = subst (Rises 0) (sym c.rows-rows.ensures.rows)
+pub run_direction-requires-clause-rises : goal.run_direction-requires-clause-rises
+run_direction-requires-clause-rises c = subst (Rises 0) (sym c.rows-rows.ensures.rows)
     (rises-in_order 1 0 c.args.schedule.now c.rows-rows.ensures.schedule.order)
 
-pub run_direction-requires-2 : goal.run_direction-requires-2
-run_direction-requires-2 c = subst (Rises 0) (sym c.rows-rows.ensures.rows)
+pub run_direction-requires-2-clause-rises : goal.run_direction-requires-2-clause-rises
+run_direction-requires-2-clause-rises c = subst (Rises 0) (sym c.rows-rows.ensures.rows)
     (rises-in_order 1 0 c.args.schedule.now c.rows-rows.ensures.schedule.order)
 
 pub in_nest_order-requires : goal.in_nest_order-requires
