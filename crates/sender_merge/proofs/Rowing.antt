@@ -2,8 +2,8 @@
 use Rattle.std.proofs.Common.{◌≡◌, ◌⊎◌, ⊎_elim, inl, inr, ℕ, zero, suc, ◌+◌, ◌<◌, ◌≤◌, ◌∙◌, ◌&&◌, Bool, true, false}
 use Rattle.std.proofs.Common.{cond, leb}
 use Rattle.std.proofs.Common.{nat_le}
-use Rattle.std.proofs.Common.{ap, sym, subst, refl, List, [], ◌∷◌, ◌++◌, length, map, filter, get_or, arith}
-use Rattle.std.proofs.Common.{Some, None, append_assoc, drop, slice_get}
+use Rattle.std.proofs.Common.{ap, sym, subst, refl, List, [], ◌∷◌, ◌++◌, length, map, filter, arith}
+use Rattle.std.proofs.Common.{IfNone, IfSome, Option, Some, None, append_assoc, drop, replicate, slice_get}
 use Rattle.std.specs.List.{flat_map}
 use Rattle.std.proofs.lemmas.Bool.{leb-false, leb-true}
 use Rattle.packet_record.specs.declared.packet.Direction.{Direction}
@@ -28,8 +28,9 @@ use Rattle.sender_merge.specs.Merges.{row_moment}
 use Rattle.sender_merge.specs.Merges.{rows_from}
 use Rattle.sender_merge.proofs.Sorting.{by_moment-sorted, from_lower, put_first, put_later}
 use Rattle.sender_merge.proofs.Sorting.{behind, first as first_row, from-append}
-use Rattle.sender_merge.specs.inside.RowMerges.{AllNumbered, From, IsBefore, IsFirst, Sorted, left_over}
-use Rattle.std.proofs.lemmas.List.{append-nil}
+use Rattle.sender_merge.specs.inside.RowMerges.{AllNumbered, From, IsLate, IsSoon, Sorted, left_from, limit_before}
+use Rattle.sender_merge.specs.RowLists.{rows_in}
+use Rattle.std.proofs.lemmas.List.{append-nil, length-append, length-map}
 
 -- rows that rise are in order, and stay so with their numbers in the merge
 pub rises_from : (m : ℕ) (rows : List Row) → Rises m rows → From row_moment m rows
@@ -181,11 +182,6 @@ row_some [] n r is = absurd cc
 row_some (x ∷ xs) zero r is = let e : x ≡ r = cc in ap (λ (y : Row). y ∷ xs) e
 row_some (x ∷ xs) (suc n) r is = row_some xs n r is
 
-row_at : (xs : List Row) (n : ℕ) (d : Row) → n < length xs → drop n xs ≡ get_or xs n d ∷ drop (suc n) xs
-row_at [] n d lt = absurd (omega arith)
-row_at (x ∷ xs) zero d lt = refl
-row_at (x ∷ xs) (suc n) d lt = row_at xs n d (omega arith)
-
 sorted_drop : (n : ℕ) (xs : List Row) → Sorted row_moment xs → Sorted row_moment (drop n xs)
 sorted_drop zero [] h = tt
 sorted_drop (suc n) [] h = tt
@@ -201,122 +197,153 @@ from_row xs n r sorted is =
     let from : From row_moment r.timed.moment (r ∷ drop (suc n) xs) = (omega arith, all.0) in
     subst (From row_moment r.timed.moment) (sym e) from
 
--- the next row of the first list is first where none is left of the others
-pub first_alone : (first others : List Row) (i j : ℕ) → i < length first → slice_get others j ≡ None
-    → IsFirst (drop i first) (drop j others)
-first_alone first others i j lt is = subst (IsFirst (drop i first)) (sym (row_none others j is)) (go first i lt) where
-  go : (xs : List Row) (n : ℕ) → n < length xs → IsFirst (drop n xs) []
-  go [] n lt = absurd (omega arith)
-  go (x ∷ xs) zero lt = tt
-  go (x ∷ xs) (suc n) lt = go xs n (omega arith)
+-- where no row is at a place, none is left from it on
+pub late_past : (limit : Option ℕ) (rows : List Row) (n : ℕ) → slice_get rows n ≡ None → IsLate limit (drop n rows)
+late_past None rows n is = row_none rows n is
+late_past (Some m) rows n is = subst (From row_moment m) (sym (row_none rows n is)) tt
 
--- the next row of the others is first where none is left of the first list
-pub other_alone : (first others : List Row) (i j : ℕ) (o : Row) → slice_get first i ≡ None → slice_get others j ≡ Some o
-    → IsBefore (drop j others) (drop i first)
-other_alone first others i j o none some =
-    subst (λ (l : List Row). IsBefore l (drop i first)) (sym (row_some others j o some))
-    (subst (From row_moment (o.timed.moment + 1)) (sym (row_none first i none)) tt)
+-- where the row at a place isn't before the limit, none from it on is
+pub late_at : (m n : ℕ) (rows : List Row) (r : Row) → Sorted row_moment rows → slice_get rows n ≡ Some r
+    → m ≤ r.timed.moment → From row_moment m (drop n rows)
+late_at m n rows r sorted is le =
+    from_lower row_moment m r.timed.moment (drop n rows) le (from_row rows n r sorted is)
 
--- the next row of the first list is first where that of the others isn't earlier
-pub first_earlier : (first others : List Row) (i j : ℕ) (r o : Row) → Sorted row_moment others
-    → slice_get first i ≡ Some r → slice_get others j ≡ Some o → r.timed.moment ≤ o.timed.moment
-    → IsFirst (drop i first) (drop j others)
-first_earlier first others i j r o sorted at other le =
-    subst (λ (l : List Row). IsFirst l (drop j others)) (sym (row_some first i r at))
-    (from_lower row_moment r.timed.moment o.timed.moment (drop j others) le (from_row others j o sorted other))
+pub late_merged : (limit : Option ℕ) (c : ℕ) (rows : List Row) → IsLate limit rows
+    → IsLate limit (map (merged_row c) rows)
+late_merged None c rows late = ap (map (merged_row c)) late
+late_merged (Some m) c rows late = from-merged c m rows late
 
--- the next row of the others is first where it is earlier
-pub other_earlier : (first others : List Row) (i j : ℕ) (r o : Row) → Sorted row_moment first
-    → slice_get first i ≡ Some r → slice_get others j ≡ Some o → o.timed.moment < r.timed.moment
-    → IsBefore (drop j others) (drop i first)
-other_earlier first others i j r o sorted at other lt =
-    subst (λ (l : List Row). IsBefore l (drop i first)) (sym (row_some others j o other))
-    (from_lower row_moment (o.timed.moment + 1) r.timed.moment (drop i first) (omega arith)
-    (from_row first i r sorted at))
+pub late-append : (limit : Option ℕ) (xs ys : List Row) → IsLate limit xs → IsLate limit ys → IsLate limit (xs ++ ys)
+late-append None xs ys h k = ap (λ (l : List Row). l ++ ys) h ∙ k
+late-append (Some m) xs ys h k = from-append row_moment m xs ys h k
+
+-- rows that aren't before a limit are later than a row that is
+later : (limit : Option ℕ) (o : Row) (rows : List Row) → IsSoon limit o → IsLate limit rows
+    → From row_moment (o.timed.moment + 1) rows
+later None o rows soon late = subst (From row_moment (o.timed.moment + 1)) (sym late) tt
+later (Some m) o rows soon late = from_lower row_moment (o.timed.moment + 1) m rows (omega arith) late
+
+-- a row before the limit of a schedule's next row is before all that is left of the schedule
+pub other_later : (limit : Option ℕ) (head : Option Row) (n : ℕ) (rows : List Row) (o : Row) → Sorted row_moment rows
+    → IfSome head (λ r. slice_get rows n ≡ Some r) → IfNone head (IsLate limit (drop n rows))
+    → IsSoon (limit_before head limit) o → From row_moment (o.timed.moment + 1) (drop n rows)
+other_later limit None n rows o sorted some none soon = later limit o (drop n rows) soon none
+other_later limit (Some r) n rows o sorted some none soon =
+    late_at (o.timed.moment + 1) n rows r sorted some (omega arith)
+
+pub other_soon : (limit : Option ℕ) (head : Option Row) (o : Row) → IfSome head (IsSoon limit)
+    → IsSoon (limit_before head limit) o → IsSoon limit o
+other_soon limit None o head soon = soon
+other_soon None (Some r) o head soon = tt
+other_soon (Some m) (Some r) o head soon = let lt : r.timed.moment < m = head in omega arith
+
+-- the merge of what is left, where a row of a later schedule comes next
+pub next_other : (c : ℕ) (limit : Option ℕ) (head : Option Row) (n : ℕ) (rows : List Row) (schedules : List (List Row))
+    → (places places' : List ℕ) (o : Row) → Sorted row_moment rows
+    → IfSome head (λ r. slice_get rows n ≡ Some r) → IfNone head (IsLate limit (drop n rows))
+    → IsSoon (limit_before head limit) o
+    → by_moment row_moment (left_from (c + 1) schedules places)
+    ≡ o ∷ by_moment row_moment (left_from (c + 1) schedules places')
+    → by_moment row_moment (left_from c (rows ∷ schedules) (n ∷ places))
+    ≡ o ∷ by_moment row_moment (left_from c (rows ∷ schedules) (n ∷ places'))
+next_other c limit head n rows schedules places places' o sorted some none soon is =
+    behind row_moment o (map (merged_row c) (drop n rows)) (left_from (c + 1) schedules places)
+    (left_from (c + 1) schedules places') (from-merged c (o.timed.moment + 1) (drop n rows)
+    (other_later limit head n rows o sorted some none soon)) is
+
+-- the merge of what is left, where the next row of the first schedule comes next
+pub next_first : (c n : ℕ) (rows : List Row) (schedules : List (List Row)) (places : List ℕ) (r : Row)
+    → Sorted row_moment rows → slice_get rows n ≡ Some r
+    → From row_moment r.timed.moment (left_from (c + 1) schedules places)
+    → by_moment row_moment (left_from c (rows ∷ schedules) (n ∷ places))
+    ≡ merged_row c r ∷ by_moment row_moment (left_from c (rows ∷ schedules) ((n + 1) ∷ places))
+next_first c n rows schedules places r sorted is from =
+    let rest = left_from (c + 1) schedules places in
+    let e = row_some rows n r is in
+    let k : suc n ≡ n + 1 = omega arith in
+    let all : Sorted row_moment (r ∷ drop (suc n) rows) = subst (Sorted row_moment) e (sorted_drop n rows sorted) in
+    ap (λ (l : List Row). by_moment row_moment (map (merged_row c) l ++ rest)) e
+    ∙ first_row row_moment (merged_row c r) (map (merged_row c) (drop (suc n) rows) ++ rest)
+    (from-append row_moment r.timed.moment (map (merged_row c) (drop (suc n) rows)) rest
+    (from-merged c r.timed.moment (drop (suc n) rows) all.0) from)
+    ∙ ap (λ (j : ℕ). merged_row c r ∷ by_moment row_moment (map (merged_row c) (drop j rows) ++ rest)) k
+
+-- none of what is left is before a limit where none of each schedule is
+pub late_left : (c : ℕ) (limit : Option ℕ) (n : ℕ) (rows : List Row) (schedules : List (List Row)) (places : List ℕ)
+    → IsLate limit (drop n rows) → IsLate limit (left_from (c + 1) schedules places)
+    → IsLate limit (left_from c (rows ∷ schedules) (n ∷ places))
+late_left c limit n rows schedules places own others =
+    late-append limit (map (merged_row c) (drop n rows)) (left_from (c + 1) schedules places)
+    (late_merged limit c (drop n rows) own) others
 
 pub row_within : (xs : List Row) (n : ℕ) (r : Row) → slice_get xs n ≡ Some r → n < length xs
 row_within [] n r is = absurd cc
 row_within (x ∷ xs) zero r is = omega arith
 row_within (x ∷ xs) (suc n) r is = let rest = row_within xs n r is in omega arith
 
--- the merge of what is left, where the next row of the first list is first
-pub next_first : (c i j : ℕ) (first others : List Row) (d : Row) → i < length first → Sorted row_moment first
-    → IsFirst (drop i first) (drop j others)
-    → left_over c first others (i, j) ≡ merged_row c (get_or first i d) ∷ left_over c first others (i + 1, j)
-next_first c i j first others d lt sorted is =
-    let r = get_or first i d in
-    let e = row_at first i d lt in
-    let n : suc i ≡ i + 1 = omega arith in
-    let all : Sorted row_moment (r ∷ drop (suc i) first) = subst (Sorted row_moment) e (sorted_drop i first sorted) in
-    let from : From row_moment r.timed.moment (drop j others) =
-    (let h : IsFirst (r ∷ drop (suc i) first) (drop j others) =
-    subst (λ (l : List Row). IsFirst l (drop j others)) e is in h) in
-    ap (λ (l : List Row). by_moment row_moment (map (merged_row c) l ++ drop j others)) e
-    ∙ first_row row_moment (merged_row c r) (map (merged_row c) (drop (suc i) first) ++ drop j others)
-    (from-append row_moment r.timed.moment (map (merged_row c) (drop (suc i) first)) (drop j others)
-    (from-merged c r.timed.moment (drop (suc i) first) all.0) from)
-    ∙ ap (λ (k : ℕ). merged_row c r ∷ left_over c first others (k, j)) n
-
--- the merge of what is left, where the next row of the others is first
-pub next_other : (c i j : ℕ) (first others : List Row) (d : Row) → j < length others → Sorted row_moment others
-    → IsBefore (drop j others) (drop i first)
-    → left_over c first others (i, j) ≡ get_or others j d ∷ left_over c first others (i, j + 1)
-next_other c i j first others d lt sorted is =
-    let o = get_or others j d in
-    let e = row_at others j d lt in
-    let n : suc j ≡ j + 1 = omega arith in
-    let all : Sorted row_moment (o ∷ drop (suc j) others) = subst (Sorted row_moment) e (sorted_drop j others sorted) in
-    let before : From row_moment (o.timed.moment + 1) (drop i first) =
-    (let h : IsBefore (o ∷ drop (suc j) others) (drop i first) =
-    subst (λ (l : List Row). IsBefore l (drop i first)) e is in h) in
-    ap (λ (l : List Row). by_moment row_moment (map (merged_row c) (drop i first) ++ l)) e
-    ∙ behind row_moment o (map (merged_row c) (drop i first)) (o ∷ drop (suc j) others) (drop (suc j) others)
-    (from-merged c (o.timed.moment + 1) (drop i first) before)
-    (first_row row_moment o (drop (suc j) others) all.0)
-    ∙ ap (λ (k : ℕ). o ∷ left_over c first others (i, k)) n
-
 -- what was added and what is left stay the same when one row more is added
-pub one_more : (c i j i' j' : ℕ) (first others : List Row) (old new : List Row) (r : Row) → new ≡ old ++ r ∷ []
-    → left_over c first others (i, j) ≡ r ∷ left_over c first others (i', j')
-    → new ++ left_over c first others (i', j') ≡ old ++ left_over c first others (i, j)
-one_more c i j i' j' first others old new r is next =
-    ap (λ (l : List Row). l ++ left_over c first others (i', j')) is
-    ∙ append_assoc old (r ∷ []) (left_over c first others (i', j'))
+pub one_more : (old new left left' : List Row) (r : Row) → new ≡ old ++ r ∷ []
+    → by_moment row_moment left ≡ r ∷ by_moment row_moment left'
+    → new ++ by_moment row_moment left' ≡ old ++ by_moment row_moment left
+one_more old new left left' r is next =
+    ap (λ (l : List Row). l ++ by_moment row_moment left') is
+    ∙ append_assoc old (r ∷ []) (by_moment row_moment left')
     ∙ ap (λ (l : List Row). old ++ l) (sym next)
 
-pub numbered_at : (rows : List Row) (n : ℕ) (d : Row) → n < length rows → AllNumbered rows
-    → (1 ≤ (get_or rows n d).timed.packet.id) × ((get_or rows n d).timed.packet.id ≤ 1000000)
-numbered_at [] n d lt all = absurd (omega arith)
-numbered_at (r ∷ rows) zero d lt all = all.0
-numbered_at (r ∷ rows) (suc n) d lt all = numbered_at rows n d (omega arith) all.1
+pub numbered_at : (rows : List Row) (n : ℕ) (r : Row) → slice_get rows n ≡ Some r → AllNumbered rows
+    → (1 ≤ r.timed.packet.id) × (r.timed.packet.id ≤ 1000000)
+numbered_at [] n r is all = absurd cc
+numbered_at (x ∷ rows) zero r is all =
+    let e : x ≡ r = cc in subst (λ (y : Row). (1 ≤ y.timed.packet.id) × (y.timed.packet.id ≤ 1000000)) e all.0
+numbered_at (x ∷ rows) (suc n) r is all = numbered_at rows n r is all.1
 
-drop_whole : (xs : List Row) → drop (length xs) xs ≡ []
-drop_whole [] = refl
-drop_whole (x ∷ xs) = drop_whole xs
+drop_none : (xs : List Row) → drop 0 xs ≡ xs
+drop_none [] = refl
+drop_none (x ∷ xs) = refl
 
--- nothing is left behind the ends of both lists
-pub none_left : (c i j : ℕ) (first others : List Row) → i ≡ length first → j ≡ length others
-    → left_over c first others (i, j) ≡ []
-none_left c i j first others is also =
-    ap (λ (n : ℕ). left_over c first others (n, j)) is
-    ∙ ap (λ (n : ℕ). left_over c first others (length first, n)) also
-    ∙ ap (λ (l : List Row). by_moment row_moment (map (merged_row c) l ++ drop (length others) others))
-    (drop_whole first)
-    ∙ ap (by_moment row_moment) (drop_whole others)
+-- before any row is taken all are left
+pub left_all : (c : ℕ) (schedules : List (List Row))
+    → left_from c schedules (replicate (length schedules) 0) ≡ rows_from c schedules
+left_all c [] = refl
+left_all c (rows ∷ schedules) =
+    ap (λ (l : List Row). map (merged_row c) l ++ left_from (c + 1) schedules (replicate (length schedules) 0))
+    (drop_none rows)
+    ∙ ap (λ (l : List Row). map (merged_row c) rows ++ l) (left_all (c + 1) schedules)
 
 -- the rows that were added when nothing is left are the merge
-pub rows_done : (c i j n : ℕ) (first others rows : List Row) → i ≤ length first → j ≤ length others → i + j ≡ n
-    → length first + length others ≤ n → rows ++ left_over c first others (i, j) ≡ left_over c first others (0, 0)
-    → rows ≡ by_moment row_moment (map (merged_row c) first ++ others)
-rows_done c i j n first others rows at also count all is =
-    sym (append-nil rows)
-    ∙ ap (λ (l : List Row). rows ++ l) (sym (none_left c i j first others (omega arith) (omega arith)))
-    ∙ is
+pub rows_done : (rows left whole : List Row) → left ≡ [] → rows ++ by_moment row_moment left ≡ whole → rows ≡ whole
+rows_done rows left whole none is =
+    sym (append-nil rows) ∙ ap (λ (l : List Row). rows ++ by_moment row_moment l) (sym none) ∙ is
 
-pub row_past : (xs : List Row) (n : ℕ) → slice_get xs n ≡ None → length xs ≤ n
-row_past [] n is = omega arith
-row_past (x ∷ xs) zero is = absurd cc
-row_past (x ∷ xs) (suc n) is = let rest = row_past xs n is in omega arith
+length_either : (b : Bool) (r y : Row) (ys zs : List Row) → length zs ≡ suc (length ys)
+    → length (cond b (r ∷ (y ∷ ys)) (y ∷ zs)) ≡ suc (suc (length ys))
+length_either true r y ys zs is = refl
+length_either false r y ys zs is = ap suc is
+
+length_put : (r : Row) (rows : List Row) → length (put row_moment r rows) ≡ suc (length rows)
+length_put r [] = refl
+length_put r (y ∷ ys) =
+    length_either (leb r.timed.moment y.timed.moment) r y ys (put row_moment r ys) (length_put r ys)
+
+length_by_moment : (rows : List Row) → length (by_moment row_moment rows) ≡ length rows
+length_by_moment [] = refl
+length_by_moment (r ∷ rows) = length_put r (by_moment row_moment rows) ∙ ap suc (length_by_moment rows)
+
+length_rows_from : (c : ℕ) (schedules : List (List Row)) → length (rows_from c schedules) ≡ rows_in schedules
+length_rows_from c [] = refl
+length_rows_from c (rows ∷ schedules) =
+    length-append (map (merged_row c) rows) (rows_from (c + 1) schedules)
+    ∙ ap (λ (n : ℕ). n + length (rows_from (c + 1) schedules)) (length-map rows (merged_row c))
+    ∙ ap (λ (n : ℕ). length rows + n) (length_rows_from (c + 1) schedules)
+
+-- no more rows are added than the schedules have
+pub rows_few : (schedules : List (List Row)) (rows left : List Row)
+    → rows ++ by_moment row_moment left ≡ by_moment row_moment (rows_from 1 schedules)
+    → length rows ≤ rows_in schedules
+rows_few schedules rows left is =
+    let e = sym (length-append rows (by_moment row_moment left)) ∙ ap (length {A = Row}) is
+    ∙ length_by_moment (rows_from 1 schedules) ∙ length_rows_from 1 schedules in
+    omega arith
 
 -- a sender whose flow came to its end has sent its rows: what was received of it is what enters of them
 received_whole : (d : Direction) (h : ℕ) (rows : List Row) (got sent : Stream) → got.end ≡ IsOver → got ≡ sent

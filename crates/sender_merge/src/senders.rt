@@ -11,7 +11,7 @@ ghost use Rattle.sender_merge.specs.RowLists.{rows_in};
 
 use crate::feeding::feed_gates;
 use crate::gates::Gates;
-use crate::row_merge::merge_from;
+use crate::row_merge::merge_schedules;
 use mark_channel::{Begun, FeedEnd, Feeds, Run, Sender};
 use mm_base::{NoPace, Pace};
 use packet_record::{Item, Row, Schedule};
@@ -63,7 +63,7 @@ impl Senders {
         requires lines { rows_in schedules.items ≤ 1000000 }
         ensures { IfOk result (λ s. s ≡ schedules.items) }
     {
-        let rows = merge_from(alloc, 1, schedules.as_slice())?;
+        let rows = merge_schedules(alloc, schedules.as_slice())?;
         Ok(Senders {
             alloc,
             schedules,

@@ -1,7 +1,7 @@
--- Two lists of rows, merged into one.
-use Rattle.std.specs.Prelude.{ℕ, ◌+◌, ◌≤◌, List, [], ◌∷◌, ◌++◌, drop, map}
+-- Lists of rows, merged into one.
+use Rattle.std.specs.Prelude.{◌≡◌, ℕ, ◌+◌, ◌<◌, ◌≤◌, List, [], ◌∷◌, ◌++◌, Option, None, Some, drop, map}
 use Rattle.packet_record.specs.declared.packet.Row.{Row}
-use Rattle.sender_merge.specs.Merges.{by_moment, merged_row, row_moment}
+use Rattle.sender_merge.specs.Merges.{merged_row, row_moment}
 
 -- each entry is at moment `m` or later
 abbrev pub From : {A : Type 0} → (A → ℕ) → ℕ → List A → Type 0
@@ -18,17 +18,25 @@ abbrev pub AllNumbered : List Row → Type 0
 AllNumbered [] = Unit {0}
 AllNumbered (r ∷ rows) = ((1 ≤ r.timed.packet.id) × (r.timed.packet.id ≤ 1000000)) × AllNumbered rows
 
--- the merge of what is left of a sender's rows and of the others, from `places` on
-abbrev pub left_over : ℕ → List Row → List Row → ℕ × ℕ → List Row
-left_over sender first others places =
-    by_moment row_moment (map (merged_row sender) (drop places.0 first) ++ drop places.1 others)
+-- the rows that are left of the schedules from `places` on, with their numbers in the merge; the first schedule is that
+-- of sender `sender`
+abbrev pub left_from : ℕ → List (List Row) → List ℕ → List Row
+left_from sender [] places = []
+left_from sender (rows ∷ schedules) [] = []
+left_from sender (rows ∷ schedules) (place ∷ places) =
+    map (merged_row sender) (drop place rows) ++ left_from (sender + 1) schedules places
 
--- the first row of one list is before all `others`, or at the same moment
-abbrev pub IsFirst : List Row → List Row → Type 0
-IsFirst [] others = ⊥
-IsFirst (r ∷ rows) others = From row_moment r.timed.moment others
+-- the row is before the limit, if there is one
+abbrev pub IsSoon : Option ℕ → Row → Type 0
+IsSoon None r = Unit {0}
+IsSoon (Some limit) r = r.timed.moment < limit
 
--- the first row of one list is before all `others`, and none of them is at its moment
-abbrev pub IsBefore : List Row → List Row → Type 0
-IsBefore [] others = ⊥
-IsBefore (r ∷ rows) others = From row_moment (r.timed.moment + 1) others
+-- no row is before the limit; where there is none, there is no row
+abbrev pub IsLate : Option ℕ → List Row → Type 0
+IsLate None rows = rows ≡ []
+IsLate (Some limit) rows = From row_moment limit rows
+
+-- the limit of rows that are to come before `head`, or the limit that there is where there is no head
+abbrev pub limit_before : Option Row → Option ℕ → Option ℕ
+limit_before None limit = limit
+limit_before (Some head) limit = Some head.timed.moment
