@@ -1,5 +1,5 @@
 // The limits of heads.
-ghost use Rattle.std.specs.Prelude.{◌≡◌, take};
+ghost use Rattle.std.specs.Prelude.{◌≡◌, ◌≤◌, take, length};
 ghost use Rattle.http_frame.specs.Window.{line_feeds as feeds_of};
 ghost use Rattle.http_frame.specs.inside.Heads.{LimitCause};
 
@@ -22,11 +22,33 @@ pub(crate) fn front_of(bytes: &[u8]) -> &[u8]
     }
 }
 
+// How many bytes are counted at once: so few that a byte holds their count.
+const RUN: usize = 128;
+
+// Returns how many line feeds there are in a run. It has no branch, so that many bytes are looked at together.
+fn feeds_in_run(run: &[u8]) -> u8
+    requires { length run.now ≤ 128 }
+    ensures { result ≡ feeds_of run.now }
+{
+    let mut count = 0;
+    for byte in run {
+        count += u8::from(*byte == b'\n');
+    }
+    count
+}
+
 /// Returns how many line feeds there are.
 pub(crate) fn line_feeds(bytes: &[u8]) -> usize
     ensures { result ≡ feeds_of bytes.now }
 {
-    bytes.iter().filter(|byte| **byte == b'\n').count()
+    let mut rest = bytes;
+    let mut count = 0;
+    while rest.len() > RUN {
+        let (run, after) = rest.split_at(RUN);
+        count += usize::from(feeds_in_run(run));
+        rest = after;
+    }
+    count + usize::from(feeds_in_run(rest))
 }
 
 /// Returns the limit that the bytes reach, if they reach one.

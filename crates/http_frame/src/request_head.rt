@@ -24,7 +24,10 @@ fn line_of(alloc: Global, method: &[u8], target: &[u8], minor: u8) -> Result<Byt
     requires { minor ≤ 1 }
     ensures { IfOk result (λ line. line ≡ request_line method.now target.now minor) }
 {
-    let mut line = Vec::from_slice(alloc, method)?;
+    // 10 bytes are the two spaces and the version. A line that is kept takes no more memory than it needs.
+    let len = method.len().saturating_add(target.len()).saturating_add(10);
+    let mut line = Vec::with_capacity(alloc, len)?;
+    line.extend_from_slice(method)?;
     line.extend_from_slice(b" ")?;
     line.extend_from_slice(target)?;
     line.extend_from_slice(b" HTTP/1.")?;

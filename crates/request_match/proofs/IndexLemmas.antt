@@ -2,7 +2,7 @@
 use Rattle.std.proofs.Common.{suc, true, false, Bool, None, Some, ◌≡◌, ◌∙◌, ◌⊎◌, inl, inr, ℕ, ◌+◌, ◌-◌, ◌<◌, ◌≤◌}
 use Rattle.std.proofs.Common.{List, [], ◌∷◌, ◌++◌, length, take, drop, get_or, cond, refl, sym, ap, subst, arith}
 use Rattle.std.specs.Prelude.{Option, nat_lt, All, Contains, option_map, slice_get, unwrap_or, ◌||◌, ◌&&◌, ◌==◌}
-use Rattle.std.specs.Prelude.{IsPermutation}
+use Rattle.std.specs.Prelude.{IsPermutation, min}
 use Rattle.std.proofs.Math.Bool.{true≢false}
 use Rattle.std.proofs.Math.Seq.{drop-cons}
 use Rattle.std.proofs.lemmas.Bool.{cases_lt}
@@ -16,7 +16,8 @@ use Rattle.record_store.specs.declared.record.Record.{Record}
 use Rattle.request_match.specs.Match.{FitsPort, Agrees, common, score, BestCause, stripped}
 use Rattle.request_match.specs.inside.Index.{Entry, IsEntry, HasAllTo, IsIndex, key_of, hash_of_bytes, entry_at}
 use Rattle.request_match.specs.inside.Index.{offered, IsShared, HasFront, HasScore, HasNear, NoneBefore, BestBefore}
-use Rattle.request_match.specs.inside.Index.{Scanned}
+use Rattle.request_match.specs.inside.Index.{Scanned, Stands}
+use Rattle.request_match.proofs.FrontLemmas.{front_above}
 
 -- ---- keys
 
@@ -304,6 +305,107 @@ next_has_score q asked rs es entries i inside r there (Some n) near result share
     let a = get_or rs (entry_at es (i - 1)).1 r in
     let at = slice_get-get_or rs (entry_at es (i - 1)).1 r entry.place in
     onward a n refl (shares.1 a r at there) (entry.fits a at) (x a shares.0 at)
+
+-- ---- entries of one score
+
+better_yes : (most n place before : ℕ) → (most < n) ⊎ ((most ≡ n) × (place < before))
+    → (nat_lt most n || (most == n && nat_lt place before)) ≡ true
+better_yes most n place before h = go (nat_lt most n || (most == n && nat_lt place before)) refl
+  where
+    go : (t : Bool) → (nat_lt most n || (most == n && nat_lt place before)) ≡ t
+        → (nat_lt most n || (most == n && nat_lt place before)) ≡ true
+    go true e = e
+    go false e = absurd (let l = better_false most n place before e in elim h [
+      | inl up ↦ omega (arith, up, l.0)
+      | inr down ↦ (let m = l.1 down.1 in omega (arith, m, down.0))
+    ])
+
+better_no : (most n place before : ℕ) → n ≤ most → (place < before → n < most)
+    → (nat_lt most n || (most == n && nat_lt place before)) ≡ false
+better_no most n place before low earlier = go (nat_lt most n || (most == n && nat_lt place before)) refl
+  where
+    go : (t : Bool) → (nat_lt most n || (most == n && nat_lt place before)) ≡ t
+        → (nat_lt most n || (most == n && nat_lt place before)) ≡ false
+    go true e = absurd (let l = better_true most n place before e in elim l.1 [
+      | inl up ↦ omega (arith, up, low)
+      | inr down ↦ (let m = earlier down in omega (arith, m, l.0))
+    ])
+    go false e = e
+
+still_better : (most n place middle before : ℕ) → (most ≤ n) × ((most < n) ⊎ (middle < before)) → place < middle
+    → (most < n) ⊎ ((most ≡ n) × (place < before))
+still_better most n place middle before h less = elim h.1 [
+  | inl up ↦ inl up
+  | inr down ↦ elim (cases_lt most n) [
+    | inl up ↦ inl up
+    | inr past ↦ inr (omega (arith, past, h.0), omega (arith, down, less))
+  ]
+]
+
+-- of two entries of one score the earlier one is enough
+offered_earlier : (found : Option (ℕ × ℕ)) (before place n : ℕ) → place < before
+    → offered (offered found before (Some n)) place (Some n) ≡ offered found place (Some n)
+offered_earlier None before place n less =
+    ap (λ t. cond t (Some (place, n)) (Some (before, n))) (better_yes n n place before (inr (refl, less)))
+offered_earlier (Some f) before place n less = go (nat_lt f.1 n || (f.1 == n && nat_lt before f.0)) refl
+  where
+    go : (t : Bool) → (nat_lt f.1 n || (f.1 == n && nat_lt before f.0)) ≡ t
+        → offered (cond t (Some (before, n)) (Some (f.0, f.1))) place (Some n) ≡ offered (Some f) place (Some n)
+    go true e =
+        ap (λ t. cond t (Some (place, n)) (Some (before, n))) (better_yes n n place before (inr (refl, less)))
+        ∙ sym (ap (λ t. cond t (Some (place, n)) (Some (f.0, f.1))) (better_yes f.1 n place f.0
+        (still_better f.1 n place before f.0 (better_true f.1 n before f.0 e) less)))
+    go false e = refl
+
+offered_later : (found : Option (ℕ × ℕ)) (before place n : ℕ) → before ≤ place
+    → offered (offered found before (Some n)) place (Some n) ≡ offered found before (Some n)
+offered_later None before place n late =
+    ap (λ t. cond t (Some (place, n)) (Some (before, n)))
+    (better_no n n place before (omega arith) (λ less. absurd (omega (arith, less, late))))
+offered_later (Some f) before place n late = go (nat_lt f.1 n || (f.1 == n && nat_lt before f.0)) refl
+  where
+    go : (t : Bool) → (nat_lt f.1 n || (f.1 == n && nat_lt before f.0)) ≡ t
+        → offered (cond t (Some (before, n)) (Some (f.0, f.1))) place (Some n)
+        ≡ cond t (Some (before, n)) (Some (f.0, f.1))
+    go true e =
+        ap (λ t. cond t (Some (place, n)) (Some (before, n)))
+        (better_no n n place before (omega arith) (λ less. absurd (omega (arith, less, late))))
+    go false e =
+        let l = better_false f.1 n before f.0 e in
+        ap (λ t. cond t (Some (place, n)) (Some (f.0, f.1)))
+        (better_no f.1 n place f.0 l.0 (λ less. l.1 (omega (arith, less, late))))
+
+offered_min : (found : Option (ℕ × ℕ)) (before place n first : ℕ) → first ≡ min before place
+    → offered (offered found before (Some n)) place (Some n) ≡ offered found first (Some n)
+offered_min found before place n first is = elim (cases_lt place before) [
+  | inl less ↦ (let e : place ≡ first = omega (arith, is, less) in
+      offered_earlier found before place n less ∙ ap (λ p. offered found p (Some n)) e)
+  | inr late ↦ (let e : before ≡ first = omega (arith, is, late) in
+      offered_later found before place n late ∙ ap (λ p. offered found p (Some n)) e)
+]
+
+record_at : (rs : List Record) (k : ℕ) → k < length rs → (r : Record) × (slice_get rs k ≡ Some r)
+record_at [] k h = absurd (omega (arith, h))
+record_at (r ∷ rs) k h = (get_or (r ∷ rs) k r, slice_get-get_or (r ∷ rs) k r h)
+
+-- an entry that shares more with the one before it than that has in common with the request
+pub stands_more : (q : RequestHead) (asked : Option ℕ) (rs : List Record) (es : List Entry) (fs : List (Option ℕ))
+    (found : Option (ℕ × ℕ)) → IsIndex rs asked es fs → (i before first front n : ℕ) → i < length es
+    → get_or fs i None ≡ Some front → n < front → first ≡ min before (entry_at es i).1
+    → Stands q asked rs es found (Some n) i before → Stands q asked rs es found (Some n) (i + 1) first
+stands_more q asked rs es fs found index i before first front n inside is past first_is x =
+    let shares : HasFront rs es i (Some front) = subst (HasFront rs es i) is (index.fronts.each i None inside) in
+    let entry = index.entries i (0, 0) inside in
+    let earlier = index.entries (i - 1) (0, 0) (omega (arith, inside, shares.0)) in
+    let r = record_at rs (entry_at es i).1 entry.place in
+    let a = record_at rs (entry_at es (i - 1)).1 earlier.place in
+    let score : HasScore q asked r.0 (Some n) = carried_some q asked a.0 r.0 front n (Some n) refl
+    (shares.1 a.0 r.0 a.1 r.1) (entry.fits r.0 r.1) (x.0 a.0 shares.0 a.1) n
+    (λ line e f. f ∙ sym (front_above line r.0.request.head.line q.line (omega (arith, e, f, past)))) in (
+      next_near q asked rs es i r.0 r.1 (Some n) score,
+      subst (Scanned q asked rs es (i + 1)) (offered_min found before (entry_at es i).1 n first first_is)
+          (next_scanned q asked rs es i r.0 r.1 (offered found before (Some n)) (Some n) x.1 score),
+    )
 
 -- ---- the list of entries
 

@@ -1,10 +1,10 @@
 // An index of a store's records by what must agree with a request.
-ghost use Rattle.std.specs.Prelude.{◌≡◌, ◌<◌, ◌≤◌, ℕ, Option, IfOk, length, slice_index_or};
+ghost use Rattle.std.specs.Prelude.{◌≡◌, ◌<◌, ◌≤◌, ℕ, Option, Some, IfOk, length, slice_index_or};
 ghost use Rattle.request_match.specs.Match.{BestCause};
-ghost use Rattle.request_match.specs.inside.Index.{Entry, IsIndex as IsIndexOf};
+ghost use Rattle.request_match.specs.inside.Index.{Entry, Passes, IsIndex as IsIndexOf};
 
 use crate::index_entries::{fronts_of, ordered_entries};
-use crate::index_scores::{better_place, next_score};
+use crate::index_scores::{better_place, is_past, next_score};
 use crate::keys::key;
 use crate::matching::place_of;
 use http_frame::RequestHead;
@@ -59,6 +59,54 @@ fn first_from(entries: &[(u64, usize)], key: u64) -> usize
     low
 }
 
+/// Goes on from entry `start` while the records share more with those before them than these have in common with the
+/// request, which is `score`: theirs is the same then. Returns the entry after those, and the earliest of `place` and
+/// their places. No record is looked at.
+fn pass_scored(
+    entries: &[(u64, usize)],
+    fronts: &[Option<usize>],
+    start: usize,
+    score: usize,
+    place: usize,
+) -> (usize, usize)
+    requires fronts { length fronts.now ≡ length entries.now }
+    requires inside { start ≤ length entries.now }
+    ensures onward { start ≤ result.0 }
+    ensures inside { result.0 ≤ length entries.now }
+    ensures stands { Passes entries.now fronts.now (Some score) start place result.0 result.1 }
+{
+    let mut i = start;
+    let mut first = place;
+    'equals: while i < entries.len() {
+        if !is_past(fronts[i], score) {
+            return (i, first);
+        }
+        first = first.min(entries[i].1);
+        i += 1;
+    }
+    (i, first)
+}
+
+/// Does what `pass_scored` does where there is a score, and passes nothing where there is none.
+fn pass_equals(
+    entries: &[(u64, usize)],
+    fronts: &[Option<usize>],
+    start: usize,
+    score: Option<usize>,
+    place: usize,
+) -> (usize, usize)
+    requires fronts { length fronts.now ≡ length entries.now }
+    requires inside { start ≤ length entries.now }
+    ensures onward { start ≤ result.0 }
+    ensures inside { result.0 ≤ length entries.now }
+    ensures stands { Passes entries.now fronts.now score start place result.0 result.1 }
+{
+    match score {
+        Some(score) => pass_scored(entries, fronts, start, score, place),
+        None => (start, place),
+    }
+}
+
 /// Returns the place of the best record, found by the entries of the records that fit the port.
 fn best_of(
     entries: &[(u64, usize)],
@@ -80,8 +128,9 @@ fn best_of(
             return place_of(found);
         }
         score = next_score(fronts[i], score, &records[place], request, port);
-        found = better_place(found, place, score);
-        i += 1;
+        let (next, first) = pass_equals(entries, fronts, i + 1, score, place);
+        found = better_place(found, first, score);
+        i = next;
     }
     place_of(found)
 }

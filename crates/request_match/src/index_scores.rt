@@ -1,5 +1,5 @@
 // The score of an entry's record, by that of the entry before it.
-ghost use Rattle.std.specs.Prelude.{◌≡◌, ◌<◌, ℕ, List, Option, None, Some, drop};
+ghost use Rattle.std.specs.Prelude.{◌≡◌, ◌<◌, ℕ, List, Option, None, Some, true, drop};
 ghost use Rattle.record_store.specs.declared.record.Record.{Record as RecordValue};
 ghost use Rattle.request_match.specs.inside.Index.{IsShared, HasScore, offered};
 ghost use Rattle.request_match.specs.Match.{FitsPort, common};
@@ -72,6 +72,16 @@ pub(crate) fn next_score(
             )),
             None => None,
         },
+    }
+}
+
+/// Returns whether there is a front, and it is greater than `score`.
+pub(crate) fn is_past(front: Option<usize>, score: usize) -> bool
+    ensures { result ≡ true → (n : ℕ) × (front ≡ Some n) × (score < n) }
+{
+    match front {
+        Some(front) => score < front,
+        None => false,
     }
 }
 

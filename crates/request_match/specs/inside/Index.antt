@@ -109,3 +109,15 @@ pub record BestBefore (q : RequestHead) (asked : Option ℕ) (rs : List Record) 
 abbrev pub Scanned : RequestHead → Option ℕ → List Record → List Entry → ℕ → Option (ℕ × ℕ) → Type 0
 Scanned q asked rs es i None = NoneBefore q asked rs es i
 Scanned q asked rs es i (Some f) = BestBefore q asked rs es i f.0 f.1
+
+-- The record of the entry before `i` has this score, and what was found among the entries before `i` is what was found
+-- earlier, or `first`.
+abbrev pub Stands : RequestHead → Option ℕ → List Record → List Entry → Option (ℕ × ℕ) → Option ℕ → ℕ → ℕ → Type 0
+Stands q asked rs es found score i first = HasNear q asked rs es i score
+    × Scanned q asked rs es i (offered found first score)
+
+-- Whatever is asked and was found: what stands at entry `start` with `place` stands at entry `i` with `first`.
+abbrev pub Passes : List Entry → List (Option ℕ) → Option ℕ → ℕ → ℕ → ℕ → ℕ → Type 0
+Passes es shared score start place i first = (q : RequestHead) (asked : Option ℕ) (rs : List Record)
+    (found : Option (ℕ × ℕ)) → IsIndex rs asked es shared → Stands q asked rs es found score start place
+    → Stands q asked rs es found score i first

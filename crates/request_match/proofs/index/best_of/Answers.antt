@@ -1,4 +1,4 @@
-use Rattle.std.proofs.Common.{◌<◌, ◌≤◌, ◌+◌, ◌-◌, refl, length, get_or, None, sym, subst, arith}
+use Rattle.std.proofs.Common.{◌<◌, ◌≤◌, ◌-◌, refl, length, get_or, None, sym, subst, arith}
 use Rattle.std.proofs.lemmas.Option.{slice_get_read}
 use Rattle.request_match.specs.Match.{BestCause}
 use Rattle.request_match.specs.inside.Index.{entry_at, Scanned}
@@ -42,13 +42,16 @@ entries-preserved c =
     (get_or c.args.fronts.now i None) c.entries.score c.next_score-score.result
     (c.requires.fronts.each i None c.entries-test.true) c.entries.invariant.near c.next_score-score.ensures.anew
     c.next_score-score.ensures.onward in
+    let stands = c.pass_equals-next.ensures.stands q c.args.port rs c.entries.found c.requires (
+      next_near q c.args.port rs es i r there c.next_score-score.result score,
+      next_scanned q c.args.port rs es i r there c.entries.found c.next_score-score.result
+          c.entries.invariant.scanned score,
+    ) in
     record {
-      started = omega (arith, c.entries.invariant.started);
-      inside = omega (arith, c.entries-test.true);
-      scanned = subst (Scanned q c.args.port rs es (i + 1)) (sym c.better_place-found.ensures)
-          (next_scanned q c.args.port rs es i r there c.entries.found c.next_score-score.result
-          c.entries.invariant.scanned score);
-      near = next_near q c.args.port rs es i r there c.next_score-score.result score;
+      started = omega (arith, c.entries.invariant.started, c.pass_equals-next.ensures.onward);
+      inside = c.pass_equals-next.ensures.inside;
+      scanned = subst (Scanned q c.args.port rs es c.pass_equals-next.result.0) (sym c.better_place-found.ensures) stands.1;
+      near = stands.0;
     }
 
 pub returns-then-found_key-wanted : goal.returns-then-found_key-wanted
