@@ -91,13 +91,14 @@ static PIECES: [(&[u8], u64, Option<LogError>); 4] = [
 
 static SIZES: [usize; 4] = [1, 2, 7, 64];
 
-// Checks that a text is read as `said` in pieces of all sizes.
+// Checks that a text is read as `said` in pieces of all sizes, and refused so as a whole.
 fn is_read_in_any_pieces(
     rt: &impl Abort,
     alloc: Global,
     text: &[u8],
     said: (u64, Option<LogError>),
 ) {
+    assert!(rt; read_log(alloc, text).err() == said.1);
     for &size in &SIZES {
         assert!(rt; refusal_in_pieces(alloc, text, size) == said);
     }

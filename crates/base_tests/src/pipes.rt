@@ -1,6 +1,6 @@
 // Tests of real files: pipes, files that are replaced while they are read, and files that are to be input and output at
 // once.
-use mm_base::{Disk, DiskError, FileDisk};
+use mm_base::{Disk, DiskError, FileDisk, load, save};
 use std::alloc::Global;
 use std::fs::{self, Files};
 use std::io;
@@ -128,4 +128,52 @@ fn an_output_is_never_an_input(rt: HostRuntime) {
     fs::remove_file(&rt, "base_tests_input").expect(&rt, "a file");
     fs::remove_file(&rt, "base_tests_hard").expect(&rt, "a link");
     fs::remove_file(&rt, "base_tests_symbolic").expect(&rt, "a link");
+}
+
+// Returns whether a real file is read from a place near its end, and at its end.
+fn is_read_from_places(rt: &HostRuntime, name: &str) -> io::Result<bool> {
+    fs::write(rt, name, "0123456789")?;
+    let mut disk = disk_of(rt);
+    let mut buf = [0u8; 4];
+    let is_rest = disk.read_at(name, 8, &mut buf) == Ok(2) && buf.starts_with(b"89");
+    Ok(is_rest && disk.read_at(name, 10, &mut buf) == Ok(0))
+}
+
+#[test]
+fn a_real_file_is_read_from_places(rt: HostRuntime) {
+    let name = "base_tests_places";
+    assert!(rt; is_read_from_places(&rt, name).expect(&rt, "a file"));
+    fs::remove_file(&rt, name).expect(&rt, "a file");
+}
+
+// Returns whether the file is loaded as `text`.
+fn is_loaded(rt: &HostRuntime, name: &str, text: &[u8]) -> bool {
+    let loaded = load(rt.alloc(), &mut disk_of(rt), name, 10);
+    matches!(loaded, Ok(bytes) if bytes.as_slice() == text)
+}
+
+#[test]
+fn a_real_file_is_saved_twice_and_added_to(rt: HostRuntime) {
+    let name = "base_tests_saved";
+    let mut disk = disk_of(&rt);
+    assert!(rt;
+        save(&mut disk, name, b"longer") == Ok(()) && save(&mut disk, name, b"ab") == Ok(())
+    );
+    assert!(rt; is_loaded(&rt, name, b"ab"));
+    let mut disk = disk_of(&rt);
+    assert!(rt;
+        save(&mut disk, name, b"held\n") == Ok(()) && disk.append(name, b"more\n") == Ok(5)
+    );
+    assert!(rt; is_loaded(&rt, name, b"held\nmore\n"));
+    fs::remove_file(&rt, name).expect(&rt, "a file");
+}
+
+// No file has an empty name; a folder and a device aren't read.
+#[test]
+fn what_is_no_file_is_refused(rt: HostRuntime) {
+    let mut disk = disk_of(&rt);
+    let mut buf = [0u8; 4];
+    assert!(rt; disk.create("") == Err(DiskError::Failed));
+    assert!(rt; disk.read_at("/", 0, &mut buf) == Err(DiskError::Failed));
+    assert!(rt; disk.read_at("/dev/zero", 0, &mut buf) == Err(DiskError::Failed));
 }

@@ -59,3 +59,29 @@ fn a_trace_is_made(rt: HostRuntime) {
     assert!(rt; has_a_hundred(&trace));
     assert!(rt; begins(rt.alloc(), &trace, FIRST).expect(&rt, "memory"));
 }
+
+// How many lines a long text has.
+const MANY: usize = 10_000;
+
+// Returns a text of many lines behind `head`, each a moment and `tail`.
+fn long_text(alloc: Global, head: &str, tail: &str) -> Result<String, OutOfMemory> {
+    let mut text = String::new(alloc);
+    text.push_str(head)?;
+    for moment in 0..MANY {
+        write!(text, "{moment}{tail}")?;
+    }
+    Ok(text)
+}
+
+// Returns whether a text of many lines is read and printed again.
+fn is_printed_long(alloc: Global, head: &str, tail: &str) -> Result<bool, TraceError> {
+    let text = long_text(alloc, head, tail)?;
+    let trace = trace_of(alloc, text.as_bytes())?;
+    Ok(trace.len() == MANY && prints(alloc, &trace, text.as_bytes())?)
+}
+
+#[test]
+fn ten_thousand_lines_are_read_and_printed(rt: HostRuntime) {
+    assert!(rt; is_printed_long(rt.alloc(), "", "\n").expect(&rt, "a trace"));
+    assert!(rt; is_printed_long(rt.alloc(), "# mm-trace 2\n", " 1000000\n").expect(&rt, "a trace"));
+}

@@ -1,7 +1,12 @@
-// A client over TCP that goes on sending after its connection has ended.
-use mm_base::{Link, Port, TcpLimits, TcpLink, TcpPort};
-use std::io::{self, Write};
-use std::net::{Ipv4Addr, SocketAddr, TcpStream};
+// Clients over TCP: one that goes on sending after its connection has ended, and one that ends its requests before it
+// reads.
+use super::{CHUNKS, CURL, CURLED, end_of};
+use mm_base::{Link, NoPace, Port, TcpLimits, TcpLink, TcpPort};
+use replay_server::ConnEnd;
+use std::alloc::Global;
+use std::io::{self, Read, Write};
+use std::net::{Ipv4Addr, Shutdown, SocketAddr, TcpStream};
+use std::sync::Wait;
 use std::thread::{self, Threads, join};
 use std::time::{Clock, Duration, Instant};
 
@@ -73,4 +78,32 @@ fn is_left<T: Threads>(threads: &T, rt: &HostRuntime, both: Connected) -> io::Re
 fn a_client_that_trickles_is_left(rt: HostRuntime) {
     let both = connect(&rt).expect(&rt, "a link");
     assert!(rt; is_left(&rt, &rt, both).expect(&rt, "a clock"));
+}
+
+// Sends a request, and that no more will come.
+fn ask(client: &TcpStream) -> io::Result<()> {
+    let mut client = client;
+    client.write_all(CURL.as_bytes())?;
+    client.shutdown(Shutdown::Write)
+}
+
+// Whether a client that has ended its requests reads its answer, and then the end.
+fn is_answered<R: Wait>(wait: &R, alloc: Global, both: Connected) -> io::Result<bool> {
+    let Connected {
+        mut port,
+        client,
+        mut link,
+    } = both;
+    ask(&client)?;
+    let is_closed = end_of(wait, alloc, &CURLED, &mut link, 1, &NoPace) == ConnEnd::Closed;
+    link.close_output();
+    let is_over = link.read(&mut [0u8; 1]) == Ok(0) && port.finish(link).is_ok();
+    let text = io::read_to_string(alloc, client)?;
+    Ok(is_closed && is_over && text.as_str() == CHUNKS)
+}
+
+#[test]
+fn a_client_that_ends_its_requests_is_answered(rt: HostRuntime) {
+    let both = connect(&rt).expect(&rt, "a link");
+    assert!(rt; is_answered(&rt, rt.alloc(), both).expect(&rt, "a link"));
 }
