@@ -1,5 +1,6 @@
-// Tests of real files: pipes, files that are replaced while they are read, and files that are to be input and output at
-// once.
+// Tests of real files: pipes as outputs, inputs that are replaced and outputs that are renamed while they are open,
+// files that say that they are empty, files that are to be input and output at once, reads from a place, a file that is
+// saved twice and added to, and what is no regular file.
 use mm_base::{Disk, DiskError, FileDisk, load, save};
 use std::alloc::Global;
 use std::fs::{self, Files};

@@ -13,7 +13,8 @@ use std::alloc::Global;
 use std::collections::HashMap;
 use text_base::OutOfMemory;
 
-// How many lists the places stand in.
+// How many lists the places stand in. A merge of several senders numbers the packets of its sender `s` by `s`,
+// `s + 16`, `s + 32` and so on, so each sender has a list without gaps.
 const LISTS: u32 = 16;
 
 // Where the row of each number stands.
@@ -127,8 +128,9 @@ fn lists_of(alloc: Global, rows: &[Row]) -> Result<Vec<Vec<u32>>, OutOfMemory>
     Ok(lists)
 }
 
-// Returns where the rows stand. Nothing is made where they are numbered 1, 2, 3 and so on. An index, which takes eight
-// times the memory of lists, is made only where lists might take more.
+// Returns where the rows stand. Nothing is made where they are numbered 1, 2, 3 and so on. Else lists are made, where
+// none of them is longer than the rows: they take 4 bytes a row for the numbers of a merge, and up to 64 for others.
+// Where one would be longer, as for numbers far apart, an index is made, which takes some 32 bytes a row.
 pub(crate) fn places_of(alloc: Global, rows: &[Row]) -> Result<Places, OutOfMemory>
     requires apart { AreApart rows.now }
     ensures { IfOk result (λ places. ArePlaces rows.now places) }

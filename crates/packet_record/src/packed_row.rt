@@ -11,10 +11,10 @@ const SIZE_END: u32 = 2048;
 // What `PackedRow::rest` has for a row that goes down.
 const DOWN: u32 = 2048;
 
-// The parts of the moment that `PackedRow::rest` has are counted by this.
+// `PackedRow::rest` has this for each time that `LOW_END` goes into the moment.
 const HIGH: u32 = 4096;
 
-// The part of the moment in `PackedRow::low` is below this.
+// The part of the moment in `PackedRow::low` is below this: 2 to the 32nd.
 const LOW_END: u64 = 4_294_967_296;
 
 /// A row in 12 bytes. Contracts see the row.
@@ -23,7 +23,7 @@ pub struct PackedRow {
     id: u32,
     // The moment modulo 2 to the 32nd.
     low: u32,
-    // The size, plus 2048 for down, plus 4096 times the rest of the moment.
+    // The size, plus 2048 for down, plus 4096 for each time that 2 to the 32nd goes into the moment.
     rest: u32,
     ghost some: { 1 ≤ rest % 2048 },
     ghost most: { rest % 2048 ≤ 1504 },

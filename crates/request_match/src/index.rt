@@ -59,9 +59,12 @@ fn first_from(entries: &[(u64, usize)], key: u64) -> usize
     low
 }
 
-/// Goes on from entry `start` while the records share more with those before them than these have in common with the
-/// request, which is `score`: theirs is the same then. Returns the entry after those, and the earliest of `place` and
-/// their places. No record is looked at.
+/// Passes entries from `start` on whose score is that of the entry before them, without a look at their records.
+///
+/// The request has its first `score` bytes, and no more, in common with the record of the entry before `start`. What
+/// shares more than these with that record has just as many in common with the request, so its score is the same; and
+/// so on from entry to entry. Returns the first entry that isn't passed, and the earliest of `place` and the places of
+/// those that are.
 fn pass_scored(
     entries: &[(u64, usize)],
     fronts: &[Option<usize>],
