@@ -3,6 +3,7 @@
 #![tactic(auto)]
 
 mod bytes;
+mod front_digits;
 pub mod limits;
 mod line_buffer;
 mod lines;

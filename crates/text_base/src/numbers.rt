@@ -3,6 +3,7 @@ ghost use Rattle.std.specs.Prelude.{◌≡◌, ◌⊎◌, ◌+◌, ◌++◌, ℕ
 ghost use Rattle.std.specs.Prelude.{OnOk, OnErr};
 ghost use Rattle.text_base.specs.Numbers.{is_digit, BeginsOtherwise, decimal_of, canonical_of};
 
+use crate::front_digits::{AT_ONCE, count_digits, value_of_front};
 use crate::{Bytes, OutOfMemory};
 use itoa::Buffer;
 
@@ -10,6 +11,28 @@ use itoa::Buffer;
 /// exactly where the text doesn't begin with an ASCII digit. Leading zeros are accepted.
 #[inline(always)]
 pub fn split_decimal(text: &[u8]) -> Option<(u64, &[u8])>
+    ensures read { IfSome result (λ r. (word : List ℕ) × (text.now ≡ word ++ r.1.now) × (decimal_of word ≡ Some r.0)) }
+    ensures every { (word rest : List ℕ) (n : ℕ)
+        → text.now ≡ word ++ rest → decimal_of word ≡ Some n → BeginsOtherwise rest
+        → MatchOption result ⊥ (λ r. (r.0 ≡ n) × (r.1.now ≡ rest)) }
+    ensures stops { IfSome result (λ r. (length r.1.now + 10 ≡ length text.now) ⊎ BeginsOtherwise r.1.now) }
+    ensures none { IfNone result (BeginsOtherwise text.now) }
+{
+    if text.len() >= AT_ONCE {
+        let count = count_digits(text);
+        if count == 0 {
+            return None;
+        }
+        if count < AT_ONCE {
+            return Some((value_of_front(text, count), &text[count..]));
+        }
+    }
+    split_by_bytes(text)
+}
+
+// The same byte by byte, for a text of fewer than eight bytes or a number of more than seven digits.
+#[inline]
+fn split_by_bytes(text: &[u8]) -> Option<(u64, &[u8])>
     ensures read { IfSome result (λ r. (word : List ℕ) × (text.now ≡ word ++ r.1.now) × (decimal_of word ≡ Some r.0)) }
     ensures every { (word rest : List ℕ) (n : ℕ)
         → text.now ≡ word ++ rest → decimal_of word ≡ Some n → BeginsOtherwise rest

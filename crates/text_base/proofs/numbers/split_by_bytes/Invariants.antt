@@ -1,7 +1,7 @@
 use Rattle.std.proofs.Common.{◌≡◌, ◌<◌, ◌≤◌, ◌^◌, ◌-◌, true, length, take}
 use Rattle.std.specs.List.{list_all}
 use Rattle.text_base.specs.Numbers.{is_digit, value_of_digits}
-use Rattle.text_base.proofs.numbers.split_decimal.Given as goal
+use Rattle.text_base.proofs.numbers.split_by_bytes.Given as goal
 
 abbrev pub invariant-loop-count : goal.invariant-loop-count
 invariant-loop-count l = record {
