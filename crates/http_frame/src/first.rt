@@ -38,17 +38,16 @@ pub fn first_response(
 ) -> Result<Option<Response>, OutOfMemory>
     ensures { IfOk result (FirstResponse to_head bytes.now) }
 {
-    let (_, outcome) = advance_response(alloc, to_head, true, bytes, None);
+    let (_, outcome) = advance_response(to_head, true, bytes, None);
     match outcome {
-        Ok(Outcome::Message(found)) => {
+        Outcome::Message(found) => {
             let bytes = Bytes::from_slice(alloc, &bytes[..found.len])?;
             Ok(Some(Response {
                 head: found.head,
                 bytes,
             }))
         }
-        Ok(Outcome::More) => Ok(None),
-        Ok(Outcome::Fault(_)) => Ok(None),
-        Err(error) => Err(error),
+        Outcome::More => Ok(None),
+        Outcome::Fault(_) => Ok(None),
     }
 }

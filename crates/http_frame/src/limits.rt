@@ -25,7 +25,8 @@ pub(crate) fn front_of(bytes: &[u8]) -> &[u8]
 // How many bytes are counted at once: so few that a byte holds their count.
 const RUN: usize = 128;
 
-// Returns how many line feeds there are in a run. It has no branch, so that many bytes are looked at together.
+// Returns how many line feeds there are in a run. No byte has a branch of its own, so that many bytes are looked at
+// together.
 fn feeds_in_run(run: &[u8]) -> u8
     requires { length run.now ≤ 128 }
     ensures { result ≡ feeds_of run.now }

@@ -1,20 +1,18 @@
 // Reads the heads of requests.
-ghost use Rattle.std.specs.Prelude.{◌≡◌, ◌==◌, ◌||◌, ℕ, ◌+◌, ◌<◌, ◌≤◌, List, length, map, IfOk, All, IfSome};
-ghost use Rattle.std.specs.Prelude.{option_map, codes};
-ghost use Rattle.httparse.specs.Spans.{span_bytes, IsWithin as IsSpanWithin, IsRequestWithin, IsRequestAt};
+ghost use Rattle.std.specs.Prelude.{◌≡◌, ◌==◌, ◌||◌, ◌+◌, ◌≤◌, length, IfOk, All, option_copied, codes};
+ghost use Rattle.httparse.specs.Spans.{IsHeaderWithin, IsRequestWithin, IsRequestAt};
 ghost use Rattle.httparse.specs.Grammar.{RequestHead as Head};
-ghost use Rattle.http_header.specs.HeaderMap.{get_all};
 ghost use Rattle.http_frame.specs.Forms.{request_line, request_said, request_form};
+ghost use Rattle.http_frame.specs.inside.Fields.{values_at};
 ghost use Rattle.http_frame.specs.inside.Heads.{SaysHead, HeadCause};
 
 use crate::errors::FrameError;
-use crate::fields::{asks_close, field_map};
+use crate::fields::{asks_close, first_value};
 use crate::framing::framing_of_request;
 use crate::head::{HeadRead, HeadStep};
 use crate::limits::{MOST_LINES, front_of, limit_of, line_feeds};
 use crate::messages::RequestHead;
-use http_header::HeaderMap;
-use httparse::spans::{EMPTY_HEADER_SPAN, HeaderSpan, RequestSpans, Span, parse_request};
+use httparse::spans::{EMPTY_HEADER_SPAN, HeaderSpan, RequestSpans, parse_request};
 use httparse::{Error, Status};
 use std::alloc::Global;
 use text_base::{Bytes, OutOfMemory};
@@ -35,13 +33,12 @@ fn line_of(alloc: Global, method: &[u8], target: &[u8], minor: u8) -> Result<Byt
     Ok(Bytes::from_vec(line))
 }
 
-/// Returns a copy of what `span` covers, if there is a span.
-fn copy_of(alloc: Global, front: &[u8], span: Option<Span>) -> Result<Option<Bytes>, OutOfMemory>
-    requires { IfSome span (IsSpanWithin (length front.now)) }
-    ensures { IfOk result (λ bytes. bytes ≡ option_map (span_bytes front.now) span) }
+/// Returns a copy of the text, if there is one.
+fn copy_of(alloc: Global, text: Option<&[u8]>) -> Result<Option<Bytes>, OutOfMemory>
+    ensures { IfOk result (λ copy. copy ≡ option_copied text.entry) }
 {
-    match span {
-        Some(span) => Ok(Some(Bytes::from_slice(alloc, span.of(front))?)),
+    match text {
+        Some(text) => Ok(Some(Bytes::from_slice(alloc, text)?)),
         None => Ok(None),
     }
 }
@@ -60,19 +57,19 @@ fn head_of(
     method: &[u8],
     target: &[u8],
     minor: u8,
-    fields: &HeaderMap<Span>,
+    headers: &[HeaderSpan],
 ) -> Result<RequestHead, OutOfMemory>
     requires minor { minor ≤ 1 }
-    requires within { (name : List ℕ) → All (IsSpanWithin (length front.now)) (get_all fields.now name) }
+    requires within { All (IsHeaderWithin (length front.now)) headers.now }
     ensures { IfOk result (λ head. head ≡ request_said method.now target.now minor
-        (map (span_bytes front.now) (get_all fields.now (codes "host")))
-        (map (span_bytes front.now) (get_all fields.now (codes "user-agent")))
-        (map (span_bytes front.now) (get_all fields.now (codes "connection")))) }
+        (values_at front.now headers.now (codes "host"))
+        (values_at front.now headers.now (codes "user-agent"))
+        (values_at front.now headers.now (codes "connection"))) }
 {
     let line = line_of(alloc, method, target, minor)?;
-    let host = copy_of(alloc, front, fields.get("host").copied())?;
-    let agent = copy_of(alloc, front, fields.get("user-agent").copied())?;
-    let closes = closes_after(minor, asks_close(front, fields));
+    let host = copy_of(alloc, first_value(front, headers, b"host"))?;
+    let agent = copy_of(alloc, first_value(front, headers, b"user-agent"))?;
+    let closes = closes_after(minor, asks_close(front, headers));
     Ok(RequestHead {
         line,
         host,
@@ -90,13 +87,12 @@ fn request_step(
     spans: &RequestSpans,
 ) -> Result<HeadStep<RequestHead>, OutOfMemory>
     requires within { IsRequestWithin front.now headers.now spans.now }
-    requires few { length headers.now ≤ 100 }
     ensures { IfOk result (λ step. (h : Head) → IsRequestAt front.now headers.now spans.now h
         → SaysHead request_form h spans.now.len step) }
 {
-    let fields = field_map(alloc, front, &headers[..spans.headers])?;
+    let headers = &headers[..spans.headers];
     let method = spans.method.of(front);
-    match framing_of_request(front, method, &fields) {
+    match framing_of_request(front, method, headers) {
         Ok(framing) => {
             let head = head_of(
                 alloc,
@@ -104,7 +100,7 @@ fn request_step(
                 method,
                 spans.path.of(front),
                 spans.version,
-                &fields,
+                headers,
             )?;
             Ok(HeadStep::Head(HeadRead {
                 len: spans.len,

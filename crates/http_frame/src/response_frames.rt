@@ -1,5 +1,5 @@
 // Reads responses from a stream that comes in pieces.
-ghost use Rattle.std.specs.Prelude.{◌≡◌, ◌≤◌, ◌++◌, ℕ, Bool, List, [], true, false, length, drop, None, Some, Err};
+ghost use Rattle.std.specs.Prelude.{◌≡◌, ◌≤◌, ◌++◌, ℕ, Bool, List, [], true, false, length, drop, None, Some, Ok, Err};
 ghost use Rattle.std.specs.Prelude.{OnOk, OnErr};
 ghost use Rattle.httparse.specs.Grammar.{ResponseHead as Answer};
 ghost use Rattle.http_frame.specs.Forms.{response_form};
@@ -53,39 +53,30 @@ fn of_kind(
 }
 
 /// Reads on with the first response. `pending` is what an earlier call kept, and what is returned first is for the
-/// next.
+/// next. It takes no memory.
 pub(crate) fn advance(
-    alloc: Global,
     to_head: bool,
     ended: bool,
     unread: &[u8],
     pending: Option<Pending<ResponseHead>>,
-) -> (
-    Option<Pending<ResponseHead>>,
-    Result<Outcome<ResponseHead>, OutOfMemory>,
-)
+) -> (Option<Pending<ResponseHead>>, Outcome<ResponseHead>)
     requires { IsPending (response_form to_head) unread.now pending }
-    ensures { AdvanceSays (response_form to_head) ended unread.now result.0 result.1 }
+    ensures { AdvanceSays (response_form to_head) ended unread.now result.0 (Ok result.1) }
 {
     match pending {
-        Some(pending) => {
-            let (later, outcome) = finish(ended, unread, pending);
-            (later, Ok(outcome))
-        }
-        None => match read_response(alloc, to_head, unread) {
-            Ok(HeadStep::Head(read)) => {
+        Some(pending) => finish(ended, unread, pending),
+        None => match read_response(to_head, unread) {
+            HeadStep::Head(read) => {
                 let pending = Pending {
                     head: read.head,
                     len: read.len,
                     framing: read.framing,
                     place: 0,
                 };
-                let (later, outcome) = finish(ended, unread, pending);
-                (later, Ok(outcome))
+                finish(ended, unread, pending)
             }
-            Ok(HeadStep::More) => (None, Ok(Outcome::More)),
-            Ok(HeadStep::Fault(error)) => (None, Ok(Outcome::Fault(error))),
-            Err(error) => (None, Err(error)),
+            HeadStep::More => (None, Outcome::More),
+            HeadStep::Fault(error) => (None, Outcome::Fault(error)),
         },
     }
 }
@@ -199,22 +190,16 @@ impl ResponseFrames {
         }
         let pending = of_kind(self.pending.take(), self.to_head, head_request);
         self.to_head = head_request;
-        let (pending, outcome) = advance(
-            self.alloc,
-            head_request,
-            self.ended,
-            self.buffer.as_slice(),
-            pending,
-        );
+        let unread = self.buffer.as_slice();
+        let (pending, outcome) = advance(head_request, self.ended, unread, pending);
         self.pending = pending;
         match outcome {
-            Ok(Outcome::Message(found)) => Ok(Step::Message(found)),
-            Ok(Outcome::More) => Ok(Step::More),
-            Ok(Outcome::Fault(error)) => {
+            Outcome::Message(found) => Ok(Step::Message(found)),
+            Outcome::More => Ok(Step::More),
+            Outcome::Fault(error) => {
                 self.failed = Some(error);
                 Err(FrameFault::Frame(error))
             }
-            Err(_) => Err(FrameFault::OutOfMemory),
         }
     }
 }

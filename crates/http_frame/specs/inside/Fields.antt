@@ -1,10 +1,9 @@
--- For proofs alone: which fields of a head matter.
-use Rattle.std.specs.Prelude.{ℕ, Bool, ◌||◌, List, codes}
-use Rattle.std.specs.Str.{bytes_eq}
+-- For proofs alone: the values of fields, by the spans of the fields.
+use Rattle.std.specs.Prelude.{ℕ, List, map}
+use Rattle.httparse.specs.declared.spans.HeaderSpan.{HeaderSpan}
+use Rattle.httparse.specs.Spans.{header_bytes}
+use Rattle.http_frame.specs.Fields.{values_of}
 
--- The name, in lower case, is of a field that decides what a head says or where its message ends.
-abbrev pub is_wanted : List ℕ → Bool
-is_wanted name =
-    bytes_eq name (codes "host") || bytes_eq name (codes "user-agent") || bytes_eq name (codes "connection") ||
-    bytes_eq name (codes "content-length")
-    || bytes_eq name (codes "transfer-encoding")
+-- The values of the fields with the name `name`, in order. The spans are those of the fields in `front`.
+abbrev pub values_at : List ℕ → List HeaderSpan → List ℕ → List (List ℕ)
+values_at front headers name = values_of name (map (header_bytes front) headers)
