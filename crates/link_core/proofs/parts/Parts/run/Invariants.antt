@@ -1,4 +1,4 @@
-use Rattle.std.proofs.Common.{◌≡◌, ◌+◌, ◌≤◌, ◌<◌}
+use Rattle.std.proofs.Common.{◌≡◌, ◌+◌, ◌≤◌}
 use Rattle.link_core.specs.inside.Moves.{HasRoomFor}
 use Rattle.link_core.specs.inside.Same.{IsSameLink}
 use Rattle.link_core.specs.inside.Sound.{IsSoundAfter}

@@ -1,4 +1,4 @@
-use Rattle.std.proofs.Common.{◌≡◌, ℕ, ◌++◌, Bool, arith, subst, sym}
+use Rattle.std.proofs.Common.{ℕ, ◌++◌, Bool, subst, sym}
 use Rattle.link_core.specs.inside.Sound.{Sound}
 use Rattle.link_core.specs.views.Span.{span_opps}
 use Rattle.link_core.proofs.IdleBurns.{idle_burns}
