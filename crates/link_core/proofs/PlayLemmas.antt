@@ -32,6 +32,9 @@ module _ (os : List Opportunity) (h last b : ℕ) (come coming : List Timed) (p 
       pub next_order : AreUpTo t.moment come
       next_order = up_to_each t.moment come (rise_split come t (drop 1 coming) next_rises)
 
+      pub next_in_time : b ≤ count_to os t.moment
+      next_in_time = subst (IsInTime os b) next p.in_time
+
       pub next_within : t.moment ≤ h
       next_within = (up_to_back h come (t ∷ drop 1 coming) (subst (λ ts. AreUpTo h (come ++ ts)) next p.within)).0
 

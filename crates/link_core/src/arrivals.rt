@@ -48,6 +48,13 @@ impl Arrivals {
         }
     }
 
+    /// How many packets are to come.
+    pub fn left(&self) -> usize
+        ensures { result ≡ length self.now.coming }
+    {
+        self.list.len() - self.entered
+    }
+
     /// Lets the next packet in.
     pub fn enter(&mut self)
         requires { 0 < length self.old.coming }

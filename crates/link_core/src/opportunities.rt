@@ -1,5 +1,5 @@
 // The opportunities of a trace up to a horizon. They are counted and looked up, and never stand in a list.
-ghost use Rattle.std.specs.Prelude.{◌≡◌, ◌≤◌, ◌<◌, ◌↔◌, Some, IsTrue, length, slice_get, IfOk, IfSome};
+ghost use Rattle.std.specs.Prelude.{◌≡◌, ◌≤◌, ◌<◌, ◌↔◌, Some, IsTrue, length, slice_get, IfOk, IfSome, MatchOption};
 ghost use Rattle.trace_reader.specs.Orders.{AreRising};
 ghost use Rattle.trace_reader.specs.Opps.{up_to, opps};
 ghost use Rattle.link_core.specs.views.Span.{span_opps};
@@ -101,15 +101,33 @@ impl Opportunities {
         self.trace.opportunity(u64::from(j), self.once)
     }
 
+    /// Opportunity number `j`, counted from 0, where there is one at `moment` or earlier. It takes no search.
+    #[inline(always)]
+    pub fn due(&mut self, j: u32, moment: u64) -> Option<Opportunity>
+        ensures due { MatchOption result (length (up_to moment (span_opps self.old)) ≤ j)
+            (λ _. j < length (up_to moment (span_opps self.old))) }
+        ensures at { IfSome result (λ o. Some o ≡ slice_get (span_opps self.old) j) }
+        ensures within { IfSome result (λ o. o.moment ≤ 3600000) }
+        ensures few { IfSome result (λ _. j < 16000000) }
+        ensures horizon { self.old.horizon ≤ 3600000 }
+        ensures same { self.new ≡ self.old }
+    {
+        if j >= self.number {
+            return None;
+        }
+        let o = self.take(j);
+        if o.moment > moment {
+            return None;
+        }
+        Some(o)
+    }
+
     /// Whether there is an opportunity number `j`, counted from 0, at `moment` or earlier. It takes no search.
     pub fn is_due(&mut self, j: u32, moment: u64) -> bool
         ensures due { IsTrue result ↔ (j < length (up_to moment (span_opps self.old))) }
         ensures same { self.new ≡ self.old }
     {
-        if j >= self.number {
-            return false;
-        }
-        self.take(j).moment <= moment
+        self.due(j, moment).is_some()
     }
 
     /// How many opportunities are at `moment` or earlier, where the first `j` are. Near `j` it takes no search.

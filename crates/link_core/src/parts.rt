@@ -1,12 +1,13 @@
 // The parts of a link, and what it does with them: it burns an opportunity, or lets a packet in.
 ghost use Rattle.std.specs.Prelude.{◌≡◌, ◌+◌, ◌-◌, ◌<◌, ◌≤◌, ◌++◌, ◌∷◌, [], length, take, drop, IfOk, OnOk, OnErr};
+ghost use Rattle.std.specs.Prelude.{◌↔◌, IsTrue, Some, false, slice_get, vec_len, vec_capacity};
 ghost use Prim.Native.Nat.{min};
 ghost use Rattle.link_core.specs.inside.State.{inside_buffer};
 ghost use Rattle.trace_reader.specs.Opps.{up_to};
 ghost use Rattle.packet_record.specs.Moments.{AreUpTo};
 ghost use Rattle.link_core.specs.views.Span.{span_opps};
 ghost use Rattle.link_core.specs.inside.Sound.{Gone, IsSoundAfter, IsSound};
-ghost use Rattle.link_core.specs.inside.Moves.{IsSettled, HasRoomTo, CanEnter};
+ghost use Rattle.link_core.specs.inside.Moves.{IsSettled, HasRoomTo, UsesRoom, CanEnter};
 ghost use Rattle.link_core.specs.inside.Same.{IsSameLink};
 
 use crate::arrivals::Arrivals;
@@ -18,6 +19,7 @@ use packet_queue::{PacketQueue, QueueSpec};
 use packet_record::Timed;
 use std::alloc::Global;
 use text_base::OutOfMemory;
+use trace_reader::Opportunity;
 
 #[derive(Drop)]
 pub struct Parts {
@@ -63,26 +65,72 @@ impl Parts {
         }
     }
 
-    // Burns the next opportunity. Where nothing is inside and no log is kept, it burns all until `end` are burnt.
-    fn burn_some(&mut self, end: u32)
+    /// Whether opportunities burn with no effect: nothing is inside, and no log is kept.
+    pub fn is_idle(&self) -> bool
+        ensures { IsTrue result ↔ ((self.now.log.kept ≡ false) × (length (inside_buffer self.now.buffer) ≡ 0)) }
+    {
+        !self.log.is_kept() && self.buffer.len() == 0
+    }
+
+    /// Burns opportunities, with no effect, until `end` of them are burnt.
+    pub fn skip_to(&mut self, end: u32)
+        ghost gone: { Gone }
+        requires sound { IsSoundAfter gone self.old }
+        requires unlogged { self.old.log.kept ≡ false }
+        requires none { length (inside_buffer self.old.buffer) ≡ 0 }
+        requires end { end ≤ length (span_opps self.old.opportunities) }
+        requires start { self.old.burnt ≤ end }
+        ensures sound { IsSoundAfter gone self.new }
+        ensures link { IsSameLink self.old self.new }
+        ensures burnt { self.new.burnt ≡ end }
+        ensures arrived { self.new.arrived ≡ self.old.arrived }
+        ensures room { UsesRoom 0 0 self.old self.new }
+    {
+        self.burnt = end;
+    }
+
+    /// Burns the next opportunity, `o`.
+    #[inline(always)]
+    pub fn burn_next(&mut self, o: Opportunity)
+        ghost gone: { Gone }
+        requires sound { IsSoundAfter gone self.old }
+        requires next { Some o ≡ slice_get (span_opps self.old.opportunities) self.old.burnt }
+        requires few { self.old.burnt < 4294967295 }
+        requires short { o.moment ≤ 9999999999 }
+        requires departures { length (inside_buffer self.old.buffer) + vec_len self.old.departed
+            ≤ vec_capacity self.old.departed }
+        requires entries { 1 + length (inside_buffer self.old.buffer) ≤ self.old.log.spare }
+        ensures sound { IsSoundAfter gone self.new }
+        ensures link { IsSameLink self.old self.new }
+        ensures burnt { self.new.burnt ≡ self.old.burnt + 1 }
+        ensures arrived { self.new.arrived ≡ self.old.arrived }
+        ensures room { UsesRoom 0 1 self.old self.new }
+    {
+        self.burnt += 1;
+        serve(&mut self.buffer, o, &mut self.departed, &mut self.log);
+    }
+
+    /// Burns the next opportunity. Where nothing is inside and no log is kept, it burns all until `end` are burnt.
+    pub fn burn_some(&mut self, end: u32)
         ghost gone: { Gone }
         requires sound { IsSoundAfter gone self.old }
         requires end { end ≤ length (span_opps self.old.opportunities) }
         requires start { self.old.burnt < end }
-        requires room { HasRoomTo end self.old }
+        requires departures { length (inside_buffer self.old.buffer) + vec_len self.old.departed
+            ≤ vec_capacity self.old.departed }
+        requires entries { 1 + length (inside_buffer self.old.buffer) ≤ self.old.log.spare }
         ensures sound { IsSoundAfter gone self.new }
         ensures link { IsSameLink self.old self.new }
         ensures burnt { (self.old.burnt < self.new.burnt) × (self.new.burnt ≤ end) }
         ensures arrived { self.new.arrived ≡ self.old.arrived }
-        ensures room { HasRoomTo end self.new }
+        ensures room { UsesRoom 0 1 self.old self.new }
     {
-        if !self.log.is_kept() && self.buffer.len() == 0 {
-            self.burnt = end;
+        if self.is_idle() {
+            self.skip_to(end);
             return;
         }
         let o = self.opportunities.take(self.burnt);
-        self.burnt += 1;
-        serve(&mut self.buffer, o, &mut self.departed, &mut self.log);
+        self.burn_next(o);
     }
 
     /// Burns opportunities until `end` of them are burnt.
@@ -115,6 +163,7 @@ impl Parts {
         ensures burnt { self.new.burnt ≡ self.old.burnt }
         ensures come { self.new.arrived.come ≡ self.old.arrived.come ++ t ∷ [] }
         ensures coming { self.new.arrived.coming ≡ drop 1 self.old.arrived.coming }
+        ensures room { UsesRoom 1 3 self.old self.new }
     {
         self.arrived.enter();
         let dropped = self.buffer.queue.enqueue(t);

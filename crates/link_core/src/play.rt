@@ -1,6 +1,11 @@
 // A link that goes over a list of arrivals step by step, and burns its first `last` opportunities: to the end, or until
 // there is a piece of its log.
-ghost use Rattle.std.specs.Prelude.{◌≡◌, ◌<◌, ◌++◌, ◌∷◌, [], IsTrue, true, length, drop, IfOk, OnOk, OnErr};
+ghost use Rattle.std.specs.Prelude.{◌≡◌, ℕ, ◌+◌, ◌<◌, ◌≤◌, ◌++◌, ◌∷◌, [], IsTrue, true, length, drop, IfOk, OnOk, OnErr};
+ghost use Rattle.std.specs.Prelude.{Some, slice_get, vec_len, vec_capacity};
+ghost use Rattle.trace_reader.specs.Opps.{up_to};
+ghost use Rattle.link_core.specs.views.Span.{span_opps};
+ghost use Rattle.link_core.specs.inside.State.{inside_buffer};
+ghost use Rattle.link_core.specs.inside.Moves.{HasRoomFor, UsesRoom};
 ghost use Rattle.link_core.specs.inside.Sound.{Gone, IsSoundAfter};
 ghost use Rattle.link_core.specs.inside.Same.{IsSameLink};
 ghost use Rattle.link_core.specs.inside.Play.{CanPlay, IsPlayed, all_arrivals, work, gone_with};
@@ -9,75 +14,132 @@ ghost use Rattle.link_core.specs.views.Play.{rest_of};
 use crate::parts::Parts;
 use packet_record::Timed;
 use text_base::OutOfMemory;
+use trace_reader::Opportunity;
 
-// One step burns at most as many opportunities as this where a log is kept, since each may need room in it.
-const AT_ONCE: u32 = 2048;
+// How many steps are taken after room was made for them.
+const STEPS: usize = 256;
 
-// A piece of the log is ended after the step that makes it as long as this.
+// A piece of the log is ended after the steps that make it as long as this.
 const PIECE: usize = 2048;
 
 impl Parts {
-    // How many opportunities one step burns at most.
-    fn at_once(&self) -> u32
-        ensures { 0 < result }
+    // Burns the opportunity `o`, which is the next one and due at `moment`. Where nothing is inside and no log is kept,
+    // it burns all that are due.
+    #[inline(always)]
+    fn burn_due(&mut self, o: Opportunity, moment: u64)
+        ghost gone: { Gone }
+        requires sound { IsSoundAfter gone self.old }
+        requires next { Some o ≡ slice_get (span_opps self.old.opportunities) self.old.burnt }
+        requires due { self.old.burnt < length (up_to moment (span_opps self.old.opportunities)) }
+        requires few { self.old.burnt < 16000000 }
+        requires short { o.moment ≤ 9999999999 }
+        requires departures { length (inside_buffer self.old.buffer) + vec_len self.old.departed
+            ≤ vec_capacity self.old.departed }
+        requires entries { 1 + length (inside_buffer self.old.buffer) ≤ self.old.log.spare }
+        ensures sound { IsSoundAfter gone self.new }
+        ensures link { IsSameLink self.old self.new }
+        ensures more { self.old.burnt < self.new.burnt }
+        ensures within { self.new.burnt ≤ length (up_to moment (span_opps self.old.opportunities)) }
+        ensures arrived { self.new.arrived ≡ self.old.arrived }
+        ensures room { UsesRoom 0 1 self.old self.new }
     {
-        if self.log.is_kept() {
-            AT_ONCE
+        if self.is_idle() {
+            let end = self.opportunities.count_from(self.burnt, moment);
+            self.skip_to(end);
         } else {
-            u32::MAX
+            self.burn_next(o);
         }
     }
 
-    // Burns what is due before the next packet, or the first of it, and lets the packet in where nothing due is left.
-    fn go_to(&mut self, t: Timed, _last: u32) -> Result<(), OutOfMemory>
+    // Burns the next opportunity that is due before the packet `t`, which is the next to come, or lets it in.
+    #[inline(always)]
+    fn go_to(&mut self, t: Timed, _last: u32)
         ghost gone: { Gone }
         requires sound { IsSoundAfter gone self.old }
         requires playable { CanPlay _last self.old }
         requires next { self.old.arrived.coming ≡ t ∷ drop 1 self.old.arrived.coming }
+        requires room { HasRoomFor 1 self.old }
         ensures sound { IsSoundAfter gone self.new }
         ensures playable { CanPlay _last self.new }
         ensures link { IsSameLink self.old self.new }
         ensures arrivals { all_arrivals self.new ≡ all_arrivals self.old }
-        ensures less { OnOk result (work _last self.new < work _last self.old) }
-        ensures err { OnErr result (0 < work _last self.new) }
+        ensures less { work _last self.new < work _last self.old }
+        ensures room { (n : ℕ) → HasRoomFor (n + 1) self.old → HasRoomFor n self.new }
     {
-        let due = self.opportunities.count_from(self.burnt, t.moment);
-        let end = due.min(self.burnt.saturating_add(self.at_once()));
-        self.reserve((end - self.burnt) as usize)?;
-        self.burn_to(end);
-        if end < due {
-            return Ok(());
+        match self.opportunities.due(self.burnt, t.moment) {
+            Some(o) => self.burn_due(o, t.moment),
+            None => self.enter(t),
         }
-        self.enter(t);
-        Ok(())
     }
 
     // Burns the next opportunities, where no packet is to come. Returns false where the first `last` were burnt before.
-    fn burn_rest(&mut self, last: u32) -> Result<bool, OutOfMemory>
+    fn burn_rest(&mut self, last: u32) -> bool
         ghost gone: { Gone }
         requires sound { IsSoundAfter gone self.old }
         requires playable { CanPlay last self.old }
         requires none { self.old.arrived.coming ≡ [] }
+        requires room { HasRoomFor 1 self.old }
         ensures sound { IsSoundAfter gone self.new }
         ensures playable { CanPlay last self.new }
         ensures link { IsSameLink self.old self.new }
         ensures arrived { self.new.arrived ≡ self.old.arrived }
-        ensures done { IfOk result (λ more. ¬ IsTrue more → IsPlayed last self.new) }
-        ensures less { IfOk result (λ more. IsTrue more → work last self.new < work last self.old) }
-        ensures err { OnErr result (0 < work last self.new) }
+        ensures done { ¬ IsTrue result → IsPlayed last self.new }
+        ensures less { IsTrue result → work last self.new < work last self.old }
+        ensures room { (n : ℕ) → HasRoomFor (n + 1) self.old → HasRoomFor n self.new }
     {
         if self.burnt == last {
-            return Ok(false);
+            return false;
         }
-        let end = last.min(self.burnt.saturating_add(self.at_once()));
-        self.reserve((end - self.burnt) as usize)?;
-        self.burn_to(end);
-        Ok(true)
+        self.burn_some(last);
+        true
     }
 
-    /// Goes on by one step. Returns false exactly where there is none: all arrivals are in, and the first `last`
+    // Goes on by one step. Returns false exactly where there is none: all arrivals are in, and the first `last`
+    // opportunities are burnt.
+    #[inline(always)]
+    fn step(&mut self, last: u32) -> bool
+        ghost gone: { Gone }
+        requires sound { IsSoundAfter gone self.old }
+        requires playable { CanPlay last self.old }
+        requires room { HasRoomFor 1 self.old }
+        ensures sound { IsSoundAfter gone self.new }
+        ensures playable { CanPlay last self.new }
+        ensures link { IsSameLink self.old self.new }
+        ensures arrivals { all_arrivals self.new ≡ all_arrivals self.old }
+        ensures done { ¬ IsTrue result → IsPlayed last self.new }
+        ensures less { IsTrue result → work last self.new < work last self.old }
+        ensures room { (n : ℕ) → HasRoomFor (n + 1) self.old → HasRoomFor n self.new }
+    {
+        match self.arrived.next() {
+            Some(t) => {
+                self.go_to(t, last);
+                true
+            }
+            None => self.burn_rest(last),
+        }
+    }
+
+    // Takes the memory that `STEPS` steps may need, or runs out of it.
+    fn reserve_steps(&mut self) -> Result<(), OutOfMemory>
+        ghost gone: { Gone }
+        requires sound { IsSoundAfter gone self.old }
+        ensures sound { IsSoundAfter gone self.new }
+        ensures link { IsSameLink self.old self.new }
+        ensures burnt { self.new.burnt ≡ self.old.burnt }
+        ensures arrived { self.new.arrived ≡ self.old.arrived }
+        ensures room { OnOk result (HasRoomFor 256 self.new) }
+    {
+        let held = self.buffer.len();
+        let coming = self.arrived.left().min(STEPS);
+        self.buffer.queue.reserve(coming)?;
+        self.departed.reserve(held + coming)?;
+        self.log.reserve(held + 3 * STEPS)?;
+        Ok(())
+    }
+
+    /// Goes on by some steps. Returns false exactly where it is at the end: all arrivals are in, and the first `last`
     /// opportunities are burnt.
-    pub fn step(&mut self, last: u32) -> Result<bool, OutOfMemory>
+    pub fn run(&mut self, last: u32) -> Result<bool, OutOfMemory>
         ghost gone: { Gone }
         requires sound { IsSoundAfter gone self.old }
         requires playable { CanPlay last self.old }
@@ -89,13 +151,18 @@ impl Parts {
         ensures less { IfOk result (λ more. IsTrue more → work last self.new < work last self.old) }
         ensures err { OnErr result (0 < work last self.new) }
     {
-        match self.arrived.next() {
-            Some(t) => {
-                self.go_to(t, last)?;
-                Ok(true)
-            }
-            None => self.burn_rest(last),
+        if self.arrived.left() == 0 && self.burnt == last {
+            return Ok(false);
         }
+        self.reserve_steps()?;
+        let mut left = STEPS;
+        'stepping: while left > 0 {
+            if !self.step(last) {
+                return Ok(false);
+            }
+            left -= 1;
+        }
+        Ok(true)
     }
 
     /// Goes on to the end, with room for `departures` more departures.
@@ -110,7 +177,7 @@ impl Parts {
     {
         self.departed.reserve(departures)?;
         'finishing: loop {
-            if !self.step(last)? {
+            if !self.run(last)? {
                 return Ok(());
             }
         }
@@ -149,7 +216,7 @@ impl Parts {
             → (self.new.log.entries ≡ []) × (rest_of last self.new ≡ [])) }
     {
         'filling: while self.log.len() < PIECE {
-            if !self.step(last)? {
+            if !self.run(last)? {
                 return Ok(self.log.len() > 0);
             }
         }

@@ -25,7 +25,9 @@ pub fn serve(buffer: &mut Buffer, o: Opportunity, departed: &mut Vec<Timed>, log
     ensures buffer { IsServed o buffer.old buffer.new }
     ensures departed { departed.new.items ≡ departed.old.items ++ map (moved_to o.moment) (served buffer.old o) }
     ensures log { HasWritten (served_lines o (served buffer.old o)) log.old log.new }
-    ensures room { length (inside_buffer buffer.new) + vec_len departed.new ≤ vec_capacity departed.new }
+    ensures room { length (inside_buffer buffer.new) + vec_len departed.new
+        ≡ length (inside_buffer buffer.old) + vec_len departed.old }
+    ensures capacity { vec_capacity departed.new ≡ vec_capacity departed.old }
     ensures spare { log.old.spare + length (inside_buffer buffer.new)
         ≤ log.new.spare + 1 + length (inside_buffer buffer.old) }
 {
@@ -55,8 +57,9 @@ pub fn note(log: &mut Journal, t: Timed, dropped: Dropped)
     requires some { 0 < dropped.packets → 0 < dropped.bytes }
     requires packets { dropped.packets ≤ dropped.bytes }
     requires bytes { dropped.bytes ≤ 3008 }
-    ensures { HasWritten (Entry.Arrival t.moment t.packet.size ∷ drop_line_by t.moment dropped.packets dropped.bytes)
-        log.old log.new }
+    ensures log { HasWritten
+        (Entry.Arrival t.moment t.packet.size ∷ drop_line_by t.moment dropped.packets dropped.bytes) log.old log.new }
+    ensures left { log.old.spare ≤ log.new.spare + 2 }
 {
     log.add(Entry::Arrival {
         moment: t.moment,

@@ -15,5 +15,5 @@ invariant-filling g l = record {
 abbrev pub decreases-filling : goal.decreases-filling
 decreases-filling g l = work l.last l.self
 
-abbrev pub ghost-step : goal.ghost-step
-ghost-step g a = g.gone
+abbrev pub ghost-run : goal.ghost-run
+ghost-run g a = g.gone

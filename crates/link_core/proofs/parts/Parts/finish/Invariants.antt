@@ -15,5 +15,5 @@ invariant-finishing g l = record {
 abbrev pub decreases-finishing : goal.decreases-finishing
 decreases-finishing g l = work l.last l.self
 
-abbrev pub ghost-step : goal.ghost-step
-ghost-step g a = g.gone
+abbrev pub ghost-run : goal.ghost-run
+ghost-run g a = g.gone

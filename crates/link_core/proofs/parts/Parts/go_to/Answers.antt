@@ -1,11 +1,9 @@
-use Rattle.std.proofs.Common.{◌≡◌, ◌++◌, ◌∷◌, [], drop, length, ap, sym, subst, arith, ◌∙◌}
-use Rattle.packet_record.specs.Moments.{AreUpTo}
+use Rattle.std.proofs.Common.{◌≡◌, length, ap, arith, ◌∙◌}
 use Rattle.trace_reader.specs.Opps.{up_to}
 use Rattle.link_core.specs.Promises.{count_to}
-use Rattle.link_core.specs.views.Arriving.{Arriving}
 use Rattle.link_core.specs.views.Span.{span_opps}
 use Rattle.link_core.proofs.CountLemmas.{counted}
-use Rattle.link_core.proofs.PlayLemmas.{next_order, next_within, playable_entered}
+use Rattle.link_core.proofs.PlayLemmas.{next_order, next_in_time, next_within, playable_entered}
 use Rattle.link_core.proofs.parts.Parts.go_to.Goals as goal
 
 pub enter-requires : goal.enter-requires
@@ -14,48 +12,54 @@ enter-requires g c =
     let t = c.args.t in
     let m = t.moment in
     let os = span_opps now.opportunities in
-    let due = c.count_from-due.ensures.count in
-    let same : span_opps c.burn_to.new.self.opportunities ≡ os = ap span_opps (c.burn_to.ensures.link.opportunities
-    ∙ c.reserve.ensures.link.opportunities ∙ c.count_from-due.ensures.same) in
-    let end : c.burn_to.new.self.burnt ≡ length (up_to m os) = omega arith in
-    let arrived : c.burn_to.new.self.arrived ≡ now.arrived = c.burn_to.ensures.arrived ∙ c.reserve.ensures.arrived in
-    let order = next_order os now.opportunities.horizon c.args._last now.burnt now.arrived.come now.arrived.coming c.requires.1.0 t
-    c.requires.1.1 in
-    let within = next_within os now.opportunities.horizon c.args._last now.burnt now.arrived.come now.arrived.coming c.requires.1.0
-    t c.requires.1.1 in
-    let most = c.count_from-due.ensures.horizon in
+    let h = now.opportunities.horizon in
+    let last = c.args._last in
+    let come = now.arrived.come in
+    let coming = now.arrived.coming in
+    let playable = c.requires.1.0 in
+    let next = c.requires.1.1.0 in
+    let room = c.requires.1.1.1 in
+    let none = c.in-None.ensures.due in
+    let most = c.due.ensures.horizon in
+    let in_time = next_in_time os h last now.burnt come coming playable t next in
+    let within = next_within os h last now.burnt come coming playable t next in
+    let end : now.burnt ≡ length (up_to m os) = omega arith in
+    let same : span_opps c.due.new.self ≡ os = ap span_opps c.due.ensures.same in
+    let some = ap length next in
     let here = counted m os c.requires.0.order in (
-      c.burn_to.ensures.sound,
+      rw same c.requires.0,
       (
         record {
-          next = subst (λ (a : Arriving). a.coming ≡ t ∷ drop 1 a.coming) (sym arrived) c.requires.1.1;
+          next = next;
           short = omega arith;
-          order = subst (λ (a : Arriving). AreUpTo m a.come) (sym arrived) order;
+          order = next_order os h last now.burnt come coming playable t next;
           burnt = rw (end, same) here.0;
           later = rw (end, same) here.1;
         },
         record {
-          queue = c.burn_to.ensures.room.queue;
-          departures = c.burn_to.ensures.room.departures;
-          entries = omega (arith, c.burn_to.ensures.room.entries);
+          queue = omega (arith, room.queue);
+          departures = omega (arith, room.departures);
+          entries = omega (arith, room.entries);
         },
       ),
     )
 
-pub returns-clause-playable : goal.returns-clause-playable
-returns-clause-playable g c =
+pub returns-in-None-clause-playable : goal.returns-in-None-clause-playable
+returns-in-None-clause-playable g c =
     let now = c.args.self.now in
-    let m = c.args.t.moment in
+    let t = c.args.t in
     let os = span_opps now.opportunities in
-    let due = c.count_from-due.ensures.count in
-    let opps_e : c.enter.new.self.opportunities ≡ now.opportunities =
-    c.enter.ensures.link.opportunities ∙ c.burn_to.ensures.link.opportunities ∙ c.reserve.ensures.link.opportunities
-    ∙ c.count_from-due.ensures.same
-    in
-    let burnt_e : c.enter.new.self.burnt ≡ count_to os m = omega arith in
-    let arrived : c.burn_to.new.self.arrived ≡ now.arrived = c.burn_to.ensures.arrived ∙ c.reserve.ensures.arrived in
-    let come_e = c.enter.ensures.come ∙ ap (λ (a : Arriving). a.come ++ c.args.t ∷ []) arrived in
-    let coming_e = c.enter.ensures.coming ∙ ap (λ (a : Arriving). drop 1 a.coming) arrived in
+    let h = now.opportunities.horizon in
+    let last = c.args._last in
+    let come = now.arrived.come in
+    let coming = now.arrived.coming in
+    let playable = c.requires.1.0 in
+    let next = c.requires.1.1.0 in
+    let none = c.in-None.ensures.due in
+    let in_time = next_in_time os h last now.burnt come coming playable t next in
+    let end : now.burnt ≡ count_to os t.moment = omega arith in
+    let opps_e : c.enter.new.self.opportunities ≡ now.opportunities = c.enter.ensures.link.opportunities
+    ∙ c.due.ensures.same in
+    let burnt_e : c.enter.new.self.burnt ≡ count_to os t.moment = c.enter.ensures.burnt ∙ end in
     rw (opps_e, burnt_e)
-    (playable_entered os now.opportunities.horizon c.args._last now.burnt now.arrived.come now.arrived.coming c.requires.1.0
-    c.args.t c.requires.1.1 _ _ come_e coming_e)
+    (playable_entered os h last now.burnt come coming playable t next _ _ c.enter.ensures.come c.enter.ensures.coming)
