@@ -1,6 +1,7 @@
 // Runs whose rows are fed.
 ghost use Rattle.std.specs.Prelude.{◌≡◌};
 ghost use Rattle.packet_record.specs.declared.item.FlowEnd.TheVariants.{Open, Broken as IsCut};
+ghost use Rattle.packet_record.specs.Streams.{no_items};
 ghost use Rattle.mark_channel.specs.Ends.{IsSameEnd};
 
 use super::{CASES, Case, nest_in, schedule_of};
@@ -10,7 +11,7 @@ use mm_base::{NoPace, Pace};
 use nest_runner::run_feeds;
 use nest_runner::work::source;
 use nest_spec::{Nest, RunResult};
-use packet_record::{Item, Row, Schedule};
+use packet_record::{Direction, Item, Row, Schedule};
 use std::alloc::Global;
 use std::marker::Sync;
 use std::process::Abort;
@@ -28,6 +29,32 @@ fn cut_both<R: Wait>(rt: &R, up: &mut Sender, down: &mut Sender)
     down.send(rt, Item::Broken);
 }
 
+// Sends the packets of a schedule in their directions, up to `horizon`, and no end.
+fn send_packets<R: Wait>(
+    rt: &R,
+    schedule: &Schedule,
+    horizon: u64,
+    up: &mut Sender,
+    down: &mut Sender,
+)
+    requires empty { (up.old.flow ≡ no_items) × (down.old.flow ≡ no_items) }
+    requires within { (up.old.horizon ≡ horizon) × (down.old.horizon ≡ horizon) }
+    ensures open { (up.new.flow.end ≡ Open) × (down.new.flow.end ≡ Open) }
+    ensures same { IsSameEnd up.old up.new × IsSameEnd down.old down.new }
+{
+    let mut bound = 0;
+    for row in schedule.rows() {
+        let moment = row.timed.moment;
+        if bound <= moment && moment <= horizon {
+            match row.direction {
+                Direction::Up => up.send(rt, Item::Packet(row.timed)),
+                Direction::Down => down.send(rt, Item::Packet(row.timed)),
+            }
+            bound = moment;
+        }
+    }
+}
+
 // How a feeding ends.
 #[derive(Clone, Copy)]
 enum Ending {
@@ -37,6 +64,8 @@ enum Ending {
     Wanting,
     // It is broken off before its rows.
     Cut,
+    // It is broken off after all their packets.
+    CutLate,
 }
 
 // Feeds the rows of a schedule, and ends so. It counts its calls.
@@ -62,14 +91,22 @@ impl Feeds for FedSchedule {
         down: &mut Sender,
     ) -> FeedEnd {
         self.calls = self.calls.saturating_add(1);
-        if let Ending::Cut = self.ending {
-            cut_both(rt, up, down);
-            return FeedEnd::OutOfMemory;
+        match self.ending {
+            Ending::Cut => {
+                cut_both(rt, up, down);
+                return FeedEnd::OutOfMemory;
+            }
+            Ending::CutLate => {
+                send_packets(rt, &self.schedule, horizon, up, down);
+                cut_both(rt, up, down);
+                return FeedEnd::OutOfMemory;
+            }
+            Ending::Whole | Ending::Wanting => {}
         }
         source(rt, self.schedule.rows(), horizon, up, down, &NoPace);
         match self.ending {
             Ending::Whole => FeedEnd::Ended,
-            Ending::Wanting | Ending::Cut => FeedEnd::OutOfMemory,
+            Ending::Wanting | Ending::Cut | Ending::CutLate => FeedEnd::OutOfMemory,
         }
     }
 }
@@ -130,4 +167,5 @@ fn all_want<R: Threads + Wait + Abort + Sync>(rt: &R, alloc: Global, ending: End
 fn want_of_memory_while_feeding_is_answered(rt: HostRuntime) {
     all_want(&rt, rt.alloc(), Ending::Wanting);
     all_want(&rt, rt.alloc(), Ending::Cut);
+    all_want(&rt, rt.alloc(), Ending::CutLate);
 }
