@@ -1,6 +1,6 @@
 // A link that goes over a list of arrivals step by step, and burns its first `last` opportunities: to the end, or until
 // there is a piece of its log.
-ghost use Rattle.std.specs.Prelude.{◌≡◌, ℕ, ◌+◌, ◌<◌, ◌≤◌, ◌++◌, ◌∷◌, [], IsTrue, true, length, drop, IfOk, OnOk, OnErr};
+ghost use Rattle.std.specs.Prelude.{◌≡◌, ◌+◌, ◌<◌, ◌≤◌, ◌++◌, ◌∷◌, [], IsTrue, true, length, drop, IfOk, OnOk, OnErr};
 ghost use Rattle.std.specs.Prelude.{Some, slice_get, vec_len, vec_capacity};
 ghost use Rattle.trace_reader.specs.Opps.{up_to};
 ghost use Rattle.link_core.specs.views.Span.{span_opps};
@@ -51,8 +51,8 @@ impl Parts {
         }
     }
 
-    // Burns the opportunities that are due before the packet `t`, which is the next to come, and then lets it in. It ends
-    // after `steps` of these steps at the latest, and returns how many of them were not taken.
+    // Burns the opportunities that are due before the packet `t`, the next to come, and then lets it in. It ends after
+    // `steps` of these steps at the latest, and returns how many of them were not taken.
     #[inline(always)]
     fn go_to(&mut self, t: Timed, _last: u32, steps: usize) -> usize
         ghost gone: { Gone }
@@ -106,8 +106,8 @@ impl Parts {
         steps - 1
     }
 
-    // Goes on by at most `steps` steps, and returns how many were not taken. These are all exactly where there is none to
-    // take: all arrivals are in, and the first `last` opportunities are burnt.
+    // Goes on by at most `steps` steps, and returns how many were not taken. These are all exactly where there is none
+    // to take: all arrivals are in, and the first `last` opportunities are burnt.
     #[inline(always)]
     fn step(&mut self, last: u32, steps: usize) -> usize
         ghost gone: { Gone }
