@@ -1,6 +1,6 @@
 // A link that goes over a list of arrivals step by step, and burns its first `last` opportunities: to the end, or until
 // there is a piece of its log.
-ghost use Rattle.std.specs.Prelude.{◌≡◌, ℕ, ◌+◌, ◌<◌, ◌≤◌, ◌++◌, ◌∷◌, [], IsTrue, true, length, drop, IfOk, OnOk, OnErr};
+ghost use Rattle.std.specs.Prelude.{◌≡◌, ◌+◌, ◌<◌, ◌≤◌, ◌++◌, ◌∷◌, [], IsTrue, true, length, drop, IfOk, OnOk, OnErr};
 ghost use Rattle.std.specs.Prelude.{Some, slice_get, vec_len, vec_capacity};
 ghost use Rattle.trace_reader.specs.Opps.{up_to};
 ghost use Rattle.link_core.specs.views.Span.{span_opps};
@@ -51,71 +51,82 @@ impl Parts {
         }
     }
 
-    // Burns the next opportunity that is due before the packet `t`, which is the next to come, or lets it in.
+    // Burns the opportunities that are due before the packet `t`, the next to come, and then lets it in. It ends after
+    // `steps` of these steps at the latest, and returns how many of them were not taken.
     #[inline(always)]
-    fn go_to(&mut self, t: Timed, _last: u32)
+    fn go_to(&mut self, t: Timed, _last: u32, steps: usize) -> usize
         ghost gone: { Gone }
         requires sound { IsSoundAfter gone self.old }
         requires playable { CanPlay _last self.old }
         requires next { self.old.arrived.coming ≡ t ∷ drop 1 self.old.arrived.coming }
-        requires room { HasRoomFor 1 self.old }
+        requires some { 0 < steps }
+        requires room { HasRoomFor steps self.old }
         ensures sound { IsSoundAfter gone self.new }
         ensures playable { CanPlay _last self.new }
         ensures link { IsSameLink self.old self.new }
         ensures arrivals { all_arrivals self.new ≡ all_arrivals self.old }
-        ensures less { work _last self.new < work _last self.old }
-        ensures room { (n : ℕ) → HasRoomFor (n + 1) self.old → HasRoomFor n self.new }
+        ensures fewer { result < steps }
+        ensures less { work _last self.new + steps ≤ work _last self.old + result }
+        ensures room { HasRoomFor result self.new }
     {
-        match self.opportunities.due(self.burnt, t.moment) {
-            Some(o) => self.burn_due(o, t.moment),
-            None => self.enter(t),
+        let mut left = steps;
+        'burning: while left > 0 {
+            left -= 1;
+            let Some(o) = self.opportunities.due(self.burnt, t.moment) else {
+                self.enter(t);
+                return left;
+            };
+            self.burn_due(o, t.moment);
         }
+        0
     }
 
-    // Burns the next opportunities, where no packet is to come. Returns false where the first `last` were burnt before.
-    fn burn_rest(&mut self, last: u32) -> bool
+    // Burns the next opportunities, where no packet is to come, and returns one step less. Where the first `last` were
+    // burnt before, it returns as many.
+    fn burn_rest(&mut self, last: u32, steps: usize) -> usize
         ghost gone: { Gone }
         requires sound { IsSoundAfter gone self.old }
         requires playable { CanPlay last self.old }
         requires none { self.old.arrived.coming ≡ [] }
-        requires room { HasRoomFor 1 self.old }
+        requires some { 0 < steps }
+        requires room { HasRoomFor steps self.old }
         ensures sound { IsSoundAfter gone self.new }
         ensures playable { CanPlay last self.new }
         ensures link { IsSameLink self.old self.new }
         ensures arrived { self.new.arrived ≡ self.old.arrived }
-        ensures done { ¬ IsTrue result → IsPlayed last self.new }
-        ensures less { IsTrue result → work last self.new < work last self.old }
-        ensures room { (n : ℕ) → HasRoomFor (n + 1) self.old → HasRoomFor n self.new }
+        ensures within { result ≤ steps }
+        ensures done { result ≡ steps → IsPlayed last self.new }
+        ensures less { work last self.new + steps ≤ work last self.old + result }
+        ensures room { HasRoomFor result self.new }
     {
         if self.burnt == last {
-            return false;
+            return steps;
         }
         self.burn_some(last);
-        true
+        steps - 1
     }
 
-    // Goes on by one step. Returns false exactly where there is none: all arrivals are in, and the first `last`
-    // opportunities are burnt.
+    // Goes on by at most `steps` steps, and returns how many were not taken. These are all exactly where there is none
+    // to take: all arrivals are in, and the first `last` opportunities are burnt.
     #[inline(always)]
-    fn step(&mut self, last: u32) -> bool
+    fn step(&mut self, last: u32, steps: usize) -> usize
         ghost gone: { Gone }
         requires sound { IsSoundAfter gone self.old }
         requires playable { CanPlay last self.old }
-        requires room { HasRoomFor 1 self.old }
+        requires some { 0 < steps }
+        requires room { HasRoomFor steps self.old }
         ensures sound { IsSoundAfter gone self.new }
         ensures playable { CanPlay last self.new }
         ensures link { IsSameLink self.old self.new }
         ensures arrivals { all_arrivals self.new ≡ all_arrivals self.old }
-        ensures done { ¬ IsTrue result → IsPlayed last self.new }
-        ensures less { IsTrue result → work last self.new < work last self.old }
-        ensures room { (n : ℕ) → HasRoomFor (n + 1) self.old → HasRoomFor n self.new }
+        ensures within { result ≤ steps }
+        ensures done { result ≡ steps → IsPlayed last self.new }
+        ensures less { work last self.new + steps ≤ work last self.old + result }
+        ensures room { HasRoomFor result self.new }
     {
         match self.arrived.next() {
-            Some(t) => {
-                self.go_to(t, last);
-                true
-            }
-            None => self.burn_rest(last),
+            Some(t) => self.go_to(t, last, steps),
+            None => self.burn_rest(last, steps),
         }
     }
 
@@ -157,10 +168,11 @@ impl Parts {
         self.reserve_steps()?;
         let mut left = STEPS;
         'stepping: while left > 0 {
-            if !self.step(last) {
+            let after = self.step(last, left);
+            if after == left {
                 return Ok(false);
             }
-            left -= 1;
+            left = after;
         }
         Ok(true)
     }

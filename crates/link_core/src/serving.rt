@@ -16,6 +16,7 @@ use trace_reader::Opportunity;
 
 /// Uses the opportunity `o`: the packets whose last bytes it carries depart. The opportunity and each departure are
 /// written down.
+#[inline(always)]
 pub fn serve(buffer: &mut Buffer, o: Opportunity, departed: &mut Vec<Timed>, log: &mut Journal)
     requires part { IsPart buffer.old.packet buffer.old.used }
     requires room { length (inside_buffer buffer.old) + vec_len departed.old ≤ vec_capacity departed.old }
