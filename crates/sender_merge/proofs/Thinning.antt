@@ -1,6 +1,6 @@
 -- A merge without the packets that were given takes the steps of the whole merge.
-use Rattle.std.proofs.Common.{◌≡◌, ℕ, zero, suc, ◌+◌, ◌-◌, ◌<◌, ◌≤◌, Bool, not, ◌&&◌, ◌||◌, cond, ltb, eqb}
-use Rattle.std.proofs.Common.{List, [], ◌∷◌, ◌++◌, length, map, get_or, set, drop, replicate, refl, ap, sym, subst, ◌∙◌}
+use Rattle.std.proofs.Common.{◌≡◌, ℕ, zero, suc, ◌+◌, ◌-◌, ◌<◌, Bool, not, ◌&&◌, ◌||◌, cond, ltb, eqb}
+use Rattle.std.proofs.Common.{List, [], ◌∷◌, length, map, get_or, set, drop, replicate, refl, ap, sym, subst, ◌∙◌}
 use Rattle.std.proofs.Common.{Option, Some, None, is_some, is_none, option_map, slice_get, unwrap_or, arith}
 use Rattle.std.specs.List.{list_all, list_any}
 use Rattle.std.proofs.Math.ListN.{get_or-map, length-set}
@@ -9,7 +9,6 @@ use Rattle.packet_record.specs.declared.packet.Timed.{Timed}
 use Rattle.packet_record.specs.declared.item.Item.{Item}
 use Rattle.packet_record.specs.declared.item.Item.TheVariants.{Packet, Mark, End, Broken}
 use Rattle.packet_record.specs.declared.item.Stream.{Stream}
-use Rattle.packet_record.specs.declared.item.FlowEnd.{FlowEnd}
 use Rattle.packet_record.specs.declared.item.FlowEnd.TheVariants.{Open}
 use Rattle.packet_record.specs.declared.reach.Reach.{Reach}
 use Rattle.packet_record.specs.Reaches.{IsNext, reach_after}
@@ -24,11 +23,11 @@ use Rattle.sender_merge.specs.Inflows.{Inflow, Merging, after_add, fresh, has_en
 use Rattle.sender_merge.specs.Inflows.{sender_at, with_item, with_passed}
 use Rattle.sender_merge.specs.Laws.{IfNeeds, IsNeeded, MayFollowStep}
 use Rattle.sender_merge.specs.Steps.{all_clear, bound_of, candidate, candidate_from, clears, earlier, head, is_needed}
-use Rattle.sender_merge.specs.Steps.{lesser, mark_or_need, merged_bound, moment_or, needed, needed_from, passing}
+use Rattle.sender_merge.specs.Steps.{lesser, mark_or_need, merged_bound, moment_or, needed_from, passing}
 use Rattle.sender_merge.specs.Steps.{after_step, next_step, senders_after, step_at, step_of}
 use Rattle.sender_merge.specs.inside.Inlets.{AllClosed, AllSame, AllWithin, AreAdded, IsMerged}
 use Rattle.sender_merge.specs.inside.Laws.{SomeOpen}
-use Rattle.sender_merge.specs.inside.Standing.{AllSound, IsSound, Stands, waits}
+use Rattle.sender_merge.specs.inside.Standing.{AllSound, IsSound, Stands}
 use Rattle.sender_merge.specs.inside.Thins.{IsThin, Keeps, MaySend, forgetting, senders_left, thin, without_first}
 use Rattle.sender_merge.proofs.Adding.{added_at, drop-append, front, stands-added}
 use Rattle.sender_merge.proofs.Inletting.{Goes, added-at, added-long, added-set, added-step, added-within, end-after}
@@ -350,12 +349,6 @@ end-runs before inlets core first to sent step x r is gives over alike =
     (front m (step-stands r.whole step r.stands (runs-going before inlets core first to r) is))
     (end-after r.whole m step x refl gives ∙ ap (λ (y : Item). (after r.whole.given y).end) over)
     alike
-
--- the end of what was sent after a step that gives an item
-pub sent-end : (m : Merging) (sent : Stream) (step : MergeStep) (x : Item) → step ≡ Gives x
-    → sent ≡ (after_step m step).given → sent.end ≡ (after m.given x).end
-sent-end m sent step x gives alike =
-    ap (λ (f : Stream). f.end) alike ∙ end-after m (after_step m step) step x refl gives
 
 forgetting-long : (o : Option Head) (ss : List Inflow) → length (forgetting o ss) ≡ length ss
 forgetting-long None ss = refl

@@ -1,5 +1,5 @@
 -- A merge that forgets what it gave, beside the whole merge.
-use Rattle.std.specs.Prelude.{◌≡◌, ◌≤◌, ◌-◌, ℕ, List, map, Option, Some, None, drop, set}
+use Rattle.std.specs.Prelude.{◌≡◌, ◌-◌, List, map, Option, Some, None, drop, set}
 use Rattle.packet_record.specs.declared.item.Item.{Item}
 use Rattle.packet_record.specs.declared.item.Item.TheVariants.{Packet, Mark, End, Broken}
 use Rattle.packet_record.specs.declared.item.FlowEnd.TheVariants.{Open}

@@ -10,7 +10,7 @@ use Rattle.sender_merge.proofs.Adding.{stands-new}
 use Rattle.sender_merge.proofs.Inletting.{empty-added, empty-within, same-all}
 use Rattle.sender_merge.proofs.Inletting.{same-on}
 use Rattle.sender_merge.proofs.Thinning.{end-runs, keeps-long, need-open, received-runs, runs-keeps, runs-send}
-use Rattle.sender_merge.proofs.Thinning.{sent-end, sent-runs}
+use Rattle.sender_merge.proofs.Thinning.{sent-runs}
 use Rattle.sender_merge.proofs.merger.merge_all.Goals as goal
 
 pub returns-in_err-core-clause-same : goal.returns-in_err-core-clause-same

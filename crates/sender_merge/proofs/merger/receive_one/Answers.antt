@@ -1,4 +1,4 @@
-use Rattle.std.proofs.Common.{◌∙◌, ◌+◌, arith}
+use Rattle.std.proofs.Common.{arith}
 use Rattle.sender_merge.proofs.Inletting.{none-open, on_ok, open-at, same-all}
 use Rattle.sender_merge.proofs.Inletting.{same-set}
 use Rattle.sender_merge.proofs.Inletting.{within-set}

@@ -1,6 +1,6 @@
-use Rattle.std.proofs.Common.{◌≡◌, ◌∙◌, List, ap, arith, map, replicate, sym}
+use Rattle.std.proofs.Common.{◌≡◌, ◌∙◌, ap, arith, replicate, sym}
 use Rattle.packet_record.specs.declared.reach.Reach.{Reach}
-use Rattle.sender_merge.specs.Inflows.{Inflow, fresh}
+use Rattle.sender_merge.specs.Inflows.{fresh}
 use Rattle.sender_merge.proofs.Thinning.{fresh-thin}
 use Rattle.sender_merge.proofs.thin_merge.ThinMerge.new.Goals as goal
 
