@@ -17,9 +17,9 @@ use crate::job::MergeJob;
 use crate::list::{ListError, read_list};
 use command_ends::{Cause, Limit, Refusal, read_input};
 use mm_base::Disk;
-use nest_command::{check_count, check_outputs, load_schedule, load_traces, names_of};
+use nest_command::{check_count, check_outputs, load_packed, load_traces, names_of};
 use nest_spec::NestWords;
-use packet_record::Schedule;
+use packet_record::PackedSchedule;
 use std::alloc::Global;
 use text_base::Text;
 use text_base::limits::MOST_LINES;
@@ -109,7 +109,7 @@ fn load_next<D: Disk>(
     disk: &mut D,
     name: &str,
     before: usize,
-) -> Result<Schedule, Cause>
+) -> Result<PackedSchedule, Cause>
     requires { before ≤ 1000000 }
     ensures found { IfOk result (λ rows. ((text : List ℕ)
         × HasNext (D.view disk.old).files before name.now text rows)) }
@@ -118,7 +118,7 @@ fn load_next<D: Disk>(
         (D.view disk.old) (D.view disk.new) cause) }
     ensures only_reads { OnlyReads (D.view disk.old) (D.view disk.new) }
 {
-    let schedule = load_schedule(alloc, disk, name)?;
+    let schedule = load_packed(alloc, disk, name)?;
     check_total(alloc, name, before + schedule.rows().len())?;
     Ok(schedule)
 }
@@ -129,7 +129,7 @@ fn load_schedules<D: Disk>(
     disk: &mut D,
     names: &[&str],
     before: usize,
-    schedules: &mut Vec<Schedule>,
+    schedules: &mut Vec<PackedSchedule>,
 ) -> Result<(), Cause>
     requires { before ≤ 1000000 }
     ensures found { OnOk result (AddsSchedules (D.view disk.old).files before (map (λ name. name.now) names.now)
@@ -154,7 +154,7 @@ pub(crate) fn load_senders<D: Disk>(
     disk: &mut D,
     job: &MergeJob<'_>,
     nest: &NestWords,
-) -> Result<Vec<Schedule>, Cause>
+) -> Result<Vec<PackedSchedule>, Cause>
     ensures found { IfOk result (λ schedules. HasSenders (D.view disk.old).files (merge_values job.now) nest.now
         schedules.items) }
     ensures some { IfOk result (λ schedules. 1 ≤ length schedules.items) }

@@ -76,7 +76,7 @@ fn merge_packets<R: Threads + Wait + Sync, D: Disk, Q: Pace + Sync>(
     let traces = load_nest_traces(host.alloc, disk, job, &words)?;
     let schedules = load_senders(host.alloc, disk, job, &words)?;
     let nest = build(host.alloc, words, traces, job.seed, job.horizon)?;
-    let mut senders = Senders::new(host.alloc, schedules)?;
+    let mut senders = Senders::of_packed(host.alloc, schedules)?;
     Ok(run_nest_feeds(host.threads, host.alloc, &nest, &mut senders, pace)?)
 }
 

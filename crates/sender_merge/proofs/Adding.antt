@@ -26,7 +26,7 @@ use Rattle.sender_merge.specs.inside.Standing.{all_left, all_sent, waits}
 abbrev pub added_at : List Inflow → ℕ → Item → List Inflow
 added_at ss i x = set ss i (with_item (get_or ss i fresh) x)
 
-drop-append : (n : ℕ) (xs ys : List Timed) → n ≤ length xs → drop n (xs ++ ys) ≡ drop n xs ++ ys
+pub drop-append : (n : ℕ) (xs ys : List Timed) → n ≤ length xs → drop n (xs ++ ys) ≡ drop n xs ++ ys
 drop-append zero xs ys le = refl
 drop-append (suc n) [] ys le = absurd (omega arith)
 drop-append (suc n) (x ∷ xs) ys le = drop-append n xs ys (omega arith)

@@ -8,3 +8,4 @@ pub mod Sending
 pub mod Gating
 pub mod Rowing
 pub mod Numbering
+pub mod Thinning

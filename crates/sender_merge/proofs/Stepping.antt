@@ -372,8 +372,3 @@ step_at-needs ss g (Some c) is whole = needs_either (IsNeeded ss) (all_clear c 1
 pub step_needs : (m : Merging) → IfNeeds (next_step m) (IsNeeded m.senders)
 step_needs m = needs_either (IsNeeded m.senders) (list_any is_broken m.senders) Broken _
     (λ e. step_at-needs m.senders m.given.bound (candidate m.senders) refl e)
-
-pub needs_open : (ss : List Inflow) (step : MergeStep) → IfNeeds step (IsNeeded ss)
-    → IfNeeds step (λ sender. SomeOpen ss)
-needs_open ss (Gives x) is = tt
-needs_open ss (Need sender) is = some_open ss sender is

@@ -10,4 +10,5 @@ pub mod RowLists
 pub mod RowMerges
 pub mod SendersInside
 pub mod Standing
+pub mod Thins
 pub mod Steps

@@ -24,7 +24,7 @@ use crate::merger::merge;
 use crate::outlet::Outlet;
 use mark_channel::{FeedEnd, Run, Sender};
 use mm_base::Pace;
-use packet_record::Schedule;
+use packet_record::PackedSchedule;
 use std::alloc::Global;
 use std::marker::Sync;
 use std::sync::Wait;
@@ -35,7 +35,7 @@ use std::thread::{Threads, join_mut};
 pub(crate) fn send_all<Q: Pace + Sync, R: Threads + Wait + Sync>(
     run: &Run<'_, Q, R>,
     sender: u32,
-    schedules: &[Schedule],
+    schedules: &[PackedSchedule],
     horizon: u64,
     outlets: &mut [Outlet],
 )
@@ -126,7 +126,7 @@ pub(crate) fn merge_both<Q: Pace + Sync, R: Threads + Wait + Sync>(
 // and nothing more comes out of it.
 pub(crate) fn feed_gates<Q: Pace + Sync, R: Threads + Wait + Sync>(
     run: &Run<'_, Q, R>,
-    schedules: &[Schedule],
+    schedules: &[PackedSchedule],
     horizon: u64,
     gates: &mut Gates,
     up: &mut Sender,

@@ -3,15 +3,17 @@ ghost use Rattle.std.specs.Prelude.{◌≡◌, ◌↔◌, OnOk, OnErr, IsSome, I
 ghost use Rattle.packet_record.specs.Streams.{MayFollow};
 ghost use Rattle.packet_record.specs.Takes.{IsPacket};
 
-use packet_record::{Flow, FlowEnd, Item, Timed};
+use packet_record::{FlowEnd, Item, Reach, Timed};
 use std::alloc::Global;
+use std::collections::VecDeque;
 use std::marker::Model;
 use text_base::OutOfMemory;
 
-// The flow of one sender, and how many of its packets were given.
+// The flow of one sender, and how many of the packets that it keeps were given.
 #[derive(Drop)]
 pub(crate) struct Incoming {
-    flow: Flow,
+    packets: VecDeque<Timed>,
+    reach: Reach,
     passed: usize,
 }
 
@@ -27,13 +29,15 @@ impl Model for Incoming {
 
 impl Incoming {
     ghost use Rattle.sender_merge.specs.Inflows.{fresh, has_ended, head_of, is_broken, with_item, with_passed};
+    ghost use Rattle.sender_merge.specs.inside.Thins.{without_first};
 
     // Returns a sender of which nothing was added.
     pub fn new(alloc: Global) -> Self
         ensures { result ≡ fresh }
     {
         Incoming {
-            flow: Flow::new(alloc),
+            packets: VecDeque::new(alloc),
+            reach: Reach::new(),
             passed: 0,
         }
     }
@@ -42,35 +46,35 @@ impl Incoming {
     pub fn bound(&self) -> u64
         ensures { result ≡ self.now.flow.bound }
     {
-        self.flow.bound()
+        self.reach.bound
     }
 
     // Returns whether its flow came to its end.
     pub fn has_ended(&self) -> bool
         ensures { result ≡ has_ended self.now }
     {
-        self.flow.end() == FlowEnd::Ended
+        self.reach.end == FlowEnd::Ended
     }
 
     // Returns whether its flow was broken off.
     pub fn is_broken(&self) -> bool
         ensures { result ≡ is_broken self.now }
     {
-        self.flow.end() == FlowEnd::Broken
+        self.reach.end == FlowEnd::Broken
     }
 
     // Returns its head: the first packet that wasn't given.
     pub fn head(&self) -> Option<Timed>
         ensures { result ≡ head_of self.now }
     {
-        self.flow.packets().get(self.passed).copied()
+        self.packets.get(self.passed).copied()
     }
 
     // Returns whether `item` may come next.
     pub fn may_follow(&self, item: &Item) -> bool
         ensures { IsTrue result ↔ MayFollow self.now.flow item.now }
     {
-        self.flow.may_follow(item)
+        self.reach.may_follow(item)
     }
 
     // Adds an item. Only a packet takes memory; out of memory nothing changes.
@@ -79,7 +83,11 @@ impl Incoming {
         ensures ok { OnOk result (self.new ≡ with_item self.old item) }
         ensures err { OnErr result ((self.new ≡ self.old) × IsPacket item) }
     {
-        self.flow.push(item)
+        if let Item::Packet(packet) = item {
+            self.packets.push_back(packet)?;
+        }
+        self.reach.add(item);
+        Ok(())
     }
 
     // Counts its head as given.
@@ -87,8 +95,15 @@ impl Incoming {
         requires { IsSome (head_of self.old) }
         ensures { self.new ≡ with_passed self.old }
     {
-        if self.passed < self.flow.packets().len() {
+        if self.passed < self.packets.len() {
             self.passed += 1;
         }
+    }
+
+    // Forgets the first packet that it keeps.
+    pub fn forget(&mut self)
+        ensures { self.new ≡ without_first self.old }
+    {
+        self.packets.pop_front();
     }
 }

@@ -12,6 +12,7 @@ mod outlet;
 mod row_merge;
 mod senders;
 mod step;
+mod thin_merge;
 
 pub use merge_core::MergeCore;
 pub use row_merge::count_rows;

@@ -4,16 +4,17 @@ ghost use Rattle.packet_record.specs.declared.item.FlowEnd.TheVariants.{Open};
 ghost use Rattle.packet_record.specs.Streams.{no_items};
 ghost use Rattle.mark_channel.specs.Ends.{IsSameEnd};
 ghost use Rattle.mark_channel.specs.Feedings.{IfFed};
-ghost use Rattle.sender_merge.specs.inside.Inlets.{AllClosed, AllEmpty, AllSame, AllWithin, AreAdded, IsFurther};
+ghost use Rattle.sender_merge.specs.inside.Inlets.{AllClosed, AllEmpty, AllSame, AllWithin, IsFurther};
 ghost use Rattle.sender_merge.specs.inside.Inlets.{IsFurthestBehind, IsMerged};
-ghost use Rattle.sender_merge.specs.Laws.{AllUpTo, IfNeeds, IsMergeFront, IsNeeded};
+ghost use Rattle.sender_merge.specs.Inflows.{Merging};
 ghost use Rattle.sender_merge.specs.inside.Laws.{SomeOpen};
 ghost use Rattle.sender_merge.specs.Steps.{after_step, next_step};
 ghost use Rattle.sender_merge.specs.inside.Steps.{given_in};
+ghost use Rattle.sender_merge.specs.inside.Thins.{IsThin, Keeps, MaySend};
 
 use crate::inlet::Inlet;
-use crate::merge_core::MergeCore;
 use crate::step::MergeStep;
+use crate::thin_merge::ThinMerge;
 use mark_channel::{FeedEnd, Sender};
 use packet_record::Item;
 use std::alloc::Global;
@@ -56,14 +57,13 @@ fn furthest_behind(inlets: &[Inlet]) -> Option<usize>
 // Receives the next item of the sender that is furthest behind, and adds it to the merge.
 fn receive_one<R: Wait>(
     rt: &R,
-    core: &mut MergeCore,
+    core: &mut ThinMerge,
     inlets: &mut [Inlet],
 ) -> Result<(), OutOfMemory>
     requires few { length inlets.old ≤ 16 }
-    requires added { AreAdded inlets.old core.old.senders }
-    requires going { SomeOpen core.old.senders }
-    ensures added { OnOk result (AreAdded inlets.new core.new.senders) }
-    ensures given { core.new.given ≡ core.old.given }
+    requires going { (m : Merging) × Keeps m inlets.old core.old × SomeOpen m.senders }
+    ensures added { OnOk result ((m : Merging) → Keeps m inlets.old core.old
+        → ((n : Merging) × Keeps n inlets.new core.new × (n.given ≡ m.given))) }
     ensures within { (horizon : ℕ) → AllWithin horizon inlets.old → AllWithin horizon inlets.new }
     ensures same { AllSame inlets.old inlets.new }
 {
@@ -76,16 +76,13 @@ fn receive_one<R: Wait>(
 }
 
 // Takes the next step of the merge, and sends the item that it gives: what was sent is what was given.
-fn send_next<R: Wait>(rt: &R, core: &mut MergeCore, to: &mut Sender) -> MergeStep
-    requires going { core.old.given.end ≡ Open }
-    requires alike { to.old.flow ≡ core.old.given }
-    requires within { AllUpTo to.old.horizon core.old.senders }
-    ensures step { result ≡ next_step core.old }
-    ensures after { core.new ≡ after_step core.old result }
-    ensures alike { to.new.flow ≡ core.new.given }
+fn send_next<R: Wait>(rt: &R, core: &mut ThinMerge, to: &mut Sender) -> MergeStep
+    requires few { length core.old.senders.items ≤ 16 }
+    requires going { (m : Merging) × MaySend m core.old to.old }
+    ensures step { (m : Merging) → IsThin m core.old → result ≡ next_step m }
+    ensures after { (m : Merging) → IsThin m core.old → IsThin (after_step m result) core.new }
+    ensures alike { (m : Merging) → to.old.flow ≡ m.given → to.new.flow ≡ (after_step m result).given }
     ensures items { to.new.items ≡ to.old.items ++ given_in result }
-    ensures front { IsMergeFront core.new }
-    ensures needs { IfNeeds result (IsNeeded core.old.senders) }
     ensures same { IsSameEnd to.old to.new }
 {
     let step = core.next();
@@ -112,7 +109,7 @@ fn merge_all<R: Wait>(
     ensures going { OnErr result (to.new.flow.end ≡ Open) }
     ensures same { AllSame inlets.old inlets.new × IsSameEnd to.old to.new }
 {
-    let mut core = MergeCore::new(alloc, inlets.len() as u32)?;
+    let mut core = ThinMerge::new(alloc, inlets.len() as u32)?;
     for _ in rt.forever() {
         match send_next(rt, &mut core, to) {
             MergeStep::Need { .. } => receive_one(rt, &mut core, inlets)?,

@@ -7,7 +7,7 @@ ghost use Rattle.sender_merge.specs.Merges.{merged_row as merged_row_of};
 
 use mark_channel::{Run, Sender};
 use mm_base::Pace;
-use packet_record::{Both, Packet, Row, Schedule, Timed};
+use packet_record::{Both, PackedSchedule, Packet, Row, Timed};
 use shell_workers::{Progress, end_both, source_row};
 use std::sync::Wait;
 
@@ -18,11 +18,11 @@ pub(crate) struct Outlet {
 }
 
 // Returns the row of `sender`, 1 to 16, with its number in the merge. In `row` it has the number of its line.
-pub(crate) fn merged_row(sender: u32, row: &Row) -> Row
-    requires some { 1 ≤ row.now.timed.packet.id }
-    requires most { row.now.timed.packet.id ≤ 1000000 }
+pub(crate) fn merged_row(sender: u32, row: Row) -> Row
+    requires some { 1 ≤ row.timed.packet.id }
+    requires most { row.timed.packet.id ≤ 1000000 }
     requires few { sender ≤ 16 }
-    ensures { result ≡ merged_row_of sender row.now }
+    ensures { result ≡ merged_row_of sender row }
 {
     let Timed { moment, packet } = row.timed;
     let id = 16 * (packet.id - 1) + sender;
@@ -48,7 +48,7 @@ impl Outlet {
         &mut self,
         run: &Run<'_, Q, R>,
         sender: u32,
-        schedule: &Schedule,
+        schedule: &PackedSchedule,
         horizon: u64,
     )
         requires few { sender ≤ 16 }
@@ -62,7 +62,7 @@ impl Outlet {
         let heads = &mut self.heads;
         let mut sent = Progress::new();
         for row in schedule.rows() {
-            let merged = merged_row(sender, row);
+            let merged = merged_row(sender, row.row());
             sent = source_row(run, &merged, horizon, sent, heads);
         }
         end_both(run.rt, heads);
@@ -74,7 +74,7 @@ impl Outlet {
         &mut self,
         run: &Run<'_, Q, R>,
         sender: u32,
-        schedule: &Schedule,
+        schedule: &PackedSchedule,
         horizon: u64,
     )
         requires few { sender ≤ 16 }

@@ -7,7 +7,7 @@ ghost use Rattle.sender_merge.specs.RowLists.{rows_in};
 ghost use Rattle.sender_merge.specs.inside.RowLists.{AllSchedules};
 
 use crate::outlet::merged_row;
-use packet_record::{Row, Schedule};
+use packet_record::{PackedRow, PackedSchedule, Row, Schedule};
 use std::alloc::Global;
 use text_base::OutOfMemory;
 
@@ -15,13 +15,13 @@ use text_base::OutOfMemory;
 // would stay in memory while the senders feed.
 pub(crate) fn merge_schedules(
     alloc: Global,
-    schedules: &[Schedule],
+    schedules: &[PackedSchedule],
 ) -> Result<Vec<Row>, OutOfMemory>
     requires { length schedules.now ≤ 16 }
     ensures schedules { OnOk result (AllSchedules schedules.now) }
     ensures rows { IfOk result (λ rows. rows.items ≡ by_moment row_moment (rows_from 1 schedules.now)) }
 {
-    let count = count_rows(schedules) as usize;
+    let count = count_packed(schedules) as usize;
     let mut rows = Vec::with_capacity(alloc, count)?;
     let mut places = Vec::from_elem(alloc, 0, schedules.len())?;
     for _ in 0..count + 1 {
@@ -34,14 +34,14 @@ pub(crate) fn merge_schedules(
 }
 
 // Returns the row at `place`, if there is one.
-fn row_at(rows: &[Row], place: usize) -> Option<Row>
+fn row_at(rows: &[PackedRow], place: usize) -> Option<Row>
     ensures { result ≡ slice_get rows.now place }
 {
-    rows.get(place).copied()
+    rows.get(place).map(|row| row.row())
 }
 
 // Returns the row at `place`, if there is one and it is before `limit`.
-fn row_before(rows: &[Row], place: usize, limit: Option<u64>) -> Option<Row>
+fn row_before(rows: &[PackedRow], place: usize, limit: Option<u64>) -> Option<Row>
     requires { Sorted row_moment rows.now }
     ensures some { IfSome result (λ row. slice_get rows.now place ≡ Some row) }
     ensures soon { IfSome result (IsSoon limit) }
@@ -71,7 +71,7 @@ fn limit_before(head: Option<Row>, limit: Option<u64>) -> Option<u64>
 // before one of a later schedule at the same moment.
 fn take_before(
     sender: u32,
-    schedules: &[Schedule],
+    schedules: &[PackedSchedule],
     places: &mut [usize],
     limit: Option<u64>,
 ) -> Option<Row>
@@ -100,7 +100,19 @@ fn take_before(
         return None;
     };
     *place += 1;
-    Some(merged_row(sender, &row))
+    Some(merged_row(sender, row))
+}
+
+// Returns how many rows `schedules`, at most 16, have in all.
+fn count_packed(schedules: &[PackedSchedule]) -> u64
+    requires { length schedules.now ≤ 16 }
+    ensures rows { result ≡ rows_in schedules.now }
+    ensures most { result ≤ 1000000 * length schedules.now }
+{
+    let Some((first, others)) = schedules.split_first() else {
+        return 0;
+    };
+    first.rows().len() as u64 + count_packed(others)
 }
 
 /// Returns how many rows `schedules`, at most 16, have in all. `Senders::new` takes at most 1,000,000.

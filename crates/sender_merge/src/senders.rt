@@ -14,7 +14,7 @@ use crate::gates::Gates;
 use crate::row_merge::merge_schedules;
 use mark_channel::{Begun, FeedEnd, Feeds, Run, Sender};
 use mm_base::{NoPace, Pace};
-use packet_record::{Item, Row, Schedule};
+use packet_record::{Item, PackedSchedule, Row, Schedule};
 use std::alloc::Global;
 use std::marker::{Model, Sync};
 use std::sync::Wait;
@@ -36,8 +36,19 @@ const MERGES: u64 = 2;
 #[derive(Drop)]
 pub struct Senders {
     alloc: Global,
-    schedules: Vec<Schedule>,
+    schedules: Vec<PackedSchedule>,
     rows: Vec<Row>,
+}
+
+// Returns the schedules with packed rows. Each is let go as soon as it is packed.
+fn pack_all(alloc: Global, schedules: Vec<Schedule>) -> Result<Vec<PackedSchedule>, OutOfMemory>
+    ensures { IfOk result (λ packed. packed.items ≡ schedules.items) }
+{
+    let mut packed = Vec::with_capacity(alloc, schedules.len())?;
+    for schedule in schedules {
+        packed.push(schedule.pack(alloc)?)?;
+    }
+    Ok(packed)
 }
 
 impl Model for Senders {
@@ -58,6 +69,17 @@ impl Senders {
     /// Returns senders of `schedules`, 1 to 16, with at most 1,000,000 lines in all, which `count_rows` counts. Returns
     /// `OutOfMemory` where an allocation fails.
     pub fn new(alloc: Global, schedules: Vec<Schedule>) -> Result<Senders, OutOfMemory>
+        requires some { 1 ≤ length schedules.items }
+        requires few { length schedules.items ≤ 16 }
+        requires lines { rows_in schedules.items ≤ 1000000 }
+        ensures { IfOk result (λ s. s ≡ schedules.items) }
+    {
+        let packed = pack_all(alloc, schedules)?;
+        Senders::of_packed(alloc, packed)
+    }
+
+    /// Returns senders of packed schedules, as `new` does of whole ones.
+    pub fn of_packed(alloc: Global, schedules: Vec<PackedSchedule>) -> Result<Senders, OutOfMemory>
         requires some { 1 ≤ length schedules.items }
         requires few { length schedules.items ≤ 16 }
         requires lines { rows_in schedules.items ≤ 1000000 }
@@ -116,7 +138,7 @@ impl Senders {
 // Feeds through the channels of `gates`, and settles them.
 fn feed_through<Q: Pace + Sync, R: Threads + Wait + Sync>(
     run: &Run<'_, Q, R>,
-    schedules: &[Schedule],
+    schedules: &[PackedSchedule],
     horizon: u64,
     gates: Gates,
     up: &mut Sender,

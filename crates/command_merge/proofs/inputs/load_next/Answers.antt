@@ -12,7 +12,7 @@ returns-in_err-schedule-clause-stopped g c =
     let p = err_from_is_err_and c.from_residual.result c.from_residual.ensures.1 in
     let name = c.args.name.now in
     let old = g.D.Disk.view c.args.disk.now in
-    let new = g.D.Disk.view c.load_schedule.new.disk in
+    let new = g.D.Disk.view c.load_packed.new.disk in
     rw p.1 (subst (λ (k : Cause). StopsReading (reading_next c.args.before name Done) old new k) (sym p.2)
     (schedule_stop c.args.before name old new _ c.in_err-schedule.ensures.stopped))
 
@@ -22,12 +22,12 @@ returns-in_err-check_total-clause-stopped g c =
     in
     let name = c.args.name.now in
     let old = g.D.Disk.view c.args.disk.now in
-    let new = g.D.Disk.view c.load_schedule.new.disk in
+    let new = g.D.Disk.view c.load_packed.new.disk in
     let found = c.in_ok-schedule.ensures.found in
     rw p.1 (subst (λ (k : Cause). StopsReading (reading_next c.args.before name Done) old new k) (sym p.2)
     (total_stop c.args.before _ name found.0 c.in_ok-schedule.schedule old new _ found.1
     (ap (λ n. c.args.before + n) (ap length c.rows.ensures.rows))
-    c.load_schedule.ensures.only_reads c.in_err-check_total.ensures.refused))
+    c.load_packed.ensures.only_reads c.in_err-check_total.ensures.refused))
 
 pub returns-clause-found : goal.returns-clause-found
 returns-clause-found g c =

@@ -12,4 +12,4 @@ row_of row packet = record {
 
 pub returns : goal.returns
 unfolding row_of
-returns c = ap (row_of c.args.row.now) (same_packet _ _ refl refl)
+returns c = ap (row_of c.args.row) (same_packet _ _ refl refl)

@@ -25,6 +25,6 @@ unreachable-requires c =
     let few = rows_few c.args.schedules.now c.loop.rows.items (left_from 1 c.args.schedules.now c.loop.places.items)
     c.loop.invariant.2 in
     let long = c.loop.invariant.1 in
-    let count = c.count_rows-count.ensures.rows in
+    let count = c.count_packed-count.ensures.rows in
     let past = c.loop-test.false in
     omega arith

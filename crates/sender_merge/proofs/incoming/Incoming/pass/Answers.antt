@@ -1,5 +1,5 @@
 use Rattle.std.proofs.Common.{rules}
 use Rattle.sender_merge.proofs.incoming.Incoming.pass.Goals as goal
 
-pub returns-then-self-packets : goal.returns-then-self-packets
-returns-then-self-packets c = search rules
+pub returns-then-self-len : goal.returns-then-self-len
+returns-then-self-len c = search rules
