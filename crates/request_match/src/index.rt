@@ -1,7 +1,8 @@
 // An index of a store's records by what must agree with a request.
 ghost use Rattle.std.specs.Prelude.{◌≡◌, ◌<◌, ◌≤◌, ◌+◌, ℕ, true, Option, Some, IfOk, length, slice_index_or};
 ghost use Rattle.request_match.specs.Match.{BestCause};
-ghost use Rattle.request_match.specs.inside.Index.{Entry, Passes, IsIndex as IsIndexOf, HasWantedTo as HasWantedOf, key_of};
+ghost use Rattle.request_match.specs.inside.Index.{Entry, Passes, key_of};
+ghost use Rattle.request_match.specs.inside.Index.{IsIndex as IsIndexOf, HasWantedTo as HasWantedOf};
 
 use crate::index_entries::{fronts_of, ordered_entries};
 use crate::index_scores::{better_place, is_past, next_score};
