@@ -36,7 +36,7 @@ same_key q asked r a =
 some_same : (o : Option Record) (r s : Record) → o ≡ Some r → o ≡ Some s → s ≡ r
 some_same o r s e f = ap (λ v. unwrap_or v r) (sym f ∙ e)
 
-lt_true : (m n : ℕ) → nat_lt m n ≡ true → m < n
+pub lt_true : (m n : ℕ) → nat_lt m n ≡ true → m < n
 lt_true m n e = grind (arith, e)
 
 lt_false : (m n : ℕ) → nat_lt m n ≡ false → n ≤ m
@@ -384,7 +384,7 @@ offered_min found before place n first is = elim (cases_lt place before) [
       offered_later found before place n late ∙ ap (λ p. offered found p (Some n)) e)
 ]
 
-record_at : (rs : List Record) (k : ℕ) → k < length rs → (r : Record) × (slice_get rs k ≡ Some r)
+pub record_at : (rs : List Record) (k : ℕ) → k < length rs → (r : Record) × (slice_get rs k ≡ Some r)
 record_at [] k h = absurd (omega (arith, h))
 record_at (r ∷ rs) k h = (get_or (r ∷ rs) k r, slice_get-get_or (r ∷ rs) k r h)
 

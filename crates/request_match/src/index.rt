@@ -1,12 +1,15 @@
 // An index of a store's records by what must agree with a request.
-ghost use Rattle.std.specs.Prelude.{◌≡◌, ◌<◌, ◌≤◌, ℕ, Option, Some, IfOk, length, slice_index_or};
+ghost use Rattle.std.specs.Prelude.{◌≡◌, ◌<◌, ◌≤◌, ◌+◌, ℕ, true, Option, Some, IfOk, length, slice_index_or};
 ghost use Rattle.request_match.specs.Match.{BestCause};
-ghost use Rattle.request_match.specs.inside.Index.{Entry, Passes, IsIndex as IsIndexOf};
+ghost use Rattle.request_match.specs.inside.Index.{Entry, Passes, key_of};
+ghost use Rattle.request_match.specs.inside.Index.{IsIndex as IsIndexOf, HasWantedTo as HasWantedOf};
 
 use crate::index_entries::{fronts_of, ordered_entries};
 use crate::index_scores::{better_place, is_past, next_score};
-use crate::keys::key;
-use crate::matching::place_of;
+use crate::keys::key_of_front;
+use crate::matching::{Asked, place_of};
+use crate::starts::{Starts, first_from};
+use crate::wanted::{Wanted, wanted_of};
 use http_frame::RequestHead;
 use record_store::{Record, Store};
 use std::alloc::Global;
@@ -24,39 +27,23 @@ pub struct Index<'a> {
     entries: Vec<(u64, usize)>,
     /// What the record of each entry shares with that of the entry before it.
     fronts: Vec<Option<usize>>,
+    /// What must agree with the record of each entry.
+    kept: Vec<Wanted>,
+    /// Where the entries of a key begin, about.
+    starts: Starts,
 }
 
 impl<'a> Model for Index<'a> {
     ghost use Rattle.request_match.specs.Indexed.{Indexed};
-    ghost use Rattle.request_match.specs.inside.Index.{IsIndex};
+    ghost use Rattle.std.specs.Prelude.{length};
+    ghost use Rattle.request_match.specs.inside.Index.{IsIndex, HasWantedTo};
 
     ghost Value = { Indexed };
 
     ghost view = { λ s. record { records = s.records.now; port = s.port } };
 
-    ghost invariant = { λ s. IsIndex s.records.now s.port s.entries.items s.fronts.items };
-}
-
-/// Returns the place of the first entry whose key is at least `key`.
-fn first_from(entries: &[(u64, usize)], key: u64) -> usize
-    requires { (i j : ℕ) (d : Entry) → i ≤ j → j < length entries.now
-        → (slice_index_or entries.now i d).0 ≤ (slice_index_or entries.now j d).0 }
-    ensures bound { result ≤ length entries.now }
-    ensures below { (k : ℕ) (d : Entry) → k < result → (slice_index_or entries.now k d).0 < key }
-    ensures from { (k : ℕ) (d : Entry) → result ≤ k → k < length entries.now
-        → key ≤ (slice_index_or entries.now k d).0 }
-{
-    let mut low = 0;
-    let mut high = entries.len();
-    while low < high {
-        let middle = low + (high - low) / 2;
-        if entries[middle].0 < key {
-            low = middle + 1;
-        } else {
-            high = middle;
-        }
-    }
-    low
+    ghost invariant = { λ s. IsIndex s.records.now s.port s.entries.items s.fronts.items
+        × HasWantedTo s.records.now s.entries.items (length s.entries.items) s.kept.items };
 }
 
 /// Passes entries from `start` on whose score is that of the entry before them, without a look at their records.
@@ -110,19 +97,35 @@ fn pass_equals(
     }
 }
 
-/// Returns the place of the best record, found by the entries of the records that fit the port.
-fn best_of(
+/// Returns whether entry `i` has the key `wanted`, and the next one hasn't.
+fn is_alone(entries: &[(u64, usize)], i: usize, wanted: u64) -> bool
+    ensures { result ≡ true → (i < length entries.now)
+        × ((d : Entry) → i + 1 < length entries.now → (slice_index_or entries.now (i + 1) d).0 ≡ wanted → ⊥) }
+{
+    if i >= entries.len() || entries[i].0 != wanted {
+        return false;
+    }
+    i + 1 == entries.len() || entries[i + 1].0 != wanted
+}
+
+/// Returns the place of the best record, found by the entries with the key `wanted`, the first of which is at `start`.
+fn best_from(
     entries: &[(u64, usize)],
     fronts: &[Option<usize>],
     records: &[Record],
-    port: Option<u16>,
-    request: &RequestHead,
+    asked: &Asked<'_>,
+    wanted: u64,
+    start: usize,
 ) -> Option<usize>
-    requires { IsIndexOf records.now port entries.now fronts.now }
-    ensures { BestCause request.now port records.now result }
+    requires index { IsIndexOf records.now asked.now.port entries.now fronts.now }
+    requires key { wanted ≡ key_of asked.now.request.now }
+    requires bound { start ≤ length entries.now }
+    requires below { (k : ℕ) (d : Entry) → k < start → (slice_index_or entries.now k d).0 < wanted }
+    requires from { (k : ℕ) (d : Entry) → start ≤ k → k < length entries.now
+        → wanted ≤ (slice_index_or entries.now k d).0 }
+    ensures { BestCause asked.now.request.now asked.now.port records.now result }
 {
-    let wanted = key(request);
-    let mut i = first_from(entries, wanted);
+    let mut i = start;
     let mut found = None;
     let mut score = None;
     'entries: while i < entries.len() {
@@ -130,12 +133,38 @@ fn best_of(
         if found_key != wanted {
             return place_of(found);
         }
-        score = next_score(fronts[i], score, &records[place], request, port);
+        score = next_score(fronts[i], score, &records[place], asked);
         let (next, first) = pass_equals(entries, fronts, i + 1, score, place);
         found = better_place(found, first, score);
         i = next;
     }
     place_of(found)
+}
+
+/// Returns the place of the best record, found by the entries of the records that fit the port. Where only one entry
+/// has the request's key, no score is needed.
+fn best_of(
+    entries: &[(u64, usize)],
+    fronts: &[Option<usize>],
+    kept: &[Wanted],
+    starts: &Starts,
+    records: &[Record],
+    asked: &Asked<'_>,
+) -> Option<usize>
+    requires index { IsIndexOf records.now asked.now.port entries.now fronts.now }
+    requires kept { HasWantedOf records.now entries.now (length entries.now) kept.now }
+    ensures { BestCause asked.now.request.now asked.now.port records.now result }
+{
+    let wanted = key_of_front(asked.front, asked.request);
+    let start = first_from(entries, starts, wanted);
+    if !is_alone(entries, start, wanted) {
+        return best_from(entries, fronts, records, asked, wanted, start);
+    }
+    if kept[start].agrees(asked) {
+        Some(entries[start].1)
+    } else {
+        None
+    }
 }
 
 impl<'a> Index<'a> {
@@ -146,11 +175,15 @@ impl<'a> Index<'a> {
         let records = store.records();
         let entries = ordered_entries(alloc, records, port)?;
         let fronts = fronts_of(alloc, records, entries.as_slice())?;
+        let kept = wanted_of(alloc, records, entries.as_slice())?;
+        let starts = Starts::new(alloc, entries.as_slice())?;
         Ok(Index {
             records,
             port,
             entries,
             fronts,
+            kept,
+            starts,
         })
     }
 
@@ -161,9 +194,10 @@ impl<'a> Index<'a> {
         best_of(
             self.entries.as_slice(),
             self.fronts.as_slice(),
+            self.kept.as_slice(),
+            &self.starts,
             self.records,
-            self.port,
-            request,
+            &Asked::new(request, self.port),
         )
     }
 }

@@ -4,8 +4,7 @@ ghost use Rattle.record_store.specs.declared.record.Record.{Record as RecordValu
 ghost use Rattle.request_match.specs.inside.Index.{IsShared, HasScore, offered};
 ghost use Rattle.request_match.specs.Match.{FitsPort, common};
 
-use crate::matching::{agrees, common_front};
-use http_frame::RequestHead;
+use crate::matching::{Asked, common_front, own_score};
 use record_store::Record;
 
 /// Returns the bytes from `start` on.
@@ -34,41 +33,28 @@ fn carried(front: usize, score: usize, line: &[u8], asked: &[u8]) -> usize
     front + common_front(tail(line, front), tail(asked, front))
 }
 
-/// Returns the score of a record, or `None` where it doesn't agree.
-fn own_score(exchange: &Record, request: &RequestHead, port: Option<u16>) -> Option<usize>
-    ensures { HasScore request.now port exchange.now result }
-{
-    if !agrees(exchange, request, port) {
-        return None;
-    }
-    Some(common_front(
-        exchange.request.head.line.as_slice(),
-        request.line.as_slice(),
-    ))
-}
-
 /// Returns the score of an entry's record, or `None` where it doesn't agree. `before` is the score of the entry before
 /// it, and `front` what both share.
 pub(crate) fn next_score(
     front: Option<usize>,
     before: Option<usize>,
     exchange: &Record,
-    request: &RequestHead,
-    port: Option<u16>,
+    asked: &Asked<'_>,
 ) -> Option<usize>
-    requires { FitsPort exchange.now.port port }
-    ensures anew { front ≡ None → HasScore request.now port exchange.now result }
-    ensures onward { (a : RecordValue) (n : ℕ) → front ≡ Some n → IsShared a exchange.now n → FitsPort a.port port
-        → HasScore request.now port a before → HasScore request.now port exchange.now result }
+    requires { FitsPort exchange.now.port asked.now.port }
+    ensures anew { front ≡ None → HasScore asked.now.request.now asked.now.port exchange.now result }
+    ensures onward { (a : RecordValue) (n : ℕ) → front ≡ Some n → IsShared a exchange.now n
+        → FitsPort a.port asked.now.port → HasScore asked.now.request.now asked.now.port a before
+        → HasScore asked.now.request.now asked.now.port exchange.now result }
 {
     match front {
-        None => own_score(exchange, request, port),
+        None => own_score(exchange, asked),
         Some(front) => match before {
             Some(score) => Some(carried(
                 front,
                 score,
                 exchange.request.head.line.as_slice(),
-                request.line.as_slice(),
+                asked.request.line.as_slice(),
             )),
             None => None,
         },

@@ -6,6 +6,8 @@ mod index_entries;
 mod index_scores;
 mod keys;
 mod matching;
+mod starts;
+mod wanted;
 
 pub use index::Index;
 pub use matching::best;

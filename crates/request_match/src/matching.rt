@@ -1,7 +1,7 @@
 // Finds the best record of a store for a request.
 ghost use Rattle.std.specs.Prelude.{◌≡◌, ◌==◌, ◌≤◌, ◌+◌, ℕ, Option, Decides, false, length, drop, option_map};
 ghost use Rattle.request_match.specs.inside.Compared.{FitsFields, IsAtMost};
-ghost use Rattle.request_match.specs.inside.Index.{WithRecord};
+ghost use Rattle.request_match.specs.inside.Index.{WithRecord, HasScore};
 ghost use Rattle.request_match.specs.Match.{stripped, common, score, FitsPort, Agrees, BestCause};
 ghost use Rattle.request_match.specs.inside.Match.{better_of};
 
@@ -50,7 +50,7 @@ pub(crate) fn common_front(a: &[u8], b: &[u8]) -> usize
 }
 
 /// Returns whether both values are there and equal, or neither is there.
-fn same_value(a: &Option<Bytes>, b: &Option<Bytes>) -> bool
+pub(crate) fn same_value(a: &Option<Bytes>, b: &Option<Bytes>) -> bool
     ensures { Decides result (a.now ≡ b.now) }
 {
     match (a, b) {
@@ -125,13 +125,13 @@ pub(crate) fn place_of(found: Option<(usize, usize)>) -> Option<usize>
     }
 }
 
-/// A request as records are compared with it. How many bytes of its line are before its query is counted only once.
+/// A request as records are compared with it. What of its line is before its query is looked for only once.
 #[derive(Drop)]
 pub(crate) struct Asked<'a> {
-    request: &'a RequestHead,
-    port: Option<u16>,
-    bare: usize,
-    ghost before_query: { bare ≡ length (stripped request.now.line) },
+    pub request: &'a RequestHead,
+    pub port: Option<u16>,
+    pub front: &'a [u8],
+    pub ghost before_query: { front.now ≡ stripped request.now.line },
 }
 
 impl<'a> Asked<'a> {
@@ -140,11 +140,11 @@ impl<'a> Asked<'a> {
         ensures request { result.request.now ≡ request.now }
         ensures port { result.port ≡ port }
     {
-        let bare = without_query(request.line.as_slice()).len();
+        let front = without_query(request.line.as_slice());
         Asked {
             request,
             port,
-            bare,
+            front,
         }
     }
 }
@@ -188,6 +188,22 @@ fn may_beat(found: Option<(usize, usize)>, line: &[u8], asked: &[u8]) -> bool
     }
 }
 
+/// Returns the score of a record, or `None` where it doesn't agree.
+pub(crate) fn own_score(exchange: &Record, asked: &Asked<'_>) -> Option<usize>
+    ensures { HasScore asked.now.request.now asked.now.port exchange.now result }
+{
+    if !fits_fields(exchange, asked.request, asked.port) {
+        return None;
+    }
+    let line = exchange.request.head.line.as_slice();
+    let wanted = asked.request.line.as_slice();
+    let shared = common_front(line, wanted);
+    if !has_path(line, wanted, asked.front.len(), shared) {
+        return None;
+    }
+    Some(shared)
+}
+
 /// Returns the better one of what was found before and the record at `place`. A record that can't beat what was found
 /// isn't looked at further.
 pub(crate) fn with_record(
@@ -199,18 +215,13 @@ pub(crate) fn with_record(
     ensures { WithRecord asked.now.request.now asked.now.port exchange.now place found result }
 {
     let line = exchange.request.head.line.as_slice();
-    let wanted = asked.request.line.as_slice();
-    if !may_beat(found, line, wanted) {
+    if !may_beat(found, line, asked.request.line.as_slice()) {
         return found;
     }
-    if !fits_fields(exchange, asked.request, asked.port) {
-        return found;
+    match own_score(exchange, asked) {
+        Some(score) => better(found, place, score),
+        None => found,
     }
-    let shared = common_front(line, wanted);
-    if !has_path(line, wanted, asked.bare, shared) {
-        return found;
-    }
-    better(found, place, shared)
 }
 
 /// Returns the place of the best record, or `None` exactly where no record agrees. It is the first of the agreeing

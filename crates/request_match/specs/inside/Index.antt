@@ -1,20 +1,29 @@
 -- For proofs alone: what an index keeps of its records, and what was found while its entries are gone through.
 use Rattle.std.specs.Prelude.{◌≡◌, ◌⊎◌, ◌||◌, ◌&&◌, ◌==◌, ℕ, ◌+◌, ◌-◌, ◌*◌, ◌%◌, ◌^◌, ◌<◌, ◌≤◌, List, [], fold, length}
 use Rattle.std.specs.Prelude.{slice_get, slice_index_or, Option, None, Some, unwrap_or, All, Contains, nat_lt}
-use Rattle.std.specs.Prelude.{if◌then◌else◌}
+use Rattle.std.specs.Prelude.{if◌then◌else◌, ◌/◌, drop}
+use Rattle.std.specs.Int.{w64, from_le_bytes}
+use Rattle.std.specs.Simd.{first_chunks}
 use Rattle.std.specs.List.Sorted.{IsNonDecreasingBy}
 use Rattle.http_frame.specs.declared.messages.RequestHead.{RequestHead}
 use Rattle.record_store.specs.declared.record.Record.{Record}
+use Rattle.request_match.specs.declared.wanted.Wanted.{Wanted}
 use Rattle.request_match.specs.Match.{stripped, common, FitsPort, Agrees, score}
 use Rattle.request_match.specs.inside.Match.{better_of}
 
--- The hash after one more byte.
+-- The hash after one more number.
 abbrev pub hash_step : ℕ → ℕ → ℕ
-hash_step hash byte = ((hash * 1099511628211) % 2 ^ 64 + byte) % 2 ^ 64
+hash_step hash number = ((hash * 1099511628211) % 2 ^ 64 + number) % 2 ^ 64
 
--- The hash after more bytes.
+-- The number of the bytes so far, after one more.
+abbrev pub last_step : ℕ → ℕ → ℕ
+last_step last byte = ((last * 256) % 2 ^ 64 + byte) % 2 ^ 64
+
+-- The hash after more bytes: eight at once, and those that are left as one number.
 abbrev pub hash_of_bytes : ℕ → List ℕ → ℕ
-hash_of_bytes hash bytes = fold hash_step hash bytes
+hash_of_bytes hash bytes = hash_step
+    (fold (λ h word. hash_step h (from_le_bytes w64 word)) hash (first_chunks 8 (length bytes / 8) bytes))
+    (fold last_step 0 (drop (length bytes / 8 * 8) bytes))
 
 -- The key of a head: a hash of what must agree, which are the stripped line, Host and User-Agent.
 unfoldable pub key_of : RequestHead → ℕ
@@ -24,6 +33,10 @@ key_of head = hash_of_bytes (hash_of_bytes (hash_of_bytes 0 (stripped head.line)
 -- The key and the place of a record.
 abbrev pub Entry : Type 0
 Entry = ℕ × ℕ
+
+-- The entries are in the order of their keys.
+abbrev pub InOrder : List Entry → Type 0
+InOrder es = (i j : ℕ) (d : Entry) → i ≤ j → j < length es → (slice_index_or es i d).0 ≤ (slice_index_or es j d).0
 
 -- Entry `k`.
 abbrev pub entry_at : List Entry → ℕ → Entry
@@ -56,6 +69,19 @@ HasFront rs es i (Some front) = (0 < i) × ((a b : Record) → slice_get rs (ent
 pub record HasFrontsTo (rs : List Record) (es : List Entry) (count : ℕ) (fronts : List (Option ℕ)) : Type 0 where
   pub as_many : length fronts ≡ count
   pub each : (k : ℕ) (d : Option ℕ) → k < count → HasFront rs es k (slice_index_or fronts k d)
+
+-- What must agree with a request, by the head of a record or of the request.
+abbrev pub wanted_by : RequestHead → Wanted
+wanted_by head = record { front = stripped head.line; host = head.host; agent = head.agent }
+
+-- What is kept of the record of entry `i`.
+abbrev pub HasWanted : List Record → List Entry → ℕ → Wanted → Type 0
+HasWanted rs es i kept = (r : Record) → slice_get rs (entry_at es i).1 ≡ Some r → kept ≡ wanted_by r.request.head
+
+-- `kept` has what must agree with the records of the first `count` entries.
+pub record HasWantedTo (rs : List Record) (es : List Entry) (count : ℕ) (kept : List Wanted) : Type 0 where
+  pub as_many : length kept ≡ count
+  pub each : (k : ℕ) (d : Wanted) → k < count → HasWanted rs es k (slice_index_or kept k d)
 
 -- The entries are those of the records that fit the port, in the order of their keys, and `shared` is what neighbours
 -- share.

@@ -1,67 +1,47 @@
-use Rattle.std.proofs.Common.{◌<◌, ◌≤◌, ◌-◌, refl, length, get_or, None, sym, subst, arith}
-use Rattle.std.proofs.lemmas.Option.{slice_get_read}
-use Rattle.request_match.specs.Match.{BestCause}
-use Rattle.request_match.specs.inside.Index.{entry_at, Scanned}
-use Rattle.request_match.proofs.IndexLemmas.{none_below, next_scanned, next_near, next_has_score, scanned_all}
+use Rattle.std.proofs.Common.{◌≡◌, ◌∙◌, ◌<◌, Some, None, true, get_or, refl, sym, subst, rules}
+use Rattle.std.proofs.Math.Bool.{true≢false}
+use Rattle.request_match.specs.Match.{score}
+use Rattle.request_match.specs.inside.Index.{entry_at, wanted_by}
+use Rattle.request_match.proofs.AloneLemmas.{wanted_agrees, agrees_wanted, alone_end, best_alone}
+use Rattle.request_match.proofs.IndexLemmas.{record_at}
 use Rattle.request_match.proofs.index.best_of.Goals as goal
 
-pub first_from-i-requires : goal.first_from-i-requires
-first_from-i-requires c = c.requires.ordered
-
-pub entries-init : goal.entries-init
-entries-init c =
-    let es = c.args.entries.now in
-    let none = none_below c.args.request.now c.args.port c.args.records.now es c.args.fronts.now c.requires
-    c.first_from-i.result c.first_from-i.ensures.bound
-    (λ k d small. subst (λ n. (get_or es k d).0 < n) c.key-wanted.ensures
-    (c.first_from-i.ensures.below k d small)) in
-    record {
-      started = omega arith;
-      inside = c.first_from-i.ensures.bound;
-      scanned = none;
-      near = λ r pos there. none (c.first_from-i.result - 1) r (omega (arith, pos)) there;
-    }
-
-pub returns : goal.returns
-returns c =
-    subst (BestCause c.args.request.now c.args.port c.args.records.now) (sym c.place_of-2.ensures)
-    (scanned_all c.args.request.now c.args.port c.args.records.now c.args.entries.now c.args.fronts.now c.requires
-    c.entries.i c.entries.found c.entries.invariant.scanned
-    (λ j up small e. omega (arith, up, small, c.entries-test.false)))
-
-pub entries-preserved : goal.entries-preserved
-entries-preserved c =
-    let q = c.args.request.now in
+pub returns-then-agrees : goal.returns-then-agrees
+returns-then-agrees c =
+    let q = c.args.asked.now.request.now in
+    let port = c.args.asked.now.port in
     let rs = c.args.records.now in
     let es = c.args.entries.now in
-    let i = c.entries.i in
-    let r = c.index-records-place.result in
-    let inside = (c.requires.entries i (0, 0) c.entries-test.true).place in
-    let there = slice_get_read rs (length rs) (entry_at es i).1 r refl inside c.index-records-place.is in
-    let score = next_has_score q c.args.port rs es c.requires.entries i c.entries-test.true r there
-    (get_or c.args.fronts.now i None) c.entries.score c.next_score-score.result
-    (c.requires.fronts.each i None c.entries-test.true) c.entries.invariant.near c.next_score-score.ensures.anew
-    c.next_score-score.ensures.onward in
-    let stands = c.pass_equals-next.ensures.stands q c.args.port rs c.entries.found c.requires (
-      next_near q c.args.port rs es i r there c.next_score-score.result score,
-      next_scanned q c.args.port rs es i r there c.entries.found c.next_score-score.result
-          c.entries.invariant.scanned score,
-    ) in
-    record {
-      started = omega (arith, c.entries.invariant.started, c.pass_equals-next.ensures.onward);
-      inside = c.pass_equals-next.ensures.inside;
-      scanned = subst (Scanned q c.args.port rs es c.pass_equals-next.result.0) (sym c.better_place-found.ensures) stands.1;
-      near = stands.0;
-    }
+    let start = c.first_from-start.result in
+    let is : c.is_alone.result ≡ true = search rules in
+    let alone = c.is_alone.ensures is in
+    let entry = c.requires.index.entries start (0, 0) alone.0 in
+    let r = record_at rs (entry_at es start).1 entry.place in
+    let kept : c.index-kept-start.result ≡ wanted_by r.0.request.head = c.index-kept-start.is
+    ∙ c.requires.kept.each start c.index-kept-start.result alone.0 r.0 r.1 in
+    let good = wanted_agrees q port r.0 (entry.fits r.0 r.1) (sym kept ∙ c.agrees.ensures.0 c.if-agrees.true) in
+    best_alone q port rs es c.args.fronts.now c.requires.index start r.0 c.first_from-start.ensures.bound
+    (λ k d small. subst (λ n. (get_or es k d).0 < n) c.key_of_front-wanted.ensures
+    (c.first_from-start.ensures.below k d small))
+    (alone_end q es start c.key_of_front-wanted.result c.requires.index.ordered c.key_of_front-wanted.ensures
+    c.first_from-start.ensures.from alone.1) r.1 (Some (score q r.0)) (good, refl)
 
-pub returns-then-found_key-wanted : goal.returns-then-found_key-wanted
-returns-then-found_key-wanted c =
+pub returns-else-agrees : goal.returns-else-agrees
+returns-else-agrees c =
+    let q = c.args.asked.now.request.now in
+    let port = c.args.asked.now.port in
+    let rs = c.args.records.now in
     let es = c.args.entries.now in
-    let i = c.entries.i in
-    let least : c.key-wanted.result ≤ (entry_at es i).0 = c.first_from-i.ensures.from i (0, 0)
-    c.entries.invariant.started c.entries-test.true in
-    subst (BestCause c.args.request.now c.args.port c.args.records.now) (sym c.place_of.ensures)
-    (scanned_all c.args.request.now c.args.port c.args.records.now es c.args.fronts.now c.requires i c.entries.found
-    c.entries.invariant.scanned
-    (λ j up small e. let o = c.requires.ordered i j (0, 0) up small
-    in c.if-found_key-wanted.true (omega (arith, least, o, e, c.key-wanted.ensures))))
+    let start = c.first_from-start.result in
+    let is : c.is_alone.result ≡ true = search rules in
+    let alone = c.is_alone.ensures is in
+    let entry = c.requires.index.entries start (0, 0) alone.0 in
+    let r = record_at rs (entry_at es start).1 entry.place in
+    let kept : c.index-kept-start.result ≡ wanted_by r.0.request.head = c.index-kept-start.is
+    ∙ c.requires.kept.each start c.index-kept-start.result alone.0 r.0 r.1 in
+    best_alone q port rs es c.args.fronts.now c.requires.index start r.0 c.first_from-start.ensures.bound
+    (λ k d small. subst (λ n. (get_or es k d).0 < n) c.key_of_front-wanted.ensures
+    (c.first_from-start.ensures.below k d small))
+    (alone_end q es start c.key_of_front-wanted.result c.requires.index.ordered c.key_of_front-wanted.ensures
+    c.first_from-start.ensures.from alone.1) r.1 None
+    (λ a. true≢false (sym (c.agrees.ensures.1 (kept ∙ agrees_wanted q port r.0 a)) ∙ c.if-agrees.false))

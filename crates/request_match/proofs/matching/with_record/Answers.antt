@@ -10,11 +10,5 @@ returns-then-not-may_beat c =
     let line = c.args.exchange.now.request.head.line in
     let e : c.may_beat.result ≡ false = search rules in
     left_early q c.args.asked.now.port c.args.exchange.now c.args.place c.args.found
-    (subst (IsAtMost c.args.found) (ap (λ l. common l c.as_slice-wanted.result.now) c.as_slice-line.ensures
-    ∙ ap (common line) c.as_slice-wanted.ensures) (c.may_beat.ensures e))
-
-pub has_path-requires-clause-shared : goal.has_path-requires-clause-shared
-has_path-requires-clause-shared c = search rules
-
-pub returns : goal.returns
-returns c = search rules
+    (subst (IsAtMost c.args.found) (ap (λ l. common l c.as_slice.result.now) c.as_slice-line.ensures
+    ∙ ap (common line) c.as_slice.ensures) (c.may_beat.ensures e))
