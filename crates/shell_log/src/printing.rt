@@ -9,6 +9,9 @@ use text_base::{Bytes, LineBuffer, OutOfMemory, PrintLine, print_lines};
 /// The first line of the text of a log, with its line feed (mm-link's log).
 pub const HEADER: &[u8] = b"# base timestamp: 0\n";
 
+// The bytes of each opportunity of a trace that names moments alone.
+const PACKET_BYTES: u32 = 1504;
+
 /// The text of a log: `# base timestamp: 0`, then a line for each entry, each with its line feed (mm-link's log).
 pub fn print_log(alloc: Global, log: &Log) -> Result<Bytes, OutOfMemory>
     ensures { IfOk result (λ text. text ≡ log_text log.now.entries) }
@@ -21,10 +24,9 @@ impl PrintLine for Entry {
 
     #[tactic(auto, using(text_base::proofs::TextLemmas::is_ended_line))]
     fn put_line(&self, out: &mut LineBuffer) {
-        out.put_byte(b'\n');
         match *self {
             Entry::Arrival { size, .. } => put_word(out, u64::from(size), b" + "),
-            Entry::Opportunity { bytes, .. } => put_word(out, u64::from(bytes), b" # "),
+            Entry::Opportunity { bytes, .. } => put_offer(out, bytes),
             Entry::Departure { size, delay, .. } => put_pair(out, u64::from(size), delay, b" - "),
             Entry::Drop { packets, bytes, .. } => put_pair(out, packets, bytes, b" d "),
         }
@@ -32,24 +34,40 @@ impl PrintLine for Entry {
     }
 }
 
-// Puts a number in front, and in front of it a sign.
+// Puts the end of an opportunity's line in front.
+#[inline(always)]
+fn put_offer(out: &mut LineBuffer, bytes: u32)
+    requires { length out.old + 24 ≤ 147456 }
+    ensures bytes { out.new ≡ 32 ∷ 35 ∷ 32 ∷ (decimal bytes ++ 10 ∷ out.old) }
+    ensures length { length out.new ≤ length out.old + 24 }
+{
+    if bytes == PACKET_BYTES {
+        out.put(b" # 1504\n");
+    } else {
+        put_word(out, u64::from(bytes), b" # ");
+    }
+}
+
+// Puts the end of a line in front: a number and its line feed, and in front of them a sign.
 #[inline(always)]
 fn put_word(out: &mut LineBuffer, number: u64, sign: &[u8])
-    requires { length sign.now + length out.old + 20 ≤ 147456 }
-    ensures bytes { out.new ≡ sign.now ++ (decimal number ++ out.old) }
-    ensures length { length out.new ≤ length sign.now + length out.old + 20 }
+    requires { length sign.now + length out.old + 21 ≤ 147456 }
+    ensures bytes { out.new ≡ sign.now ++ (decimal number ++ 10 ∷ out.old) }
+    ensures length { length out.new ≤ length sign.now + length out.old + 21 }
 {
+    out.put_byte(b'\n');
     out.put_decimal(number);
     out.put(sign);
 }
 
-// Puts two numbers in front, with a space between them, and in front of them a sign.
+// Puts the end of a line in front: two numbers with a space between them and a line feed, and in front of them a sign.
 #[inline(always)]
 fn put_pair(out: &mut LineBuffer, first: u64, second: u64, sign: &[u8])
-    requires { length sign.now + length out.old + 41 ≤ 147456 }
-    ensures bytes { out.new ≡ sign.now ++ (decimal first ++ 32 ∷ (decimal second ++ out.old)) }
-    ensures length { length out.new ≤ length sign.now + length out.old + 41 }
+    requires { length sign.now + length out.old + 42 ≤ 147456 }
+    ensures bytes { out.new ≡ sign.now ++ (decimal first ++ 32 ∷ (decimal second ++ 10 ∷ out.old)) }
+    ensures length { length out.new ≤ length sign.now + length out.old + 42 }
 {
+    out.put_byte(b'\n');
     out.put_decimal(second);
     out.put_byte(b' ');
     out.put_decimal(first);
