@@ -42,7 +42,8 @@ covered_by : (os : List Opportunity) (b : ℕ) (ts : List Timed) → AreRising o
 covered_by os b [] r late = tt
 covered_by os b (t ∷ ts) r late =
     let All : List Timed → Opportunity → Type 0 = λ us o. Each (λ u. u.moment < o.moment) us in (
-      count_below os b t.moment r (each_map (All (t ∷ ts)) (λ o. t.moment < o.moment) (drop b os) (λ o all. all.0) late),
+      count_below os b t.moment r (each_map (All (t ∷ ts)) (λ o. t.moment < o.moment) (drop b os) (λ o all. all.0)
+          late),
       covered_by os b ts r (each_map (All (t ∷ ts)) (All ts) (drop b os) (λ o all. all.1) late),
     )
 

@@ -17,7 +17,8 @@ idle_one : (q : QueueSpec) (opps : List Opportunity) (b : ℕ) (arrivals : List 
     → Sound q opps (b + 1) arrivals None used [] departed lost false log
 idle_one q opps b arrivals used departed lost log s lt =
     let next = some_at opps b lt in
-    sound_burn q opps b arrivals None None used used [] [] departed departed lost false log log next.0 s next.1 s.part refl
+    sound_burn q opps b arrivals None None used used [] [] departed departed lost false log log next.0 s next.1
+    s.part refl
     s.part
     (sym (append-nil departed)) (sym (append-nil log))
 

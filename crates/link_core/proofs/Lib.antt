@@ -19,6 +19,7 @@ pub mod Turned
 pub mod FirstSent
 pub mod MergedLemmas
 pub mod SeenLemmas
+pub mod FewLemmas
 pub mod OppsLemmas
 pub mod LapLemmas
 pub mod LinkLaws
@@ -30,3 +31,4 @@ pub mod LogSize
 pub mod WholeLemmas
 pub mod Rows
 pub mod FeedLemmas
+pub mod InPlaceLemmas

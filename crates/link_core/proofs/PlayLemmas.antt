@@ -14,7 +14,7 @@ use Rattle.link_core.specs.Promises.{count_to, AreCovered}
 use Rattle.link_core.specs.declared.parts.Parts.{Parts}
 use Rattle.link_core.specs.inside.Written.{written}
 use Rattle.link_core.specs.views.Span.{Span, span_opps}
-use Rattle.link_core.specs.inside.Sound.{Sound, Gone, IsSoundAfter}
+use Rattle.link_core.specs.inside.Sound.{Sound, Gone, IsSoundAfter, keeping_arrivals}
 use Rattle.link_core.specs.inside.Play.{IsInTime, IsPlayable, CanPlay, all_arrivals, work, without_last, gone_of}
 use Rattle.link_core.specs.views.Play.{rest_from, rest_of}
 use Rattle.link_core.proofs.OnlyLaws.{up_to_each}
@@ -44,7 +44,8 @@ module _ (os : List Opportunity) (h last b : ℕ) (come coming : List Timed) (p 
       -- the next is let in
       entered_arrivals : (come' coming' : List Timed) → come' ≡ come ++ t ∷ [] → coming' ≡ drop 1 coming → come'
           ++ coming' ≡ come ++ coming
-      entered_arrivals come' coming' e f = ap (λ ts. ts ++ coming') e ∙ ap (λ ts. come ++ t ∷ [] ++ ts) f ∙ same_arrivals
+      entered_arrivals come' coming' e f = ap (λ ts. ts ++ coming') e ∙ ap (λ ts. come ++ t ∷ [] ++ ts) f
+          ∙ same_arrivals
 
       pub playable_entered : (come' coming' : List Timed) → come' ≡ come ++ t ∷ [] → coming' ≡ drop 1 coming
           → IsPlayable os h last (count_to os t.moment) come' coming'
@@ -95,9 +96,10 @@ whole_is q os h last b come coming packet used queue departed lost front es s p 
     sym (append_assoc front es rest) ∙ ap (λ (l : List Entry). l ++ rest) was
     ∙ ap (λ (l : List Entry). past ++ l) rest_is ∙ sym g.is
 
-all_is_of : (gone : Gone) (last : ℕ) (c : Parts) → IsSoundAfter gone c → c.log.kept ≡ true → CanPlay last c
+all_is_of : (gone : Gone) (last : ℕ) (c : Parts) → IsSoundAfter (keeping_arrivals gone) c → c.log.kept ≡ true
+    → CanPlay (keeping_arrivals gone) last c
     → gone.log ++ (c.log.entries ++ rest_of last c)
-    ≡ link_log c.buffer.queue.spec (take last (span_opps c.opportunities)) (all_arrivals c)
+    ≡ link_log c.buffer.queue.spec (take last (span_opps c.opportunities)) (all_arrivals (keeping_arrivals gone) c)
 all_is_of gone last c s kept p =
     let Now : Bool → Type 0 = λ k.
     Sound c.buffer.queue.spec (span_opps c.opportunities) c.burnt c.arrived.come c.buffer.packet c.buffer.used
@@ -113,22 +115,25 @@ front_is xs last all e =
     ap (λ l. take (length l - length last) l) (sym e) ∙ ap (λ k. take k (xs ++ last)) size
     ∙ take_at xs last (length xs) refl
 
-module _ (gone : Gone) (c : Parts) (s : IsSoundAfter gone c) (kept : c.log.kept ≡ true) where
+module _ (gone : Gone) (c : Parts) (s : IsSoundAfter (keeping_arrivals gone) c) (kept : c.log.kept ≡ true) where
   -- the log goes on from what is in hand
-  pub same_rest : (last : ℕ) (c' : Parts) → IsSoundAfter gone c' → c'.log.kept ≡ true → CanPlay last c → CanPlay last c'
+  pub same_rest : (last : ℕ) (c' : Parts) → IsSoundAfter (keeping_arrivals gone) c' → c'.log.kept ≡ true
+      → CanPlay (keeping_arrivals gone) last c → CanPlay (keeping_arrivals gone) last c'
       → c'.opportunities ≡ c.opportunities
-      → c'.buffer.queue.spec ≡ c.buffer.queue.spec → all_arrivals c' ≡ all_arrivals c → c'.log.entries
-      ++ rest_of last c' ≡ c.log.entries ++ rest_of last c
+      → c'.buffer.queue.spec ≡ c.buffer.queue.spec
+      → all_arrivals (keeping_arrivals gone) c' ≡ all_arrivals (keeping_arrivals gone) c
+      → c'.log.entries ++ rest_of last c' ≡ c.log.entries ++ rest_of last c
   same_rest last c' s' kept' p p' opps_e spec_e all_e =
       append_cancel_left gone.log (c'.log.entries ++ rest_of last c') (c.log.entries ++ rest_of last c)
       (all_is_of gone last c' s' kept' p'
-      ∙ ap (λ q. link_log q (take last (span_opps c'.opportunities)) (all_arrivals c')) spec_e
-      ∙ ap (λ (v : Span). link_log c.buffer.queue.spec (take last (span_opps v)) (all_arrivals c')) opps_e
+      ∙ ap (λ q. link_log q (take last (span_opps c'.opportunities)) (all_arrivals (keeping_arrivals gone) c')) spec_e
+      ∙ ap (λ (v : Span). link_log c.buffer.queue.spec (take last (span_opps v))
+      (all_arrivals (keeping_arrivals gone) c')) opps_e
       ∙ ap (λ (ts : List Timed). link_log c.buffer.queue.spec (take last (span_opps c.opportunities)) ts) all_e
       ∙ sym (all_is_of gone last c s kept p))
 
   -- something is to come of the log where something is left to do
-  pub rest_some : (last : ℕ) → CanPlay last c → 0 < work last c → 0 < length (rest_of last c)
+  pub rest_some : (last : ℕ) → CanPlay (keeping_arrivals gone) last c → 0 < work last c → 0 < length (rest_of last c)
   rest_some last p more =
       let os = span_opps c.opportunities in
       let past = link_log c.buffer.queue.spec (take c.burnt os) c.arrived.come in
@@ -149,7 +154,8 @@ module _ (gone : Gone) (c : Parts) (s : IsSoundAfter gone c) (kept : c.log.kept 
       in
       let departed_is : gone.departed ≡ (gone_of c).departed = sym (front_is gone.departed c.departed.items _ left_e) in
       let log_is : gone.log ≡ (gone_of c).log = sym (front_is gone.log c.log.entries _ log_e) in
-      let one : IsSoundAfter (record { departed = (gone_of c).departed; log = gone.log }) c =
-      subst (λ (l : List Timed). IsSoundAfter (record { departed = l; log = gone.log }) c) departed_is s
+      let one : IsSoundAfter (record { come = []; departed = (gone_of c).departed; log = gone.log }) c =
+      subst (λ (l : List Timed). IsSoundAfter (record { come = []; departed = l; log = gone.log }) c) departed_is s
       in
-      subst (λ (l : List Entry). IsSoundAfter (record { departed = (gone_of c).departed; log = l }) c) log_is one
+      subst (λ (l : List Entry). IsSoundAfter (record { come = []; departed = (gone_of c).departed; log = l }) c)
+      log_is one

@@ -89,7 +89,8 @@ sound_burn q opps b arrivals packet packet' used used' queue queue' departed dep
             (keep q os (reverse arrivals))) front ∙ new.inside_is ∙ sym inside_e;
         used_is = ap (λ (os : List Opportunity). begun (sent (keep q os (reverse arrivals)) os)
             (keep q os (reverse arrivals))) front ∙ new.used_is ∙ sym used_e;
-        departed_is = ap (λ (os : List Opportunity). departures (keep q os (reverse arrivals)) os) front ∙ new.departed_is
+        departed_is = ap (λ (os : List Opportunity). departures (keep q os (reverse arrivals)) os) front
+            ∙ new.departed_is
             ∙ sym left_e;
         lost_is = ap (λ (os : List Opportunity). losses q os (reverse arrivals)) front ∙ new.lost_is;
         log_is = ap (λ (os : List Opportunity). written logged (log_of q os (reverse arrivals))) front ∙ new.log_is

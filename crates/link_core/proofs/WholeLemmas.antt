@@ -8,13 +8,14 @@ use Rattle.link_core.specs.declared.parts.Parts.{Parts}
 use Rattle.link_core.specs.Links.{link_log}
 use Rattle.link_core.specs.inside.Written.{written}
 use Rattle.link_core.specs.views.Span.{span_opps}
-use Rattle.link_core.specs.inside.Sound.{IsSound}
+use Rattle.link_core.specs.inside.Sound.{IsSound, nothing}
 use Rattle.link_core.specs.inside.Play.{IsPlayed, all_arrivals}
 use Rattle.link_core.proofs.SeenLemmas.{seen_log}
 
 module _ (last : ℕ) (c : Parts) (sound : IsSound c) (played : IsPlayed last c) (q : QueueSpec) (os : List Opportunity)
     (ts : List Timed)
-    (spec : c.buffer.queue.spec ≡ q) (opps : span_opps c.opportunities ≡ os) (arrivals : all_arrivals c ≡ ts) where
+    (spec : c.buffer.queue.spec ≡ q) (opps : span_opps c.opportunities ≡ os)
+    (arrivals : all_arrivals nothing c ≡ ts) where
   burnt_is : take c.burnt (span_opps c.opportunities) ≡ take last os
   burnt_is = ap (λ b. take b (span_opps c.opportunities)) played.all_burnt ∙ ap (take last) opps
 

@@ -1,5 +1,6 @@
 -- What proofs and the clauses of inner functions cite, and no caller needs.
 pub mod Back
+pub mod InPlace
 pub mod Laps
 pub mod Moves
 pub mod Orders

@@ -1,5 +1,6 @@
 -- What `.now` of a type means, by the type's fields, and what is true of these.
 pub mod Arriving
+pub mod Placed
 pub mod Play
 pub mod Span
 pub mod Written

@@ -74,6 +74,25 @@ impl Arrivals {
         Ok(())
     }
 
+    /// Adds packets to come, or runs out of memory.
+    pub fn extend(&mut self, packets: &[Timed]) -> Result<(), OutOfMemory>
+        ensures come { self.new.come ≡ self.old.come }
+        ensures coming { OnOk result (self.new.coming ≡ self.old.coming ++ packets.now) }
+    {
+        self.list.extend_from_slice(packets)?;
+        Ok(())
+    }
+
+    /// Lets go of the packets that were let in. None is to come.
+    pub fn clear(&mut self)
+        requires { self.old.coming ≡ [] }
+        ensures come { self.new.come ≡ [] }
+        ensures coming { self.new.coming ≡ [] }
+    {
+        self.list.clear();
+        self.entered = 0;
+    }
+
     /// Adds a packet to come, for which there is room.
     pub fn push(&mut self, t: Timed)
         requires { 1 ≤ self.old.room }

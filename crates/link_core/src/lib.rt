@@ -5,6 +5,7 @@
 mod arrivals;
 mod buffer;
 mod direction;
+mod in_place;
 mod journal;
 mod lap;
 mod link_log;
@@ -12,6 +13,7 @@ mod opportunities;
 mod parts;
 mod passage;
 mod pieces;
+mod places;
 mod play;
 mod serving;
 mod whole;

@@ -156,7 +156,7 @@ impl Parts {
     pub fn enter(&mut self, t: Timed)
         ghost gone: { Gone }
         requires sound { IsSoundAfter gone self.old }
-        requires next { CanEnter t self.old }
+        requires next { CanEnter gone t self.old }
         requires room { HasRoomTo self.old.burnt self.old }
         ensures sound { IsSoundAfter gone self.new }
         ensures link { IsSameLink self.old self.new }

@@ -1,6 +1,6 @@
 // The log of a link, made piece by piece.
 ghost use Rattle.std.specs.Prelude.{◌≡◌, ◌<◌, ◌++◌, [], IsTrue, true, length, IfOk, OnErr};
-ghost use Rattle.link_core.specs.inside.Sound.{IsSound};
+ghost use Rattle.link_core.specs.inside.Sound.{IsSound, nothing};
 ghost use Rattle.link_core.specs.inside.Play.{CanPlay};
 ghost use Rattle.link_core.specs.views.Play.{rest_of};
 
@@ -20,7 +20,7 @@ pub struct LogPieces {
 
 impl Model for LogPieces {
     ghost use Rattle.std.specs.Prelude.{◌≡◌, true};
-    ghost use Rattle.link_core.specs.inside.Sound.{IsSoundAfter};
+    ghost use Rattle.link_core.specs.inside.Sound.{IsSoundAfter, nothing};
     ghost use Rattle.link_core.specs.inside.Play.{CanPlay, gone_of};
     ghost use Rattle.link_core.specs.views.Play.{rest_of};
     ghost use Rattle.link_core.specs.Pieces.{Pieces};
@@ -29,7 +29,7 @@ impl Model for LogPieces {
 
     ghost view = { λ p. record { piece = p.parts.log.entries; rest = rest_of p.last p.parts } };
 
-    ghost invariant = { λ p. IsSoundAfter (gone_of p.parts) p.parts × CanPlay p.last p.parts
+    ghost invariant = { λ p. IsSoundAfter (gone_of p.parts) p.parts × CanPlay nothing p.last p.parts
         × (p.parts.log.kept ≡ true) };
 }
 
@@ -37,7 +37,7 @@ impl LogPieces {
     // The pieces of a link that keeps its log and begins. It is to burn its first `last` opportunities.
     pub(crate) fn new(parts: Parts, last: u32) -> LogPieces
         requires sound { IsSound parts }
-        requires playable { CanPlay last parts }
+        requires playable { CanPlay nothing last parts }
         requires logged { parts.log.kept ≡ true }
         requires none { parts.log.entries ≡ [] }
         ensures piece { result.piece ≡ [] }

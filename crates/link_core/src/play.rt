@@ -6,7 +6,7 @@ ghost use Rattle.trace_reader.specs.Opps.{up_to};
 ghost use Rattle.link_core.specs.views.Span.{span_opps};
 ghost use Rattle.link_core.specs.inside.State.{inside_buffer};
 ghost use Rattle.link_core.specs.inside.Moves.{HasRoomFor, UsesRoom};
-ghost use Rattle.link_core.specs.inside.Sound.{Gone, IsSoundAfter};
+ghost use Rattle.link_core.specs.inside.Sound.{Gone, IsSoundAfter, keeping_arrivals};
 ghost use Rattle.link_core.specs.inside.Same.{IsSameLink};
 ghost use Rattle.link_core.specs.inside.Play.{CanPlay, IsPlayed, all_arrivals, work, gone_with};
 ghost use Rattle.link_core.specs.views.Play.{rest_of};
@@ -18,6 +18,9 @@ use trace_reader::Opportunity;
 
 // How many steps are taken after room was made for them.
 const STEPS: usize = 256;
+
+// The most entries that a step needs room for: of a packet its arrival, its drop and its departure.
+const ENTRIES: usize = 3;
 
 // A piece of the log is ended after the steps that make it as long as this.
 const PIECE: usize = 2048;
@@ -51,20 +54,20 @@ impl Parts {
         }
     }
 
-    // Burns the opportunities that are due before the packet `t`, the next to come, and then lets it in. It ends after
-    // `steps` of these steps at the latest, and returns how many of them were not taken.
+    // Burns each opportunity that is due before the packet `t`, the next to come, and then lets it in. Each of these is
+    // a step. It takes at most `steps` steps, and returns how many it didn't take.
     #[inline(always)]
     fn go_to(&mut self, t: Timed, _last: u32, steps: usize) -> usize
         ghost gone: { Gone }
         requires sound { IsSoundAfter gone self.old }
-        requires playable { CanPlay _last self.old }
+        requires playable { CanPlay gone _last self.old }
         requires next { self.old.arrived.coming ≡ t ∷ drop 1 self.old.arrived.coming }
         requires some { 0 < steps }
         requires room { HasRoomFor steps self.old }
         ensures sound { IsSoundAfter gone self.new }
-        ensures playable { CanPlay _last self.new }
+        ensures playable { CanPlay gone _last self.new }
         ensures link { IsSameLink self.old self.new }
-        ensures arrivals { all_arrivals self.new ≡ all_arrivals self.old }
+        ensures arrivals { all_arrivals gone self.new ≡ all_arrivals gone self.old }
         ensures fewer { result < steps }
         ensures less { work _last self.new + steps ≤ work _last self.old + result }
         ensures room { HasRoomFor result self.new }
@@ -81,17 +84,17 @@ impl Parts {
         0
     }
 
-    // Burns the next opportunities, where no packet is to come, and returns one step less. Where the first `last` were
-    // burnt before, it returns as many.
+    // Takes a step where no packet is to come: it burns the next opportunity, or all where nothing is inside and no log
+    // is kept. Returns `steps - 1`, or `steps` where the first `last` are burnt already and there is no step to take.
     fn burn_rest(&mut self, last: u32, steps: usize) -> usize
         ghost gone: { Gone }
         requires sound { IsSoundAfter gone self.old }
-        requires playable { CanPlay last self.old }
+        requires playable { CanPlay gone last self.old }
         requires none { self.old.arrived.coming ≡ [] }
         requires some { 0 < steps }
         requires room { HasRoomFor steps self.old }
         ensures sound { IsSoundAfter gone self.new }
-        ensures playable { CanPlay last self.new }
+        ensures playable { CanPlay gone last self.new }
         ensures link { IsSameLink self.old self.new }
         ensures arrived { self.new.arrived ≡ self.old.arrived }
         ensures within { result ≤ steps }
@@ -112,13 +115,13 @@ impl Parts {
     fn step(&mut self, last: u32, steps: usize) -> usize
         ghost gone: { Gone }
         requires sound { IsSoundAfter gone self.old }
-        requires playable { CanPlay last self.old }
+        requires playable { CanPlay gone last self.old }
         requires some { 0 < steps }
         requires room { HasRoomFor steps self.old }
         ensures sound { IsSoundAfter gone self.new }
-        ensures playable { CanPlay last self.new }
+        ensures playable { CanPlay gone last self.new }
         ensures link { IsSameLink self.old self.new }
-        ensures arrivals { all_arrivals self.new ≡ all_arrivals self.old }
+        ensures arrivals { all_arrivals gone self.new ≡ all_arrivals gone self.old }
         ensures within { result ≤ steps }
         ensures done { result ≡ steps → IsPlayed last self.new }
         ensures less { work last self.new + steps ≤ work last self.old + result }
@@ -144,7 +147,7 @@ impl Parts {
         let coming = self.arrived.left().min(STEPS);
         self.buffer.queue.reserve(coming)?;
         self.departed.reserve(held + coming)?;
-        self.log.reserve(held + 3 * STEPS)?;
+        self.log.reserve(held + ENTRIES * STEPS)?;
         Ok(())
     }
 
@@ -153,11 +156,11 @@ impl Parts {
     pub fn run(&mut self, last: u32) -> Result<bool, OutOfMemory>
         ghost gone: { Gone }
         requires sound { IsSoundAfter gone self.old }
-        requires playable { CanPlay last self.old }
+        requires playable { CanPlay gone last self.old }
         ensures sound { IsSoundAfter gone self.new }
-        ensures playable { CanPlay last self.new }
+        ensures playable { CanPlay gone last self.new }
         ensures link { IsSameLink self.old self.new }
-        ensures arrivals { all_arrivals self.new ≡ all_arrivals self.old }
+        ensures arrivals { all_arrivals gone self.new ≡ all_arrivals gone self.old }
         ensures done { IfOk result (λ more. ¬ IsTrue more → IsPlayed last self.new) }
         ensures less { IfOk result (λ more. IsTrue more → work last self.new < work last self.old) }
         ensures err { OnErr result (0 < work last self.new) }
@@ -181,10 +184,10 @@ impl Parts {
     pub fn finish(&mut self, last: u32, departures: usize) -> Result<(), OutOfMemory>
         ghost gone: { Gone }
         requires sound { IsSoundAfter gone self.old }
-        requires playable { CanPlay last self.old }
+        requires playable { CanPlay gone last self.old }
         ensures sound { IsSoundAfter gone self.new }
         ensures link { IsSameLink self.old self.new }
-        ensures arrivals { all_arrivals self.new ≡ all_arrivals self.old }
+        ensures arrivals { all_arrivals gone self.new ≡ all_arrivals gone self.old }
         ensures played { OnOk result (IsPlayed last self.new) }
     {
         self.departed.reserve(departures)?;
@@ -215,11 +218,11 @@ impl Parts {
     /// kept.
     pub fn fill(&mut self, last: u32) -> Result<bool, OutOfMemory>
         ghost gone: { Gone }
-        requires sound { IsSoundAfter gone self.old }
-        requires playable { CanPlay last self.old }
+        requires sound { IsSoundAfter (keeping_arrivals gone) self.old }
+        requires playable { CanPlay (keeping_arrivals gone) last self.old }
         requires logged { self.old.log.kept ≡ true }
-        ensures sound { IsSoundAfter gone self.new }
-        ensures playable { CanPlay last self.new }
+        ensures sound { IsSoundAfter (keeping_arrivals gone) self.new }
+        ensures playable { CanPlay (keeping_arrivals gone) last self.new }
         ensures logged { self.new.log.kept ≡ true }
         ensures same { self.new.log.entries ++ rest_of last self.new ≡ self.old.log.entries ++ rest_of last self.old }
         ensures err { OnErr result (0 < length (rest_of last self.new)) }

@@ -1,14 +1,15 @@
 // A link over the whole list of its arrivals, and the lists that a link leaves.
-ghost use Rattle.std.specs.Prelude.{◌≡◌, ◌≤◌, Some, length, map, take, IfOk};
+ghost use Rattle.std.specs.Prelude.{◌≡◌, ◌≤◌, Some, None, if◌then◌else◌, length, map, take, IfOk};
 ghost use Rattle.packet_record.specs.Moments.{AreUpTo, Rise};
 ghost use Rattle.trace_reader.specs.Opps.{opps};
 ghost use Rattle.link_core.specs.Links.{link_out, link_lost, link_log, link_inside};
 ghost use Rattle.link_core.specs.Promises.{AreCovered};
 ghost use Rattle.link_core.specs.views.Span.{span_opps};
-ghost use Rattle.link_core.specs.inside.Sound.{IsSound};
+ghost use Rattle.link_core.specs.inside.Sound.{IsSound, nothing};
 ghost use Rattle.link_core.specs.inside.Moves.{IsSettled};
 ghost use Rattle.link_core.specs.inside.Play.{IsPlayed, all_arrivals};
 
+use crate::in_place::passed_in_place;
 use crate::link_log::LinkLog;
 use crate::opportunities::Opportunities;
 use crate::parts::Parts;
@@ -37,7 +38,7 @@ pub(crate) fn played(
     ensures opportunities { IfOk result (λ parts. parts.opportunities ≡ opportunities) }
     ensures spec { IfOk result (λ parts. parts.buffer.queue.spec ≡ queue) }
     ensures logged { IfOk result (λ parts. parts.log.kept ≡ logged) }
-    ensures arrivals { IfOk result (λ parts. all_arrivals parts ≡ arrivals.items) }
+    ensures arrivals { IfOk result (λ parts. all_arrivals nothing parts ≡ arrivals.items) }
 {
     let packets = arrivals.len();
     let mut parts = Parts::new(alloc, opportunities, queue, logged, arrivals);
@@ -78,13 +79,15 @@ impl Parts {
 }
 
 /// Runs a link over all its arrivals, which are in order and up to the horizon, and burns every opportunity up to the
-/// horizon, or runs out of memory. No log is kept: it can be made again from the arrivals.
+/// horizon, or runs out of memory. Where `logged`, the passage has the log, which isn't written out: it keeps the
+/// arrivals. Otherwise it has none, and no arrival is kept.
 pub fn run_link(
     alloc: Global,
     trace: Trace,
     once: bool,
     queue: QueueSpec,
     horizon: u64,
+    logged: bool,
     arrivals: Vec<Timed>,
 ) -> Result<Passage, OutOfMemory>
     requires horizon { horizon ≤ 3600000 }
@@ -97,11 +100,14 @@ pub fn run_link(
         arrivals.items) }
     ensures held { IfOk result (λ p. p.held.items ≡ map (λ t. t.packet.id)
         (link_inside queue (opps trace.opportunities once horizon) arrivals.items)) }
-    ensures log { IfOk result (λ p. p.log ≡ Some
-        (link_log queue (opps trace.opportunities once horizon) arrivals.items)) }
+    ensures log { IfOk result (λ p. p.log ≡ (if logged
+        then Some (link_log queue (opps trace.opportunities once horizon) arrivals.items) else None)) }
 {
     let opportunities = Opportunities::new(trace, once, horizon);
     let last = opportunities.len();
+    if !logged {
+        return passed_in_place(alloc, opportunities, queue, last, arrivals);
+    }
     let parts = played(alloc, opportunities, queue, last, false, arrivals)?;
     parts.into_passage(alloc)
 }

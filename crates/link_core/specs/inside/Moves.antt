@@ -7,7 +7,7 @@ use Rattle.trace_reader.specs.Orders.{Each}
 use Rattle.link_core.specs.declared.parts.Parts.{Parts}
 use Rattle.link_core.specs.views.Span.{span_opps}
 use Rattle.link_core.specs.inside.State.{inside_buffer}
-use Rattle.link_core.specs.inside.Sound.{IsSound}
+use Rattle.link_core.specs.inside.Sound.{Gone, IsSound, come_in}
 
 -- a link that has dealt with each of its arrivals so far
 abbrev pub IsSettled : Parts → Type 0
@@ -26,7 +26,7 @@ pub record HasRoomFor (steps : ℕ) (c : Parts) : Type 0 where
       ≤ vec_capacity c.departed
   pub entries : length (inside_buffer c.buffer) + 3 * steps ≤ c.log.spare
 
--- no more room was used than that of so many packets that were let in, and of so many entries
+-- no more room was used than `packets` that are let in and `lines` of the log take
 pub record UsesRoom (packets lines : ℕ) (old new : Parts) : Type 0 where
   pub queue : old.buffer.queue.spare ≤ new.buffer.queue.spare + packets
   pub departures : length (inside_buffer new.buffer) + vec_len new.departed + vec_capacity old.departed
@@ -35,9 +35,9 @@ pub record UsesRoom (packets lines : ℕ) (old new : Parts) : Type 0 where
       ≤ new.log.spare + length (inside_buffer old.buffer) + lines
 
 -- the packet is the next to come, and the opportunities up to its moment are burnt, and no others
-pub record CanEnter (t : Timed) (c : Parts) : Type 0 where
+pub record CanEnter (gone : Gone) (t : Timed) (c : Parts) : Type 0 where
   pub next : c.arrived.coming ≡ t ∷ drop 1 c.arrived.coming
   pub short : t.moment ≤ 9999999999
-  pub order : AreUpTo t.moment c.arrived.come
+  pub order : AreUpTo t.moment (come_in gone c)
   pub burnt : Each (λ o. o.moment ≤ t.moment) (take c.burnt (span_opps c.opportunities))
   pub later : Each (λ o. t.moment < o.moment) (drop c.burnt (span_opps c.opportunities))

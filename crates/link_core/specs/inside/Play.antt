@@ -7,7 +7,7 @@ use Rattle.link_core.specs.declared.parts.Parts.{Parts}
 use Rattle.link_core.specs.Promises.{count_to, AreCovered}
 use Rattle.link_core.specs.Links.{link_out, link_log}
 use Rattle.link_core.specs.views.Span.{span_opps}
-use Rattle.link_core.specs.inside.Sound.{Gone}
+use Rattle.link_core.specs.inside.Sound.{Gone, come_in}
 
 -- the opportunities that are burnt are not after the next arrival
 abbrev pub IsInTime : List Opportunity → ℕ → List Timed → Type 0
@@ -23,8 +23,8 @@ pub record IsPlayable (os : List Opportunity) (horizon last b : ℕ) (come comin
   pub few : last ≤ length os
   pub so_far : b ≤ last
 
-abbrev pub CanPlay : ℕ → Parts → Type 0
-CanPlay last c = IsPlayable (span_opps c.opportunities) c.opportunities.horizon last c.burnt c.arrived.come
+abbrev pub CanPlay : Gone → ℕ → Parts → Type 0
+CanPlay gone last c = IsPlayable (span_opps c.opportunities) c.opportunities.horizon last c.burnt (come_in gone c)
     c.arrived.coming
 
 -- all arrivals are in, and the first `last` opportunities are burnt
@@ -32,8 +32,8 @@ pub record IsPlayed (last : ℕ) (c : Parts) : Type 0 where
   pub all_in : c.arrived.coming ≡ []
   pub all_burnt : c.burnt ≡ last
 
-abbrev pub all_arrivals : Parts → List Timed
-all_arrivals c = c.arrived.come ++ c.arrived.coming
+abbrev pub all_arrivals : Gone → Parts → List Timed
+all_arrivals gone c = come_in gone c ++ c.arrived.coming
 
 -- how many steps there may be
 abbrev pub work : ℕ → Parts → ℕ
@@ -43,15 +43,16 @@ work last c = length c.arrived.coming + (last - c.burnt)
 abbrev pub without_last : {X : Type 0} → List X → List X → List X
 without_last last all = take (length all - length last) all
 
--- the departures and entries that aren't in hand any more
+-- the departures and entries that aren't in hand any more, where all arrivals are
 abbrev pub gone_of : Parts → Gone
 gone_of c = record {
+  come = [];
   departed = without_last c.departed.items (link_out c.buffer.queue.spec (take c.burnt (span_opps c.opportunities))
       c.arrived.come);
   log = without_last c.log.entries (link_log c.buffer.queue.spec (take c.burnt (span_opps c.opportunities))
       c.arrived.come);
 }
 
--- those that were let go, where those in hand are let go too
+-- what was let go, where the departures and entries in hand are let go too
 abbrev pub gone_with : Gone → Parts → Gone
-gone_with gone c = record { departed = gone.departed ++ c.departed.items; log = gone.log ++ c.log.entries }
+gone_with gone c = record gone { departed = gone.departed ++ c.departed.items; log = gone.log ++ c.log.entries }

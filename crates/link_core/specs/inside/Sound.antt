@@ -18,18 +18,27 @@ pub record Sound (q : QueueSpec) (opps : List Opportunity) (burnt : ℕ) (arriva
   pub order : AreRising opps
   pub later : Each (λ o. Each (λ t. t.moment < o.moment) (reverse arrivals)) (drop burnt opps)
 
--- the first departures and entries, where they were let go
+-- the first arrivals that were let in, departures and entries, where they were let go
 pub record Gone : Type 0 where
+  pub come : List Timed
   pub departed : List Timed
   pub log : List Entry
 
 abbrev pub nothing : Gone
-nothing = record { departed = []; log = [] }
+nothing = record { come = []; departed = []; log = [] }
+
+-- no arrival was let go
+abbrev pub keeping_arrivals : Gone → Gone
+keeping_arrivals gone = record gone { come = [] }
+
+-- all that were let in
+abbrev pub come_in : Gone → Parts → List Timed
+come_in gone c = gone.come ++ c.arrived.come
 
 -- the parts, where these were let go
 abbrev pub IsSoundAfter : Gone → Parts → Type 0
 IsSoundAfter gone c =
-    Sound c.buffer.queue.spec (span_opps c.opportunities) c.burnt c.arrived.come c.buffer.packet c.buffer.used
+    Sound c.buffer.queue.spec (span_opps c.opportunities) c.burnt (come_in gone c) c.buffer.packet c.buffer.used
     c.buffer.queue.packets (gone.departed ++ c.departed.items) c.buffer.queue.lost c.log.kept
     (gone.log ++ c.log.entries)
 

@@ -13,4 +13,5 @@ returns-clause-goes_on c =
     (only_burn old.buffer.queue.spec new.buffer.queue.spec old.opportunities new.opportunities old.burnt new.burnt
     old.arrived.come new.arrived.come
     c.burn.result (ready _ _ _ _ _ _ _ _ _ _ _ c.self.invariant.0) c.burn.ensures.link.spec
-    c.burn.ensures.link.opportunities (ap (λ (a : Arriving). a.come) c.burn.ensures.arrived) c.burn.ensures.burnt c.burn.ensures.err)
+    c.burn.ensures.link.opportunities (ap (λ (a : Arriving). a.come) c.burn.ensures.arrived) c.burn.ensures.burnt
+    c.burn.ensures.err)

@@ -1,39 +1,20 @@
-use Rattle.std.proofs.Common.{◌≡◌, ◌≤◌, ◌+◌, ◌++◌, ℕ, Bool, true, false, List, ◌∷◌, [], Option, Some, None, length}
-use Rattle.std.proofs.Common.{if◌then◌else◌, take, map, arith, ap, subst, sym, ◌∙◌}
-use Rattle.std.proofs.lemmas.List.{length-append}
+use Rattle.std.proofs.Common.{◌≡◌, ◌≤◌, ◌+◌, ◌++◌, List, ◌∷◌, [], Option, Some, None, length}
+use Rattle.std.proofs.Common.{take, map, arith, ap, subst, sym, ◌∙◌}
 use Rattle.packet_record.specs.declared.packet.Timed.{Timed}
 use Rattle.packet_record.specs.Packets.{moved_to}
-use Rattle.packet_queue.specs.Queues.{fits, fitting, enqueued_by, enqueued, dropped}
-use Rattle.packet_queue.specs.declared.spec.QueueKind.{QueueKind}
-use Rattle.packet_queue.specs.declared.spec.QueueKind.TheVariants.{Infinite, DropTail, DropHead}
+use Rattle.packet_queue.specs.Queues.{enqueued, dropped}
 use Rattle.packet_queue.specs.declared.spec.QueueSpec.{QueueSpec}
 use Rattle.packet_queue.specs.View.{Queue}
 use Rattle.shell_log.specs.declared.entry.Entry.TheVariants as entries
 use Rattle.link_core.specs.inside.State.{pending}
 use Rattle.link_core.specs.inside.Written.{written}
 use Rattle.link_core.specs.Links.{drop_line, drop_line_by}
+use Rattle.link_core.proofs.FewLemmas.{kind_few}
 use Rattle.link_core.proofs.SoundLemmas.{behind, sound_enter}
 use Rattle.link_core.proofs.Fronts.{log_behind_enter}
 use Rattle.packet_queue.proofs.Sizes.{some_bytes}
 use Rattle.packet_queue.proofs.Limits.{length_most}
 use Rattle.link_core.proofs.parts.Parts.enter.Goals as goal
-
-either_few : (b : Bool) (xs ys : List Timed) (n : ℕ) → length xs ≤ n → length ys ≤ n
-    → length (if b then xs else ys) ≤ n
-either_few true xs ys n h k = h
-either_few false xs ys n h k = k
-
-fitting_few : (q : QueueSpec) (ts : List Timed) → length (fitting q ts) ≤ length ts
-fitting_few q [] = omega arith
-fitting_few q (t ∷ ts) =
-    let ih = fitting_few q ts in
-    either_few (fits q (t ∷ ts)) (t ∷ ts) (fitting q ts) (length (t ∷ ts)) (omega arith) (omega arith)
-
-kind_few : (k : QueueKind) (q : QueueSpec) (ts : List Timed) (t : Timed) → length (enqueued_by k q ts t) ≤ length ts + 1
-kind_few Infinite q ts t = omega (arith, length-append ts (t ∷ []))
-kind_few DropTail q ts t = either_few (fits q (ts ++ t ∷ [])) (ts ++ t ∷ []) ts (length ts + 1)
-    (omega (arith, length-append ts (t ∷ []))) (omega arith)
-kind_few DropHead q ts t = omega (arith, fitting_few q (ts ++ t ∷ []), length-append ts (t ∷ []))
 
 -- a packet that comes makes one more inside, or none
 inside_few : (packet : Option Timed) (q : QueueSpec) (ts : List Timed) (t : Timed)
@@ -86,7 +67,10 @@ returns-clause-sound g c =
     (dropped old.spec old.packets t)) =
     behind g.gone.log _ _ _ log_e
     in
-    rw (spec_e, packets_e, lost_e, come_e, c.note.ensures.log.kept, all_e)
+    let all_come : g.gone.come ++ c.enter.new.self.come ≡ (g.gone.come ++ c.args.self.now.arrived.come) ++ t ∷ [] =
+    behind g.gone.come _ _ _ come_e
+    in
+    rw (spec_e, packets_e, lost_e, all_come, c.note.ensures.log.kept, all_e)
     (sound_enter _ _ _ _ _ _ _ _ _ _ _ t c.requires.0 c.requires.1.0.order c.requires.1.0.burnt c.requires.1.0.later)
 
 pub note-requires-clause-order : goal.note-requires-clause-order

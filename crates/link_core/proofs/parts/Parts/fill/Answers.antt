@@ -11,15 +11,17 @@ pub returns-in_err-run-clause-same : goal.returns-in_err-run-clause-same
 returns-in_err-run-clause-same g c =
     let was = c.filling.invariant in
     let now = c.run.ensures in
-    same_rest g.gone c.filling.self was.well was.logged c.args.last c.run.new.self now.sound (now.link.logged ∙ was.logged)
-    was.playable now.playable now.link.opportunities now.link.spec now.arrivals ∙ was.same
+    same_rest g.gone c.filling.self was.well was.logged c.args.last c.run.new.self now.sound
+    (now.link.logged ∙ was.logged) was.playable now.playable now.link.opportunities now.link.spec now.arrivals
+    ∙ was.same
 
 pub returns-then-not-branch-clause-same : goal.returns-then-not-branch-clause-same
 returns-then-not-branch-clause-same g c =
     let was = c.filling.invariant in
     let now = c.run.ensures in
-    same_rest g.gone c.filling.self was.well was.logged c.args.last c.run.new.self now.sound (now.link.logged ∙ was.logged)
-    was.playable now.playable now.link.opportunities now.link.spec now.arrivals ∙ was.same
+    same_rest g.gone c.filling.self was.well was.logged c.args.last c.run.new.self now.sound
+    (now.link.logged ∙ was.logged) was.playable now.playable now.link.opportunities now.link.spec now.arrivals
+    ∙ was.same
 
 pub filling-preserved : goal.filling-preserved
 filling-preserved g c =
@@ -30,8 +32,8 @@ filling-preserved g c =
       playable = now.playable;
       logged = now.link.logged ∙ was.logged;
       same =
-          same_rest g.gone c.filling.self was.well was.logged c.args.last c.run.new.self now.sound (now.link.logged ∙ was.logged)
-          was.playable now.playable now.link.opportunities now.link.spec now.arrivals
+          same_rest g.gone c.filling.self was.well was.logged c.args.last c.run.new.self now.sound
+          (now.link.logged ∙ was.logged) was.playable now.playable now.link.opportunities now.link.spec now.arrivals
           ∙ was.same;
     }
 

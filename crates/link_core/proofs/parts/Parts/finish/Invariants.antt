@@ -7,9 +7,9 @@ use Rattle.link_core.proofs.parts.Parts.finish.Given as goal
 abbrev pub invariant-finishing : goal.invariant-finishing
 invariant-finishing g l = record {
   well : IsSoundAfter g.gone l.self;
-  playable : CanPlay l.last l.self;
+  playable : CanPlay g.gone l.last l.self;
   link : IsSameLink l.fn.self l.self;
-  arrivals : all_arrivals l.self ≡ all_arrivals l.fn.self;
+  arrivals : all_arrivals g.gone l.self ≡ all_arrivals g.gone l.fn.self;
 }
 
 abbrev pub decreases-finishing : goal.decreases-finishing

@@ -1,10 +1,11 @@
-use Rattle.std.proofs.Common.{◌≡◌, ◌∷◌, drop, length, ap, sym, subst, arith, ◌∙◌}
+use Rattle.std.proofs.Common.{◌≡◌, ◌++◌, ◌∷◌, drop, length, ap, sym, subst, arith, ◌∙◌}
 use Rattle.trace_reader.specs.Opps.{up_to}
 use Rattle.link_core.specs.Promises.{count_to}
 use Rattle.link_core.specs.views.Arriving.{Arriving}
 use Rattle.link_core.specs.views.Span.{span_opps}
 use Rattle.link_core.proofs.CountLemmas.{counted}
 use Rattle.link_core.proofs.PlayLemmas.{next_order, next_in_time, next_within, playable_entered}
+use Rattle.link_core.proofs.SoundLemmas.{behind}
 use Rattle.link_core.proofs.parts.Parts.go_to.Goals as goal
 
 pub enter-requires : goal.enter-requires
@@ -15,7 +16,7 @@ enter-requires g c =
     let os = span_opps now.opportunities in
     let h = now.opportunities.horizon in
     let last = c.args._last in
-    let come = now.arrived.come in
+    let come = g.gone.come ++ now.arrived.come in
     let coming = now.arrived.coming in
     let was = c.burning.invariant in
     let next = subst (λ (a : Arriving). a.coming ≡ t ∷ drop 1 a.coming) (sym was.arrived) c.requires.1.1.0 in
@@ -52,7 +53,7 @@ returns-in_default-clause-playable g c =
     let os = span_opps now.opportunities in
     let h = now.opportunities.horizon in
     let last = c.args._last in
-    let come = now.arrived.come in
+    let come = g.gone.come ++ now.arrived.come in
     let coming = now.arrived.coming in
     let was = c.burning.invariant in
     let next = subst (λ (a : Arriving). a.coming ≡ t ∷ drop 1 a.coming) (sym was.arrived) c.requires.1.1.0 in
@@ -63,5 +64,5 @@ returns-in_default-clause-playable g c =
     ∙ c.due.ensures.same in
     let burnt_e : c.enter.new.self.burnt ≡ count_to os t.moment = c.enter.ensures.burnt ∙ end in
     rw (opps_e, burnt_e)
-    (playable_entered os h last now.burnt come coming was.playable t next _ _ c.enter.ensures.come
-    c.enter.ensures.coming)
+    (playable_entered os h last now.burnt come coming was.playable t next _ _
+    (behind g.gone.come _ _ _ c.enter.ensures.come) c.enter.ensures.coming)

@@ -8,7 +8,7 @@ use Rattle.link_core.proofs.parts.Parts.go_to.Given as goal
 abbrev pub invariant-burning : goal.invariant-burning
 invariant-burning g l = record {
   well : IsSoundAfter g.gone l.self;
-  playable : CanPlay l._last l.self;
+  playable : CanPlay g.gone l._last l.self;
   link : IsSameLink l.fn.self l.self;
   arrived : l.self.arrived ≡ l.fn.self.arrived;
   within : l.left ≤ l.steps;

@@ -8,9 +8,9 @@ use Rattle.link_core.proofs.parts.Parts.run.Given as goal
 abbrev pub invariant-stepping : goal.invariant-stepping
 invariant-stepping g l = record {
   well : IsSoundAfter g.gone l.self;
-  playable : CanPlay l.last l.self;
+  playable : CanPlay g.gone l.last l.self;
   link : IsSameLink l.fn.self l.self;
-  arrivals : all_arrivals l.self ≡ all_arrivals l.fn.self;
+  arrivals : all_arrivals g.gone l.self ≡ all_arrivals g.gone l.fn.self;
   room : HasRoomFor l.left l.self;
   within : l.left ≤ 256;
   less : work l.last l.self + 256 ≤ work l.last l.fn.self + l.left;

@@ -7,7 +7,8 @@ use Rattle.link_core.proofs.parts.Parts.skip_to.Goals as goal
 pub returns-clause-sound : goal.returns-clause-sound
 returns-clause-sound g c =
     let now = c.args.self.now in
-    let At : Bool → ℕ → Type 0 = λ k b. Sound now.buffer.queue.spec (span_opps now.opportunities) b now.arrived.come
+    let At : Bool → ℕ → Type 0 = λ k b. Sound now.buffer.queue.spec (span_opps now.opportunities) b
+    (g.gone.come ++ now.arrived.come)
     now.buffer.packet now.buffer.used now.buffer.queue.packets
     (g.gone.departed ++ now.departed.items) now.buffer.queue.lost k (g.gone.log ++ now.log.entries)
     in

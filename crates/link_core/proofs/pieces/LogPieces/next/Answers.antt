@@ -36,5 +36,6 @@ returns-clause-err c =
     in
     let size = ap length same in
     let both = length-append c.fill.new.self.log.entries (rest_of c.self.inside.last c.fill.new.self) in
-    let some : 0 < length (rest_of c.self.inside.last c.fill.new.self) → 0 < length c.args.self.now.rest = λ lt. omega arith in
+    let some : 0 < length (rest_of c.self.inside.last c.fill.new.self)
+    → 0 < length c.args.self.now.rest = λ lt. omega arith in
     on_err_weaker c.fill.result some c.fill.ensures.err

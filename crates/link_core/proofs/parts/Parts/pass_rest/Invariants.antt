@@ -1,0 +1,7 @@
+use Rattle.link_core.proofs.parts.Parts.pass_rest.Given as goal
+
+abbrev pub ghost-finish : goal.ghost-finish
+ghost-finish g a = g.gone
+
+abbrev pub ghost-put_departed : goal.ghost-put_departed
+ghost-put_departed g a = g.gone
