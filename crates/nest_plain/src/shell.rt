@@ -25,7 +25,7 @@ use std::vec::IntoIter;
 use text_base::OutOfMemory;
 
 // Runs one shell over all that arrives, and marks the fates of packets that it drops or keeps. Returns what departs,
-// and the shell's log, where it has a name.
+// and the shell's log, where it has a name; where it has none, no log is asked for.
 fn run_shell(
     alloc: Global,
     marking: &mut Marking<'_>,
@@ -56,7 +56,7 @@ fn run_shell(
         lost,
         held,
         log,
-    } = run_whole(alloc, spec, horizon, arrived)?;
+    } = run_whole(alloc, spec, horizon, name.is_some(), arrived)?;
     marking.pass(number, lost.as_slice(), held.as_slice());
     let named = name.zip(log).map(|(name, log)| Named { name, log });
     Ok((departed, named))

@@ -96,8 +96,8 @@ pub fn run_singly(rt: &impl Abort, alloc: Global, trial: &Trial) -> LinkCore {
     link
 }
 
-// Returns what becomes of the packets where the link runs over their whole list.
-pub fn run_over(rt: &impl Abort, alloc: Global, trial: &Trial) -> Passage {
+// Returns what becomes of the packets where the link runs over their whole list, with the log where `logged`.
+pub fn run_over(rt: &impl Abort, alloc: Global, trial: &Trial, logged: bool) -> Passage {
     assert!(rt; trial.fits());
     let trace = trial.trace.copy().expect(rt, "memory");
     let arrivals = in_order(rt, alloc, trial.horizon, &trial.packets);
@@ -107,6 +107,7 @@ pub fn run_over(rt: &impl Abort, alloc: Global, trial: &Trial) -> Passage {
         trial.once,
         trial.queue,
         trial.horizon,
+        logged,
         arrivals,
     )
     .expect(rt, "memory")

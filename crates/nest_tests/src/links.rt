@@ -42,9 +42,14 @@ fn trial_of(rt: &impl Abort, alloc: Global, link: Link) -> Trial {
     }
 }
 
-// Returns what becomes of the packets over the whole list.
+// Returns what becomes of the packets over the whole list, with the log.
 fn over_all(rt: &impl Abort, alloc: Global, link: Link) -> Passage {
-    run_over(rt, alloc, &trial_of(rt, alloc, link))
+    run_over(rt, alloc, &trial_of(rt, alloc, link), true)
+}
+
+// Returns what becomes of the packets over the whole list, where no log is asked for.
+fn over_all_unlogged(rt: &impl Abort, alloc: Global, link: Link) -> Passage {
+    run_over(rt, alloc, &trial_of(rt, alloc, link), false)
 }
 
 // Returns whether the log of a passage has the text `said`.
@@ -57,10 +62,16 @@ fn have_gone(passage: &Passage, ways: &Ways) -> bool {
     went(&passage.departed, &passage.lost, &passage.held, ways)
 }
 
-// Returns whether the run over the whole list gives what the case expects.
+// Returns whether the packets of a passage went the ways, and it has no log.
+fn have_gone_unlogged(passage: &Passage, ways: &Ways) -> bool {
+    have_gone(passage, ways) && passage.log.is_none()
+}
+
+// Returns whether the run over the whole list gives what the case expects, with the log and without it.
 fn is_as_said(rt: &impl Abort, alloc: Global, case: &Case) -> bool {
     have_gone(&over_all(rt, alloc, case.link), &case.ways)
         && has_log(rt, alloc, over_all(rt, alloc, case.link), case.log)
+        && have_gone_unlogged(&over_all_unlogged(rt, alloc, case.link), &case.ways)
 }
 
 // Returns whether the packets of a link went the ways, and no opportunity is left.
@@ -256,9 +267,27 @@ fn agrees_over_all(passage: &Passage, packets: usize, slow: &Slow) -> bool {
         && passage.held.len().saturating_add(gone) == packets
 }
 
+// Returns whether the same packets departed, were lost and stay inside.
+fn have_gone_alike(one: &Passage, other: &Passage) -> bool {
+    one.departed.as_slice() == other.departed.as_slice()
+        && one.lost.as_slice() == other.lost.as_slice()
+        && one.held.as_slice() == other.held.as_slice()
+}
+
+// Returns whether the packets of a trial over the whole list went as the slow program says, with the log and without
+// it.
+fn agrees_both_ways(rt: &impl Abort, alloc: Global, trial: &Trial, slow: &Slow) -> bool {
+    let logged = run_over(rt, alloc, trial, true);
+    let unlogged = run_over(rt, alloc, trial, false);
+    agrees_over_all(&logged, trial.packets.len(), slow)
+        && have_gone_alike(&logged, &unlogged)
+        && logged.log.is_some()
+        && unlogged.log.is_none()
+}
+
 // Returns whether the log of a trial is as the slow program says.
 fn agrees_with_log(rt: &impl Abort, alloc: Global, trial: &Trial, slow: &Slow) -> bool {
-    let pieces = pieces_of(rt, alloc, run_over(rt, alloc, trial));
+    let pieces = pieces_of(rt, alloc, run_over(rt, alloc, trial, true));
     pieces.entries.as_slice() == slow.log.as_slice()
 }
 
@@ -287,7 +316,7 @@ fn agrees_in_the_middle(rt: &impl Abort, alloc: Global, trial: &Trial, slow: &Sl
 // Returns whether both runs of a trial give what the slow program says.
 fn agrees(rt: &impl Abort, alloc: Global, trial: &Trial, slow: &Slow) -> bool {
     agrees_singly(&run_singly(rt, alloc, trial), slow)
-        && agrees_over_all(&run_over(rt, alloc, trial), trial.packets.len(), slow)
+        && agrees_both_ways(rt, alloc, trial, slow)
         && agrees_with_log(rt, alloc, trial, slow)
         && agrees_in_the_middle(rt, alloc, trial, slow)
 }

@@ -14,23 +14,23 @@ struct Case {
     ways: Ways,
 }
 
-// Runs a shell over three packets, up to 100 ms.
-fn pass(rt: &impl Abort, alloc: Global, kind: Kind) -> Passage {
+// Runs a shell over three packets, up to 100 ms, and asks for its log where `logged`.
+fn pass(rt: &impl Abort, alloc: Global, kind: Kind, logged: bool) -> Passage {
     let three = [timed(5, 1), timed(80, 2), timed(81, 3)];
     let packets = in_order(rt, alloc, 100, &three);
     let direction = direction_of(rt, alloc, kind, 100);
-    run_whole(alloc, direction, 100, packets).expect(rt, "memory")
+    run_whole(alloc, direction, 100, logged, packets).expect(rt, "memory")
 }
 
-// Returns whether the packets went their ways, and only a link has a log.
-fn is_as_said(passage: &Passage, case: &Case) -> bool {
-    passage.log.is_some() == matches!(case.kind, Kind::Link(..))
+// Returns whether the packets went their ways, and only a link that was asked for its log has one.
+fn is_as_said(passage: &Passage, case: &Case, logged: bool) -> bool {
+    passage.log.is_some() == (logged && matches!(case.kind, Kind::Link(..)))
         && went(&passage.departed, &passage.lost, &passage.held, &case.ways)
 }
 
 // Returns whether the packets go through a shell as the case expects.
-fn passes(rt: &impl Abort, alloc: Global, case: &Case) -> bool {
-    is_as_said(&pass(rt, alloc, case.kind), case)
+fn passes(rt: &impl Abort, alloc: Global, case: &Case, logged: bool) -> bool {
+    is_as_said(&pass(rt, alloc, case.kind, logged), case, logged)
 }
 
 // A link with an opportunity of 1504 bytes every 4 ms, and room for one packet.
@@ -78,7 +78,8 @@ static CASES: [Case; 4] = [
 #[test]
 fn packets_pass_each_kind(rt: HostRuntime) {
     for case in &CASES {
-        check(&rt, passes(&rt, rt.alloc(), case), case.name);
+        check(&rt, passes(&rt, rt.alloc(), case, true), case.name);
+        check(&rt, passes(&rt, rt.alloc(), case, false), case.name);
     }
 }
 
@@ -93,7 +94,7 @@ fn starts(rt: &impl Abort, alloc: Global, log: &Log, start: &[u8]) -> bool {
 
 // Returns whether the log of a shell with the three packets begins with `start`.
 fn logs(rt: &impl Abort, alloc: Global, kind: Kind, start: &[u8]) -> bool {
-    starts(rt, alloc, &log_of(rt, pass(rt, alloc, kind)), start)
+    starts(rt, alloc, &log_of(rt, pass(rt, alloc, kind, true)), start)
 }
 
 #[test]

@@ -1,5 +1,6 @@
 // What differs from kind to kind of shell: its core, packet by packet, behind one type, and its run over a whole list.
-ghost use Rattle.std.specs.Prelude.{◌≡◌, ◌≤◌, ◌<◌, ◌+◌, ◌++◌, ◌∷◌, [], length, nat_le, map, OnOk, OnErr, IfOk};
+ghost use Rattle.std.specs.Prelude.{◌≡◌, ◌≤◌, ◌<◌, ◌+◌, ◌++◌, ◌∷◌, [], None, length, nat_le, map, OnOk, OnErr, IfOk};
+ghost use Rattle.std.specs.Prelude.{if◌then◌else◌};
 ghost use Rattle.packet_record.specs.Moments.{AreUpTo, Rise};
 ghost use Rattle.link_core.specs.Promises.{count_to};
 ghost use Rattle.link_core.specs.View.{opps_of};
@@ -265,13 +266,14 @@ impl Core {
     }
 }
 
-/// Runs the direction over all packets up to the horizon, or runs out of memory. A link's log isn't written out: it
-/// keeps the packets from which it is made.
+/// Runs the direction over all packets up to the horizon, or runs out of memory. Where `logged`, a link gives its log,
+/// which isn't written out: it keeps the packets from which it is made. Otherwise there is none.
 #[tactic(auto, unfolding(crate::specs::Shells::opportunities, crate::specs::Shells::out, crate::specs::Shells::lost, crate::specs::Shells::inside, crate::specs::Shells::shell_log))]
 pub fn run_whole(
     alloc: Global,
     spec: DirSpec,
     horizon: u64,
+    logged: bool,
     packets: Vec<Timed>,
 ) -> Result<Passage, OutOfMemory>
     requires range { IsInRange spec }
@@ -283,7 +285,8 @@ pub fn run_whole(
     ensures lost { IfOk result (λ p. p.lost.items ≡ whole_lost spec horizon packets.items) }
     ensures held { IfOk result (λ p. p.held.items ≡ map (λ t. t.packet.id)
         (inside spec horizon (length (opportunities spec horizon)) packets.items)) }
-    ensures log { IfOk result (λ p. p.log ≡ if_link spec (whole_log spec horizon packets.items)) }
+    ensures log { IfOk result (λ p. p.log ≡ (if logged then if_link spec (whole_log spec horizon packets.items)
+        else None)) }
     ensures built { OnOk result (IsBuilt spec) }
 {
     let mut packets = packets;
@@ -298,6 +301,8 @@ pub fn run_whole(
             let lost = lose_all(alloc, rate, words, &mut packets)?;
             Ok(passage(alloc, packets, lost))
         }
-        DirSpec::Link { trace, once, queue } => link(alloc, trace, once, queue, horizon, packets),
+        DirSpec::Link { trace, once, queue } => link(
+            alloc, trace, once, queue, horizon, logged, packets,
+        ),
     }
 }

@@ -1,5 +1,5 @@
 // What a direction leaves of a whole list of packets, and a link run over one.
-ghost use Rattle.std.specs.Prelude.{◌≡◌, ◌≤◌, Some, None, [], length, map, IfOk};
+ghost use Rattle.std.specs.Prelude.{◌≡◌, ◌≤◌, Some, None, [], length, map, IfOk, if◌then◌else◌};
 ghost use Rattle.packet_record.specs.Moments.{AreUpTo, Rise};
 ghost use Rattle.trace_reader.specs.Opps.{opps};
 ghost use Rattle.trace_reader.specs.Traces.{IsTrace};
@@ -43,7 +43,7 @@ pub(crate) fn late_passage(alloc: Global, departed: Vec<Timed>, held: Vec<u32>) 
     }
 }
 
-/// Runs a link over all packets. It keeps its arrivals and its trace for the log.
+/// Runs a link over all packets. Where `logged`, it keeps its arrivals and its trace for the log.
 #[tactic(auto, using(crate::proofs::WholeLemmas::all_taken), unfolding(crate::specs::Shells::opportunities, crate::specs::Shells::out, crate::specs::Shells::lost, crate::specs::Shells::inside, crate::specs::Shells::shell_log))]
 pub(crate) fn link(
     alloc: Global,
@@ -51,6 +51,7 @@ pub(crate) fn link(
     once: bool,
     queue: QueueSpec,
     horizon: u64,
+    logged: bool,
     packets: Vec<Timed>,
 ) -> Result<Passage, OutOfMemory>
     requires horizon { horizon ≤ 3600000 }
@@ -63,9 +64,10 @@ pub(crate) fn link(
     ensures held { IfOk result (λ p. p.held.items ≡ map (λ t. t.packet.id)
         (inside (DirSpec.Link trace once queue) horizon (length (opps trace.opportunities once horizon))
         packets.items)) }
-    ensures log { IfOk result (λ p. p.log ≡ Some (whole_log (DirSpec.Link trace once queue) horizon packets.items)) }
+    ensures log { IfOk result (λ p. p.log ≡ (if logged then Some
+        (whole_log (DirSpec.Link trace once queue) horizon packets.items) else None)) }
     ensures built { IsTrace trace }
 {
     let _ = trace.form(); // fact: what IsTrace says of a trace
-    run_link(alloc, trace, once, queue, horizon, packets)
+    run_link(alloc, trace, once, queue, horizon, logged, packets)
 }

@@ -82,11 +82,11 @@ fn one_by_one(rt: &impl Abort, alloc: Global, kind: Kind, most: u32) -> Passage 
     state.into_passage().expect(rt, "memory")
 }
 
-// Returns what becomes of the packets where the shell runs over the whole list.
+// Returns what becomes of the packets where the shell runs over the whole list, with a link's log.
 fn at_once(rt: &impl Abort, alloc: Global, kind: Kind) -> Passage {
     let packets = in_order(rt, alloc, 1000, &many_packets(rt, alloc));
     let direction = direction_of(rt, alloc, kind, 1000);
-    run_whole(alloc, direction, 1000, packets).expect(rt, "memory")
+    run_whole(alloc, direction, 1000, true, packets).expect(rt, "memory")
 }
 
 // Returns whether the same packets departed, were lost and stay inside, and both passages or neither have a log.
