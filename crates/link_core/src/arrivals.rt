@@ -1,5 +1,5 @@
 // The arrivals of a link in one list: those that were let in, and those to come.
-ghost use Rattle.std.specs.Prelude.{◌≡◌, ◌+◌, ◌<◌, ◌≤◌, ◌++◌, ◌∷◌, [], length, take, drop, MatchOption, OnOk};
+ghost use Rattle.std.specs.Prelude.{◌≡◌, ◌+◌, ◌<◌, ◌≤◌, ◌++◌, ◌∷◌, [], length, take, drop, MatchOption, OnOk, OnErr};
 
 use packet_record::Timed;
 use std::marker::Model;
@@ -74,16 +74,17 @@ impl Arrivals {
         Ok(())
     }
 
-    /// Adds packets to come, or runs out of memory.
+    /// Adds packets to come, or runs out of memory; then nothing has changed.
     pub fn extend(&mut self, packets: &[Timed]) -> Result<(), OutOfMemory>
         ensures come { self.new.come ≡ self.old.come }
         ensures coming { OnOk result (self.new.coming ≡ self.old.coming ++ packets.now) }
+        ensures err { OnErr result (self.new.coming ≡ self.old.coming) }
     {
         self.list.extend_from_slice(packets)?;
         Ok(())
     }
 
-    /// Lets go of the packets that were let in. None is to come.
+    /// Lets go of the packets that were let in. No packet was to come.
     pub fn clear(&mut self)
         requires { self.old.coming ≡ [] }
         ensures come { self.new.come ≡ [] }

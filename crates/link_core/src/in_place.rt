@@ -5,8 +5,8 @@ ghost use Rattle.packet_record.specs.Moments.{AreUpTo, Rise};
 ghost use Rattle.link_core.specs.Links.{link_out, link_lost, link_inside};
 ghost use Rattle.link_core.specs.Promises.{AreCovered};
 ghost use Rattle.link_core.specs.views.Span.{span_opps};
-ghost use Rattle.link_core.specs.inside.Sound.{Gone, IsSoundAfter, come_in};
-ghost use Rattle.link_core.specs.inside.InPlace.{IsBetween, gone_in};
+ghost use Rattle.link_core.specs.inside.Sound.{Gone, IsSoundAfter, all_come};
+ghost use Rattle.link_core.specs.inside.InPlace.{IsBetweenPieces, gone_in};
 ghost use Rattle.link_core.specs.inside.Same.{IsSameLink};
 
 use crate::opportunities::Opportunities;
@@ -24,7 +24,7 @@ impl Parts {
         ghost gone: { Gone }
         requires sound { IsSoundAfter gone self.old }
         requires departed { gone.departed ≡ places.old.departed }
-        requires entered { length (come_in gone self.old) ≤ places.old.entered }
+        requires entered { length (all_come gone self.old) ≤ places.old.entered }
         ensures sound { IsSoundAfter (record gone { departed = places.new.departed }) self.new }
         ensures none { self.new.departed.items ≡ [] }
         ensures opportunities { self.new.opportunities ≡ self.old.opportunities }
@@ -39,19 +39,20 @@ impl Parts {
         self.departed.clear();
     }
 
-    // Lets the next packets of `places` in, and burns what is due before each of them.
-    fn pass_piece(&mut self, _last: u32, places: &mut Places) -> Result<(), OutOfMemory>
+    // Lets the next packets of `places` in, burns what is due before each of them, and puts what departs in the places
+    // of what arrived, or runs out of memory.
+    fn play_piece(&mut self, _last: u32, places: &mut Places) -> Result<(), OutOfMemory>
         ghost gone: { Gone }
-        requires between { IsBetween gone _last self.old places.old }
+        requires between { IsBetweenPieces gone _last self.old places.old }
         requires some { 0 < length places.old.coming }
         ensures between { OnOk result
-            (IsBetween (gone_in (gone.come ++ places.old.coming) places.new) _last self.new places.new) }
+            (IsBetweenPieces (gone_in (gone.come ++ places.old.coming) places.new) _last self.new places.new) }
         ensures coming { OnOk result
             (places.new.coming ≡ drop places.new.entered (gone.come ++ places.old.coming)) }
         ensures fewer { OnOk result (length places.new.coming < length places.old.coming) }
         ensures link { IsSameLink self.old self.new }
     {
-        let piece = places.next();
+        let piece = places.next_piece();
         let count = piece.len();
         let latest = piece[count - 1];
         self.arrived.extend(piece)?;
@@ -63,10 +64,11 @@ impl Parts {
         Ok(())
     }
 
-    // Burns the first `last` opportunities, where no packet is to arrive.
-    fn pass_rest(&mut self, last: u32, places: &mut Places) -> Result<(), OutOfMemory>
+    // Burns the first `last` opportunities, where no packet is to arrive, and puts what departs in the places of what
+    // arrived, or runs out of memory.
+    fn play_rest(&mut self, last: u32, places: &mut Places) -> Result<(), OutOfMemory>
         ghost gone: { Gone }
-        requires between { IsBetween gone last self.old places.old }
+        requires between { IsBetweenPieces gone last self.old places.old }
         requires none { places.old.coming ≡ [] }
         ensures sound { OnOk result (IsSoundAfter (record gone { departed = places.new.departed }) self.new) }
         ensures come { OnOk result (self.new.arrived.come ≡ []) }
@@ -80,11 +82,11 @@ impl Parts {
         Ok(())
     }
 
-    // Lets the packets of `places` in and burns the first `last` opportunities. What departs takes the places of what
-    // arrived.
-    fn pass(&mut self, last: u32, places: &mut Places) -> Result<(), OutOfMemory>
+    // Lets the packets of `places` in and burns the first `last` opportunities, or runs out of memory. What departs takes
+    // the places of what arrived.
+    fn play_in_place(&mut self, last: u32, places: &mut Places) -> Result<(), OutOfMemory>
         ghost arrivals: { List TimedValue }
-        requires between { IsBetween (gone_in arrivals places.old) last self.old places.old }
+        requires between { IsBetweenPieces (gone_in arrivals places.old) last self.old places.old }
         requires coming { places.old.coming ≡ drop places.old.entered arrivals }
         ensures sound { OnOk result
             (IsSoundAfter (record { come = arrivals; departed = places.new.departed; log = [] }) self.new) }
@@ -94,15 +96,15 @@ impl Parts {
         ensures link { IsSameLink self.old self.new }
     {
         'pieces: while places.left() > 0 {
-            self.pass_piece(last, places)?;
+            self.play_piece(last, places)?;
         }
-        self.pass_rest(last, places)
+        self.play_rest(last, places)
     }
 }
 
-/// A link after all its arrivals and its first `last` opportunities, or out of memory. It has no log, and keeps no
-/// arrival: what departs takes the places of what arrived.
-pub(crate) fn passed_in_place(
+/// The lists of a link after all its arrivals and its first `last` opportunities, or out of memory. There is no log, and
+/// no arrival is kept: what departs takes the places of what arrived.
+pub(crate) fn played_in_place(
     alloc: Global,
     opportunities: Opportunities,
     queue: QueueSpec,
@@ -123,7 +125,7 @@ pub(crate) fn passed_in_place(
 {
     let mut parts = Parts::new(alloc, opportunities, queue, false, Vec::new(alloc));
     let mut places = Places::new(arrivals);
-    parts.pass(last, &mut places)?;
+    parts.play_in_place(last, &mut places)?;
     let held = parts.buffer.ids(alloc)?;
     Ok(Passage {
         departed: places.into_departed(),

@@ -4,10 +4,11 @@ ghost use Rattle.std.specs.Prelude.{◌≡◌, ◌+◌, ◌<◌, ◌≤◌, ◌+
 use packet_record::Timed;
 use std::marker::Model;
 
-// How many packets arrive at once.
-const PIECE: usize = 1024;
+// How many packets are let in, at most, before what departed is put in their places.
+const PIECE_PACKETS: usize = 1024;
 
-/// Packets in order: those that departed, and those that are to arrive. Contracts see both, and how many have arrived.
+/// Packets in order: those that departed, and those that are to arrive. What stands between them is stale. Contracts see
+/// both, and how many have arrived.
 #[derive(Drop)]
 pub struct Places {
     list: Vec<Timed>,
@@ -61,16 +62,16 @@ impl Places {
         self.list.len() - self.entered
     }
 
-    /// The next packets to arrive: some thousand, or all.
-    pub fn next(&self) -> &[Timed]
+    /// The next packets to arrive: at most `PIECE_PACKETS`.
+    pub fn next_piece(&self) -> &[Timed]
         ensures front { self.now.coming ≡ result.now ++ drop (length result.now) self.now.coming }
         ensures some { 0 < length self.now.coming → 0 < length result.now }
     {
-        let end = self.list.len().min(self.entered + PIECE);
+        let end = self.list.len().min(self.entered + PIECE_PACKETS);
         &self.list[self.entered..end]
     }
 
-    /// Lets the next `count` packets arrive.
+    /// Counts the next `count` packets as arrived.
     pub fn enter(&mut self, count: usize)
         requires { count ≤ length self.old.coming }
         ensures departed { self.new.departed ≡ self.old.departed }

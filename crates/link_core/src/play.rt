@@ -20,10 +20,10 @@ use trace_reader::Opportunity;
 const STEPS: usize = 256;
 
 // The most entries that a step needs room for: of a packet its arrival, its drop and its departure.
-const ENTRIES: usize = 3;
+const STEP_ENTRIES: usize = 3;
 
 // A piece of the log is ended after the steps that make it as long as this.
-const PIECE: usize = 2048;
+const PIECE_ENTRIES: usize = 2048;
 
 impl Parts {
     // Burns the opportunity `o`, which is the next one and due at `moment`. Where nothing is inside and no log is kept,
@@ -55,7 +55,8 @@ impl Parts {
     }
 
     // Burns each opportunity that is due before the packet `t`, the next to come, and then lets it in. Each of these is
-    // a step. It takes at most `steps` steps, and returns how many it didn't take.
+    // a step, and so are all that are due together, where nothing is inside and no log is kept. It takes at most `steps`
+    // steps, and returns how many it didn't take.
     #[inline(always)]
     fn go_to(&mut self, t: Timed, _last: u32, steps: usize) -> usize
         ghost gone: { Gone }
@@ -147,7 +148,7 @@ impl Parts {
         let coming = self.arrived.left().min(STEPS);
         self.buffer.queue.reserve(coming)?;
         self.departed.reserve(held + coming)?;
-        self.log.reserve(held + ENTRIES * STEPS)?;
+        self.log.reserve(held + STEP_ENTRIES * STEPS)?;
         Ok(())
     }
 
@@ -230,7 +231,7 @@ impl Parts {
         ensures none { IfOk result (λ more. ¬ IsTrue more
             → (self.new.log.entries ≡ []) × (rest_of last self.new ≡ [])) }
     {
-        'filling: while self.log.len() < PIECE {
+        'filling: while self.log.len() < PIECE_ENTRIES {
             if !self.run(last)? {
                 return Ok(self.log.len() > 0);
             }

@@ -9,7 +9,7 @@ ghost use Rattle.link_core.specs.inside.Sound.{IsSound, nothing};
 ghost use Rattle.link_core.specs.inside.Moves.{IsSettled};
 ghost use Rattle.link_core.specs.inside.Play.{IsPlayed, all_arrivals};
 
-use crate::in_place::passed_in_place;
+use crate::in_place::played_in_place;
 use crate::link_log::LinkLog;
 use crate::opportunities::Opportunities;
 use crate::parts::Parts;
@@ -79,8 +79,8 @@ impl Parts {
 }
 
 /// Runs a link over all its arrivals, which are in order and up to the horizon, and burns every opportunity up to the
-/// horizon, or runs out of memory. Where `logged`, the passage has the log, which isn't written out: it keeps the
-/// arrivals. Otherwise it has none, and no arrival is kept.
+/// horizon, or runs out of memory. Where `logged`, the passage has the log, not written out, which keeps the
+/// arrivals. Otherwise it has none, and what departs takes the places of what arrived.
 pub fn run_link(
     alloc: Global,
     trace: Trace,
@@ -106,7 +106,7 @@ pub fn run_link(
     let opportunities = Opportunities::new(trace, once, horizon);
     let last = opportunities.len();
     if !logged {
-        return passed_in_place(alloc, opportunities, queue, last, arrivals);
+        return played_in_place(alloc, opportunities, queue, last, arrivals);
     }
     let parts = played(alloc, opportunities, queue, last, false, arrivals)?;
     parts.into_passage(alloc)

@@ -25,7 +25,7 @@ use std::vec::IntoIter;
 use text_base::OutOfMemory;
 
 // Runs one shell over all that arrives, and marks the fates of packets that it drops or keeps. Returns what departs,
-// and the shell's log, where it has a name; where it has none, no log is asked for.
+// and the shell's log where that has a name; else none is asked for.
 fn run_shell(
     alloc: Global,
     marking: &mut Marking<'_>,

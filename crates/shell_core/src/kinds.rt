@@ -266,8 +266,8 @@ impl Core {
     }
 }
 
-/// Runs the direction over all packets up to the horizon, or runs out of memory. Where `logged`, a link gives its log,
-/// which isn't written out: it keeps the packets from which it is made. Otherwise there is none.
+/// Runs the direction over all packets up to the horizon, or runs out of memory. The passage has a log exactly where
+/// `logged` and the shell is a link; it isn't written out, and keeps the packets from which it is made.
 #[tactic(auto, unfolding(crate::specs::Shells::opportunities, crate::specs::Shells::out, crate::specs::Shells::lost, crate::specs::Shells::inside, crate::specs::Shells::shell_log))]
 pub fn run_whole(
     alloc: Global,

@@ -9,7 +9,7 @@ use text_base::{Bytes, LineBuffer, OutOfMemory, PrintLine, print_lines};
 /// The first line of the text of a log, with its line feed (mm-link's log).
 pub const HEADER: &[u8] = b"# base timestamp: 0\n";
 
-// The bytes of each opportunity of a trace that names moments alone.
+// The bytes of each opportunity of a trace that names moments alone, whose digits `put_opportunity` has as a text.
 const PACKET_BYTES: u32 = 1504;
 
 /// The text of a log: `# base timestamp: 0`, then a line for each entry, each with its line feed (mm-link's log).
@@ -26,7 +26,7 @@ impl PrintLine for Entry {
     fn put_line(&self, out: &mut LineBuffer) {
         match *self {
             Entry::Arrival { size, .. } => put_word(out, u64::from(size), b" + "),
-            Entry::Opportunity { bytes, .. } => put_offer(out, bytes),
+            Entry::Opportunity { bytes, .. } => put_opportunity(out, bytes),
             Entry::Departure { size, delay, .. } => put_pair(out, u64::from(size), delay, b" - "),
             Entry::Drop { packets, bytes, .. } => put_pair(out, packets, bytes, b" d "),
         }
@@ -34,9 +34,9 @@ impl PrintLine for Entry {
     }
 }
 
-// Puts the end of an opportunity's line in front.
+// Puts before `out` the end of an opportunity's line: its sign, its bytes and a line feed.
 #[inline(always)]
-fn put_offer(out: &mut LineBuffer, bytes: u32)
+fn put_opportunity(out: &mut LineBuffer, bytes: u32)
     requires { length out.old + 24 ≤ 147456 }
     ensures bytes { out.new ≡ 32 ∷ 35 ∷ 32 ∷ (decimal bytes ++ 10 ∷ out.old) }
     ensures length { length out.new ≤ length out.old + 24 }
@@ -48,7 +48,7 @@ fn put_offer(out: &mut LineBuffer, bytes: u32)
     }
 }
 
-// Puts the end of a line in front: a number and its line feed, and in front of them a sign.
+// Puts before `out` the end of a line: `sign`, a number and a line feed.
 #[inline(always)]
 fn put_word(out: &mut LineBuffer, number: u64, sign: &[u8])
     requires { length sign.now + length out.old + 21 ≤ 147456 }
@@ -60,7 +60,7 @@ fn put_word(out: &mut LineBuffer, number: u64, sign: &[u8])
     out.put(sign);
 }
 
-// Puts the end of a line in front: two numbers with a space between them and a line feed, and in front of them a sign.
+// Puts before `out` the end of a line: `sign`, two numbers with a space between them, and a line feed.
 #[inline(always)]
 fn put_pair(out: &mut LineBuffer, first: u64, second: u64, sign: &[u8])
     requires { length sign.now + length out.old + 42 ≤ 147456 }

@@ -13,7 +13,7 @@ gone_in arrivals places = record { come = take places.entered arrivals; departed
 
 -- Between two pieces of the arrivals nothing is in hand: what arrived was let go, and what departed stands in its
 -- places.
-pub record IsBetween (gone : Gone) (last : ℕ) (c : Parts) (places : Placed) : Type 0 where
+pub record IsBetweenPieces (gone : Gone) (last : ℕ) (c : Parts) (places : Placed) : Type 0 where
   pub sound : IsSoundAfter gone c
   pub playable : IsPlayable (span_opps c.opportunities) c.opportunities.horizon last c.burnt gone.come places.coming
   pub entered : length gone.come ≡ places.entered

@@ -7,7 +7,7 @@ use Rattle.trace_reader.specs.Orders.{Each}
 use Rattle.link_core.specs.declared.parts.Parts.{Parts}
 use Rattle.link_core.specs.views.Span.{span_opps}
 use Rattle.link_core.specs.inside.State.{inside_buffer}
-use Rattle.link_core.specs.inside.Sound.{Gone, IsSound, come_in}
+use Rattle.link_core.specs.inside.Sound.{Gone, IsSound, all_come}
 
 -- a link that has dealt with each of its arrivals so far
 abbrev pub IsSettled : Parts → Type 0
@@ -26,7 +26,7 @@ pub record HasRoomFor (steps : ℕ) (c : Parts) : Type 0 where
       ≤ vec_capacity c.departed
   pub entries : length (inside_buffer c.buffer) + 3 * steps ≤ c.log.spare
 
--- no more room was used than `packets` that are let in and `lines` of the log take
+-- no more room was used than `packets` arrivals and `lines` entries of the log take
 pub record UsesRoom (packets lines : ℕ) (old new : Parts) : Type 0 where
   pub queue : old.buffer.queue.spare ≤ new.buffer.queue.spare + packets
   pub departures : length (inside_buffer new.buffer) + vec_len new.departed + vec_capacity old.departed
@@ -38,6 +38,6 @@ pub record UsesRoom (packets lines : ℕ) (old new : Parts) : Type 0 where
 pub record CanEnter (gone : Gone) (t : Timed) (c : Parts) : Type 0 where
   pub next : c.arrived.coming ≡ t ∷ drop 1 c.arrived.coming
   pub short : t.moment ≤ 9999999999
-  pub order : AreUpTo t.moment (come_in gone c)
+  pub order : AreUpTo t.moment (all_come gone c)
   pub burnt : Each (λ o. o.moment ≤ t.moment) (take c.burnt (span_opps c.opportunities))
   pub later : Each (λ o. t.moment < o.moment) (drop c.burnt (span_opps c.opportunities))

@@ -7,7 +7,7 @@ use Rattle.link_core.specs.declared.parts.Parts.{Parts}
 use Rattle.link_core.specs.Promises.{count_to, AreCovered}
 use Rattle.link_core.specs.Links.{link_out, link_log}
 use Rattle.link_core.specs.views.Span.{span_opps}
-use Rattle.link_core.specs.inside.Sound.{Gone, come_in}
+use Rattle.link_core.specs.inside.Sound.{Gone, all_come}
 
 -- the opportunities that are burnt are not after the next arrival
 abbrev pub IsInTime : List Opportunity → ℕ → List Timed → Type 0
@@ -24,7 +24,7 @@ pub record IsPlayable (os : List Opportunity) (horizon last b : ℕ) (come comin
   pub so_far : b ≤ last
 
 abbrev pub CanPlay : Gone → ℕ → Parts → Type 0
-CanPlay gone last c = IsPlayable (span_opps c.opportunities) c.opportunities.horizon last c.burnt (come_in gone c)
+CanPlay gone last c = IsPlayable (span_opps c.opportunities) c.opportunities.horizon last c.burnt (all_come gone c)
     c.arrived.coming
 
 -- all arrivals are in, and the first `last` opportunities are burnt
@@ -33,7 +33,7 @@ pub record IsPlayed (last : ℕ) (c : Parts) : Type 0 where
   pub all_burnt : c.burnt ≡ last
 
 abbrev pub all_arrivals : Gone → Parts → List Timed
-all_arrivals gone c = come_in gone c ++ c.arrived.coming
+all_arrivals gone c = all_come gone c ++ c.arrived.coming
 
 -- how many steps there may be
 abbrev pub work : ℕ → Parts → ℕ
@@ -43,7 +43,7 @@ work last c = length c.arrived.coming + (last - c.burnt)
 abbrev pub without_last : {X : Type 0} → List X → List X → List X
 without_last last all = take (length all - length last) all
 
--- the departures and entries that aren't in hand any more, where all arrivals are
+-- the departures and entries that aren't in hand any more, where each arrival still is
 abbrev pub gone_of : Parts → Gone
 gone_of c = record {
   come = [];

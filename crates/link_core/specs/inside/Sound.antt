@@ -18,7 +18,7 @@ pub record Sound (q : QueueSpec) (opps : List Opportunity) (burnt : ℕ) (arriva
   pub order : AreRising opps
   pub later : Each (λ o. Each (λ t. t.moment < o.moment) (reverse arrivals)) (drop burnt opps)
 
--- the first arrivals that were let in, departures and entries, where they were let go
+-- those that were let go: the first of the arrivals that were let in, of the departures and of the entries
 pub record Gone : Type 0 where
   pub come : List Timed
   pub departed : List Timed
@@ -27,18 +27,18 @@ pub record Gone : Type 0 where
 abbrev pub nothing : Gone
 nothing = record { come = []; departed = []; log = [] }
 
--- no arrival was let go
+-- the same, where no arrival was let go
 abbrev pub keeping_arrivals : Gone → Gone
 keeping_arrivals gone = record gone { come = [] }
 
 -- all that were let in
-abbrev pub come_in : Gone → Parts → List Timed
-come_in gone c = gone.come ++ c.arrived.come
+abbrev pub all_come : Gone → Parts → List Timed
+all_come gone c = gone.come ++ c.arrived.come
 
 -- the parts, where these were let go
 abbrev pub IsSoundAfter : Gone → Parts → Type 0
 IsSoundAfter gone c =
-    Sound c.buffer.queue.spec (span_opps c.opportunities) c.burnt (come_in gone c) c.buffer.packet c.buffer.used
+    Sound c.buffer.queue.spec (span_opps c.opportunities) c.burnt (all_come gone c) c.buffer.packet c.buffer.used
     c.buffer.queue.packets (gone.departed ++ c.departed.items) c.buffer.queue.lost c.log.kept
     (gone.log ++ c.log.entries)
 

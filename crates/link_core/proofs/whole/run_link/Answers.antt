@@ -24,8 +24,8 @@ played-requires c =
       few = rw (all, span) (omega arith);
     }
 
-pub passed_in_place-requires-clause-covered : goal.passed_in_place-requires-clause-covered
-passed_in_place-requires-clause-covered c =
+pub played_in_place-requires-clause-covered : goal.played_in_place-requires-clause-covered
+played_in_place-requires-clause-covered c =
     let os = opps c.args.trace.opportunities c.args.once c.args.horizon in
     let span = c.new-opportunities.ensures in
     let all : c.len-last.result ≡ length os = c.len-last.ensures ∙ ap (λ (s : Span). length (span_opps s)) span in

@@ -1,4 +1,4 @@
-use Rattle.link_core.proofs.parts.Parts.pass_rest.Given as goal
+use Rattle.link_core.proofs.parts.Parts.play_rest.Given as goal
 
 abbrev pub ghost-finish : goal.ghost-finish
 ghost-finish g a = g.gone

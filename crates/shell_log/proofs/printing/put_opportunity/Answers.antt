@@ -1,6 +1,6 @@
 use Rattle.std.proofs.Common.{◌≡◌, ◌++◌, ◌∷◌, [], decimal, ap, refl, sym, ◌∙◌, rules}
 use Rattle.std.specs.Fmt.{digits}
-use Rattle.shell_log.proofs.printing.put_offer.Goals as goal
+use Rattle.shell_log.proofs.printing.put_opportunity.Goals as goal
 
 whole_packet : decimal 1504 ≡ 49 ∷ 53 ∷ 48 ∷ 52 ∷ []
 unfolding digits

@@ -9,7 +9,7 @@ use Rattle.link_core.specs.views.Span.{span_opps}
 use Rattle.link_core.specs.inside.Play.{IsPlayable}
 use Rattle.link_core.specs.inside.Sound.{IsSoundAfter}
 use Rattle.link_core.proofs.InPlaceLemmas.{latest_in_time, playable_piece, playable_rest}
-use Rattle.link_core.proofs.parts.Parts.pass_piece.Goals as goal
+use Rattle.link_core.proofs.parts.Parts.play_piece.Goals as goal
 
 pub count_from-due-requires : goal.count_from-due-requires
 count_from-due-requires g c =
@@ -17,13 +17,13 @@ count_from-due-requires g c =
     let os = span_opps now.opportunities in
     let h = now.opportunities.horizon in
     let coming = c.args.places.now.coming in
-    let piece = c.next-piece.result.now in
+    let piece = c.next_piece-piece.result.now in
     let rest = drop (length piece) coming in
     let last = c.args._last in
     let come = g.gone.come in
-    let some = c.next-piece.ensures.some c.requires.1 in
+    let some = c.next_piece-piece.ensures.some c.requires.1 in
     let p : IsPlayable os h last now.burnt come (piece ++ rest) =
-    subst (λ (ts : List Timed). IsPlayable os h last now.burnt come ts) c.next-piece.ensures.front c.requires.0.playable
+    subst (λ (ts : List Timed). IsPlayable os h last now.burnt come ts) c.next_piece-piece.ensures.front c.requires.0.playable
     in
     latest_in_time os h last now.burnt come piece rest c.index-piece-count.result (length piece - 1) p
     c.index-piece-count.is (omega arith)
@@ -35,13 +35,13 @@ finish-requires g c =
     let os = span_opps now.opportunities in
     let h = now.opportunities.horizon in
     let coming = c.args.places.now.coming in
-    let piece = c.next-piece.result.now in
+    let piece = c.next_piece-piece.result.now in
     let rest = drop (length piece) coming in
     let last = c.args._last in
     let come = g.gone.come in
-    let some = c.next-piece.ensures.some c.requires.1 in
+    let some = c.next_piece-piece.ensures.some c.requires.1 in
     let p : IsPlayable os h last now.burnt come (piece ++ rest) =
-    subst (λ (ts : List Timed). IsPlayable os h last now.burnt come ts) c.next-piece.ensures.front was.playable
+    subst (λ (ts : List Timed). IsPlayable os h last now.burnt come ts) c.next_piece-piece.ensures.front was.playable
     in
     let latest = c.index-piece-count.result in
     let few = c.count_from-due.ensures.within in
@@ -64,13 +64,13 @@ returns-clause-between g c =
     let os = span_opps now.opportunities in
     let h = now.opportunities.horizon in
     let coming = c.args.places.now.coming in
-    let piece = c.next-piece.result.now in
+    let piece = c.next_piece-piece.result.now in
     let rest = drop (length piece) coming in
     let last = c.args._last in
     let come = g.gone.come in
-    let some = c.next-piece.ensures.some c.requires.1 in
+    let some = c.next_piece-piece.ensures.some c.requires.1 in
     let p : IsPlayable os h last now.burnt come (piece ++ rest) =
-    subst (λ (ts : List Timed). IsPlayable os h last now.burnt come ts) c.next-piece.ensures.front was.playable
+    subst (λ (ts : List Timed). IsPlayable os h last now.burnt come ts) c.next_piece-piece.ensures.front was.playable
     in
     let latest = c.index-piece-count.result in
     let extended = c.extend.new.self in
@@ -89,7 +89,7 @@ returns-clause-between g c =
     in
     let number : places.entered ≡ length come + length piece = c.put_departed.ensures.entered ∙ c.enter.ensures.entered
     ∙ ap (λ n. n + length piece) (sym was.entered) in
-    let piece_is : take (length piece) coming ≡ piece = ap (take (length piece)) c.next-piece.ensures.front
+    let piece_is : take (length piece) coming ≡ piece = ap (take (length piece)) c.next_piece-piece.ensures.front
     ∙ take-append_seam piece rest in
     let come_is : take places.entered (come ++ coming) ≡ come ++ piece = ap (λ n. take n (come ++ coming)) number
     ∙ take-append-add come coming (length piece)
@@ -125,7 +125,7 @@ pub returns-clause-coming : goal.returns-clause-coming
 returns-clause-coming g c =
     let come = g.gone.come in
     let coming = c.args.places.now.coming in
-    let piece = c.next-piece.result.now in
+    let piece = c.next_piece-piece.result.now in
     let number = c.put_departed.ensures.entered ∙ c.enter.ensures.entered
     ∙ ap (λ n. n + length piece) (sym c.requires.0.entered) in
     c.put_departed.ensures.coming ∙ c.enter.ensures.coming
