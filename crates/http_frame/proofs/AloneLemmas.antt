@@ -10,7 +10,9 @@ use Rattle.http_frame.specs.Messages.{IsRequest}
 use Rattle.http_frame.specs.Frames.{Frames, NextSays, MoreCause, FaultCause, GivesFault, GivesMore}
 use Rattle.http_frame.specs.inside.Frames.{FindSays}
 use Rattle.http_frame.specs.HeadsAlone.{head_alone, NextHeadSays, GivesHead}
+use Rattle.text_base.specs.declared.out_of_memory.OutOfMemory.{OutOfMemory}
 use Rattle.http_frame.specs.declared.head.FoundMessage.{FoundMessage}
+use Rattle.http_frame.specs.declared.pending.Outcome.TheVariants as outcomes
 use Rattle.http_frame.specs.declared.errors.Step.{Step}
 use Rattle.http_frame.specs.declared.errors.Step.TheVariants as steps
 use Rattle.http_frame.specs.declared.errors.FrameError.{FrameError}
@@ -26,7 +28,7 @@ use Rattle.http_frame.proofs.RunLemmas.{prefix_free, request_stops}
 -- ---- from what stands at the front
 
 pub taken_head : (old mid new : Frames) (m : FoundMessage RequestHead)
-    → FindSays request_form old (Ok (steps.Message m)) mid
+    → FindSays request_form old (Ok (outcomes.Message m)) mid
     → new ≡ record mid { unread = drop m.len mid.unread } → NextHeadSays old (Ok (steps.Message m.head)) new
 taken_head old mid new m x is = record {
   whole = Ok (steps.Message (record { head = m.head; bytes = take m.len old.unread }));
@@ -42,13 +44,17 @@ taken_head old mid new m x is = record {
   alone = refl;
 }
 
-pub no_head : (old new : Frames) → FindSays request_form old (Ok steps.More) new → NextHeadSays old (Ok steps.More) new
+pub no_head : (old new : Frames) → FindSays request_form old (Ok outcomes.More) new
+    → NextHeadSays old (Ok steps.More) new
 no_head old new x = record { whole = Ok steps.More; says = x; alone = refl }
 
-pub refused_head : (old new : Frames) (e : FrameFault) → FindSays request_form old (Err e) new
-    → NextHeadSays old (Err e) new
-refused_head old new (faults.Frame e) x = record { whole = Err (faults.Frame e); says = x; alone = refl }
-refused_head old new faults.OutOfMemory x = record { whole = Err faults.OutOfMemory; says = x; alone = refl }
+pub refused_head : (old new : Frames) (e : FrameError) → FindSays request_form old (Ok (outcomes.Fault e)) new
+    → NextHeadSays old (Err (faults.Frame e)) new
+refused_head old new e x = record { whole = Err (faults.Frame e); says = x; alone = refl }
+
+pub without_memory : (old new : Frames) (e : OutOfMemory) → FindSays request_form old (Err e) new
+    → NextHeadSays old (Err faults.OutOfMemory) new
+without_memory old new e x = record { whole = Err faults.OutOfMemory; says = x; alone = refl }
 
 -- ---- what the answers are, exactly
 

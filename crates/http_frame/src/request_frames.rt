@@ -15,7 +15,7 @@ ghost use Rattle.http_frame.specs.HeadsAlone.{NextHeadSays, GivesHead};
 
 use crate::buffer::Buffer;
 use crate::errors::{FrameError, FrameFault, Step};
-use crate::head::{FoundMessage, HeadStep};
+use crate::head::HeadStep;
 use crate::messages::{Request, RequestHead};
 use crate::pending::{Outcome, Pending, finish};
 use crate::request_head::read_request;
@@ -161,7 +161,7 @@ impl RequestFrames {
         ensures { NextSays request_form self.old result self.new }
     {
         match self.find() {
-            Ok(Step::Message(found)) => {
+            Ok(Outcome::Message(found)) => {
                 let unread = self.buffer.as_slice();
                 match Bytes::from_slice(self.alloc, &unread[..found.len]) {
                     Ok(bytes) => {
@@ -174,8 +174,9 @@ impl RequestFrames {
                     Err(_) => Err(FrameFault::OutOfMemory),
                 }
             }
-            Ok(Step::More) => Ok(Step::More),
-            Err(fault) => Err(fault),
+            Ok(Outcome::More) => Ok(Step::More),
+            Ok(Outcome::Fault(error)) => Err(FrameFault::Frame(error)),
+            Err(_) => Err(FrameFault::OutOfMemory),
         }
     }
 
@@ -184,12 +185,13 @@ impl RequestFrames {
         ensures { NextHeadSays self.old result self.new }
     {
         match self.find() {
-            Ok(Step::Message(found)) => {
+            Ok(Outcome::Message(found)) => {
                 self.take_off(found.len);
                 Ok(Step::Message(found.head))
             }
-            Ok(Step::More) => Ok(Step::More),
-            Err(fault) => Err(fault),
+            Ok(Outcome::More) => Ok(Step::More),
+            Ok(Outcome::Fault(error)) => Err(FrameFault::Frame(error)),
+            Err(_) => Err(FrameFault::OutOfMemory),
         }
     }
 
@@ -202,24 +204,19 @@ impl RequestFrames {
         self.buffer.advance(len);
     }
 
-    /// Finds the first request, which stays at the front.
-    fn find(&mut self) -> Result<Step<FoundMessage<RequestHead>>, FrameFault>
+    /// Finds the first request, which stays at the front. Returns `OutOfMemory` where an allocation fails.
+    fn find(&mut self) -> Result<Outcome<RequestHead>, OutOfMemory>
         ensures { FindSays request_form self.old result self.new }
     {
         if let Some(error) = self.failed {
-            return Err(FrameFault::Frame(error));
+            return Ok(Outcome::Fault(error));
         }
         let pending = self.pending.take();
         let (pending, outcome) = advance(self.alloc, self.buffer.as_slice(), pending);
         self.pending = pending;
-        match outcome {
-            Ok(Outcome::Message(found)) => Ok(Step::Message(found)),
-            Ok(Outcome::More) => Ok(Step::More),
-            Ok(Outcome::Fault(error)) => {
-                self.failed = Some(error);
-                Err(FrameFault::Frame(error))
-            }
-            Err(_) => Err(FrameFault::OutOfMemory),
+        if let Ok(Outcome::Fault(error)) = outcome {
+            self.failed = Some(error);
         }
+        outcome
     }
 }

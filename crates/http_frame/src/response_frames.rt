@@ -11,7 +11,7 @@ ghost use Rattle.http_frame.specs.inside.Frames.{IsPending, AdvanceSays, FindSay
 
 use crate::buffer::Buffer;
 use crate::errors::{FrameError, FrameFault, Step};
-use crate::head::{FoundMessage, HeadStep};
+use crate::head::HeadStep;
 use crate::messages::{Response, ResponseHead};
 use crate::pending::{Outcome, Pending, finish};
 use crate::response_head::read_response;
@@ -154,7 +154,7 @@ impl ResponseFrames {
         ensures { NextSays (response_form head_request) self.old result self.new }
     {
         match self.find(head_request) {
-            Ok(Step::Message(found)) => {
+            Outcome::Message(found) => {
                 let unread = self.buffer.as_slice();
                 match Bytes::from_slice(self.alloc, &unread[..found.len]) {
                     Ok(bytes) => {
@@ -167,8 +167,8 @@ impl ResponseFrames {
                     Err(_) => Err(FrameFault::OutOfMemory),
                 }
             }
-            Ok(Step::More) => Ok(Step::More),
-            Err(fault) => Err(fault),
+            Outcome::More => Ok(Step::More),
+            Outcome::Fault(error) => Err(FrameFault::Frame(error)),
         }
     }
 
@@ -181,25 +181,21 @@ impl ResponseFrames {
         self.buffer.advance(len);
     }
 
-    /// Finds the first response, which stays at the front.
-    fn find(&mut self, head_request: bool) -> Result<Step<FoundMessage<ResponseHead>>, FrameFault>
-        ensures { FindSays (response_form head_request) self.old result self.new }
+    /// Finds the first response, which stays at the front. It takes no memory.
+    fn find(&mut self, head_request: bool) -> Outcome<ResponseHead>
+        ensures { FindSays (response_form head_request) self.old (Ok result) self.new }
     {
         if let Some(error) = self.failed {
-            return Err(FrameFault::Frame(error));
+            return Outcome::Fault(error);
         }
         let pending = of_kind(self.pending.take(), self.to_head, head_request);
         self.to_head = head_request;
         let unread = self.buffer.as_slice();
         let (pending, outcome) = advance(head_request, self.ended, unread, pending);
         self.pending = pending;
-        match outcome {
-            Outcome::Message(found) => Ok(Step::Message(found)),
-            Outcome::More => Ok(Step::More),
-            Outcome::Fault(error) => {
-                self.failed = Some(error);
-                Err(FrameFault::Frame(error))
-            }
+        if let Outcome::Fault(error) = outcome {
+            self.failed = Some(error);
         }
+        outcome
     }
 }

@@ -4,29 +4,29 @@ use Rattle.std.specs.Prelude.{Option, slice_get, Some, option_map}
 use Rattle.http_frame.specs.declared.messages.RequestHead.{RequestHead}
 use Rattle.record_store.specs.declared.record.Record.{Record}
 use Rattle.request_match.specs.Match.{FitsPort, Agrees, BestCause}
-use Rattle.request_match.specs.inside.Index.{Entry, IsIndex, HasScore, InOrder, entry_at, key_of, offered, wanted_by}
+use Rattle.request_match.specs.inside.Index.{Entry, IsIndex, HasScore, InOrder, entry_at, key_of, offered, head_copy}
 use Rattle.request_match.proofs.IndexLemmas.{none_below, next_scanned, scanned_all}
 
--- what must agree with a record does
-pub wanted_agrees : (q : RequestHead) (asked : Option ℕ) (r : Record) → FitsPort r.port asked
-    → wanted_by r.request.head ≡ wanted_by q → Agrees q asked r
-wanted_agrees q asked r fits e = record {
+-- where the copies are equal, the record agrees
+pub copy_agrees : (q : RequestHead) (asked : Option ℕ) (r : Record) → FitsPort r.port asked
+    → head_copy r.request.head ≡ head_copy q → Agrees q asked r
+copy_agrees q asked r fits e = record {
   port = fits;
   host = ap (λ w. w.host) e;
   agent = ap (λ w. w.agent) e;
   line = ap (λ w. w.front) e;
 }
 
-pub agrees_wanted : (q : RequestHead) (asked : Option ℕ) (r : Record) → Agrees q asked r
-    → wanted_by r.request.head ≡ wanted_by q
-agrees_wanted q asked r a = λ i. record { front = a.line i; host = a.host i; agent = a.agent i }
+pub agrees_copy : (q : RequestHead) (asked : Option ℕ) (r : Record) → Agrees q asked r
+    → head_copy r.request.head ≡ head_copy q
+agrees_copy q asked r a = λ i. record { front = a.line i; host = a.host i; agent = a.agent i }
 
 -- where the next entry has another key, so have all after it
-pub alone_end : (q : RequestHead) (es : List Entry) (start wanted : ℕ) → InOrder es → wanted ≡ key_of q
-    → ((k : ℕ) (d : Entry) → start ≤ k → k < length es → wanted ≤ (get_or es k d).0)
-    → ((d : Entry) → start + 1 < length es → (get_or es (start + 1) d).0 ≡ wanted → ⊥)
+pub alone_end : (q : RequestHead) (es : List Entry) (start key : ℕ) → InOrder es → key ≡ key_of q
+    → ((k : ℕ) (d : Entry) → start ≤ k → k < length es → key ≤ (get_or es k d).0)
+    → ((d : Entry) → start + 1 < length es → (get_or es (start + 1) d).0 ≡ key → ⊥)
     → (j : ℕ) → start + 1 ≤ j → j < length es → (entry_at es j).0 ≡ key_of q → ⊥
-alone_end q es start wanted ordered is from other j up small e =
+alone_end q es start key ordered is from other j up small e =
     let next : start + 1 < length es = omega (arith, up, small) in
     let least = from (start + 1) (0, 0) (omega arith) next in
     let more = ordered (start + 1) j (0, 0) up small in

@@ -2,14 +2,14 @@
 ghost use Rattle.std.specs.Prelude.{◌≡◌, ◌<◌, ◌≤◌, ◌+◌, ℕ, true, Option, Some, IfOk, length, slice_index_or};
 ghost use Rattle.request_match.specs.Match.{BestCause};
 ghost use Rattle.request_match.specs.inside.Index.{Entry, Passes, key_of};
-ghost use Rattle.request_match.specs.inside.Index.{IsIndex as IsIndexOf, HasWantedTo as HasWantedOf};
+ghost use Rattle.request_match.specs.inside.Index.{IsIndex as IsIndexOf, HasCopiesTo as HasCopiesOf};
 
+use crate::copies::{HeadCopy, copies_of};
 use crate::index_entries::{fronts_of, ordered_entries};
 use crate::index_scores::{better_place, is_past, next_score};
 use crate::keys::key_of_front;
 use crate::matching::{Asked, place_of};
 use crate::starts::{Starts, first_from};
-use crate::wanted::{Wanted, wanted_of};
 use http_frame::RequestHead;
 use record_store::{Record, Store};
 use std::alloc::Global;
@@ -27,8 +27,8 @@ pub struct Index<'a> {
     entries: Vec<(u64, usize)>,
     /// What the record of each entry shares with that of the entry before it.
     fronts: Vec<Option<usize>>,
-    /// What must agree with the record of each entry.
-    kept: Vec<Wanted>,
+    /// Copies of what must agree with a request, of the record of each entry.
+    copies: Vec<HeadCopy>,
     /// Where the entries of a key begin, about.
     starts: Starts,
 }
@@ -36,14 +36,14 @@ pub struct Index<'a> {
 impl<'a> Model for Index<'a> {
     ghost use Rattle.request_match.specs.Indexed.{Indexed};
     ghost use Rattle.std.specs.Prelude.{length};
-    ghost use Rattle.request_match.specs.inside.Index.{IsIndex, HasWantedTo};
+    ghost use Rattle.request_match.specs.inside.Index.{IsIndex, HasCopiesTo};
 
     ghost Value = { Indexed };
 
     ghost view = { λ s. record { records = s.records.now; port = s.port } };
 
     ghost invariant = { λ s. IsIndex s.records.now s.port s.entries.items s.fronts.items
-        × HasWantedTo s.records.now s.entries.items (length s.entries.items) s.kept.items };
+        × HasCopiesTo s.records.now s.entries.items (length s.entries.items) s.copies.items };
 }
 
 /// Passes entries from `start` on whose score is that of the entry before them, without a look at their records.
@@ -97,32 +97,32 @@ fn pass_equals(
     }
 }
 
-/// Returns whether entry `i` has the key `wanted`, and the next one hasn't.
-fn is_alone(entries: &[(u64, usize)], i: usize, wanted: u64) -> bool
+/// Returns whether entry `i` has the key, and the next one hasn't.
+fn is_alone(entries: &[(u64, usize)], i: usize, key: u64) -> bool
     ensures { result ≡ true → (i < length entries.now)
-        × ((d : Entry) → i + 1 < length entries.now → (slice_index_or entries.now (i + 1) d).0 ≡ wanted → ⊥) }
+        × ((d : Entry) → i + 1 < length entries.now → (slice_index_or entries.now (i + 1) d).0 ≡ key → ⊥) }
 {
-    if i >= entries.len() || entries[i].0 != wanted {
+    if i >= entries.len() || entries[i].0 != key {
         return false;
     }
-    i + 1 == entries.len() || entries[i + 1].0 != wanted
+    i + 1 == entries.len() || entries[i + 1].0 != key
 }
 
-/// Returns the place of the best record, found by the entries with the key `wanted`, the first of which is at `start`.
+/// Returns the place of the best record, found by the entries with the key, the first of which is at `start`.
 fn best_from(
     entries: &[(u64, usize)],
     fronts: &[Option<usize>],
     records: &[Record],
     asked: &Asked<'_>,
-    wanted: u64,
+    key: u64,
     start: usize,
 ) -> Option<usize>
     requires index { IsIndexOf records.now asked.now.port entries.now fronts.now }
-    requires key { wanted ≡ key_of asked.now.request.now }
+    requires key { key ≡ key_of asked.now.request.now }
     requires bound { start ≤ length entries.now }
-    requires below { (k : ℕ) (d : Entry) → k < start → (slice_index_or entries.now k d).0 < wanted }
+    requires below { (k : ℕ) (d : Entry) → k < start → (slice_index_or entries.now k d).0 < key }
     requires from { (k : ℕ) (d : Entry) → start ≤ k → k < length entries.now
-        → wanted ≤ (slice_index_or entries.now k d).0 }
+        → key ≤ (slice_index_or entries.now k d).0 }
     ensures { BestCause asked.now.request.now asked.now.port records.now result }
 {
     let mut i = start;
@@ -130,7 +130,7 @@ fn best_from(
     let mut score = None;
     'entries: while i < entries.len() {
         let (found_key, place) = entries[i];
-        if found_key != wanted {
+        if found_key != key {
             return place_of(found);
         }
         score = next_score(fronts[i], score, &records[place], asked);
@@ -146,21 +146,21 @@ fn best_from(
 fn best_of(
     entries: &[(u64, usize)],
     fronts: &[Option<usize>],
-    kept: &[Wanted],
+    copies: &[HeadCopy],
     starts: &Starts,
     records: &[Record],
     asked: &Asked<'_>,
 ) -> Option<usize>
     requires index { IsIndexOf records.now asked.now.port entries.now fronts.now }
-    requires kept { HasWantedOf records.now entries.now (length entries.now) kept.now }
+    requires copies { HasCopiesOf records.now entries.now (length entries.now) copies.now }
     ensures { BestCause asked.now.request.now asked.now.port records.now result }
 {
-    let wanted = key_of_front(asked.front, asked.request);
-    let start = first_from(entries, starts, wanted);
-    if !is_alone(entries, start, wanted) {
-        return best_from(entries, fronts, records, asked, wanted, start);
+    let key = key_of_front(asked.front, asked.request);
+    let start = first_from(entries, starts, key);
+    if !is_alone(entries, start, key) {
+        return best_from(entries, fronts, records, asked, key, start);
     }
-    if kept[start].agrees(asked) {
+    if copies[start].agrees(asked) {
         Some(entries[start].1)
     } else {
         None
@@ -175,14 +175,14 @@ impl<'a> Index<'a> {
         let records = store.records();
         let entries = ordered_entries(alloc, records, port)?;
         let fronts = fronts_of(alloc, records, entries.as_slice())?;
-        let kept = wanted_of(alloc, records, entries.as_slice())?;
+        let copies = copies_of(alloc, records, entries.as_slice())?;
         let starts = Starts::new(alloc, entries.as_slice())?;
         Ok(Index {
             records,
             port,
             entries,
             fronts,
-            kept,
+            copies,
             starts,
         })
     }
@@ -194,7 +194,7 @@ impl<'a> Index<'a> {
         best_of(
             self.entries.as_slice(),
             self.fronts.as_slice(),
-            self.kept.as_slice(),
+            self.copies.as_slice(),
             &self.starts,
             self.records,
             &Asked::new(request, self.port),

@@ -196,9 +196,9 @@ pub(crate) fn own_score(exchange: &Record, asked: &Asked<'_>) -> Option<usize>
         return None;
     }
     let line = exchange.request.head.line.as_slice();
-    let wanted = asked.request.line.as_slice();
-    let shared = common_front(line, wanted);
-    if !has_path(line, wanted, asked.front.len(), shared) {
+    let asked_line = asked.request.line.as_slice();
+    let shared = common_front(line, asked_line);
+    if !has_path(line, asked_line, asked.front.len(), shared) {
         return None;
     }
     Some(shared)

@@ -55,7 +55,9 @@ impl Starts {
         Ok(Starts { places, shift })
     }
 
-    /// Returns about where the entries of the key begin: a place that isn't past it, and one that isn't before it.
+    /// Returns two places with the entries of `key` between them: where the entries begin whose keys have the same
+    /// highest bits as `key`, and where those begin whose highest bits are greater. Where no such places are known it
+    /// returns 0 and the greatest number. Both are tried before they are relied on.
     fn around(&self, key: u64) -> (usize, usize) {
         let bits = (key >> self.shift) as usize;
         match (

@@ -7,14 +7,9 @@ use Rattle.http_frame.specs.Bodies.{BodyCause}
 use Rattle.http_frame.specs.inside.Bodies.{MayGoOn}
 use Rattle.http_frame.specs.declared.body.BodyStep.TheVariants as bodies
 use Rattle.text_base.specs.declared.out_of_memory.OutOfMemory.{OutOfMemory}
-use Rattle.http_frame.specs.declared.errors.Step.{Step}
-use Rattle.http_frame.specs.declared.errors.Step.TheVariants as steps
-use Rattle.http_frame.specs.declared.errors.FrameFault.{FrameFault}
-use Rattle.http_frame.specs.declared.errors.FrameFault.TheVariants as faults
 use Rattle.http_frame.specs.declared.errors.FrameError.TheVariants.{BadHead, HeadTooLong, TooManyHeaders, BadLength}
 use Rattle.http_frame.specs.declared.errors.FrameError.TheVariants.{BadCoding, BadChunk, BodyTooLong, Refused}
 use Rattle.http_frame.specs.declared.pending.Pending.{Pending}
-use Rattle.http_frame.specs.declared.head.FoundMessage.{FoundMessage}
 use Rattle.http_frame.specs.declared.pending.Outcome.{Outcome}
 use Rattle.http_frame.specs.declared.pending.Outcome.TheVariants as outcomes
 use Rattle.http_frame.specs.Frames.{Frames, StaysOpen, BeginsMessage, MoreCause, FaultCause, Fails}
@@ -57,10 +52,10 @@ module _ {Tree Said Message : Type 0} (form : Form Tree Said Message) where
   AdvanceSays ended bytes p (Err e) = IsPending bytes p
 
   -- What each result of finding the first message says. The message stays at the front.
-  abbrev pub FindSays : Frames → Result (Step (FoundMessage Said)) FrameFault → Frames → Type 0
-  FindSays old (Ok (steps.Message m)) new =
+  abbrev pub FindSays : Frames → Result (Outcome Said) OutOfMemory → Frames → Type 0
+  FindSays old (Ok (outcomes.Message m)) new =
       StaysOpen old new × (m.len ≤ length old.unread)
       × BeginsMessage form old.ended old.unread m.head (take m.len old.unread)
-  FindSays old (Ok steps.More) new = StaysOpen old new × MoreCause form old.ended old.unread
-  FindSays old (Err (faults.Frame e)) new = Fails form old e new
-  FindSays old (Err faults.OutOfMemory) new = StaysOpen old new
+  FindSays old (Ok outcomes.More) new = StaysOpen old new × MoreCause form old.ended old.unread
+  FindSays old (Ok (outcomes.Fault e)) new = Fails form old e new
+  FindSays old (Err e) new = StaysOpen old new

@@ -7,7 +7,7 @@ use Rattle.std.specs.Simd.{first_chunks}
 use Rattle.std.specs.List.Sorted.{IsNonDecreasingBy}
 use Rattle.http_frame.specs.declared.messages.RequestHead.{RequestHead}
 use Rattle.record_store.specs.declared.record.Record.{Record}
-use Rattle.request_match.specs.declared.wanted.Wanted.{Wanted}
+use Rattle.request_match.specs.declared.copies.HeadCopy.{HeadCopy}
 use Rattle.request_match.specs.Match.{stripped, common, FitsPort, Agrees, score}
 use Rattle.request_match.specs.inside.Match.{better_of}
 
@@ -71,17 +71,17 @@ pub record HasFrontsTo (rs : List Record) (es : List Entry) (count : ℕ) (front
   pub each : (k : ℕ) (d : Option ℕ) → k < count → HasFront rs es k (slice_index_or fronts k d)
 
 -- What must agree with a request, by the head of a record or of the request.
-abbrev pub wanted_by : RequestHead → Wanted
-wanted_by head = record { front = stripped head.line; host = head.host; agent = head.agent }
+abbrev pub head_copy : RequestHead → HeadCopy
+head_copy head = record { front = stripped head.line; host = head.host; agent = head.agent }
 
--- What is kept of the record of entry `i`.
-abbrev pub HasWanted : List Record → List Entry → ℕ → Wanted → Type 0
-HasWanted rs es i kept = (r : Record) → slice_get rs (entry_at es i).1 ≡ Some r → kept ≡ wanted_by r.request.head
+-- `copy` has what must agree with the record of entry `i`.
+abbrev pub HasCopy : List Record → List Entry → ℕ → HeadCopy → Type 0
+HasCopy rs es i copy = (r : Record) → slice_get rs (entry_at es i).1 ≡ Some r → copy ≡ head_copy r.request.head
 
--- `kept` has what must agree with the records of the first `count` entries.
-pub record HasWantedTo (rs : List Record) (es : List Entry) (count : ℕ) (kept : List Wanted) : Type 0 where
-  pub as_many : length kept ≡ count
-  pub each : (k : ℕ) (d : Wanted) → k < count → HasWanted rs es k (slice_index_or kept k d)
+-- `copies` has what must agree with the records of the first `count` entries.
+pub record HasCopiesTo (rs : List Record) (es : List Entry) (count : ℕ) (copies : List HeadCopy) : Type 0 where
+  pub as_many : length copies ≡ count
+  pub each : (k : ℕ) (d : HeadCopy) → k < count → HasCopy rs es k (slice_index_or copies k d)
 
 -- The entries are those of the records that fit the port, in the order of their keys, and `shared` is what neighbours
 -- share.

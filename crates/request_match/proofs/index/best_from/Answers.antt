@@ -52,15 +52,15 @@ entries-preserved c =
       near = stands.0;
     }
 
-pub returns-then-found_key-wanted : goal.returns-then-found_key-wanted
-returns-then-found_key-wanted c =
+pub returns-then-found_key-key : goal.returns-then-found_key-key
+returns-then-found_key-key c =
     let asked = c.args.asked.now in
     let es = c.args.entries.now in
     let i = c.entries.i in
-    let least : c.args.wanted ≤ (entry_at es i).0 = c.requires.from i (0, 0)
+    let least : c.args.key ≤ (entry_at es i).0 = c.requires.from i (0, 0)
     c.entries.invariant.started c.entries-test.true in
     subst (BestCause asked.request.now asked.port c.args.records.now) (sym c.place_of.ensures)
     (scanned_all asked.request.now asked.port c.args.records.now es c.args.fronts.now c.requires.index i
     c.entries.found c.entries.invariant.scanned
     (λ j up small e. let o = c.requires.index.ordered i j (0, 0) up small
-    in c.if-found_key-wanted.true (omega (arith, least, o, e, c.requires.key))))
+    in c.if-found_key-key.true (omega (arith, least, o, e, c.requires.key))))
