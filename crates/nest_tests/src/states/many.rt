@@ -82,19 +82,28 @@ fn one_by_one(rt: &impl Abort, alloc: Global, kind: Kind, most: u32) -> Passage 
     state.into_passage().expect(rt, "memory")
 }
 
-// Returns what becomes of the packets where the shell runs over the whole list, with a link's log.
-fn at_once(rt: &impl Abort, alloc: Global, kind: Kind) -> Passage {
+// Returns what becomes of the packets where the shell runs over the whole list. Where `logged`, a link gives its log.
+fn at_once(rt: &impl Abort, alloc: Global, kind: Kind, logged: bool) -> Passage {
     let packets = in_order(rt, alloc, 1000, &many_packets(rt, alloc));
     let direction = direction_of(rt, alloc, kind, 1000);
-    run_whole(alloc, direction, 1000, true, packets).expect(rt, "memory")
+    run_whole(alloc, direction, 1000, logged, packets).expect(rt, "memory")
+}
+
+// Returns whether the same packets departed, were lost and stay inside.
+fn have_same_packets(one: &Passage, other: &Passage) -> bool {
+    one.departed.as_slice() == other.departed.as_slice()
+        && one.lost.as_slice() == other.lost.as_slice()
+        && one.held.as_slice() == other.held.as_slice()
 }
 
 // Returns whether the same packets departed, were lost and stay inside, and both passages or neither have a log.
 fn are_same(one: &Passage, other: &Passage) -> bool {
-    one.departed.as_slice() == other.departed.as_slice()
-        && one.lost.as_slice() == other.lost.as_slice()
-        && one.held.as_slice() == other.held.as_slice()
-        && one.log.is_some() == other.log.is_some()
+    have_same_packets(one, other) && one.log.is_some() == other.log.is_some()
+}
+
+// Returns whether a passage without a log has the packets of the other.
+fn is_same_unlogged(unlogged: &Passage, other: &Passage) -> bool {
+    have_same_packets(unlogged, other) && unlogged.log.is_none()
 }
 
 // Returns the log of a passage, written out, or an empty one where it has none.
@@ -125,11 +134,17 @@ fn counts(passage: &Passage) -> [usize; 3] {
 // something else than the run over the whole list.
 fn totals(rt: &impl Abort, alloc: Global, kind: Kind, most: u32) -> [usize; 3] {
     let singly = one_by_one(rt, alloc, kind, most);
-    let whole = at_once(rt, alloc, kind);
+    let whole = at_once(rt, alloc, kind, true);
+    let unlogged = at_once(rt, alloc, kind, false);
     check(
         rt,
         are_same(&singly, &whole),
         "the same one by one and at once",
+    );
+    check(
+        rt,
+        is_same_unlogged(&unlogged, &whole),
+        "the same without a log",
     );
     let counts = counts(&whole);
     check(rt, have_same_log(rt, alloc, singly, whole), "the same log");
@@ -166,8 +181,8 @@ fn ten_thousand_packets_go_through(rt: HostRuntime) {
     lose_some(&rt, rt.alloc(), 0);
 }
 
-// Links with an opportunity each millisecond, and the totals of each.
-static LINKS: [(Kind, [usize; 3]); 3] = [
+// Links with an opportunity each millisecond, each 400, and at the end alone, and the totals of each.
+static LINKS: [(Kind, [usize; 3]); 6] = [
     (Kind::Link(b"1\n", "infinite", ""), [1_504, 0, 8_496]),
     (
         Kind::Link(b"1\n", "droptail", "packets=20"),
@@ -177,6 +192,12 @@ static LINKS: [(Kind, [usize; 3]); 3] = [
         Kind::Link(b"1\n", "drophead", "bytes=20000"),
         [1_504, 8_477, 19],
     ),
+    (Kind::Link(b"400\n", "infinite", ""), [3, 0, 9_997]),
+    (
+        Kind::Link(b"400\n", "droptail", "packets=3000"),
+        [3, 6_996, 3_001],
+    ),
+    (Kind::Link(b"1000\n", "infinite", ""), [1, 0, 9_999]),
 ];
 
 #[test]
