@@ -2,7 +2,7 @@
 use Rattle.std.proofs.Common.{◌≡◌, ◌≢◌, ⊎_elim, ℕ, zero, suc, ◌+◌, ◌<◌, ◌≤◌, true, List, [], ◌∷◌, length}
 use Rattle.std.proofs.Common.{get_or, set}
 use Rattle.std.proofs.Common.{take, replicate, refl, ap, sym, subst, ◌∙◌, arith}
-use Rattle.std.proofs.Common.{Option, Some, None, IfNone, IfSome, Result, Ok, Err, OnOk}
+use Rattle.std.proofs.Common.{Option, Some, None, IfNone, IfSome, Result, Ok, Err, OnOk, OnErr}
 use Rattle.std.specs.List.{list_all}
 use Rattle.std.proofs.lemmas.Bool.{and_parts}
 use Rattle.packet_record.specs.declared.packet.Timed.{Timed}
@@ -323,6 +323,10 @@ empty-added h (i ∷ inlets) all = (sym all.0.0, empty-added h inlets all.1)
 pub on_ok : {A E : Type 0} (r : Result A E) (P Q : Type 0) → (P → Q) → OnOk r P → OnOk r Q
 on_ok (Ok a) P Q f h = f h
 on_ok (Err e) P Q f h = h
+
+pub on_err : {A E : Type 0} (r : Result A E) (P Q : Type 0) → (P → Q) → OnErr r P → OnErr r Q
+on_err (Ok a) P Q f h = h
+on_err (Err e) P Q f h = f h
 
 -- what was given to the end is the merge of what was received
 pub merged : (inlets : List Inlet) (m : Merging) (sent : Stream) → AreAdded inlets m.senders → IsMergeFront m

@@ -4,7 +4,7 @@ use Rattle.std.proofs.Common.{List, [], ◌∷◌, length, map, get_or, set, dro
 use Rattle.std.proofs.Common.{Option, Some, None, is_some, is_none, option_map, slice_get, unwrap_or, arith}
 use Rattle.std.specs.List.{list_all, list_any}
 use Rattle.std.proofs.Math.ListN.{get_or-map, length-set}
-use Rattle.std.proofs.lemmas.List.{length-map, map-set}
+use Rattle.std.proofs.lemmas.List.{length-map, map-set, set-get_or}
 use Rattle.packet_record.specs.declared.packet.Timed.{Timed}
 use Rattle.packet_record.specs.declared.item.Item.{Item}
 use Rattle.packet_record.specs.declared.item.Item.TheVariants.{Packet, Mark, End, Broken}
@@ -230,6 +230,10 @@ add-thin m core i x old new is stands lt at one =
     (at ∙ get_or_any core.senders.items i old fresh lt))
     ∙ ap (λ (ss : List Inflow). added_at ss i x) is.senders
     ∙ added-thin i m.senders x (omega arith) stands.sound
+
+-- the senders where one of them stays as it was
+pub same-item : (ss : List Inflow) (i : ℕ) (old new : Inflow) → old ≡ get_or ss i old → new ≡ old → set ss i new ≡ ss
+same-item ss i old new at one = ap (set ss i) (one ∙ at) ∙ set-get_or ss i old
 
 -- there is a sender for each inlet
 pub keeps-long : (m : Merging) (inlets : List Inlet) (core : ThinMerge) → Keeps m inlets core

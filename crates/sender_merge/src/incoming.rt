@@ -1,5 +1,5 @@
 // One sender's flow as far as it was added to a merge.
-ghost use Rattle.std.specs.Prelude.{◌≡◌, ◌↔◌, OnOk, OnErr, IsSome, IsTrue};
+ghost use Rattle.std.specs.Prelude.{◌≡◌, ◌↔◌, IfOk, OnOk, OnErr, IsSome, IsTrue, replicate};
 ghost use Rattle.packet_record.specs.Streams.{MayFollow};
 ghost use Rattle.packet_record.specs.Takes.{IsPacket};
 
@@ -40,6 +40,17 @@ impl Incoming {
             reach: Reach::new(),
             passed: 0,
         }
+    }
+
+    // Returns `count` senders of which nothing was added. Returns `OutOfMemory` where an allocation fails.
+    pub fn new_list(alloc: Global, count: u32) -> Result<Vec<Incoming>, OutOfMemory>
+        ensures { IfOk result (λ senders. senders.items ≡ replicate count fresh) }
+    {
+        let mut senders = Vec::with_capacity(alloc, count as usize)?;
+        for _ in 0..count {
+            senders.push(Incoming::new(alloc))?;
+        }
+        Ok(senders)
     }
 
     // Returns the greatest moment that its flow named, in milliseconds.

@@ -64,10 +64,7 @@ impl MergeCore {
         ensures new { IfOk result (λ m. m ≡ new_merging senders) }
         ensures front { IfOk result IsMergeFront }
     {
-        let mut list = Vec::with_capacity(alloc, senders as usize)?;
-        for _ in 0..senders {
-            list.push(Incoming::new(alloc))?;
-        }
+        let list = Incoming::new_list(alloc, senders)?;
         Ok(MergeCore {
             senders: list,
             given: Flow::new(alloc),

@@ -1,7 +1,8 @@
 // The merge of flows that keeps no packet once it was given.
-ghost use Rattle.std.specs.Prelude.{◌≡◌, ◌≤◌, length, IfOk, OnOk};
+ghost use Rattle.std.specs.Prelude.{◌≡◌, ◌≤◌, length, IfOk, OnErr, OnOk};
 ghost use Rattle.packet_record.specs.declared.item.FlowEnd.TheVariants.{Open};
 ghost use Rattle.packet_record.specs.Streams.{MayFollow};
+ghost use Rattle.packet_record.specs.Takes.{IsPacket};
 ghost use Rattle.sender_merge.specs.Inflows.{Merging, after_add, new_merging, sender_at};
 ghost use Rattle.sender_merge.specs.Steps.{after_step, candidate as candidate_of, next_step as next_step_of};
 ghost use Rattle.sender_merge.specs.inside.Standing.{Stands};
@@ -17,7 +18,8 @@ use text_base::OutOfMemory;
 // The merge that a `MergeCore` makes, item by item, without the packets that were given.
 #[derive(Drop)]
 pub(crate) struct ThinMerge {
-    // The senders. Each has the packets that were added and not given.
+    // The senders. Each has the packets that were added and not given. What was given is forgotten, so no packet that a
+    // sender has was given: its `passed` is always 0.
     pub senders: Vec<Incoming>,
     // How far the flow given has come.
     pub given: Reach,
@@ -28,23 +30,22 @@ impl ThinMerge {
     pub fn new(alloc: Global, senders: u32) -> Result<ThinMerge, OutOfMemory>
         ensures { IfOk result (λ core. IsThin (new_merging senders) core) }
     {
-        let mut list = Vec::with_capacity(alloc, senders as usize)?;
-        for _ in 0..senders {
-            list.push(Incoming::new(alloc))?;
-        }
+        let list = Incoming::new_list(alloc, senders)?;
         Ok(ThinMerge {
             senders: list,
             given: Reach::new(),
         })
     }
 
-    // Adds `item`, which `sender`, counted from 1, sends next.
+    // Adds `item`, which `sender`, counted from 1, sends next. Returns `OutOfMemory` only for a packet, and the merge
+    // is then unchanged.
     pub fn add(&mut self, sender: u32, item: Item) -> Result<(), OutOfMemory>
         requires some { 1 ≤ sender }
         requires few { sender ≤ length self.old.senders.items }
         requires follows { MayFollow (sender_at self.old.senders.items sender).flow item }
-        ensures { OnOk result ((m : Merging) → Stands m → IsThin m self.old
+        ensures ok { OnOk result ((m : Merging) → Stands m → IsThin m self.old
             → IsThin (after_add m sender item) self.new) }
+        ensures err { OnErr result (((m : Merging) → IsThin m self.old → IsThin m self.new) × IsPacket item) }
     {
         let incoming = &mut self.senders[sender as usize - 1];
         incoming.add(item)

@@ -32,7 +32,7 @@ returns-clause-added g c =
     (λ adds m keeps. received-thin m c.args.inlets.now c.args.core.now c.add.new.self c.in-Some.place
     c.receive-item.new.self c.index-inlets-place.result c.receive-item.result keeps c.in-Some.ensures.within
     c.receive-item.ensures.follows c.receive-item.ensures.flow (adds m keeps.stands keeps.thin))
-    c.add.ensures
+    c.add.ensures.ok
 
 pub returns-clause-within : goal.returns-clause-within
 returns-clause-within g c = λ horizon all.

@@ -9,21 +9,21 @@ use Rattle.sender_merge.proofs.merge_core.MergeCore.new.Goals as goal
 
 pub invariant_of-result : goal.invariant_of-result
 invariant_of-result c =
-    let is = c.loop.invariant in
-    let n = c.loop.counter in
-    let long : length c.loop.list.items ≡ n = ap (λ (l : List Inflow). length l) is ∙ length-replicate n fresh in
+    let is = c.in_ok-list.ensures in
+    let n = c.args.senders in
+    let long : length c.in_ok-list.list.items ≡ n = ap (λ (l : List Inflow). length l) is ∙ length-replicate n fresh in
     record {
       some = (let a = c.requires.some in omega arith);
       few = (let a = c.requires.few in omega arith);
       waiting = sym (ap left_of is ∙ left_new n);
       room = omega arith;
-      stands = subst (λ (l : List Inflow). Stands (merging l c.new-2.result.stream)) (sym is)
-          (subst (λ (f : Stream). Stands (merging (replicate n fresh) f)) (sym c.new-2.ensures.0) (stands-new n));
+      stands = subst (λ (l : List Inflow). Stands (merging l c.new.result.stream)) (sym is)
+          (subst (λ (f : Stream). Stands (merging (replicate n fresh) f)) (sym c.new.ensures.0) (stands-new n));
     }
 
 pub returns-clause-front : goal.returns-clause-front
 returns-clause-front c =
-    let is = c.loop.invariant in
-    let n = c.loop.counter in
-    front _ (subst (λ (l : List Inflow). Stands (merging l c.new-2.result.stream)) (sym is)
-    (subst (λ (f : Stream). Stands (merging (replicate n fresh) f)) (sym c.new-2.ensures.0) (stands-new n)))
+    let is = c.in_ok-list.ensures in
+    let n = c.args.senders in
+    front _ (subst (λ (l : List Inflow). Stands (merging l c.new.result.stream)) (sym is)
+    (subst (λ (f : Stream). Stands (merging (replicate n fresh) f)) (sym c.new.ensures.0) (stands-new n)))

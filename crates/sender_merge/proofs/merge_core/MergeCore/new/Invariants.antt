@@ -1,6 +1,0 @@
-use Rattle.std.proofs.Common.{◌≡◌, replicate}
-use Rattle.sender_merge.specs.Inflows.{fresh}
-use Rattle.sender_merge.proofs.merge_core.MergeCore.new.Given as goal
-
-abbrev pub invariant-loop : goal.invariant-loop
-invariant-loop l = l.list.items ≡ replicate l.counter fresh
