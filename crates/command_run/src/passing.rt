@@ -106,7 +106,7 @@ pub(crate) fn pass_packets<R: Threads + Wait + Sync, D: Disk, Q: Pace + Sync>(
         }
         RunMode::ShellByShell => {
             let schedule = load_packed(host.alloc, disk, name)?;
-            Ok(Passed::InPieces(run_packed(host.alloc, nest, &schedule)?))
+            Ok(Passed::InPieces(run_packed(host.alloc, nest, schedule)?))
         }
         RunMode::Steps(order) => {
             let schedule = load_schedule(host.alloc, disk, name)?;

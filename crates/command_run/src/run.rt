@@ -93,7 +93,8 @@ fn load_nest<D: Disk>(
 }
 
 // Reads the inputs of a job and returns its run. The nest and the schedule are dropped before any file is written, but
-// for the traces of links whose logs have a name.
+// for the traces of links whose logs have a name, and for the schedule where, shell by shell, the log of a first shell
+// has one.
 fn run_packets<R: Threads + Wait + Sync, D: Disk, Q: Pace + Sync>(
     host: &Host<'_, R>,
     job: &RunJob<'_>,

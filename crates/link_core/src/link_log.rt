@@ -1,6 +1,7 @@
 // The log of a link that isn't written out yet: what it is made of.
 ghost use Rattle.std.specs.Prelude.{◌≡◌, ◌≤◌, [], length, take, IfOk};
 ghost use Rattle.packet_record.specs.Moments.{AreUpTo, Rise};
+ghost use Rattle.trace_reader.specs.Opps.{opps};
 ghost use Rattle.link_core.specs.Links.{link_log};
 ghost use Rattle.link_core.specs.Promises.{AreCovered};
 ghost use Rattle.link_core.specs.views.Span.{span_opps};
@@ -15,6 +16,7 @@ use shell_log::Log;
 use std::alloc::Global;
 use std::marker::Model;
 use text_base::OutOfMemory;
+use trace_reader::Trace;
 
 /// The log of a link: of the packets that arrived, and of the opportunities that were burnt. It isn't written out: it
 /// is made again from the arrivals, piece by piece. Contracts see its entries.
@@ -66,6 +68,27 @@ impl LinkLog {
             burnt,
             arrivals,
         }
+    }
+
+    /// The log of a link over all its arrivals, which are in order and up to the horizon, and every opportunity up to
+    /// the horizon. Nothing is run for it before it is asked for.
+    pub fn over(
+        alloc: Global,
+        trace: Trace,
+        once: bool,
+        queue: QueueSpec,
+        horizon: u64,
+        arrivals: Vec<Timed>,
+    ) -> LinkLog
+        requires horizon { horizon ≤ 3600000 }
+        requires few { length (opps trace.opportunities once horizon) ≤ 16000000 }
+        requires rises { Rise arrivals.items }
+        requires within { AreUpTo horizon arrivals.items }
+        ensures { result ≡ link_log queue (opps trace.opportunities once horizon) arrivals.items }
+    {
+        let opportunities = Opportunities::new(trace, once, horizon);
+        let burnt = opportunities.len();
+        LinkLog::of(alloc, opportunities, queue, burnt, arrivals)
     }
 
     /// The log in pieces, none of them in hand yet.

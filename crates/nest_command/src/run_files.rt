@@ -13,7 +13,7 @@ use crate::whole_logs::write_whole_logs;
 use command_ends::{Cause, file_written};
 use link_core::{LinkLog, LogPieces};
 use mm_base::{Disk, DiskError, append_lines, save, save_lines};
-use nest_plain::{NestRun, UnwrittenLog};
+use nest_plain::{NestRun, RunLog, UnwrittenLog};
 use nest_spec::{Named, RunResult};
 use shell_log::HEADER;
 use std::alloc::Global;
@@ -59,14 +59,16 @@ fn save_pieces<D: Disk>(
     append_pieces(disk, name, lines, &mut pieces)
 }
 
-// Makes the file `name` hold a log's text as `save_pieces` does, with a line buffer of its own.
-fn save_log<D: Disk>(alloc: Global, disk: &mut D, name: &str, log: LinkLog) -> Result<(), DiskError>
+// Finds the arrivals of a log, and makes the file `name` hold its text as `save_pieces` does, with a line buffer of its
+// own.
+fn save_log<D: Disk>(alloc: Global, disk: &mut D, name: &str, log: RunLog) -> Result<(), DiskError>
     ensures ok { OnOk result ((D.view disk.new).files ≡ holding name.now (log_text log) (D.view disk.old).files) }
     ensures err { OnErr result (HoldsSome (named_text name.now (log_text log)) (D.view disk.old).files
         (D.view disk.new).files) }
     ensures only_writes { OnlyWrites (D.view disk.old) (D.view disk.new) }
     ensures cause { HasWriteCause (D.view disk.old) (D.view disk.new) result }
 {
+    let log = log.into_link_log()?;
     let mut lines = LineBuffer::new(alloc)?;
     save_pieces(disk, name, &mut lines, log)
 }

@@ -25,8 +25,8 @@ ghost use Rattle.nest_plain.specs.Unwritten.{unwritten_log};
 ghost use Rattle.nest_lanes.specs.Lanes.{HasRun};
 
 use crate::lane::Lane;
-use nest_plain::{NestRun, UnwrittenLog};
-use nest_spec::{Marking, Named, Nest, ShellDirection, in_nest_order};
+use nest_plain::{NestRun, UnwrittenLog, log_named};
+use nest_spec::{Marking, Nest, ShellDirection, in_nest_order};
 use packet_record::{Direction, PackedSchedule, Schedule, Timed};
 use shell_core::Passage;
 use shell_state::ShellState;
@@ -67,8 +67,7 @@ fn gather_shell(
         log,
     } = state.into_passage()?;
     marking.pass(number, lost.as_slice(), held.as_slice());
-    let named = name.zip(log).map(|(name, log)| Named { name, log });
-    Ok((departed, named))
+    Ok((departed, log_named(name, log)))
 }
 
 // Gives up the states of a shell and of those behind it. Marks the packets that are lost or inside there, and those
@@ -216,7 +215,7 @@ pub fn gather_packed(
     ensures value { IfOk result (λ r. r ≡ result_of nest.now schedule.now) }
     ensures once { OnOk result (HaveOneFate nest.now schedule.now) }
 {
-    schedule.rows(); // fact: no two rows of a schedule have one number
-    let marking = Marking::of_packed(alloc, schedule)?;
+    let rows = schedule.rows();
+    let marking = Marking::of_packed(alloc, rows)?;
     gather_marked(alloc, nest, marking, up, down)
 }

@@ -1,2 +1,4 @@
 -- What contracts see of each public type (`.now`), by its fields.
+pub mod Arrivals
 pub mod NestRun
+pub mod RunLog

@@ -3,17 +3,13 @@ ghost use Rattle.std.specs.Prelude.{◌≡◌, IfOk};
 ghost use Rattle.nest_spec.specs.RunViews.{all_named};
 ghost use Rattle.nest_plain.specs.Unwritten.{unwritten};
 
-use link_core::LinkLog;
+use crate::UnwrittenLog;
 use nest_spec::{Named, NamedLog, PackedFate, RunResult, unpack_fates};
 use std::marker::Model;
 use text_base::OutOfMemory;
 
-/// A log that isn't written out, and the name of its file.
-pub type UnwrittenLog = Named<LinkLog>;
-
 /// The fate of each row, in the order of the rows, and the logs that have a name, in the order of the shells, up before
-/// down. A log isn't written out: it keeps the arrivals of its link. Contracts see the fates, and the names and entries
-/// of the logs.
+/// down. No log is written out. Contracts see the fates, and the names and entries of the logs.
 #[derive(Drop)]
 pub struct NestRun {
     fates: Vec<PackedFate>,
@@ -63,7 +59,7 @@ fn write_out(logs: Vec<UnwrittenLog>) -> Result<Vec<NamedLog>, OutOfMemory>
 {
     let mut list = Vec::with_capacity(*logs.allocator(), logs.len())?;
     for Named { name, log } in logs {
-        let log = log.into_log()?;
+        let log = log.into_link_log()?.into_log()?;
         list.push(Named { name, log })?;
     }
     Ok(list)

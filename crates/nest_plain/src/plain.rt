@@ -1,7 +1,7 @@
 // Runs a schedule through a nest, shell by shell.
-ghost use Rattle.std.specs.Prelude.{◌≡◌, ◌&&◌, [], nat_le, map, option_map, IfOk, OnOk};
+ghost use Rattle.std.specs.Prelude.{◌≡◌, [], map, option_map, IfOk, OnOk};
 ghost use Rattle.packet_record.specs.declared.packet.Row.{Row as RowValue};
-ghost use Rattle.packet_record.specs.Rows.{entering, goes, Rises};
+ghost use Rattle.packet_record.specs.Rows.{entering};
 ghost use Rattle.nest_spec.specs.declared.fate.Fate.{Fate as FateValue};
 ghost use Rattle.nest_spec.specs.Fates.{fated};
 ghost use Rattle.nest_spec.specs.inside.Links.{AreBuilt};
@@ -11,40 +11,13 @@ ghost use Rattle.nest_spec.specs.Once.{HaveOneFate};
 ghost use Rattle.nest_spec.specs.Walk.{named_log};
 ghost use Rattle.nest_plain.specs.Unwritten.{unwritten_log};
 
-use crate::NestRun;
-use crate::nest_run::UnwrittenLog;
-use crate::shell::run_shells;
+use crate::arrivals::Entering;
+use crate::shell::run_from_first;
+use crate::{NestRun, UnwrittenLog};
 use nest_spec::{Marking, Nest, RunResult, in_nest_order};
-use packet_record::{Direction, PackedRow, PackedSchedule, Schedule, Timed};
+use packet_record::{Direction, PackedSchedule, Schedule, SharedSchedule, Timed};
 use std::alloc::Global;
 use text_base::OutOfMemory;
-
-// Returns whether a row goes in a direction, up to the horizon.
-#[inline(always)]
-fn enters(direction: Direction, horizon: u64, row: &PackedRow) -> bool
-    ensures { result ≡ (goes direction row.now.direction && nat_le row.now.timed.moment horizon) }
-{
-    row.direction() == direction && row.moment() <= horizon
-}
-
-// Returns the packets of a direction up to the horizon, in the room of an empty list.
-fn entering(
-    direction: Direction,
-    horizon: u64,
-    rows: &[PackedRow],
-    room: Vec<Timed>,
-) -> Result<Vec<Timed>, OutOfMemory>
-    requires { room.items ≡ [] }
-    ensures { IfOk result (λ packets. packets.items ≡ entering direction horizon rows.now) }
-{
-    let mut packets = room;
-    for row in rows {
-        if enters(direction, horizon, row) {
-            packets.push(row.timed())?;
-        }
-    }
-    Ok(packets)
-}
 
 // Runs a direction's packets through its shells and marks their fates. Returns the logs of the shells in passing order,
 // `None` for one without a name, and an empty list. The packets take the room of `room`, and leave theirs in that list.
@@ -52,46 +25,50 @@ fn run_direction(
     alloc: Global,
     nest: &Nest,
     direction: Direction,
-    rows: &[PackedRow],
+    schedule: &SharedSchedule,
     marking: &mut Marking<'_>,
     room: Vec<Timed>,
 ) -> Result<(Vec<Option<UnwrittenLog>>, Vec<Timed>), OutOfMemory>
-    requires rises { Rises 0 rows.now }
     requires empty { room.items ≡ [] }
     ensures rows { marking.new.rows ≡ marking.old.rows }
     ensures fates { OnOk result ((f : RowValue → FateValue) → marking.old.fates ≡ fated f marking.old.rows
         → marking.new.fates
         ≡ fated (marked_through nest.now.horizon (shells_in direction nest.now)
-        (entering direction nest.now.horizon rows.now) f)
+        (entering direction nest.now.horizon schedule.now) f)
         marking.old.rows) }
     ensures logs { IfOk result (λ r. map (option_map unwritten_log) r.0.items
-        ≡ map named_log (walk_of direction nest.now rows.now)) }
+        ≡ map named_log (walk_of direction nest.now schedule.now)) }
     ensures built { OnOk result (AreBuilt (directions_of direction nest.now)) }
     ensures empty { IfOk result (λ r. r.1.items ≡ []) }
 {
-    let horizon = nest.horizon();
-    let arrived = entering(direction, horizon, rows, room)?;
+    let arrivals = Entering {
+        schedule: schedule.copy()?,
+        direction,
+        horizon: nest.horizon(),
+    };
     let shells = nest.shells_in(direction)?;
     let mut logs = Vec::with_capacity(alloc, shells.len())?;
-    let room = run_shells(marking, &mut logs, horizon, shells.into_iter(), arrived)?;
+    let room = run_from_first(marking, &mut logs, &arrivals, shells.into_iter(), room)?;
     Ok((logs, room))
 }
 
 /// Runs the schedule through the nest, each shell over its whole list of arrivals and then the next. Returns the fate
-/// of each packet and the named logs, which aren't written out. Returns `OutOfMemory` where an allocation fails.
+/// of each packet and the named logs, which aren't written out. A log of the first shell of a direction keeps the
+/// schedule, in which its arrivals are found again. Returns `OutOfMemory` where an allocation fails.
 pub fn run_packed(
     alloc: Global,
     nest: &Nest,
-    schedule: &PackedSchedule,
+    schedule: PackedSchedule,
 ) -> Result<NestRun, OutOfMemory>
-    ensures value { IfOk result (λ r. r ≡ result_of nest.now schedule.now) }
-    ensures once { OnOk result (HaveOneFate nest.now schedule.now) }
+    ensures value { IfOk result (λ r. r ≡ result_of nest.now schedule) }
+    ensures once { OnOk result (HaveOneFate nest.now schedule) }
 {
+    let schedule = schedule.share()?;
     let rows = schedule.rows();
-    let mut marking = Marking::of_packed(alloc, schedule)?;
+    let mut marking = Marking::of_packed(alloc, rows)?;
     let room = Vec::new(alloc);
-    let (up, room) = run_direction(alloc, nest, Direction::Up, rows, &mut marking, room)?;
-    let (down, _) = run_direction(alloc, nest, Direction::Down, rows, &mut marking, room)?;
+    let (up, room) = run_direction(alloc, nest, Direction::Up, &schedule, &mut marking, room)?;
+    let (down, _) = run_direction(alloc, nest, Direction::Down, &schedule, &mut marking, room)?;
     let logs = in_nest_order(alloc, up, down)?;
     Ok(NestRun::new(marking.into_fates(), logs))
 }
@@ -101,7 +78,7 @@ pub fn run_nest(alloc: Global, nest: &Nest, schedule: &Schedule) -> Result<NestR
     ensures value { IfOk result (λ r. r ≡ result_of nest.now schedule.now) }
     ensures once { OnOk result (HaveOneFate nest.now schedule.now) }
 {
-    run_packed(alloc, nest, &schedule.pack(alloc)?)
+    run_packed(alloc, nest, schedule.pack(alloc)?)
 }
 
 /// Runs the schedule through the nest as `run_nest` does, and writes the logs out. Returns `OutOfMemory` where an

@@ -13,16 +13,19 @@ ghost use Rattle.nest_spec.specs.inside.Links.{AreBuilt};
 ghost use Rattle.nest_spec.specs.Marks.{passed};
 ghost use Rattle.nest_spec.specs.inside.Marks.{ids_of, marked_through};
 ghost use Rattle.nest_spec.specs.Nests.{AllFit};
-ghost use Rattle.nest_spec.specs.Walk.{step, walk, named_log};
+ghost use Rattle.nest_spec.specs.Walk.{step, walk, named_entries, named_log};
 ghost use Rattle.nest_plain.specs.Unwritten.{unwritten_log};
+ghost use Rattle.nest_plain.specs.views.Arrivals.{entering_by, entries_by};
 
-use crate::nest_run::UnwrittenLog;
+use crate::arrivals::Entering;
+use crate::first_log::FirstLog;
+use crate::{RunLog, UnwrittenLog, log_named};
 use nest_spec::{Marking, Named, ShellDirection};
 use packet_record::Timed;
-use shell_core::{Passage, run_whole};
+use shell_core::{DirSpec, Passage, run_whole};
 use std::alloc::Global;
 use std::vec::IntoIter;
-use text_base::OutOfMemory;
+use text_base::{OutOfMemory, Text};
 
 // Runs one shell over all that arrives, and marks the fates of packets that it drops or keeps. Returns what departs,
 // and the shell's log where that has a name; else none is asked for.
@@ -51,15 +54,73 @@ fn run_shell(
         spec,
         log: name,
     } = shell;
+    let logged = name.is_some();
     let Passage {
         departed,
         lost,
         held,
         log,
-    } = run_whole(alloc, spec, horizon, name.is_some(), arrived)?;
+    } = run_whole(alloc, spec, horizon, logged, arrived)?;
     marking.pass(number, lost.as_slice(), held.as_slice());
-    let named = name.zip(log).map(|(name, log)| Named { name, log });
-    Ok((departed, named))
+    Ok((departed, log_named(name, log)))
+}
+
+// Names the log of a link at which `arrivals` arrive, where there is a name, or runs out of memory.
+fn first_log(
+    alloc: Global,
+    name: Option<Text>,
+    spec: &DirSpec,
+    arrivals: &Entering,
+) -> Result<Option<UnwrittenLog>, OutOfMemory>
+    requires link { IsSome name → IsLink spec.now }
+    requires short { arrivals.now.horizon ≤ 3600000 }
+    requires few { length (opportunities spec.now arrivals.now.horizon) ≤ 16000000 }
+    ensures { IfOk result (λ log. option_map unwritten_log log
+        ≡ option_map (λ name. named_entries name (entries_by spec.now arrivals.now)) name) }
+{
+    let Some(name) = name else {
+        return Ok(None);
+    };
+    let log = RunLog::first(FirstLog::new(alloc, spec, arrivals)?);
+    Ok(Some(Named { name, log }))
+}
+
+// Runs the first shell of a direction as `run_shell` does. Its log, where it has a name, keeps no arrivals.
+fn run_first(
+    alloc: Global,
+    marking: &mut Marking<'_>,
+    arrivals: &Entering,
+    shell: ShellDirection,
+    arrived: Vec<Timed>,
+) -> Result<(Vec<Timed>, Option<UnwrittenLog>), OutOfMemory>
+    requires fit { IsInRange shell.spec × (length (opportunities shell.spec arrivals.now.horizon) ≤ 16000000) }
+    requires horizon { arrivals.now.horizon ≤ 3600000 }
+    requires link { IsSome shell.log → IsLink shell.spec }
+    requires rises { Rise arrived.items }
+    requires within { AreUpTo arrivals.now.horizon arrived.items }
+    requires entering { arrived.items ≡ entering_by arrivals.now }
+    ensures rows { marking.new.rows ≡ marking.old.rows }
+    ensures fates { OnOk result ((f : RowValue → FateValue) → marking.old.fates ≡ fated f marking.old.rows
+        → marking.new.fates ≡ fated (passed shell.number (whole_lost shell.spec arrivals.now.horizon arrived.items)
+        (ids_of (whole_inside shell.spec arrivals.now.horizon arrived.items)) f) marking.old.rows) }
+    ensures departed { IfOk result (λ r. r.0.items ≡ whole_out shell.spec arrivals.now.horizon arrived.items) }
+    ensures log { IfOk result (λ r. option_map unwritten_log r.1
+        ≡ named_log (step arrivals.now.horizon shell arrived.items)) }
+    ensures built { OnOk result (IsBuilt shell.spec) }
+{
+    let ShellDirection {
+        number,
+        spec,
+        log: name,
+    } = shell;
+    let log = first_log(alloc, name, &spec, arrivals)?;
+    let unnamed = ShellDirection {
+        number,
+        spec,
+        log: None,
+    };
+    let (departed, _) = run_shell(alloc, marking, arrivals.horizon, unnamed, arrived)?;
+    Ok((departed, log))
 }
 
 // Runs each shell over what departed from the one before it. Adds the log of each to `logs`, or `None` where it has no
@@ -96,4 +157,38 @@ pub(crate) fn run_shells(
     let (departed, log) = run_shell(alloc, marking, horizon, shell, arrived)?;
     logs.push(log)?;
     run_shells(marking, logs, horizon, shells, departed)
+}
+
+// Runs all shells of a direction as `run_shells` does, the first over the packets that enter, which take the room of an
+// empty list. The log of the first finds its arrivals again in the schedule.
+pub(crate) fn run_from_first(
+    marking: &mut Marking<'_>,
+    logs: &mut Vec<Option<UnwrittenLog>>,
+    arrivals: &Entering,
+    mut shells: IntoIter<ShellDirection>,
+    room: Vec<Timed>,
+) -> Result<Vec<Timed>, OutOfMemory>
+    requires fit { AllFit arrivals.now.horizon (specs_in (into_iter_items shells)) }
+    requires links { NamedAreLinks (into_iter_items shells) }
+    requires horizon { arrivals.now.horizon ≤ 3600000 }
+    requires room { room.items ≡ [] }
+    ensures rows { marking.new.rows ≡ marking.old.rows }
+    ensures fates { OnOk result ((f : RowValue → FateValue) → marking.old.fates ≡ fated f marking.old.rows
+        → marking.new.fates
+        ≡ fated (marked_through arrivals.now.horizon (into_iter_items shells) (entering_by arrivals.now) f)
+        marking.old.rows) }
+    ensures logs { OnOk result (map (option_map unwritten_log) logs.new.items
+        ≡ map (option_map unwritten_log) logs.old.items
+        ++ map named_log (walk arrivals.now.horizon (into_iter_items shells) (entering_by arrivals.now))) }
+    ensures built { OnOk result (AreBuilt (specs_in (into_iter_items shells))) }
+    ensures empty { IfOk result (λ room. room.items ≡ []) }
+{
+    let arrived = arrivals.packets(room)?;
+    let Some(shell) = shells.next() else {
+        return run_shells(marking, logs, arrivals.horizon, shells, arrived);
+    };
+    let alloc = *logs.allocator();
+    let (departed, log) = run_first(alloc, marking, arrivals, shell, arrived)?;
+    logs.push(log)?;
+    run_shells(marking, logs, arrivals.horizon, shells, departed)
 }

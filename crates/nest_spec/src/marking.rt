@@ -6,6 +6,7 @@ ghost use Rattle.nest_spec.specs.Fates.{fate_row, fated};
 ghost use Rattle.nest_spec.specs.Marks.{marks, marked, held_in, passed};
 ghost use Rattle.nest_spec.specs.inside.Marks.{put};
 ghost use Rattle.packet_record.specs.Moments.{AreUpTo};
+ghost use Rattle.packet_record.specs.Orders.{IsSchedule};
 ghost use Rattle.packet_record.specs.Rows.{AreApart};
 ghost use Rattle.nest_spec.specs.inside.PackedFates.{IsShort};
 ghost use Rattle.nest_spec.specs.inside.Places.{ArePlaces};
@@ -15,7 +16,7 @@ use crate::mark::{Mark, fate_by};
 use crate::marked_rows::MarkedRows;
 use crate::places::{Places, place_of, places_of};
 use crate::{Fate, FateRow, PackedFate};
-use packet_record::{PackedRow, PackedSchedule, Row, Schedule, Timed};
+use packet_record::{PackedRow, Row, Schedule, Timed};
 use std::alloc::Global;
 use std::marker::Model;
 use text_base::OutOfMemory;
@@ -69,13 +70,10 @@ impl<'a> Marking<'a> {
     }
 
     /// Begins a marking of a packed schedule's rows, as `of_schedule`.
-    pub fn of_packed(
-        alloc: Global,
-        schedule: &'a PackedSchedule,
-    ) -> Result<Marking<'a>, OutOfMemory>
-        ensures { IfOk result (λ m. m ≡ marks schedule.now (fated (λ _. Fate.Unsent) schedule.now)) }
+    pub fn of_packed(alloc: Global, rows: &'a [PackedRow]) -> Result<Marking<'a>, OutOfMemory>
+        requires schedule { IsSchedule rows.now }
+        ensures { IfOk result (λ m. m ≡ marks rows.now (fated (λ _. Fate.Unsent) rows.now)) }
     {
-        let rows = schedule.rows();
         Ok(Marking {
             rows: MarkedRows::Packed(rows),
             places: Places::Numbered,

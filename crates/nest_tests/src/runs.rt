@@ -153,6 +153,7 @@ fn is_one_piece(pieces: &Pieces, written: &NamedLog) -> bool {
 // Returns whether a log that isn't written out has the name and the entries of `written`, in one piece.
 fn is_made(rt: &impl Abort, alloc: Global, made: UnwrittenLog, written: &NamedLog) -> bool {
     let Named { name, log } = made;
+    let log = log.into_link_log().expect(rt, "memory");
     let pieces = put_together(rt, alloc, log);
     name.as_str() == written.name.as_str() && is_one_piece(&pieces, written)
 }
@@ -191,12 +192,21 @@ fn is_unwritten(rt: &impl Abort, alloc: Global, run: NestRun, whole: &RunResult)
         && are_made(rt, alloc, &mut logs, whole.logs())
 }
 
-static LOGGED: Trip = Trip {
-    nest: "mm-link t t --uplink-log u --downlink-log d",
-    trace: b"2\n",
-    horizon: 4,
-    coming: Coming::Rows(b"0 up 1000\n1 down 700\n"),
-};
+// In the first the links are first in both directions, in the second behind a delay down.
+static LOGGED: [Trip; 2] = [
+    Trip {
+        nest: "mm-link t t --uplink-log u --downlink-log d",
+        trace: b"2\n",
+        horizon: 4,
+        coming: Coming::Rows(b"0 up 1000\n1 down 700\n"),
+    },
+    Trip {
+        nest: "mm-delay 1 mm-link t t --uplink-log u --downlink-log d",
+        trace: b"2\n",
+        horizon: 4,
+        coming: Coming::Rows(b"0 up 1000\n1 down 700\n"),
+    },
+];
 
 // Returns whether a run gives the same with its logs written out and not.
 fn makes_logs(rt: &impl Abort, alloc: Global, prepared: &Prepared) -> bool {
@@ -206,6 +216,8 @@ fn makes_logs(rt: &impl Abort, alloc: Global, prepared: &Prepared) -> bool {
 
 #[test]
 fn makes_the_logs_that_are_written_out(rt: HostRuntime) {
-    let prepared = prepare(&rt, rt.alloc(), &LOGGED);
-    check(&rt, makes_logs(&rt, rt.alloc(), &prepared), "the logs");
+    for trip in &LOGGED {
+        let prepared = prepare(&rt, rt.alloc(), trip);
+        check(&rt, makes_logs(&rt, rt.alloc(), &prepared), trip.nest);
+    }
 }

@@ -15,6 +15,7 @@ mod printing;
 mod reach;
 mod reading;
 mod rows;
+mod shared_schedule;
 mod source;
 mod text;
 
@@ -30,5 +31,6 @@ pub use printing::print_schedule;
 pub use reach::Reach;
 pub use reading::{ScheduleError, ScheduleReader, read_schedule};
 pub use rows::Schedule;
+pub use shared_schedule::SharedSchedule;
 pub use source::source_item;
 pub use text::ScheduleText;

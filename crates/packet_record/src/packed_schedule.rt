@@ -41,6 +41,14 @@ impl PackedSchedule {
         self.rows.as_slice()
     }
 
+    // The list of the rows.
+    pub(crate) fn into_rows(self) -> Vec<PackedRow>
+        ensures rows { result.items ≡ self }
+        ensures schedule { IsSchedule self }
+    {
+        self.rows
+    }
+
     /// Returns the schedule with whole rows. Returns `OutOfMemory` where an allocation fails.
     pub fn unpack(self, alloc: Global) -> Result<Schedule, OutOfMemory>
         ensures { IfOk result (λ rows. rows ≡ self) }

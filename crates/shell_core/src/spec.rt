@@ -1,6 +1,9 @@
 // What one direction of a shell does.
+ghost use Rattle.std.specs.Prelude.{◌≡◌, IfOk};
+
 use loss_core::Rate;
 use packet_queue::QueueSpec;
+use text_base::OutOfMemory;
 use trace_reader::Trace;
 
 /// What one direction of a shell does with the packets that arrive.
@@ -25,4 +28,26 @@ pub enum DirSpec {
         once: bool,
         queue: QueueSpec,
     },
+}
+
+impl DirSpec {
+    /// The same, which shares a link's trace and copies none of it, or out of memory.
+    pub fn copy(&self) -> Result<DirSpec, OutOfMemory>
+        ensures { IfOk result (λ spec. spec ≡ self.now) }
+    {
+        Ok(match self {
+            DirSpec::Pass => DirSpec::Pass,
+            DirSpec::Delay { ms } => DirSpec::Delay { ms: *ms },
+            DirSpec::Loss { rate, seed, stream } => DirSpec::Loss {
+                rate: *rate,
+                seed: *seed,
+                stream: *stream,
+            },
+            DirSpec::Link { trace, once, queue } => DirSpec::Link {
+                trace: trace.copy()?,
+                once: *once,
+                queue: *queue,
+            },
+        })
+    }
 }

@@ -30,7 +30,7 @@ impl PrintLine for Entry {
             Entry::Departure { size, delay, .. } => put_pair(out, u64::from(size), delay, b" - "),
             Entry::Drop { packets, bytes, .. } => put_pair(out, packets, bytes, b" d "),
         }
-        out.put_decimal(self.moment());
+        out.put_moment(self.moment());
     }
 }
 

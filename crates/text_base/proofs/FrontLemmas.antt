@@ -1,6 +1,6 @@
 -- Eight bytes at the front of a text, looked at together.
 use Rattle.std.proofs.Common.{◌≡◌, ℕ, ◌+◌, ◌-◌, ◌%◌, ◌^◌, ◌<◌, ◌≤◌, leb, Bool, true, false, not, ◌&&◌, cond, eqb}
-use Rattle.std.proofs.Common.{List, [], ◌∷◌, map, length, take, get_or, replicate, refl, sym, ap, ap₂, ◌∙◌, subst, eq-eqb, ne_eqb}
+use Rattle.std.proofs.Common.{List, [], ◌∷◌, map, length, take, get_or, replicate, refl, sym, ap, ap₂, ◌∙◌, subst, ne_eqb}
 use Rattle.std.proofs.Common.{arith, w8, Fits, nat_lt, suc, zero}
 use Rattle.std.proofs.lemmas.Simd.{first_set_mask_l, mask_l-mod}
 use Rattle.std.proofs.lemmas.List.{get_or-take, length-take-le, length-map, take-take}
@@ -87,14 +87,7 @@ count_of_mask text mask long e =
     same [] = refl
     same (x ∷ l) = ap₂ (λ b n. cond b (1 + n) 0) (not-not (is_digit x)) (same l)
 
--- all eight bytes are digits where the mask is empty
-pub all_counted : (text : List ℕ) (mask : ℕ) → 8 ≤ length text → mask ≡ mask_l (map other (take 8 text)) → mask ≡ 0
-    → IsCount text 8
-all_counted text mask long e none =
-    subst (λ b. IsCount text (cond b 8 (count_trailing_zeros 64 mask))) (eq-eqb mask 0 none)
-    (count_of_mask text mask long e)
-
--- and else the lowest bit is at the first that is none
+-- where the mask isn't empty, its lowest bit is that of the first byte that is no digit
 pub some_counted : (text : List ℕ) (mask : ℕ) → 8 ≤ length text → mask ≡ mask_l (map other (take 8 text))
     → (mask ≡ 0 → ⊥)
     → IsCount text (count_trailing_zeros 64 mask)

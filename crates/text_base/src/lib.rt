@@ -4,6 +4,7 @@
 
 mod bytes;
 mod front_digits;
+mod kept_digits;
 pub mod limits;
 mod line_buffer;
 mod lines;

@@ -2,6 +2,7 @@
 ghost use Rattle.std.specs.Prelude.{◌≡◌, ◌+◌, ◌^◌, ◌≤◌, ◌<◌, ◌∷◌, ◌++◌, ℕ, List, [], length, drop, decimal, IfOk};
 
 use crate::OutOfMemory;
+use crate::kept_digits::{KeptDigits, LEAST_LONGER};
 use crate::limits::BUFFER_BYTES;
 use itoa::write_digits;
 use std::alloc::Global;
@@ -13,6 +14,7 @@ use std::marker::Model;
 pub struct LineBuffer {
     bytes: Vec<u8>,
     start: usize,
+    moment: KeptDigits,
 }
 
 impl Model for LineBuffer {
@@ -34,6 +36,7 @@ impl LineBuffer {
         Ok(LineBuffer {
             bytes: vec![in alloc; 0u8; BUFFER_BYTES]?,
             start: BUFFER_BYTES,
+            moment: KeptDigits::new(0),
         })
     }
 
@@ -74,6 +77,44 @@ impl LineBuffer {
         ensures short { n < 10 ^ 10 → length self.new ≤ length self.old + 10 }
     {
         self.start = write_digits(n, self.bytes.as_mut_slice(), self.start);
+    }
+
+    /// Puts a moment in front, in digits, like `put_decimal`. Lines that follow each other often have one moment, so
+    /// its digits are kept for the next call.
+    #[inline]
+    pub fn put_moment(&mut self, moment: u64)
+        requires { length self.old + 20 ≤ BUFFER_BYTES }
+        ensures bytes { self.new ≡ decimal moment ++ self.old }
+        ensures length { length self.new ≤ length self.old + 20 }
+        ensures short { moment < 10 ^ 10 → length self.new ≤ length self.old + 10 }
+    {
+        if moment >= LEAST_LONGER {
+            return self.put_decimal(moment);
+        }
+        let kept = self.moment.renewed(moment);
+        self.moment = kept;
+        self.put_kept(kept);
+    }
+
+    // Puts a number in front whose digits are kept: all their bytes, and then lets go of those before the digits.
+    #[inline(always)]
+    fn put_kept(&mut self, kept: KeptDigits)
+        requires { length self.old + 20 ≤ BUFFER_BYTES }
+        ensures bytes { self.new ≡ decimal kept.number ++ self.old }
+        ensures length { length self.new ≤ length self.old + 8 }
+    {
+        self.put(&kept.bytes);
+        self.pass(kept.start);
+    }
+
+    // Lets go of the first `count` bytes.
+    #[inline(always)]
+    fn pass(&mut self, count: usize)
+        requires { count ≤ length self.old }
+        ensures bytes { self.new ≡ drop count self.old }
+        ensures length { length self.new + count ≡ length self.old }
+    {
+        self.start += count;
     }
 
     /// The bytes, in the order in which they are read.

@@ -13,8 +13,9 @@ use Rattle.nest_lanes.proofs.gathering.gather_packed.Goals as goal
 
 pub gather_marked-requires-clause-apart : goal.gather_marked-requires-clause-apart
 gather_marked-requires-clause-apart c =
-    subst (λ (rows : List Row). AreApart rows) (sym (ap (λ (m : Marks). m.rows) c.in_ok-marking.ensures))
-    (apart c.args.schedule.now c.rows.ensures.schedule.order)
+    subst (λ (rows : List Row). AreApart rows)
+    (sym (ap (λ (m : Marks). m.rows) c.in_ok-marking.ensures ∙ c.rows-rows.ensures.rows))
+    (apart c.args.schedule.now c.rows-rows.ensures.schedule.order)
 
 pub gather_marked-requires-clause-unsent : goal.gather_marked-requires-clause-unsent
 gather_marked-requires-clause-unsent c =
@@ -24,19 +25,19 @@ gather_marked-requires-clause-unsent c =
 pub gather_marked-requires-clause-up : goal.gather_marked-requires-clause-up
 gather_marked-requires-clause-up c =
     subst (λ (rows : List Row). HasRun Up c.args.nest.now rows c.args.up)
-    (sym (ap (λ (m : Marks). m.rows) c.in_ok-marking.ensures)) c.requires.up
+    (sym (ap (λ (m : Marks). m.rows) c.in_ok-marking.ensures ∙ c.rows-rows.ensures.rows)) c.requires.up
 
 pub gather_marked-requires-clause-down : goal.gather_marked-requires-clause-down
 gather_marked-requires-clause-down c =
     subst (λ (rows : List Row). HasRun Down c.args.nest.now rows c.args.down)
-    (sym (ap (λ (m : Marks). m.rows) c.in_ok-marking.ensures)) c.requires.down
+    (sym (ap (λ (m : Marks). m.rows) c.in_ok-marking.ensures ∙ c.rows-rows.ensures.rows)) c.requires.down
 
 pub returns-clause-value : goal.returns-clause-value
 returns-clause-value c =
     subst (λ (rows : List Row). IfOk c.gather_marked.result (λ r. r ≡ result_of c.args.nest.now rows))
-    (ap (λ (m : Marks). m.rows) c.in_ok-marking.ensures) c.gather_marked.ensures.value
+    (ap (λ (m : Marks). m.rows) c.in_ok-marking.ensures ∙ c.rows-rows.ensures.rows) c.gather_marked.ensures.value
 
 pub returns-clause-once : goal.returns-clause-once
 returns-clause-once c =
     subst (λ (rows : List Row). OnOk c.gather_marked.result (HaveOneFate c.args.nest.now rows))
-    (ap (λ (m : Marks). m.rows) c.in_ok-marking.ensures) c.gather_marked.ensures.once
+    (ap (λ (m : Marks). m.rows) c.in_ok-marking.ensures ∙ c.rows-rows.ensures.rows) c.gather_marked.ensures.once

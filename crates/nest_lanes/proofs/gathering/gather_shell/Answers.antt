@@ -1,8 +1,12 @@
-use Rattle.std.proofs.Common.{◌∙◌, ap}
+use Rattle.std.proofs.Common.{◌∙◌, IsSome, ap, option_map, refl, subst, sym}
 use Rattle.packet_record.proofs.MomentsLemmas.{up_to_higher}
-use Rattle.shell_core.specs.Shells.{whole_lost}
+use Rattle.shell_core.specs.declared.spec.DirSpec.{DirSpec}
+use Rattle.shell_core.specs.Shells.{whole_log, whole_lost}
+use Rattle.shell_core.specs.Wholes.{IsLink}
 use Rattle.nest_spec.specs.Fates.{fated}
 use Rattle.nest_spec.specs.Marks.{passed}
+use Rattle.nest_spec.specs.Walk.{named_entries}
+use Rattle.nest_plain.proofs.Naming.{is_logged}
 use Rattle.nest_plain.proofs.Passing.{departed_within, lost_short}
 use Rattle.nest_lanes.proofs.gathering.gather_shell.Goals as goal
 
@@ -34,3 +38,23 @@ returns-clause-short c =
     up_to_higher s.horizon 3600000 departed c.requires.state.2
     (departed_within s.spec s.horizon s.fed.packets departed c.stands.ensures.stands.built
     c.in_ok-departed.ensures.departed c.stands.ensures.stands.honest_fed.within)
+
+pub returns-clause-log : goal.returns-clause-log
+returns-clause-log c =
+    let shell = c.args.shell in
+    let s = c.args.state in
+    let same = c.requires.state.0 in
+    let entries = whole_log s.spec s.horizon s.fed.packets in
+    c.log_named.ensures entries
+    (λ named. c.in_ok-departed.ensures.log
+    ∙ is_logged s.spec entries (subst IsLink (sym same) (c.requires.link named)))
+    ∙ ap
+    (λ (spec : DirSpec). option_map (λ name. named_entries name (whole_log spec s.horizon s.fed.packets)) shell.log) same
+
+pub log_named-requires : goal.log_named-requires
+log_named-requires c = λ named.
+    let s = c.args.state in
+    let entries = whole_log s.spec s.horizon s.fed.packets in
+    subst (λ o. IsSome o)
+    (sym (c.in_ok-departed.ensures.log
+    ∙ is_logged s.spec entries (subst IsLink (sym c.requires.state.0) (c.requires.link named)))) refl

@@ -1,49 +1,41 @@
-use Rattle.std.proofs.Common.{◌∙◌, List, ap, subst, sym}
-use Rattle.packet_record.specs.declared.packet.Row.{Row}
-use Rattle.packet_record.specs.Orders.{AreInOrder}
-use Rattle.packet_record.specs.Rows.{Rises}
-use Rattle.packet_record.proofs.RowsLemmas.{rises-in_order}
+use Rattle.std.proofs.Common.{◌∙◌, List, ap, subst}
 use Rattle.shell_log.specs.declared.entry.Entry.{Entry}
 use Rattle.nest_spec.specs.declared.fate.Fate.TheVariants.{Unsent}
 use Rattle.nest_spec.specs.Fates.{fated}
 use Rattle.nest_spec.specs.Marks.{marks}
 use Rattle.nest_spec.specs.Nests.{run_lists, result_of}
+use Rattle.nest_spec.specs.Once.{HaveOneFate}
 use Rattle.nest_spec.proofs.OnceLemmas.{one_fate}
 use Rattle.nest_spec.proofs.Results.{same_long, result_is}
 use Rattle.nest_spec.proofs.Scheduled.{apart}
 use Rattle.nest_plain.specs.Unwritten.{unwritten}
 use Rattle.nest_plain.proofs.plain.run_packed.Goals as goal
 
-pub run_direction-requires-clause-rises : goal.run_direction-requires-clause-rises
-run_direction-requires-clause-rises c = subst (Rises 0) (sym c.rows-rows.ensures.rows)
-    (rises-in_order 1 0 c.args.schedule.now c.rows-rows.ensures.schedule.order)
-
-pub run_direction-requires-2-clause-rises : goal.run_direction-requires-2-clause-rises
-run_direction-requires-2-clause-rises c = subst (Rises 0) (sym c.rows-rows.ensures.rows)
-    (rises-in_order 1 0 c.args.schedule.now c.rows-rows.ensures.schedule.order)
-
 pub in_nest_order-requires : goal.in_nest_order-requires
 in_nest_order-requires c =
-    same_long c.args.nest.now c.rows-rows.result.now (λ (entries : List Entry). entries) c.in_ok-up.up.items
+    same_long c.args.nest.now c.in_ok-schedule.schedule (λ (entries : List Entry). entries) c.in_ok-up.up.items
     c.in_ok-down.down.items c.in_ok-up.ensures.logs c.in_ok-down.ensures.logs
 
 pub returns-clause-value : goal.returns-clause-value
 returns-clause-value c =
     let nest = c.args.nest.now in
-    let rows = c.rows-rows.result.now in
-    let is = c.rows-rows.ensures.rows in
+    let rows = c.in_ok-schedule.schedule in
     let up = c.in_ok-up.ensures in
     let down = c.in_ok-down.ensures in
     c.new.ensures
     ∙ ap (λ f. run_lists f (unwritten c.in_ok-logs.logs.items)) c.into_fates.ensures
     ∙ result_is nest rows (λ (entries : List Entry). entries) c.in_ok-marking.marking c.run_direction.new.marking
     c.run_direction-2.new.marking c.in_ok-up.up.items c.in_ok-down.down.items c.in_ok-logs.logs.items
-    (apart rows (subst (λ (l : List Row). AreInOrder 1 0 l) (sym is) c.rows-rows.ensures.schedule.order))
-    (c.in_ok-marking.ensures ∙ ap (λ l. marks l (fated (λ _. Unsent) l)) (sym is))
+    (apart rows c.rows-rows.ensures.schedule.order)
+    (c.in_ok-marking.ensures ∙ ap (λ l. marks l (fated (λ _. Unsent) l)) c.rows-rows.ensures.rows)
     (record { same = up.rows; fates = up.fates; named = up.logs; built = up.built })
     (record { same = down.rows; fates = down.fates; named = down.logs; built = down.built }) c.in_ok-logs.ensures
-    ∙ ap (result_of nest) is
+    ∙ ap (result_of nest) c.in_ok-schedule.ensures
 
 pub returns-clause-once : goal.returns-clause-once
-returns-clause-once c = one_fate c.args.nest.now c.args.schedule.now
-    (apart c.args.schedule.now c.rows-rows.ensures.schedule.order) c.in_ok-up.ensures.built c.in_ok-down.ensures.built
+returns-clause-once c =
+    let nest = c.args.nest.now in
+    let rows = c.in_ok-schedule.schedule in
+    subst (HaveOneFate nest) c.in_ok-schedule.ensures
+    (one_fate nest rows (apart rows c.rows-rows.ensures.schedule.order) c.in_ok-up.ensures.built
+    c.in_ok-down.ensures.built)
