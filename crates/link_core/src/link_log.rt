@@ -72,7 +72,7 @@ impl LinkLog {
 
     /// The log of a link over all its arrivals, which are in order and up to the horizon, and every opportunity up to
     /// the horizon. Nothing is run for it before it is asked for.
-    pub fn over(
+    pub fn whole(
         alloc: Global,
         trace: Trace,
         once: bool,

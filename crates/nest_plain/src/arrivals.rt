@@ -15,15 +15,15 @@ fn enters(direction: Direction, horizon: u64, row: &PackedRow) -> bool
     row.direction() == direction && row.moment() <= horizon
 }
 
-// The packets of a schedule that enter a nest in a direction, up to the horizon.
+// From where the packets come that enter a nest in a direction, up to the horizon: a schedule, shared and not copied.
 #[derive(Drop)]
-pub(crate) struct Entering {
+pub(crate) struct ArrivalSource {
     pub(crate) schedule: SharedSchedule,
     pub(crate) direction: Direction,
     pub(crate) horizon: u64,
 }
 
-impl Entering {
+impl ArrivalSource {
     // Returns the packets, in the room of an empty list.
     pub(crate) fn packets(&self, room: Vec<Timed>) -> Result<Vec<Timed>, OutOfMemory>
         requires { room.items ≡ [] }
@@ -37,10 +37,10 @@ impl Entering {
     }
 
     // Returns another holder of the same schedule, direction and horizon, or runs out of memory. No row is copied.
-    pub(crate) fn copy(&self) -> Result<Entering, OutOfMemory>
+    pub(crate) fn copy(&self) -> Result<ArrivalSource, OutOfMemory>
         ensures { IfOk result (λ packets. packets ≡ self.now) }
     {
-        Ok(Entering {
+        Ok(ArrivalSource {
             schedule: self.schedule.copy()?,
             direction: self.direction,
             horizon: self.horizon,

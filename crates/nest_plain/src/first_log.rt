@@ -4,9 +4,9 @@ ghost use Rattle.shell_core.specs.Shells.{meaning, opportunities};
 ghost use Rattle.shell_core.specs.Wholes.{IsLink};
 ghost use Rattle.nest_plain.specs.views.Arrivals.{entries_by};
 
-use crate::arrivals::Entering;
+use crate::arrivals::ArrivalSource;
 use link_core::LinkLog;
-use shell_core::{DirSpec, log_over};
+use shell_core::{DirSpec, whole_link_log};
 use std::alloc::Global;
 use text_base::OutOfMemory;
 
@@ -15,7 +15,7 @@ use text_base::OutOfMemory;
 pub(crate) struct FirstLog {
     pub(crate) alloc: Global,
     pub(crate) spec: DirSpec,
-    pub(crate) arrivals: Entering,
+    pub(crate) arrivals: ArrivalSource,
     pub(crate) ghost link: { (meaning spec).is_logged ≡ true },
     pub(crate) ghost short: { arrivals.horizon ≤ 3600000 },
     pub(crate) ghost few: { length (opportunities spec arrivals.horizon) ≤ 16000000 },
@@ -26,7 +26,7 @@ impl FirstLog {
     pub(crate) fn new(
         alloc: Global,
         spec: &DirSpec,
-        arrivals: &Entering,
+        arrivals: &ArrivalSource,
     ) -> Result<FirstLog, OutOfMemory>
         requires link { IsLink spec.now }
         requires short { arrivals.now.horizon ≤ 3600000 }
@@ -46,7 +46,7 @@ impl FirstLog {
     {
         let horizon = self.arrivals.horizon;
         let arrived = self.arrivals.packets(Vec::new(self.alloc))?;
-        let log = log_over(self.alloc, self.spec, horizon, arrived);
+        let log = whole_link_log(self.alloc, self.spec, horizon, arrived);
         Ok(log.unwrap())
     }
 }

@@ -11,7 +11,7 @@ ghost use Rattle.nest_spec.specs.Once.{HaveOneFate};
 ghost use Rattle.nest_spec.specs.Walk.{named_log};
 ghost use Rattle.nest_plain.specs.Unwritten.{unwritten_log};
 
-use crate::arrivals::Entering;
+use crate::arrivals::ArrivalSource;
 use crate::shell::run_from_first;
 use crate::{NestRun, UnwrittenLog};
 use nest_spec::{Marking, Nest, RunResult, in_nest_order};
@@ -41,7 +41,7 @@ fn run_direction(
     ensures built { OnOk result (AreBuilt (directions_of direction nest.now)) }
     ensures empty { IfOk result (λ r. r.1.items ≡ []) }
 {
-    let arrivals = Entering {
+    let arrivals = ArrivalSource {
         schedule: schedule.copy()?,
         direction,
         horizon: nest.horizon(),

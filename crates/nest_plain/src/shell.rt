@@ -17,7 +17,7 @@ ghost use Rattle.nest_spec.specs.Walk.{step, walk, named_entries, named_log};
 ghost use Rattle.nest_plain.specs.Unwritten.{unwritten_log};
 ghost use Rattle.nest_plain.specs.views.Arrivals.{entering_by, entries_by};
 
-use crate::arrivals::Entering;
+use crate::arrivals::ArrivalSource;
 use crate::first_log::FirstLog;
 use crate::{RunLog, UnwrittenLog, log_named};
 use nest_spec::{Marking, Named, ShellDirection};
@@ -70,7 +70,7 @@ fn first_log(
     alloc: Global,
     name: Option<Text>,
     spec: &DirSpec,
-    arrivals: &Entering,
+    arrivals: &ArrivalSource,
 ) -> Result<Option<UnwrittenLog>, OutOfMemory>
     requires link { IsSome name → IsLink spec.now }
     requires short { arrivals.now.horizon ≤ 3600000 }
@@ -89,7 +89,7 @@ fn first_log(
 fn run_first(
     alloc: Global,
     marking: &mut Marking<'_>,
-    arrivals: &Entering,
+    arrivals: &ArrivalSource,
     shell: ShellDirection,
     arrived: Vec<Timed>,
 ) -> Result<(Vec<Timed>, Option<UnwrittenLog>), OutOfMemory>
@@ -164,7 +164,7 @@ pub(crate) fn run_shells(
 pub(crate) fn run_from_first(
     marking: &mut Marking<'_>,
     logs: &mut Vec<Option<UnwrittenLog>>,
-    arrivals: &Entering,
+    arrivals: &ArrivalSource,
     mut shells: IntoIter<ShellDirection>,
     room: Vec<Timed>,
 ) -> Result<Vec<Timed>, OutOfMemory>

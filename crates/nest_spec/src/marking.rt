@@ -69,7 +69,8 @@ impl<'a> Marking<'a> {
         })
     }
 
-    /// Begins a marking of a packed schedule's rows, as `of_schedule`.
+    /// Begins a marking of `rows`, which are those of a packed schedule, as `of_schedule` does. Returns `OutOfMemory`
+    /// where an allocation fails.
     pub fn of_packed(alloc: Global, rows: &'a [PackedRow]) -> Result<Marking<'a>, OutOfMemory>
         requires schedule { IsSchedule rows.now }
         ensures { IfOk result (λ m. m ≡ marks rows.now (fated (λ _. Fate.Unsent) rows.now)) }

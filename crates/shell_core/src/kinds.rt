@@ -307,10 +307,10 @@ pub fn run_whole(
     }
 }
 
-/// The log of a direction over all packets up to the horizon, where the shell is a link. Nothing is run for it before it
-/// is asked for: it keeps the packets from which it is made.
+/// The log of a direction over all packets up to the horizon, where the shell is a link. Nothing is run for it before
+/// it is asked for: it keeps the packets from which it is made.
 #[tactic(auto, using(crate::proofs::WholeLemmas::all_taken), unfolding(crate::specs::Shells::opportunities, crate::specs::Shells::shell_log))]
-pub fn log_over(alloc: Global, spec: DirSpec, horizon: u64, packets: Vec<Timed>) -> Option<LinkLog>
+pub fn whole_link_log(alloc: Global, spec: DirSpec, horizon: u64, packets: Vec<Timed>) -> Option<LinkLog>
     requires horizon { horizon ≤ 3600000 }
     requires few { length (opportunities spec horizon) ≤ 16000000 }
     requires rises { Rise packets.items }
@@ -318,7 +318,7 @@ pub fn log_over(alloc: Global, spec: DirSpec, horizon: u64, packets: Vec<Timed>)
     ensures { result ≡ if_link spec (whole_log spec horizon packets.items) }
 {
     match spec {
-        DirSpec::Link { trace, once, queue } => Some(LinkLog::over(
+        DirSpec::Link { trace, once, queue } => Some(LinkLog::whole(
             alloc, trace, once, queue, horizon, packets,
         )),
         DirSpec::Pass | DirSpec::Delay { .. } | DirSpec::Loss { .. } => None,

@@ -5,12 +5,12 @@ use Rattle.packet_record.specs.Rows.{entering}
 use Rattle.shell_log.specs.declared.entry.Entry.{Entry}
 use Rattle.shell_core.specs.declared.spec.DirSpec.{DirSpec}
 use Rattle.shell_core.specs.Shells.{whole_log}
-use Rattle.nest_plain.specs.declared.arrivals.Entering.{Entering}
+use Rattle.nest_plain.specs.declared.arrivals.ArrivalSource.{ArrivalSource}
 
 -- The packets that enter.
-abbrev pub entering_by : Entering → List Timed
-entering_by e = entering e.direction e.horizon e.schedule
+abbrev pub entering_by : ArrivalSource → List Timed
+entering_by s = entering s.direction s.horizon s.schedule
 
 -- The log of a link at which they arrive.
-abbrev pub entries_by : DirSpec → Entering → List Entry
-entries_by spec e = whole_log spec e.horizon (entering_by e)
+abbrev pub entries_by : DirSpec → ArrivalSource → List Entry
+entries_by spec s = whole_log spec s.horizon (entering_by s)

@@ -3,7 +3,7 @@ use Rattle.packet_record.specs.Moments.{AreUpTo}
 use Rattle.trace_reader.specs.Opps.{opps}
 use Rattle.link_core.specs.views.Span.{Span, span_opps}
 use Rattle.link_core.proofs.CoverLemmas.{all_cover}
-use Rattle.link_core.proofs.link_log.LinkLog.over.Goals as goal
+use Rattle.link_core.proofs.link_log.LinkLog.whole.Goals as goal
 
 pub of-requires : goal.of-requires
 of-requires c =

@@ -2,7 +2,7 @@ use Rattle.std.proofs.Common.{◌∙◌, ap, subst, sym}
 use Rattle.packet_record.specs.Moments.{AreUpTo, Rise}
 use Rattle.packet_record.specs.Rows.{entering}
 use Rattle.packet_record.proofs.RowsLemmas.{rise-entering, rises-in_order, up_to-entering}
-use Rattle.nest_plain.proofs.arrivals.Entering.packets.Goals as goal
+use Rattle.nest_plain.proofs.arrivals.ArrivalSource.packets.Goals as goal
 
 pub returns-clause-rise : goal.returns-clause-rise
 returns-clause-rise c =
