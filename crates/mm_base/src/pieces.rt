@@ -10,29 +10,14 @@ use std::alloc::Global;
 use text_base::limits::PIECE_BYTES;
 use text_base::{OutOfMemory, PieceReader};
 
-// Returns how many bytes one read asks for in a file of `size` bytes: at least one, and at most `most`.
-pub(crate) fn piece_length(size: u64, most: u64) -> usize
-    requires some { 1 ≤ most }
-    ensures some { 0 < result }
-    ensures few { result ≤ most }
-{
-    size.clamp(1, most) as usize
-}
-
-// Returns `count` zeros, or `OutOfMemory` where the allocation fails.
-pub(crate) fn zeros(alloc: Global, count: usize) -> Result<Vec<u8>, OutOfMemory>
-    ensures { IfOk result (λ zeros. length zeros.items ≡ count) }
-{
-    Ok(vec![in alloc; 0u8; count]?)
-}
-
 /// Returns a buffer for one piece of a file of `size` bytes: 1 to 65,536 bytes. Returns `OutOfMemory` where the
 /// allocation fails.
 pub fn piece_buffer(alloc: Global, size: u64) -> Result<Vec<u8>, OutOfMemory>
     ensures some { IfOk result (λ buffer. 0 < length buffer.items) }
     ensures few { IfOk result (λ buffer. length buffer.items ≤ 65536) }
 {
-    zeros(alloc, piece_length(size, PIECE_BYTES))
+    let count = size.clamp(1, PIECE_BYTES) as usize;
+    Ok(vec![in alloc; 0u8; count]?)
 }
 
 /// Reads the next piece of a file, from `place.at` on, into the front of `piece`, and returns how many bytes it has.

@@ -3,12 +3,14 @@
 #![tactic(auto)]
 
 mod checks;
-mod inputs;
 mod run_files;
+mod schedules;
+mod traces;
 mod whole_logs;
 mod words;
 
 pub use checks::{check_count, check_horizon, check_outputs, names_of, nest_cause};
-pub use inputs::{load_packed, load_schedule, load_traces, schedule_cause};
 pub use run_files::{write_in_pieces, write_logs, write_whole};
+pub use schedules::{load_packed, load_schedule, schedule_cause};
+pub use traces::load_traces;
 pub use words::end_of_options;

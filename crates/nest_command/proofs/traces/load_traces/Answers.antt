@@ -11,7 +11,7 @@ use Rattle.command_ends.specs.declared.cause.Cause.{Cause}
 use Rattle.nest_command.specs.Inputs.{reading_traces}
 use Rattle.nest_command.specs.Loaded.{HaveTraces, NoTraces}
 use Rattle.nest_command.proofs.InputLemmas.{have_count, have_more, traces_stop}
-use Rattle.nest_command.proofs.inputs.load_traces.Goals as goal
+use Rattle.nest_command.proofs.traces.load_traces.Goals as goal
 
 pub loop-name-init : goal.loop-name-init
 loop-name-init g c = record {

@@ -1,7 +1,7 @@
 use Rattle.std.proofs.Common.{List, ℕ, take}
 use Rattle.mm_base.specs.Disk.{OnlyReads}
 use Rattle.nest_command.specs.Loaded.{HaveTraces}
-use Rattle.nest_command.proofs.inputs.load_traces.Given as goal
+use Rattle.nest_command.proofs.traces.load_traces.Given as goal
 
 abbrev pub invariant-loop-name : goal.invariant-loop-name
 invariant-loop-name g l = record {

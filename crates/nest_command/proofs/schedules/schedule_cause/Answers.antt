@@ -2,7 +2,7 @@ use Rattle.std.proofs.Common.{Some, ap, sym, ◌∙◌}
 use Rattle.packet_record.specs.declared.reading.ScheduleError.{ScheduleError}
 use Rattle.nest_command.specs.Inputs.{schedule_refused}
 use Rattle.nest_command.proofs.InputLemmas.{schedule_bad, schedule_said}
-use Rattle.nest_command.proofs.inputs.schedule_cause.Goals as goal
+use Rattle.nest_command.proofs.schedules.schedule_cause.Goals as goal
 
 pub returns-in-TooMany : goal.returns-in-TooMany
 returns-in-TooMany c = λ text h.

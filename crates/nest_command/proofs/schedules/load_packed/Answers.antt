@@ -6,7 +6,7 @@ use Rattle.command_ends.specs.declared.cause.Cause.{Cause}
 use Rattle.command_ends.proofs.ReadingLemmas.{stops_at, text_stopped}
 use Rattle.nest_command.specs.Inputs.{reading_schedule, schedule_refusal}
 use Rattle.nest_command.proofs.InputLemmas.{schedule_found, schedule_text}
-use Rattle.nest_command.proofs.inputs.load_packed.Goals as goal
+use Rattle.nest_command.proofs.schedules.load_packed.Goals as goal
 
 pub returns-in_err-text-clause-stopped : goal.returns-in_err-text-clause-stopped
 returns-in_err-text-clause-stopped g c =

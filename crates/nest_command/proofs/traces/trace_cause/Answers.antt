@@ -2,7 +2,7 @@ use Rattle.std.proofs.Common.{Some, ap, sym, ◌∙◌}
 use Rattle.trace_reader.specs.declared.reading.TraceError.{TraceError}
 use Rattle.nest_command.specs.Inputs.{trace_refused}
 use Rattle.nest_command.proofs.InputLemmas.{trace_bad, trace_said}
-use Rattle.nest_command.proofs.inputs.trace_cause.Goals as goal
+use Rattle.nest_command.proofs.traces.trace_cause.Goals as goal
 
 pub returns-in-TooManyLines : goal.returns-in-TooManyLines
 returns-in-TooManyLines c = λ text h.

@@ -3,7 +3,7 @@ use Rattle.command_ends.specs.Causes.{Text}
 use Rattle.command_ends.specs.Stops.{RefusesText}
 use Rattle.nest_command.specs.Inputs.{schedule_refusal}
 use Rattle.nest_command.proofs.InputLemmas.{schedule_accepted}
-use Rattle.nest_command.proofs.inputs.schedule_of.Goals as goal
+use Rattle.nest_command.proofs.schedules.schedule_of.Goals as goal
 
 pub returns-in-Ok-clause-refused : goal.returns-in-Ok-clause-refused
 returns-in-Ok-clause-refused c = λ bytes has. schedule_accepted c.args.name.now bytes (c.in-Ok.ensures.exact bytes has)

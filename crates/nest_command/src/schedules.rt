@@ -1,39 +1,19 @@
-// The inputs of runs, read from their files: traces in order, and a schedule.
-ghost use Rattle.std.specs.Prelude.{◌≡◌, ◌≢◌, ℕ, List, length, None, Some, IfOk, IfErr, MatchResult};
+// The schedule of a run, read from its file.
+ghost use Rattle.std.specs.Prelude.{◌≡◌, ◌≢◌, ℕ, List, None, IfOk, IfErr, MatchResult};
 ghost use Rattle.mm_base.specs.Disk.{OnlyReads};
 ghost use Rattle.packet_record.specs.PartsRead.{HasRead};
 ghost use Rattle.text_base.specs.Lines.{lines_of};
 ghost use Rattle.packet_record.specs.Schedules.{IsScheduleText, first_fault};
-ghost use Rattle.trace_reader.specs.Reading.{trace_fault};
-ghost use Rattle.trace_reader.specs.TraceText.{IsTraceText};
 ghost use Rattle.command_ends.specs.Readings.{Done};
 ghost use Rattle.command_ends.specs.Stops.{IsInput, RefusesText, StopsAtFile, StopsReading};
-ghost use Rattle.nest_command.specs.Inputs.{reading_schedule, reading_trace, reading_traces, schedule_refusal};
-ghost use Rattle.nest_command.specs.Inputs.{trace_refusal};
-ghost use Rattle.nest_command.specs.Loaded.{HasSchedule, HasTrace, HaveTraces};
+ghost use Rattle.nest_command.specs.Inputs.{reading_schedule, schedule_refusal};
+ghost use Rattle.nest_command.specs.Loaded.{HasSchedule};
 
-use command_ends::{Cause, Limit, Refusal, input_size, read_input, read_pieces};
+use command_ends::{Cause, Limit, Refusal, input_size, read_pieces};
 use mm_base::Disk;
 use packet_record::{PackedSchedule, Schedule, ScheduleError, ScheduleText};
 use std::alloc::Global;
 use text_base::Text;
-use trace_reader::{Trace, TraceError, read_trace};
-
-// Returns the cause of a trace's text, in the file `name`, that isn't accepted.
-fn trace_cause(name: Text, error: TraceError) -> Cause
-    ensures { (text : List ℕ) → (error ≢ TraceError.OutOfMemory → trace_fault text ≡ Some error)
-        → RefusesText (trace_refusal name text) result }
-{
-    match error {
-        TraceError::TooManyLines => Cause::limit(Limit::Lines(name)),
-        TraceError::OutOfMemory => Cause::OutOfMemory,
-        _ => Cause::Refused(Refusal::BadInput {
-            name,
-            number: error.number(),
-            place: error.line(),
-        }),
-    }
-}
 
 /// Returns the cause of a schedule's text, in the file `name`, that isn't accepted: its limit of packets, out of
 /// memory, or `error` as the refusal of that file.
@@ -50,51 +30,6 @@ pub fn schedule_cause(name: Text, error: ScheduleError) -> Cause
             place: error.line(),
         }),
     }
-}
-
-// Returns the trace of a text. A refusal names the file `name`.
-fn trace_of(alloc: Global, name: &str, text: &[u8]) -> Result<Trace, Cause>
-    ensures trace { IfOk result (λ trace. IsTraceText text.now trace) }
-    ensures refused { MatchResult result (λ _. trace_refusal name.now text.now ≡ None)
-        (λ cause. RefusesText (trace_refusal name.now text.now) cause) }
-{
-    match read_trace(alloc, text) {
-        Ok(trace) => Ok(trace),
-        Err(error) => Err(trace_cause(Text::from_text(alloc, name)?, error)),
-    }
-}
-
-// Returns the trace in the file `name`.
-fn load_trace<D: Disk>(alloc: Global, disk: &mut D, name: &str) -> Result<Trace, Cause>
-    ensures found { IfOk result (λ trace. ((text : List ℕ) × HasTrace (D.view disk.old).files name.now text trace)) }
-    ensures stopped { IfErr result (λ cause. StopsReading (reading_trace name.now Done) (D.view disk.old)
-        (D.view disk.new) cause) }
-    ensures only_reads { OnlyReads (D.view disk.old) (D.view disk.new) }
-{
-    let bytes = read_input(alloc, disk, name)?;
-    trace_of(alloc, name, bytes.as_slice())
-}
-
-/// Returns the traces in the files `names`, each of which is read before the next. The cause of what can't be read is
-/// its refusal, a fault of the disk, or out of memory.
-pub fn load_traces<D: Disk>(
-    alloc: Global,
-    disk: &mut D,
-    names: &[Text],
-) -> Result<Vec<Trace>, Cause>
-    ensures found { IfOk result (λ traces. ((texts : List (List ℕ))
-        × HaveTraces (D.view disk.old).files names.now texts traces.items)) }
-    ensures count { IfOk result (λ traces. length traces.items ≡ length names.now) }
-    ensures stopped { IfErr result (λ cause. StopsReading (reading_traces names.now Done) (D.view disk.old)
-        (D.view disk.new) cause) }
-    ensures only_reads { OnlyReads (D.view disk.old) (D.view disk.new) }
-{
-    let mut traces = Vec::new(alloc);
-    for name in names {
-        let trace = load_trace(alloc, disk, name.as_str())?;
-        traces.push(trace)?;
-    }
-    Ok(traces)
 }
 
 // Reads a schedule's text from the file `name`, in pieces.

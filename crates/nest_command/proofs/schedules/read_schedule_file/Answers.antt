@@ -4,7 +4,7 @@ use Rattle.mm_base.specs.Files.{Files}
 use Rattle.command_ends.specs.Stops.{IsInput, StopsAtFile}
 use Rattle.command_ends.specs.declared.cause.Cause.{Cause}
 use Rattle.command_ends.proofs.ReadingLemmas.{file_later}
-use Rattle.nest_command.proofs.inputs.read_schedule_file.Goals as goal
+use Rattle.nest_command.proofs.schedules.read_schedule_file.Goals as goal
 
 pub returns-in_err-read_pieces-clause-stopped : goal.returns-in_err-read_pieces-clause-stopped
 returns-in_err-read_pieces-clause-stopped g c =

@@ -6,7 +6,7 @@ use Rattle.command_ends.specs.declared.cause.Cause.{Cause}
 use Rattle.command_ends.proofs.ReadingLemmas.{stops_at, text_stopped}
 use Rattle.nest_command.specs.Inputs.{reading_trace, trace_refusal}
 use Rattle.nest_command.proofs.InputLemmas.{trace_found, trace_text}
-use Rattle.nest_command.proofs.inputs.load_trace.Goals as goal
+use Rattle.nest_command.proofs.traces.load_trace.Goals as goal
 
 pub returns-clause-found : goal.returns-clause-found
 returns-clause-found g c =
