@@ -310,7 +310,12 @@ pub fn run_whole(
 /// The log of a direction over all packets up to the horizon, where the shell is a link. Nothing is run for it before
 /// it is asked for: it keeps the packets from which it is made.
 #[tactic(auto, using(crate::proofs::WholeLemmas::all_taken), unfolding(crate::specs::Shells::opportunities, crate::specs::Shells::shell_log))]
-pub fn whole_link_log(alloc: Global, spec: DirSpec, horizon: u64, packets: Vec<Timed>) -> Option<LinkLog>
+pub fn whole_link_log(
+    alloc: Global,
+    spec: DirSpec,
+    horizon: u64,
+    packets: Vec<Timed>,
+) -> Option<LinkLog>
     requires horizon { horizon ≤ 3600000 }
     requires few { length (opportunities spec horizon) ≤ 16000000 }
     requires rises { Rise packets.items }

@@ -6,6 +6,6 @@ mod kinds;
 mod spec;
 mod whole;
 
-pub use kinds::{Core, whole_link_log, run_whole};
+pub use kinds::{Core, run_whole, whole_link_log};
 pub use link_core::{LinkLog, Passage};
 pub use spec::DirSpec;
