@@ -1,6 +1,6 @@
 // The result of a run over threads, from the states of its shells. Each state is given up for its lists, so none of
 // them is copied.
-ghost use Rattle.std.specs.Prelude.{◌≡◌, ◌≤◌, ◌++◌, ◌∷◌, List, IsSome, map, option_map, IfOk, OnOk};
+ghost use Rattle.std.specs.Prelude.{◌≡◌, ◌≤◌, ◌++◌, ◌∷◌, List, map, option_map, IfOk, OnOk};
 ghost use Rattle.std.specs.Vec.Iter.{into_iter_items};
 ghost use Rattle.packet_record.specs.declared.item.FlowEnd.TheVariants.{Ended};
 ghost use Rattle.packet_record.specs.declared.packet.Direction.TheVariants.{Up, Down};
@@ -9,11 +9,10 @@ ghost use Rattle.packet_record.specs.declared.packet.Timed.{Timed as TimedValue}
 ghost use Rattle.packet_record.specs.Moments.{AreUpTo};
 ghost use Rattle.packet_record.specs.Rows.{AreApart, entering};
 ghost use Rattle.shell_core.specs.Shells.{IsBuilt, whole_inside, whole_lost, whole_out};
-ghost use Rattle.shell_core.specs.Wholes.{IsLink};
 ghost use Rattle.nest_spec.specs.declared.fate.Fate.{Fate as FateValue};
 ghost use Rattle.nest_spec.specs.declared.fate.Fate.TheVariants.{Unsent};
 ghost use Rattle.nest_spec.specs.Fates.{fated};
-ghost use Rattle.nest_spec.specs.Links.{NamedAreLinks, specs_in};
+ghost use Rattle.nest_spec.specs.Links.{AreNestShells, IsNestShell, specs_in};
 ghost use Rattle.nest_spec.specs.inside.Links.{AreBuilt};
 ghost use Rattle.nest_spec.specs.Marks.{passed};
 ghost use Rattle.nest_spec.specs.inside.Marks.{ids_of, marked_through};
@@ -42,7 +41,7 @@ fn gather_shell(
     state: ShellState,
 ) -> Result<(Vec<Timed>, Option<UnwrittenLog>), OutOfMemory>
     requires state { (state.spec ≡ shell.spec) × (state.taken.end ≡ Ended) × (state.horizon ≤ 3600000) }
-    requires link { IsSome shell.log → IsLink shell.spec }
+    requires shell { IsNestShell shell }
     ensures rows { marking.new.rows ≡ marking.old.rows }
     ensures fates { OnOk result ((f : RowValue → FateValue) → marking.old.fates ≡ fated f marking.old.rows
         → marking.new.fates ≡ fated (passed shell.number (whole_lost state.spec state.horizon state.fed.packets)
@@ -83,7 +82,7 @@ fn gather_shells(
     requires passed { HavePassed state.horizon (shell.spec ∷ specs_in (into_iter_items shells)) state.fed.packets
         (state ∷ into_iter_items states) }
     requires short { state.horizon ≤ 3600000 }
-    requires links { NamedAreLinks (shell ∷ into_iter_items shells) }
+    requires shells { AreNestShells (shell ∷ into_iter_items shells) }
     ensures rows { marking.new.rows ≡ marking.old.rows }
     ensures fates { OnOk result ((f : RowValue → FateValue) → marking.old.fates ≡ fated f marking.old.rows
         → marking.new.fates ≡ fated (marked_through state.horizon (shell ∷ into_iter_items shells) state.fed.packets f)

@@ -8,7 +8,7 @@ ghost use Rattle.shell_core.specs.Shells.{whole_inside};
 ghost use Rattle.shell_core.specs.Wholes.{IsLink};
 ghost use Rattle.nest_spec.specs.declared.fate.Fate.{Fate as FateValue};
 ghost use Rattle.nest_spec.specs.Fates.{fated};
-ghost use Rattle.nest_spec.specs.Links.{NamedAreLinks, specs_in};
+ghost use Rattle.nest_spec.specs.Links.{AreNestShells, IsNestShell, specs_in};
 ghost use Rattle.nest_spec.specs.inside.Links.{AreBuilt};
 ghost use Rattle.nest_spec.specs.Marks.{passed};
 ghost use Rattle.nest_spec.specs.inside.Marks.{ids_of, marked_through};
@@ -38,7 +38,7 @@ fn run_shell(
 ) -> Result<(Vec<Timed>, Option<UnwrittenLog>), OutOfMemory>
     requires fit { IsInRange shell.spec × (length (opportunities shell.spec horizon) ≤ 16000000) }
     requires horizon { horizon ≤ 3600000 }
-    requires link { IsSome shell.log → IsLink shell.spec }
+    requires shell { IsNestShell shell }
     requires rises { Rise arrived.items }
     requires within { AreUpTo horizon arrived.items }
     ensures rows { marking.new.rows ≡ marking.old.rows }
@@ -95,7 +95,7 @@ fn run_first(
 ) -> Result<(Vec<Timed>, Option<UnwrittenLog>), OutOfMemory>
     requires fit { IsInRange shell.spec × (length (opportunities shell.spec arrivals.now.horizon) ≤ 16000000) }
     requires horizon { arrivals.now.horizon ≤ 3600000 }
-    requires link { IsSome shell.log → IsLink shell.spec }
+    requires shell { IsNestShell shell }
     requires rises { Rise arrived.items }
     requires within { AreUpTo arrivals.now.horizon arrived.items }
     requires entering { arrived.items ≡ entering_by arrivals.now }
@@ -133,7 +133,7 @@ pub(crate) fn run_shells(
     arrived: Vec<Timed>,
 ) -> Result<Vec<Timed>, OutOfMemory>
     requires fit { AllFit horizon (specs_in (into_iter_items shells)) }
-    requires links { NamedAreLinks (into_iter_items shells) }
+    requires shells { AreNestShells (into_iter_items shells) }
     requires horizon { horizon ≤ 3600000 }
     requires rises { Rise arrived.items }
     requires within { AreUpTo horizon arrived.items }
@@ -169,7 +169,7 @@ pub(crate) fn run_from_first(
     room: Vec<Timed>,
 ) -> Result<Vec<Timed>, OutOfMemory>
     requires fit { AllFit arrivals.now.horizon (specs_in (into_iter_items shells)) }
-    requires links { NamedAreLinks (into_iter_items shells) }
+    requires shells { AreNestShells (into_iter_items shells) }
     requires horizon { arrivals.now.horizon ≤ 3600000 }
     requires room { room.items ≡ [] }
     ensures rows { marking.new.rows ≡ marking.old.rows }

@@ -1,5 +1,6 @@
 -- The shells of a nest in a direction.
 use Rattle.std.proofs.Common.{◌≡◌, ℕ, suc, ◌+◌, List, [], ◌∷◌, ◌++◌, length, reverse, refl, ap, sym, subst, ◌∙◌}
+use Rattle.std.proofs.Common.{arith}
 use Rattle.std.proofs.lemmas.List.{reverse-append, length-reverse}
 use Rattle.packet_record.specs.declared.packet.Direction.{Direction}
 use Rattle.packet_record.specs.declared.packet.Direction.TheVariants.{Up, Down}
@@ -7,7 +8,7 @@ use Rattle.packet_record.specs.declared.packet.Timed.{Timed}
 use Rattle.nest_spec.specs.declared.shell.Shell.{Shell}
 use Rattle.nest_spec.specs.declared.shell.LinkDirection.{LinkDirection}
 use Rattle.nest_spec.specs.declared.shell.ShellDirection.{ShellDirection}
-use Rattle.nest_spec.specs.Links.{NamedAreLinks, specs_in}
+use Rattle.nest_spec.specs.Links.{AreNestShells, specs_in}
 use Rattle.nest_spec.specs.Nests.{NestParts, IsNest, AllFit, all_in_direction, in_passing_order, shells_in}
 use Rattle.nest_spec.specs.Walk.{walk}
 use Rattle.nest_spec.proofs.ShellLemmas.{AreFit, all_fit}
@@ -27,15 +28,15 @@ in_order_fit Down h list fit = fit
 
 pub shells_fit : (d : Direction) (nest : NestParts) → IsNest nest → AreFit nest.horizon (shells_in d nest)
 shells_fit d nest is = in_order_fit d nest.horizon (all_in_direction d nest.seed 1 nest.shells)
-    (all_fit d nest.seed 1 nest.horizon nest.shells is.shells is.opportunities)
+    (all_fit d nest.seed 1 nest.horizon nest.shells (let few = is.few in omega arith) is.shells is.opportunities)
 
 pub specs_fit : (h : ℕ) (list : List ShellDirection) → AreFit h list → AllFit h (specs_in list)
 specs_fit h [] fit = tt
 specs_fit h (s ∷ list) fit = (fit.0.range, fit.0.few, specs_fit h list fit.1)
 
-pub named_links : (h : ℕ) (list : List ShellDirection) → AreFit h list → NamedAreLinks list
-named_links h [] fit = tt
-named_links h (s ∷ list) fit = (fit.0.link, named_links h list fit.1)
+pub nest_shells : (h : ℕ) (list : List ShellDirection) → AreFit h list → AreNestShells list
+nest_shells h [] fit = tt
+nest_shells h (s ∷ list) fit = (fit.0.shell, nest_shells h list fit.1)
 
 all_long : (d : Direction) (seed n : ℕ) (shells : List (Shell LinkDirection))
     → length (all_in_direction d seed n shells) ≡ length shells

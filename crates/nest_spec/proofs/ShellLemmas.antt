@@ -1,5 +1,5 @@
 -- The lemmas that go by the kind of shell: what its words read, how it is built, and what it does in a direction.
-use Rattle.std.proofs.Common.{◌≡◌, ℕ, suc, ◌+◌, ◌≤◌, Bool, true, false, cond, List, [], ◌∷◌, ◌++◌, IsSome, length}
+use Rattle.std.proofs.Common.{◌≡◌, ℕ, suc, ◌+◌, ◌≤◌, Bool, true, false, cond, List, [], ◌∷◌, ◌++◌, length}
 use Rattle.std.proofs.Common.{Option, Some, None, Result, Ok, Err, option_to_list, is_some, nat_le, drop, codes, refl}
 use Rattle.std.proofs.Common.{ap, subst, ◌∙◌, arith, rules, tests, length-append}
 use Rattle.std.specs.Str.{bytes_eq}
@@ -12,12 +12,12 @@ use Rattle.loss_core.specs.RateValues.{rate_value}
 use Rattle.trace_reader.specs.declared.trace.Trace.{Trace}
 use Rattle.shell_core.specs.declared.spec.DirSpec.TheVariants as specs
 use Rattle.shell_core.specs.Shells.{IsInRange, opportunities}
-use Rattle.shell_core.specs.Wholes.{IsLink}
 use Rattle.nest_spec.specs.Words.{Text, next, and_then, ShellRead, shell_read, delay_ms, delay_words, loss_direction}
 use Rattle.nest_spec.specs.Words.{loss_rate, rate_words, loss_words, nothing_given, LinkRead, link_from, queue_given}
 use Rattle.nest_spec.specs.Words.{side_words, queues_read, traces_read, link_end, link_words, shell_words}
 use Rattle.nest_spec.specs.Shells.{log_in, shells_of, all_opportunities, side_opportunities, spec_in}
 use Rattle.nest_spec.specs.Plans.{AreShells, trace_count}
+use Rattle.nest_spec.specs.Links.{IsNestShell}
 use Rattle.nest_spec.specs.Nests.{all_in_direction}
 use Rattle.nest_spec.specs.inside.Plans.{IsShellRead}
 use Rattle.nest_spec.specs.declared.error.NestError.{NestError}
@@ -166,11 +166,11 @@ unnamed h (Link once up down ∷ words) (t ∷ u ∷ traces) names names' = let 
     unnamed h words traces (drop (log_in down) (drop (log_in up) names))
     (drop (log_in down) (drop (log_in up) names')) in omega arith
 
--- a shell in a direction is in its range, has few opportunities, and logs only where it is a link
+-- a shell in a direction is in its range, has few opportunities, is one of eight, and logs only where it is a link
 pub record IsFit (h : ℕ) (s : ShellDirection) : Type 0 where
   pub range : IsInRange s.spec
   pub few : length (opportunities s.spec h) ≤ 16000000
-  pub link : IsSome s.log → IsLink s.spec
+  pub shell : IsNestShell s
 
 abbrev pub AreFit : ℕ → List ShellDirection → Type 0
 AreFit h [] = Unit {0}
@@ -197,22 +197,30 @@ delay_few : (ms h : ℕ) → length (opportunities (specs.Delay ms) h) ≤ 16000
 unfolding opportunities
 delay_few ms h = omega arith
 
-pub all_fit : (d : Direction) (seed n h : ℕ) (shells : List (Shell LinkDirection)) → AreShells shells
-    → all_opportunities h shells ≤ 16000000 → AreFit h (all_in_direction d seed n shells)
-all_fit d seed n h [] are le = tt
-all_fit d seed n h (Delay ms ∷ shells) are le = (
-  record { range = are.0; few = delay_few ms h; link = λ no. absurd (cc no) },
-  all_fit d seed (n + 1) h shells are.1 le,
+pub all_fit : (d : Direction) (seed n h : ℕ) (shells : List (Shell LinkDirection)) → n + length shells ≤ 9
+    → AreShells shells → all_opportunities h shells ≤ 16000000 → AreFit h (all_in_direction d seed n shells)
+all_fit d seed n h [] few are le = tt
+all_fit d seed n h (Delay ms ∷ shells) few are le = (
+  record {
+    range = are.0;
+    few = delay_few ms h;
+    shell = record { few = omega arith; link = λ no. absurd (cc no) };
+  },
+  all_fit d seed (n + 1) h shells (omega arith) are.1 le,
 )
-all_fit d seed n h (Loss named rate ∷ shells) are le = (
+all_fit d seed n h (Loss named rate ∷ shells) few are le = (
   record {
     range = loss_range (goes d named) rate seed _;
     few = loss_few (goes d named) rate seed _ h;
-    link = λ no. absurd (cc no);
+    shell = record { few = omega arith; link = λ no. absurd (cc no) };
   },
-  all_fit d seed (n + 1) h shells are.1 le,
+  all_fit d seed (n + 1) h shells (omega arith) are.1 le,
 )
-all_fit d seed n h (Link once up down ∷ shells) are le = (
-  record { range = tt; few = link_few d seed n h once up down (omega arith); link = λ _. tt },
-  all_fit d seed (n + 1) h shells are.1 (omega arith),
+all_fit d seed n h (Link once up down ∷ shells) few are le = (
+  record {
+    range = tt;
+    few = link_few d seed n h once up down (omega arith);
+    shell = record { few = omega arith; link = λ _. tt };
+  },
+  all_fit d seed (n + 1) h shells (omega arith) are.1 (omega arith),
 )

@@ -1,5 +1,5 @@
--- What the shells of a direction do, and which of them may have the name of a log.
-use Rattle.std.specs.Prelude.{List, [], ◌∷◌, IsSome, map}
+-- What the shells of a direction do, and what holds of each.
+use Rattle.std.specs.Prelude.{◌≤◌, List, [], ◌∷◌, IsSome, map}
 use Rattle.shell_core.specs.declared.spec.DirSpec.{DirSpec}
 use Rattle.shell_core.specs.Wholes.{IsLink}
 use Rattle.nest_spec.specs.declared.shell.ShellDirection.{ShellDirection}
@@ -8,7 +8,12 @@ use Rattle.nest_spec.specs.declared.shell.ShellDirection.{ShellDirection}
 abbrev pub specs_in : List ShellDirection → List DirSpec
 specs_in shells = map (λ (s : ShellDirection). s.spec) shells
 
--- Only links have a name for their log.
-abbrev pub NamedAreLinks : List ShellDirection → Type 0
-NamedAreLinks [] = Unit {0}
-NamedAreLinks (s ∷ shells) = (IsSome s.log → IsLink s.spec) × NamedAreLinks shells
+-- A shell is one of eight, and only a link has a name for its log.
+pub record IsNestShell (s : ShellDirection) : Type 0 where
+  pub few : s.number ≤ 8
+  pub link : IsSome s.log → IsLink s.spec
+
+-- So is each of these.
+abbrev pub AreNestShells : List ShellDirection → Type 0
+AreNestShells [] = Unit {0}
+AreNestShells (s ∷ shells) = IsNestShell s × AreNestShells shells

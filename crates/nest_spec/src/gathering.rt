@@ -10,7 +10,7 @@ ghost use Rattle.nest_spec.specs.declared.fate.Fate.{Fate as FateValue};
 ghost use Rattle.nest_spec.specs.Fates.{fated};
 ghost use Rattle.shell_core.specs.Shells.{whole_log};
 ghost use Rattle.shell_core.specs.Wholes.{IsLink};
-ghost use Rattle.nest_spec.specs.Links.{NamedAreLinks, specs_in};
+ghost use Rattle.nest_spec.specs.Links.{AreNestShells, specs_in};
 ghost use Rattle.nest_spec.specs.inside.Links.{AreBuilt};
 ghost use Rattle.nest_spec.specs.inside.Marks.{marked_through};
 ghost use Rattle.nest_spec.specs.Nests.{directions_of, shells_in, walk_of, result_of};
@@ -41,7 +41,7 @@ fn gather_shells(
     requires passed { HavePassed horizon (specs_in shells.now) arrived.now states.now }
     requires within { AreUpTo horizon arrived.now }
     requires short { horizon ≤ 3600000 }
-    requires links { NamedAreLinks shells.now }
+    requires shells { AreNestShells shells.now }
     ensures rows { marking.new.rows ≡ marking.old.rows }
     ensures fates { OnOk result ((f : RowValue → FateValue) → marking.old.fates ≡ fated f marking.old.rows
         → marking.new.fates ≡ fated (marked_through horizon shells.now arrived.now f) marking.old.rows) }

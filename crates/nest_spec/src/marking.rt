@@ -1,5 +1,5 @@
 // Marks the fates of a run's rows, shell by shell, while their packets pass.
-ghost use Rattle.std.specs.Prelude.{◌≡◌, length, map, IfOk};
+ghost use Rattle.std.specs.Prelude.{◌≡◌, ◌≤◌, length, map, IfOk};
 ghost use Rattle.packet_record.specs.declared.packet.Row.{Row as RowValue};
 ghost use Rattle.nest_spec.specs.declared.fate.Fate.{Fate as FateValue};
 ghost use Rattle.nest_spec.specs.Fates.{fate_row, fated};
@@ -8,7 +8,7 @@ ghost use Rattle.nest_spec.specs.inside.Marks.{put};
 ghost use Rattle.packet_record.specs.Moments.{AreUpTo};
 ghost use Rattle.packet_record.specs.Orders.{IsSchedule};
 ghost use Rattle.packet_record.specs.Rows.{AreApart};
-ghost use Rattle.nest_spec.specs.inside.PackedFates.{IsShort};
+ghost use Rattle.nest_spec.specs.inside.PackedFates.{IsShort, IsShortMark};
 ghost use Rattle.nest_spec.specs.inside.Places.{ArePlaces};
 ghost use Rattle.nest_spec.specs.views.MarkedRows.{rows_in};
 
@@ -82,9 +82,10 @@ impl<'a> Marking<'a> {
         })
     }
 
-    /// Marks what packets did at the shell `number`: the packets in `lost` were dropped there, and those numbered in
-    /// `held` are still inside. Moments of `lost` are at most 3,600,000.
+    /// Marks what packets did at the shell `number`, which is one of eight: the packets in `lost` were dropped there,
+    /// and those numbered in `held` are still inside. Moments of `lost` are at most 3,600,000.
     pub fn pass(&mut self, number: u32, lost: &[Timed], held: &[u32])
+        requires few { number ≤ 8 }
         requires short { AreUpTo 3600000 lost.now }
         ensures rows { self.new.rows ≡ self.old.rows }
         ensures fates { (f : RowValue → FateValue) → self.old.fates ≡ fated f self.old.rows
@@ -143,6 +144,7 @@ fn mark_all(
     mark: Mark,
     list: &mut Vec<PackedFate>,
 )
+    requires mark { IsShortMark mark }
     requires short { AreUpTo 3600000 packets.now }
     requires places { ArePlaces (rows_in rows) places.now }
     requires length { length list.old.items ≡ length (rows_in rows) }
@@ -166,6 +168,7 @@ fn hold_all(
     shell: u32,
     list: &mut Vec<PackedFate>,
 )
+    requires few { shell ≤ 8 }
     requires places { ArePlaces (rows_in rows) places.now }
     requires length { length list.old.items ≡ length (rows_in rows) }
     ensures length { length list.new.items ≡ length (rows_in rows.entry) }

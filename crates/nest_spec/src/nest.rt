@@ -2,7 +2,7 @@
 ghost use Rattle.std.specs.Prelude.{◌≡◌, ◌≤◌, ◌+◌, ◌++◌, length, OnOk, IfOk};
 ghost use Rattle.nest_spec.specs.Nests.{IsNest, AllFit, built, opportunities_of};
 ghost use Rattle.nest_spec.specs.Nests.{all_in_direction, directions_of, in_passing_order, shells_in};
-ghost use Rattle.nest_spec.specs.Links.{NamedAreLinks, specs_in};
+ghost use Rattle.nest_spec.specs.Links.{AreNestShells, specs_in};
 
 use crate::build_shells::build_shells;
 use crate::{LinkDirection, NestWords, Shell, ShellDirection};
@@ -82,7 +82,7 @@ impl Nest {
         ensures list { IfOk result (λ list. list.items ≡ shells_in direction self.now) }
         ensures some { IfOk result (λ list. 1 ≤ length list.items) }
         ensures fit { IfOk result (λ list. AllFit self.now.horizon (specs_in list.items)) }
-        ensures links { IfOk result (λ list. NamedAreLinks list.items) }
+        ensures shells { IfOk result (λ list. AreNestShells list.items) }
         ensures horizon { self.now.horizon ≤ 3600000 }
     {
         let mut list = Vec::new(*self.shells.allocator());

@@ -1,4 +1,4 @@
-// Holds the fate of a packet in 12 bytes.
+// Holds the fate of a packet in 8 bytes.
 ghost use Rattle.std.specs.Prelude.{◌≡◌, ◌≤◌, ◌<◌, IfOk};
 ghost use Rattle.nest_spec.specs.inside.PackedFates.{IsShort};
 ghost use Rattle.nest_spec.specs.views.PackedFate.{fate_at};
@@ -21,14 +21,16 @@ const INSIDE: u32 = 2;
 // The packet isn't sent.
 const UNSENT: u32 = 3;
 
-/// A fate row in 12 bytes: the number and direction of a packet, and its fate, whose moment is at most 3,600,000.
-/// Contracts see the fate row.
+// What the shell of a fate counts in `PackedFate::number`: more than eight times a moment, 4 and a kind together.
+const SHELL: u32 = 33_554_432;
+
+/// A fate row in 8 bytes: the number and direction of a packet, and its fate, whose shell is one of eight and whose
+/// moment is at most 3,600,000. Contracts see the fate row.
 #[derive(Drop)]
 pub struct PackedFate {
     id: u32,
-    // The shell of the fate, or 0.
-    shell: u32,
-    // Eight times the fate's moment (0 where it has none), plus 4 for down, plus the kind of the fate.
+    // `SHELL` times the fate's shell, plus eight times its moment (each 0 where it has none), plus 4 for down, plus the
+    // kind of the fate.
     number: u32,
 }
 
@@ -43,7 +45,7 @@ impl Model for PackedFate {
 }
 
 impl PackedFate {
-    // Packs a row whose fate's moment is at most 3,600,000.
+    // Packs a row whose fate has a shell of at most 8 and a moment of at most 3,600,000, where it has them.
     #[inline(always)]
     pub(crate) fn new(row: FateRow) -> Self
         requires { IsShort row.fate }
@@ -66,21 +68,14 @@ impl PackedFate {
     #[inline(always)]
     fn of_kind(id: u32, direction: Direction, kind: u32, shell: u32, moment: u64) -> Self
         requires kind { kind < 4 }
+        requires few { shell ≤ 8 }
         requires short { moment ≤ 3600000 }
         ensures { result ≡ record { id = id; direction = direction; fate = fate_at kind shell moment } }
     {
-        let eight = moment as u32 * 8;
+        let up = shell * SHELL + moment as u32 * 8 + kind;
         match direction {
-            Direction::Up => PackedFate {
-                id,
-                shell,
-                number: eight + kind,
-            },
-            Direction::Down => PackedFate {
-                id,
-                shell,
-                number: eight + 4 + kind,
-            },
+            Direction::Up => PackedFate { id, number: up },
+            Direction::Down => PackedFate { id, number: up + 4 },
         }
     }
 
@@ -113,8 +108,8 @@ impl PackedFate {
     fn fate(&self) -> Fate
         ensures { result ≡ self.now.fate }
     {
-        let shell = self.shell;
-        let moment = u64::from(self.number / 8);
+        let shell = self.number / SHELL;
+        let moment = u64::from(self.number % SHELL / 8);
         match self.number % 4 {
             DEPARTED => Fate::Departed { moment },
             DROPPED => Fate::Dropped { shell, moment },

@@ -1,4 +1,4 @@
--- A fate in 12 bytes as contracts see it: the packet's number, direction and fate.
+-- A fate in 8 bytes as contracts see it: the packet's number, direction and fate.
 use Rattle.std.specs.Prelude.{ℕ, ◌==◌, if◌then◌else◌}
 use Rattle.std.specs.Prelude.{◌/◌, ◌%◌, nat_lt, if◌then◌else◌}
 use Rattle.nest_spec.specs.declared.fate.Fate.{Fate}
@@ -14,10 +14,10 @@ fate_at kind shell moment =
     else (if kind == 1 then fates.Dropped shell moment
     else (if kind == 2 then fates.Inside shell else fates.Unsent))
 
--- `number` holds eight times the moment, 4 for down, and the kind.
+-- `number` holds the shell times 33,554,432, eight times the moment, 4 for down, and the kind.
 abbrev pub packed_view : Inside → FateRow
 packed_view p = record {
   id = p.id;
   direction = if nat_lt (p.number % 8) 4 then Up else Down;
-  fate = fate_at (p.number % 4) p.shell (p.number / 8);
+  fate = fate_at (p.number % 4) (p.number / 33554432) (p.number % 33554432 / 8);
 }

@@ -7,7 +7,7 @@ use Rattle.shell_core.specs.Shells.{whole_inside, whole_lost}
 use Rattle.shell_state.specs.States.{State}
 use Rattle.nest_spec.specs.declared.shell.ShellDirection.{ShellDirection}
 use Rattle.nest_spec.specs.Fates.{fated}
-use Rattle.nest_spec.specs.Links.{NamedAreLinks, specs_in}
+use Rattle.nest_spec.specs.Links.{AreNestShells, specs_in}
 use Rattle.nest_spec.specs.Marks.{passed}
 use Rattle.nest_spec.specs.inside.Marks.{ids_of, marked_through}
 use Rattle.nest_spec.specs.Passed.{HavePassed}
@@ -72,14 +72,14 @@ gather_shells-requires t c =
     subst (λ (l : List State). HavePassed s.horizon (specs_in rest) s.taken.packets l) states
     (subst (λ (l : List ShellDirection). HavePassed s.horizon (specs_in l) s.taken.packets
     (into_iter_items c.args.states)) items c.requires.passed.4) in
-    let links = subst NamedAreLinks items c.requires.links.1 in (
+    let others = subst AreNestShells items c.requires.shells.1 in (
       search rules,
       (
         subst (λ n. HavePassed n (specs_in rest) next.fed.packets later) (sym after.1)
             (subst (λ p. HavePassed s.horizon (specs_in rest) p later) (sym after.2) after),
         (
           subst (λ n. n ≤ 3600000) (sym after.1) c.requires.short,
-          links,
+          others,
         ),
       ),
     )

@@ -26,6 +26,7 @@ pub pass-requires : goal.pass-requires
 pass-requires c =
     let s = c.args.state in
     record {
+      few = c.requires.shell.few;
       short = lost_short s.spec s.horizon s.fed.packets c.as_slice.result.now
           (c.as_slice.ensures.value ∙ c.in_ok-departed.ensures.lost) c.stands.ensures.stands.honest_fed.within
           c.requires.state.2;
@@ -47,7 +48,7 @@ returns-clause-log c =
     let entries = whole_log s.spec s.horizon s.fed.packets in
     c.log_named.ensures entries
     (λ named. c.in_ok-departed.ensures.log
-    ∙ is_logged s.spec entries (subst IsLink (sym same) (c.requires.link named)))
+    ∙ is_logged s.spec entries (subst IsLink (sym same) (c.requires.shell.link named)))
     ∙ ap
     (λ (spec : DirSpec). option_map (λ name. named_entries name (whole_log spec s.horizon s.fed.packets)) shell.log) same
 
@@ -57,4 +58,4 @@ log_named-requires c = λ named.
     let entries = whole_log s.spec s.horizon s.fed.packets in
     subst (λ o. IsSome o)
     (sym (c.in_ok-departed.ensures.log
-    ∙ is_logged s.spec entries (subst IsLink (sym c.requires.state.0) (c.requires.link named)))) refl
+    ∙ is_logged s.spec entries (subst IsLink (sym c.requires.state.0) (c.requires.shell.link named)))) refl

@@ -2,7 +2,7 @@ use Rattle.std.proofs.Common.{◌≡◌, ◌∷◌, subst, sym, rules}
 use Rattle.std.specs.Vec.Iter.{into_iter_items}
 use Rattle.packet_record.specs.Moments.{AreUpTo}
 use Rattle.packet_record.proofs.MomentsLemmas.{up_to_higher}
-use Rattle.nest_spec.specs.Links.{NamedAreLinks, specs_in}
+use Rattle.nest_spec.specs.Links.{AreNestShells, specs_in}
 use Rattle.nest_spec.specs.Nests.{AllFit}
 use Rattle.nest_plain.proofs.Passing.{departed_rise, departed_within}
 use Rattle.nest_plain.proofs.shell.+run_shells.Goals as goal
@@ -13,13 +13,13 @@ run_shells-requires t c =
     let shell = c.in-Some.shell in
     let items : into_iter_items a.shells ≡ shell ∷ into_iter_items c.next.new.self = c.in-Some.ensures.items in
     let fit = subst (λ l. AllFit a.horizon (specs_in l)) items c.requires.fit in
-    let links = subst NamedAreLinks items c.requires.links in
+    let others = subst AreNestShells items c.requires.shells in
     let went = c.in_ok-departed.ensures in (
       search rules,
       (
         fit.2,
         (
-          links.1,
+          others.1,
           (
             c.requires.horizon,
             (

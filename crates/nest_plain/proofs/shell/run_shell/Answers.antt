@@ -11,12 +11,13 @@ returns-clause-log c =
     let shell = c.args.shell in
     let entries = whole_log shell.spec c.args.horizon c.args.arrived.items in
     c.log_named.ensures entries
-    (logged_where_named shell.log shell.spec entries c.in_ok-departed.field-0.log c.requires.link
+    (logged_where_named shell.log shell.spec entries c.in_ok-departed.field-0.log c.requires.shell.link
     (c.in_ok-departed.ensures.log
     ∙ ap (λ (b : Bool). if b then if_link shell.spec entries else None) c.is_some-logged.ensures))
 
 pub pass-requires : goal.pass-requires
 pass-requires c = record {
+  few = c.requires.shell.few;
   short = lost_short c.args.shell.spec c.args.horizon c.args.arrived.items c.as_slice.result.now
       (c.as_slice.ensures.value ∙ c.in_ok-departed.ensures.lost) c.requires.within c.requires.horizon;
 }
@@ -26,6 +27,6 @@ log_named-requires c = λ named.
     let shell = c.args.shell in
     let entries = whole_log shell.spec c.args.horizon c.args.arrived.items in
     subst (λ (o : Option (List Entry)). IsSome o)
-    (sym (logged_where_named shell.log shell.spec entries c.in_ok-departed.field-0.log c.requires.link
+    (sym (logged_where_named shell.log shell.spec entries c.in_ok-departed.field-0.log c.requires.shell.link
     (c.in_ok-departed.ensures.log
     ∙ ap (λ (b : Bool). if b then if_link shell.spec entries else None) c.is_some-logged.ensures) named)) refl

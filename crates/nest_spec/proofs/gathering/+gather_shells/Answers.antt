@@ -6,7 +6,7 @@ use Rattle.packet_record.proofs.MomentsLemmas.{up_to_higher}
 use Rattle.shell_core.specs.Shells.{opportunities}
 use Rattle.shell_core.proofs.Laws.{lost_within}
 use Rattle.nest_spec.specs.Fates.{fated}
-use Rattle.nest_spec.specs.Links.{NamedAreLinks, specs_in}
+use Rattle.nest_spec.specs.Links.{AreNestShells, specs_in}
 use Rattle.nest_spec.specs.Marks.{passed}
 use Rattle.nest_spec.specs.inside.Marks.{ids_of, marked_through}
 use Rattle.nest_spec.specs.Passed.{HavePassed}
@@ -50,6 +50,7 @@ pass-requires t c =
     c.unwrap.result.1.now state (ap specs_in c.in-Some.ensures.cases.0) first.0 c.requires.passed
     c.stands.ensures.stands in
     record {
+      few = (subst AreNestShells c.in-Some.ensures.cases.0 c.requires.shells).0.few;
       short = up_to_higher a.horizon 3600000 c.lost.result.now c.requires.short
           (subst (AreUpTo a.horizon) (sym (c.lost.ensures ∙ run.dropped))
           (lost_within shell.spec a.horizon (length (opportunities shell.spec a.horizon)) a.arrived.now
@@ -75,7 +76,7 @@ gather_shells-requires t c =
     others state (ap specs_in shells_are) first.0 c.requires.passed in
     let later = rest_have_passed a.horizon (specs_in a.shells.now) (specs_in rest) shell.spec a.arrived.now
     a.states.now others state (ap specs_in shells_are) first.0 c.requires.passed in
-    let links = subst NamedAreLinks shells_are c.requires.links in (
+    let others_are = subst AreNestShells shells_are c.requires.shells in (
       search rules,
       (
         subst (λ l. HavePassed a.horizon (specs_in rest) l others) (sym packets) later,
@@ -84,7 +85,7 @@ gather_shells-requires t c =
               (subst (AreUpTo state.horizon) (sym packets) c.stands.ensures.stands.honest_taken.within),
           (
             c.requires.short,
-            links.1,
+            others_are.1,
           ),
         ),
       ),

@@ -4,7 +4,7 @@ use Rattle.packet_record.specs.Rows.{entering}
 use Rattle.packet_record.proofs.RowsLemmas.{up_to-entering}
 use Rattle.nest_spec.specs.declared.shell.ShellDirection.{ShellDirection}
 use Rattle.nest_spec.specs.Fates.{fated}
-use Rattle.nest_spec.specs.Links.{NamedAreLinks, specs_in}
+use Rattle.nest_spec.specs.Links.{AreNestShells, specs_in}
 use Rattle.nest_spec.specs.Nests.{shells_in}
 use Rattle.nest_spec.specs.Passed.{HavePassed}
 use Rattle.nest_spec.specs.RunViews.{entries_in, named_by}
@@ -40,7 +40,7 @@ gather_shells-requires c =
       within = subst (λ n. AreUpTo n c.packets-arrived.result.now) (sym c.horizon.ensures.value)
           (subst (AreUpTo h) (sym arrived) (up_to-entering a.direction h a.rows.now));
       short = c.horizon.ensures.most;
-      links = subst NamedAreLinks (sym c.as_slice.ensures.value) c.in_ok-shells.ensures.links;
+      shells = subst AreNestShells (sym c.as_slice.ensures.value) c.in_ok-shells.ensures.shells;
     }
 
 pub returns-clause-fates : goal.returns-clause-fates

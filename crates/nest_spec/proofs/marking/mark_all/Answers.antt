@@ -39,6 +39,6 @@ returns-clause-fates c = λ f e.
     done
 
 pub put-requires-clause-short : goal.put-requires-clause-short
-put-requires-clause-short c = c.fate_by.ensures.short
+put-requires-clause-short c = c.fate_by.ensures.short c.requires.mark
     (up_to_read 3600000 c.args.packets.now (c.packets.left - 1) c.index-packets-left.result (omega arith)
     c.index-packets-left.is c.requires.short)

@@ -1,7 +1,7 @@
 use Rattle.std.proofs.Common.{◌≡◌, length, ap, subst, sym, arith, rules}
 use Rattle.nest_spec.specs.Nests.{IsNest, shells_in}
 use Rattle.nest_spec.proofs.ShellLemmas.{AreFit}
-use Rattle.nest_spec.proofs.NestLemmas.{shells_fit, specs_fit, named_links, shells_long}
+use Rattle.nest_spec.proofs.NestLemmas.{shells_fit, specs_fit, nest_shells, shells_long}
 use Rattle.nest_spec.proofs.nest.Nest.shells_in.Goals as goal
 
 pub returns : goal.returns
@@ -17,6 +17,6 @@ returns c =
       list = list;
       some = omega (arith, ap length list, shells_long a.direction nest);
       fit = specs_fit nest.horizon c.in_passing_order.result.items fit;
-      links = named_links nest.horizon c.in_passing_order.result.items fit;
+      shells = nest_shells nest.horizon c.in_passing_order.result.items fit;
       horizon = is.horizon;
     }
