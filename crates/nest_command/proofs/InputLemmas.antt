@@ -12,7 +12,6 @@ use Rattle.packet_record.specs.declared.packet.Row.{Row}
 use Rattle.packet_record.specs.declared.reading.ScheduleError.{ScheduleError}
 use Rattle.packet_record.specs.declared.reading.ScheduleError.TheVariants as schedule_errors
 use Rattle.trace_reader.specs.Reading.{number_of as trace_number, place_of as trace_place, trace_fault}
-use Rattle.trace_reader.specs.TraceText.{IsTraceText}
 use Rattle.trace_reader.specs.Traces.{TraceView}
 use Rattle.trace_reader.specs.declared.reading.TraceError.{TraceError}
 use Rattle.trace_reader.specs.declared.reading.TraceError.TheVariants as trace_errors
@@ -112,21 +111,6 @@ pub schedule_text : (name : Text) (text : List ℕ) (refusal : Refusal) → sche
 unfolding schedule_refusal
 schedule_text name text refusal e = schedule_status name (first_fault 1 0 (lines_of text)) refusal e
 
-pub trace_found : (told : Option Files) (name : Text) (bytes text : List ℕ) (result : Result TraceView Cause)
-    → text ≡ bytes → IsInput told name bytes
-    → IfOk result (λ trace. IsTraceText text trace) → MatchResult result (λ _. trace_refusal name text ≡ None)
-    (λ cause. RefusesText (trace_refusal name text) cause)
-    → IfOk result (λ trace. ((t : List ℕ) × HasTrace told name t trace))
-trace_found told name bytes text (Ok trace) same input is accepted = (
-  text,
-  record {
-    input = subst (λ (t : List ℕ). IsInput told name t) (sym same) input;
-    accepted = accepted;
-    trace_is = is;
-  },
-)
-trace_found told name bytes text (Err cause) same input is accepted = tt
-
 pub schedule_found : (told : Option Files) (name : Text) (text : List ℕ) (result : Result (List Row) Cause)
     → IsInput told name text
     → IfOk result (λ rows. IsScheduleText text rows) → MatchResult result (λ _. schedule_refusal name text ≡ None)
@@ -183,38 +167,35 @@ have_said (MoreTraces n ns t ts r rs first more) =
     λ j. one j ∷ rest j
 
 -- one trace more was read
-pub have_more : (told now : Option Files) (names : List Text) (i : ℕ) (name text : Text) (texts : List (List ℕ))
-    (traces all : List TraceView) (trace : TraceView) → i < length names
-    → name ≡ get_or names i name → text ≡ name → HaveTraces told (take i names) texts traces → now ≡ told
-    → ((t : List ℕ) × HasTrace now text t trace) → all ≡ traces ++ trace ∷ []
+pub have_more : (told now : Option Files) (names : List Text) (i : ℕ) (name : Text) (texts : List (List ℕ))
+    (traces all : List TraceView) (text : List ℕ) (trace : TraceView) → i < length names
+    → name ≡ get_or names i name → HaveTraces told (take i names) texts traces → now ≡ told
+    → HasTrace now name text trace → all ≡ traces ++ trace ∷ []
     → (ts : List (List ℕ)) × HaveTraces told (take (i + 1) names) ts all
-have_more told now names i name text texts traces all trace lt read same have stand is pushed =
-    let at_told : HasTrace told text is.0 trace = subst (λ (files : Option Files). HasTrace files text is.0 trace)
-    stand is.1 in
-    let here : HasTrace told name is.0 trace = subst (λ (n : Text). HasTrace told n is.0 trace) same at_told in
-    let more : HaveTraces told (take i names ++ name ∷ []) (texts ++ is.0 ∷ []) (traces ++ trace ∷ []) =
-    have_push name is.0 trace have here in
+have_more told now names i name texts traces all text trace lt read have stand is pushed =
+    let here : HasTrace told name text trace = subst (λ (files : Option Files). HasTrace files name text trace) stand is in
+    let more : HaveTraces told (take i names ++ name ∷ []) (texts ++ text ∷ []) (traces ++ trace ∷ []) =
+    have_push name text trace have here in
     let next : take i names ++ name ∷ [] ≡ take (i + 1) names = ap (λ n. take i names ++ n ∷ []) read
     ∙ sym (take_more names i name lt) in (
-      texts ++ is.0 ∷ [],
-      subst (λ (l : List TraceView). HaveTraces told (take (i + 1) names) (texts ++ is.0 ∷ []) l) (sym pushed)
-          (subst (λ (l : List Text). HaveTraces told l (texts ++ is.0 ∷ []) (traces ++ trace ∷ [])) next more),
+      texts ++ text ∷ [],
+      subst (λ (l : List TraceView). HaveTraces told (take (i + 1) names) (texts ++ text ∷ []) l) (sym pushed)
+          (subst (λ (l : List Text). HaveTraces told l (texts ++ text ∷ []) (traces ++ trace ∷ [])) next more),
     )
 
 -- reading stops at the trace at index `i`
-pub traces_stop : (names : List Text) (i : ℕ) (name text : Text) (old mid new : DiskView)
+pub traces_stop : (names : List Text) (i : ℕ) (name : Text) (old mid new : DiskView)
     (texts : List (List ℕ)) (traces : List TraceView) (cause : Cause) → i < length names
-    → name ≡ get_or names i name → text ≡ name → HaveTraces old.files (take i names) texts traces → OnlyReads old mid
-    → StopsReading (reading_trace text Done) mid new cause → StopsReading (reading_traces names Done) old new cause
-traces_stop names i name text old mid new texts traces cause lt read same have reads stopped =
+    → name ≡ get_or names i name → HaveTraces old.files (take i names) texts traces → OnlyReads old mid
+    → StopsReading (reading_trace name Done) mid new cause → StopsReading (reading_traces names Done) old new cause
+traces_stop names i name old mid new texts traces cause lt read have reads stopped =
     let order : names ≡ take i names ++ name ∷ drop (i + 1) names =
     sym (take-append-drop i names) ∙ ap (λ l. take i names ++ l) (drop_more names i name lt
     ∙ ap (λ n. n ∷ drop (i + 1) names) (sym read)) in
     let rest : List ℕ → Reading (List (List ℕ)) =
     λ t. reading_traces (drop (i + 1) names) (λ more. Done (texts ++ (t ∷ more))) in
     let here : StopsReading (reading_trace name rest) mid new cause =
-    subst (λ (n : Text). StopsReading (reading_trace n rest) mid new cause) same
-    (text_stops_before mid new (trace_refusal text) text cause rest stopped) in
+    text_stops_before mid new (trace_refusal name) name cause rest stopped in
     subst (λ (l : List Text). StopsReading (reading_traces l Done) old new cause) (sym order)
     (stops_later (reading_traces (take i names ++ name ∷ drop (i + 1) names) Done) (reading_trace name rest) old mid
     new cause

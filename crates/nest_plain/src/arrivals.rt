@@ -15,7 +15,7 @@ fn enters(direction: Direction, horizon: u64, row: &PackedRow) -> bool
     row.direction() == direction && row.moment() <= horizon
 }
 
-// From where the packets come that enter a nest in a direction, up to the horizon: a schedule, shared and not copied.
+// Where the packets come from that enter a nest in a direction, up to the horizon: a schedule that is shared.
 #[derive(Drop)]
 pub(crate) struct ArrivalSource {
     pub(crate) schedule: SharedSchedule,
@@ -38,7 +38,7 @@ impl ArrivalSource {
 
     // Returns another holder of the same schedule, direction and horizon, or runs out of memory. No row is copied.
     pub(crate) fn copy(&self) -> Result<ArrivalSource, OutOfMemory>
-        ensures { IfOk result (λ packets. packets ≡ self.now) }
+        ensures { IfOk result (λ source. source ≡ self.now) }
     {
         Ok(ArrivalSource {
             schedule: self.schedule.copy()?,

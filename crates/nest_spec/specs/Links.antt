@@ -8,7 +8,7 @@ use Rattle.nest_spec.specs.declared.shell.ShellDirection.{ShellDirection}
 abbrev pub specs_in : List ShellDirection → List DirSpec
 specs_in shells = map (λ (s : ShellDirection). s.spec) shells
 
--- A shell is one of eight, and only a link has a name for its log.
+-- A shell's number is at most 8, and only a link has a name for its log.
 pub record IsNestShell (s : ShellDirection) : Type 0 where
   pub few : s.number ≤ 8
   pub link : IsSome s.log → IsLink s.spec

@@ -1,7 +1,7 @@
 // How a packet's fate is marked: dropped by a shell, or departed from the last.
 ghost use Rattle.std.specs.Prelude.{◌≡◌, ◌≤◌};
 ghost use Rattle.nest_spec.specs.Marks.{mark_fate};
-ghost use Rattle.nest_spec.specs.inside.PackedFates.{IsShort, IsShortMark};
+ghost use Rattle.nest_spec.specs.inside.PackedFates.{CanBePacked, HasNestShell};
 
 use crate::Fate;
 use packet_record::Timed;
@@ -18,7 +18,7 @@ pub(crate) enum Mark {
 // Returns the fate of a packet that is marked, at the packet's moment.
 pub(crate) fn fate_by(mark: Mark, t: Timed) -> Fate
     ensures fate { result ≡ mark_fate mark t }
-    ensures short { IsShortMark mark → t.moment ≤ 3600000 → IsShort result }
+    ensures short { HasNestShell mark → t.moment ≤ 3600000 → CanBePacked result }
 {
     match mark {
         Mark::Drops { shell } => Fate::Dropped {

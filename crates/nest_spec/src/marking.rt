@@ -8,7 +8,7 @@ ghost use Rattle.nest_spec.specs.inside.Marks.{put};
 ghost use Rattle.packet_record.specs.Moments.{AreUpTo};
 ghost use Rattle.packet_record.specs.Orders.{IsSchedule};
 ghost use Rattle.packet_record.specs.Rows.{AreApart};
-ghost use Rattle.nest_spec.specs.inside.PackedFates.{IsShort, IsShortMark};
+ghost use Rattle.nest_spec.specs.inside.PackedFates.{CanBePacked, HasNestShell};
 ghost use Rattle.nest_spec.specs.inside.Places.{ArePlaces};
 ghost use Rattle.nest_spec.specs.views.MarkedRows.{rows_in};
 
@@ -82,8 +82,8 @@ impl<'a> Marking<'a> {
         })
     }
 
-    /// Marks what packets did at the shell `number`, which is one of eight: the packets in `lost` were dropped there,
-    /// and those numbered in `held` are still inside. Moments of `lost` are at most 3,600,000.
+    /// Marks what packets did at the shell `number`, which is at most 8: the packets in `lost` were dropped there, and
+    /// those numbered in `held` are still inside. Moments of `lost` are at most 3,600,000.
     pub fn pass(&mut self, number: u32, lost: &[Timed], held: &[u32])
         requires few { number ≤ 8 }
         requires short { AreUpTo 3600000 lost.now }
@@ -123,7 +123,7 @@ impl<'a> Marking<'a> {
 // Gives the row of the number `id` a fate. Nothing happens where no row has that number.
 #[inline(always)]
 fn put(places: &Places, rows: MarkedRows<'_>, id: u32, fate: Fate, list: &mut Vec<PackedFate>)
-    requires short { IsShort fate }
+    requires short { CanBePacked fate }
     requires places { ArePlaces (rows_in rows) places.now }
     requires length { length list.old.items ≡ length (rows_in rows) }
     ensures length { length list.new.items ≡ length (rows_in rows.entry) }
@@ -144,7 +144,7 @@ fn mark_all(
     mark: Mark,
     list: &mut Vec<PackedFate>,
 )
-    requires mark { IsShortMark mark }
+    requires mark { HasNestShell mark }
     requires short { AreUpTo 3600000 packets.now }
     requires places { ArePlaces (rows_in rows) places.now }
     requires length { length list.old.items ≡ length (rows_in rows) }

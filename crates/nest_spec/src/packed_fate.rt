@@ -1,6 +1,6 @@
 // Holds the fate of a packet in 8 bytes.
 ghost use Rattle.std.specs.Prelude.{◌≡◌, ◌≤◌, ◌<◌, IfOk};
-ghost use Rattle.nest_spec.specs.inside.PackedFates.{IsShort};
+ghost use Rattle.nest_spec.specs.inside.PackedFates.{CanBePacked};
 ghost use Rattle.nest_spec.specs.views.PackedFate.{fate_at};
 
 use crate::{Fate, FateRow};
@@ -21,16 +21,16 @@ const INSIDE: u32 = 2;
 // The packet isn't sent.
 const UNSENT: u32 = 3;
 
-// What the shell of a fate counts in `PackedFate::number`: more than eight times a moment, 4 and a kind together.
-const SHELL: u32 = 33_554_432;
+// What each shell adds to `PackedFate::number`: more than eight times a moment, 4 and a kind together.
+const ONE_SHELL: u32 = 33_554_432;
 
-/// A fate row in 8 bytes: the number and direction of a packet, and its fate, whose shell is one of eight and whose
-/// moment is at most 3,600,000. Contracts see the fate row.
+/// A fate row in 8 bytes: the number and direction of a packet, and its fate, whose shell is at most 8 and whose moment
+/// is at most 3,600,000. Contracts see the fate row.
 #[derive(Drop)]
 pub struct PackedFate {
     id: u32,
-    // `SHELL` times the fate's shell, plus eight times its moment (each 0 where it has none), plus 4 for down, plus the
-    // kind of the fate.
+    // `ONE_SHELL` times the fate's shell, plus eight times its moment (each 0 where it has none), plus 4 for down, plus
+    // the kind of the fate.
     number: u32,
 }
 
@@ -48,7 +48,7 @@ impl PackedFate {
     // Packs a row whose fate has a shell of at most 8 and a moment of at most 3,600,000, where it has them.
     #[inline(always)]
     pub(crate) fn new(row: FateRow) -> Self
-        requires { IsShort row.fate }
+        requires { CanBePacked row.fate }
         ensures { result ≡ row }
     {
         let FateRow {
@@ -72,7 +72,7 @@ impl PackedFate {
         requires short { moment ≤ 3600000 }
         ensures { result ≡ record { id = id; direction = direction; fate = fate_at kind shell moment } }
     {
-        let up = shell * SHELL + moment as u32 * 8 + kind;
+        let up = shell * ONE_SHELL + moment as u32 * 8 + kind;
         match direction {
             Direction::Up => PackedFate { id, number: up },
             Direction::Down => PackedFate { id, number: up + 4 },
@@ -108,8 +108,8 @@ impl PackedFate {
     fn fate(&self) -> Fate
         ensures { result ≡ self.now.fate }
     {
-        let shell = self.number / SHELL;
-        let moment = u64::from(self.number % SHELL / 8);
+        let shell = self.number / ONE_SHELL;
+        let moment = u64::from(self.number % ONE_SHELL / 8);
         match self.number % 4 {
             DEPARTED => Fate::Departed { moment },
             DROPPED => Fate::Dropped { shell, moment },

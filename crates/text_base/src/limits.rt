@@ -15,7 +15,7 @@ pub const MOST_LINES: u32 = 1_000_000;
 /// How many bytes a file that is read has at most.
 pub const MOST_FILE_BYTES: u64 = 67_108_864;
 
-/// How many bytes of a file one read asks for at most, where the file isn't kept whole.
+/// How many bytes of a file one read asks for at most.
 pub const PIECE_BYTES: u64 = 65_536;
 
 /// How many bytes a connection brings at most.

@@ -5,14 +5,14 @@ use Rattle.nest_spec.specs.declared.fate.Fate.TheVariants as fates
 use Rattle.nest_spec.specs.declared.mark.Mark.{Mark}
 use Rattle.nest_spec.specs.declared.mark.Mark.TheVariants.{Drops, Leaves}
 
--- The shell of the fate, if it has one, is one of eight, and its moment, if it has one, is at most an hour.
-abbrev pub IsShort : Fate → Type 0
-IsShort (fates.Departed moment) = moment ≤ 3600000
-IsShort (fates.Dropped shell moment) = (shell ≤ 8) × (moment ≤ 3600000)
-IsShort (fates.Inside shell) = shell ≤ 8
-IsShort fates.Unsent = Unit {0}
+-- The shell of the fate, if it has one, is at most 8, and its moment, if it has one, at most an hour.
+abbrev pub CanBePacked : Fate → Type 0
+CanBePacked (fates.Departed moment) = moment ≤ 3600000
+CanBePacked (fates.Dropped shell moment) = (shell ≤ 8) × (moment ≤ 3600000)
+CanBePacked (fates.Inside shell) = shell ≤ 8
+CanBePacked fates.Unsent = Unit {0}
 
--- The shell of the mark, if it has one, is one of eight.
-abbrev pub IsShortMark : Mark → Type 0
-IsShortMark (Drops shell) = shell ≤ 8
-IsShortMark Leaves = Unit {0}
+-- The shell of the mark, if it has one, is at most 8.
+abbrev pub HasNestShell : Mark → Type 0
+HasNestShell (Drops shell) = shell ≤ 8
+HasNestShell Leaves = Unit {0}
