@@ -17,7 +17,7 @@ use std::alloc::Global;
 /// cause in words, with what was typed and where, or the usage. Where all is done it says nothing.
 ///
 /// Returns the status of `relay_main`, whatever becomes of `told`, with the command line's answer and what `told`
-/// answered. The line on `out` is written before `told` is told.
+/// answered.
 pub fn relay_main_told<D: Disk, O: Sink, C: Clock, W: Wire, T: Sink>(
     alloc: Global,
     words: &[String],

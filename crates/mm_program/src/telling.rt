@@ -22,7 +22,7 @@ use std::thread::Threads;
 /// cause in words, with what was typed and where, or the usage of the commands. Where all is done it says nothing.
 ///
 /// Returns the status of `mm_main`, whatever becomes of `told`, with the command line's answer and what `told`
-/// answered. The line on `out` is written before `told` is told.
+/// answered.
 pub fn mm_main_told<
     R: Threads + Wait + Sync,
     D: Disk + Send,

@@ -24,7 +24,7 @@ use std::thread::Threads;
 /// As there, a recording until ended that has no record leaves the file of `--out` as it was.
 ///
 /// Returns the status of `proxy_main`, whatever becomes of `told`, with the command line's answer and what `told`
-/// answered. The line on `out` is written before `told` is told.
+/// answered.
 pub fn proxy_main_told<
     D: Disk,
     O: Sink,

@@ -256,12 +256,12 @@ relay = page_with (joined (
 
 -- the version of `mm`, and the kit that it is proved with
 abbrev pub mm_version : List Text
-mm_version = page (codes "mm 0.1.0 (rattle-kit-13b)\n")
+mm_version = page (codes "mm 0.2.0 (rattle-kit-13f)\n")
 
 -- the version of `mm-record`
 abbrev pub record_version : List Text
-record_version = page (codes "mm-record 0.1.0 (rattle-kit-13b)\n")
+record_version = page (codes "mm-record 0.2.0 (rattle-kit-13f)\n")
 
 -- the version of `mm-relay`
 abbrev pub relay_version : List Text
-relay_version = page (codes "mm-relay 0.1.0 (rattle-kit-13b)\n")
+relay_version = page (codes "mm-relay 0.2.0 (rattle-kit-13f)\n")

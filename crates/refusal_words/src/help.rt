@@ -312,7 +312,7 @@ pub(crate) fn relay<'a>() -> [&'a str; 9]
     page_with(RELAY, USAGE, RELAY_END)
 }
 
-const MM_VERSION: &str = "mm 0.1.0 (rattle-kit-13b)
+const MM_VERSION: &str = "mm 0.2.0 (rattle-kit-13f)
 ";
 
 /// The version of `mm`, and the kit that it is proved with.
@@ -322,7 +322,7 @@ pub(crate) fn mm_version<'a>() -> [&'a str; 9]
     page(MM_VERSION)
 }
 
-const RECORD_VERSION: &str = "mm-record 0.1.0 (rattle-kit-13b)
+const RECORD_VERSION: &str = "mm-record 0.2.0 (rattle-kit-13f)
 ";
 
 /// The version of `mm-record`.
@@ -332,7 +332,7 @@ pub(crate) fn record_version<'a>() -> [&'a str; 9]
     page(RECORD_VERSION)
 }
 
-const RELAY_VERSION: &str = "mm-relay 0.1.0 (rattle-kit-13b)
+const RELAY_VERSION: &str = "mm-relay 0.2.0 (rattle-kit-13f)
 ";
 
 /// The version of `mm-relay`.
