@@ -6,6 +6,7 @@ use crate::messages::{Request, Response};
 use crate::pending::Outcome;
 use crate::request_frames::advance as advance_request;
 use crate::response_frames::advance as advance_response;
+use http_header::HeaderMap;
 use std::alloc::Global;
 use text_base::{Bytes, OutOfMemory};
 
@@ -14,7 +15,8 @@ use text_base::{Bytes, OutOfMemory};
 pub fn first_request(alloc: Global, bytes: &[u8]) -> Result<Option<Request>, OutOfMemory>
     ensures { IfOk result (FirstRequest bytes.now) }
 {
-    let (_, outcome) = advance_request(alloc, bytes, None);
+    let mut fields = HeaderMap::empty(alloc);
+    let (_, outcome) = advance_request(alloc, &mut fields, bytes, None);
     match outcome {
         Ok(Outcome::Message(found)) => {
             let bytes = Bytes::from_slice(alloc, &bytes[..found.len])?;
@@ -38,16 +40,18 @@ pub fn first_response(
 ) -> Result<Option<Response>, OutOfMemory>
     ensures { IfOk result (FirstResponse to_head bytes.now) }
 {
-    let (_, outcome) = advance_response(to_head, true, bytes, None);
+    let mut fields = HeaderMap::empty(alloc);
+    let (_, outcome) = advance_response(&mut fields, to_head, true, bytes, None);
     match outcome {
-        Outcome::Message(found) => {
+        Ok(Outcome::Message(found)) => {
             let bytes = Bytes::from_slice(alloc, &bytes[..found.len])?;
             Ok(Some(Response {
                 head: found.head,
                 bytes,
             }))
         }
-        Outcome::More => Ok(None),
-        Outcome::Fault(_) => Ok(None),
+        Ok(Outcome::More) => Ok(None),
+        Ok(Outcome::Fault(_)) => Ok(None),
+        Err(error) => Err(error),
     }
 }

@@ -19,6 +19,8 @@ use crate::head::HeadStep;
 use crate::messages::{Request, RequestHead};
 use crate::pending::{Outcome, Pending, finish};
 use crate::request_head::read_request;
+use http_header::HeaderMap;
+use httparse::spans::Span;
 use std::alloc::Global;
 use std::marker::Model;
 use text_base::{Bytes, OutOfMemory};
@@ -29,6 +31,8 @@ use text_base::{Bytes, OutOfMemory};
 pub struct RequestFrames {
     alloc: Global,
     buffer: Buffer,
+    /// The fields of the head that was read last. It is kept for its memory.
+    fields: HeaderMap<Span>,
     pending: Option<Pending<RequestHead>>,
     failed: Option<FrameError>,
 }
@@ -51,8 +55,10 @@ pub fn requests_are_found()
 {}
 
 /// Reads on with the first request. `pending` is what an earlier call kept, and what is returned first is for the next.
+/// The map is for the fields of its head. Returns `OutOfMemory` where an allocation fails.
 pub(crate) fn advance(
     alloc: Global,
+    fields: &mut HeaderMap<Span>,
     unread: &[u8],
     pending: Option<Pending<RequestHead>>,
 ) -> (
@@ -67,7 +73,7 @@ pub(crate) fn advance(
             let (later, outcome) = finish(false, unread, pending);
             (later, Ok(outcome))
         }
-        None => match read_request(alloc, unread) {
+        None => match read_request(alloc, fields, unread) {
             Ok(HeadStep::Head(read)) => {
                 let pending = Pending {
                     head: read.head,
@@ -101,6 +107,7 @@ impl RequestFrames {
         RequestFrames {
             alloc,
             buffer: Buffer::new(alloc),
+            fields: HeaderMap::empty(alloc),
             pending: None,
             failed: None,
         }
@@ -212,7 +219,8 @@ impl RequestFrames {
             return Ok(Outcome::Fault(error));
         }
         let pending = self.pending.take();
-        let (pending, outcome) = advance(self.alloc, self.buffer.as_slice(), pending);
+        let unread = self.buffer.as_slice();
+        let (pending, outcome) = advance(self.alloc, &mut self.fields, unread, pending);
         self.pending = pending;
         if let Ok(Outcome::Fault(error)) = outcome {
             self.failed = Some(error);

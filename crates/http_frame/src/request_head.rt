@@ -1,18 +1,19 @@
 // Reads the heads of requests.
-ghost use Rattle.std.specs.Prelude.{◌≡◌, ◌==◌, ◌||◌, ◌+◌, ◌≤◌, length, IfOk, All, option_copied, codes};
-ghost use Rattle.httparse.specs.Spans.{IsHeaderWithin, IsRequestWithin, IsRequestAt};
+ghost use Rattle.std.specs.Prelude.{◌≡◌, ◌==◌, ◌||◌, ◌≤◌, length, IfOk, IfSome, option_map, codes};
+ghost use Rattle.httparse.specs.Spans.{span_bytes, IsWithin as IsSpanWithin, IsRequestWithin, IsRequestAt};
 ghost use Rattle.httparse.specs.Grammar.{RequestHead as Head};
 ghost use Rattle.http_frame.specs.Forms.{request_line, request_said, request_form};
-ghost use Rattle.http_frame.specs.inside.Fields.{values_at};
+ghost use Rattle.http_frame.specs.inside.Fields.{values_in, AreWithin};
 ghost use Rattle.http_frame.specs.inside.Heads.{SaysHead, HeadCause};
 
 use crate::errors::FrameError;
-use crate::fields::{asks_close, first_value};
+use crate::fields::{asks_close, read_fields};
 use crate::framing::framing_of_request;
 use crate::head::{HeadRead, HeadStep};
 use crate::limits::{MOST_LINES, front_of, limit_of, line_feeds};
 use crate::messages::RequestHead;
-use httparse::spans::{EMPTY_HEADER_SPAN, HeaderSpan, RequestSpans, parse_request};
+use http_header::{HOST, HeaderMap, USER_AGENT};
+use httparse::spans::{EMPTY_HEADER_SPAN, HeaderSpan, RequestSpans, Span, parse_request};
 use httparse::{Error, Status};
 use std::alloc::Global;
 use text_base::{Bytes, OutOfMemory};
@@ -33,12 +34,13 @@ fn line_of(alloc: Global, method: &[u8], target: &[u8], minor: u8) -> Result<Byt
     Ok(Bytes::from_vec(line))
 }
 
-/// Returns a copy of the text, if there is one.
-fn copy_of(alloc: Global, text: Option<&[u8]>) -> Result<Option<Bytes>, OutOfMemory>
-    ensures { IfOk result (λ copy. copy ≡ option_copied text.entry) }
+/// Returns a copy of what `span` covers, if there is a span.
+fn copy_of(alloc: Global, front: &[u8], span: Option<Span>) -> Result<Option<Bytes>, OutOfMemory>
+    requires { IfSome span (IsSpanWithin (length front.now)) }
+    ensures { IfOk result (λ bytes. bytes ≡ option_map (span_bytes front.now) span) }
 {
-    match text {
-        Some(text) => Ok(Some(Bytes::from_slice(alloc, text)?)),
+    match span {
+        Some(span) => Ok(Some(Bytes::from_slice(alloc, span.of(front))?)),
         None => Ok(None),
     }
 }
@@ -57,19 +59,19 @@ fn head_of(
     method: &[u8],
     target: &[u8],
     minor: u8,
-    headers: &[HeaderSpan],
+    fields: &HeaderMap<Span>,
 ) -> Result<RequestHead, OutOfMemory>
     requires minor { minor ≤ 1 }
-    requires within { All (IsHeaderWithin (length front.now)) headers.now }
+    requires within { AreWithin front.now fields.now }
     ensures { IfOk result (λ head. head ≡ request_said method.now target.now minor
-        (values_at front.now headers.now (codes "host"))
-        (values_at front.now headers.now (codes "user-agent"))
-        (values_at front.now headers.now (codes "connection"))) }
+        (values_in front.now fields.now (codes "host"))
+        (values_in front.now fields.now (codes "user-agent"))
+        (values_in front.now fields.now (codes "connection"))) }
 {
     let line = line_of(alloc, method, target, minor)?;
-    let host = copy_of(alloc, first_value(front, headers, b"host"))?;
-    let agent = copy_of(alloc, first_value(front, headers, b"user-agent"))?;
-    let closes = closes_after(minor, asks_close(front, headers));
+    let host = copy_of(alloc, front, fields.get(HOST).copied())?;
+    let agent = copy_of(alloc, front, fields.get(USER_AGENT).copied())?;
+    let closes = closes_after(minor, asks_close(front, fields));
     Ok(RequestHead {
         line,
         host,
@@ -79,20 +81,22 @@ fn head_of(
     })
 }
 
-/// Returns what reading a whole head gives, by the spans of its parts.
+/// Returns what reading a whole head gives, by the spans of its parts. The map is for its fields.
 fn request_step(
     alloc: Global,
+    fields: &mut HeaderMap<Span>,
     front: &[u8],
     headers: &[HeaderSpan],
     spans: &RequestSpans,
 ) -> Result<HeadStep<RequestHead>, OutOfMemory>
     requires within { IsRequestWithin front.now headers.now spans.now }
+    requires few { length headers.now ≤ 100 }
     ensures { IfOk result (λ step. (h : Head) → IsRequestAt front.now headers.now spans.now h
         → SaysHead request_form h spans.now.len step) }
 {
-    let headers = &headers[..spans.headers];
+    read_fields(front, &headers[..spans.headers], fields)?;
     let method = spans.method.of(front);
-    match framing_of_request(front, method, headers) {
+    match framing_of_request(front, method, fields) {
         Ok(framing) => {
             let head = head_of(
                 alloc,
@@ -100,7 +104,7 @@ fn request_step(
                 method,
                 spans.path.of(front),
                 spans.version,
-                headers,
+                fields,
             )?;
             Ok(HeadStep::Head(HeadRead {
                 len: spans.len,
@@ -112,8 +116,13 @@ fn request_step(
     }
 }
 
-/// Reads the head at the front of `bytes`. Returns `OutOfMemory` where an allocation fails.
-pub fn read_request(alloc: Global, bytes: &[u8]) -> Result<HeadStep<RequestHead>, OutOfMemory>
+/// Reads the head at the front of `bytes`. The map is for its fields, and is kept from head to head. Returns
+/// `OutOfMemory` where an allocation fails.
+pub fn read_request(
+    alloc: Global,
+    fields: &mut HeaderMap<Span>,
+    bytes: &[u8],
+) -> Result<HeadStep<RequestHead>, OutOfMemory>
     ensures { IfOk result (HeadCause request_form bytes.now) }
 {
     let front = front_of(bytes);
@@ -123,7 +132,7 @@ pub fn read_request(alloc: Global, bytes: &[u8]) -> Result<HeadStep<RequestHead>
             if line_feeds(&front[..spans.len]) > MOST_LINES {
                 return Ok(HeadStep::Fault(FrameError::TooManyHeaders));
             }
-            request_step(alloc, front, &headers, &spans)
+            request_step(alloc, fields, front, &headers, &spans)
         }
         Ok(Status::Partial) => match limit_of(bytes) {
             Some(error) => Ok(HeadStep::Fault(error)),

@@ -1,5 +1,5 @@
 // Reads responses from a stream that comes in pieces.
-ghost use Rattle.std.specs.Prelude.{◌≡◌, ◌≤◌, ◌++◌, ℕ, Bool, List, [], true, false, length, drop, None, Some, Ok, Err};
+ghost use Rattle.std.specs.Prelude.{◌≡◌, ◌≤◌, ◌++◌, ℕ, Bool, List, [], true, false, length, drop, None, Some, Err};
 ghost use Rattle.std.specs.Prelude.{OnOk, OnErr};
 ghost use Rattle.httparse.specs.Grammar.{ResponseHead as Answer};
 ghost use Rattle.http_frame.specs.Forms.{response_form};
@@ -15,6 +15,8 @@ use crate::head::HeadStep;
 use crate::messages::{Response, ResponseHead};
 use crate::pending::{Outcome, Pending, finish};
 use crate::response_head::read_response;
+use http_header::HeaderMap;
+use httparse::spans::Span;
 use std::alloc::Global;
 use std::marker::Model;
 use text_base::{Bytes, OutOfMemory};
@@ -25,6 +27,8 @@ use text_base::{Bytes, OutOfMemory};
 pub struct ResponseFrames {
     alloc: Global,
     buffer: Buffer,
+    /// The fields of the head that was read last. It is kept for its memory.
+    fields: HeaderMap<Span>,
     ended: bool,
     /// Whether the pending head was read as that of a response to a HEAD request.
     to_head: bool,
@@ -53,30 +57,39 @@ fn of_kind(
 }
 
 /// Reads on with the first response. `pending` is what an earlier call kept, and what is returned first is for the
-/// next. It takes no memory.
+/// next. The map is for the fields of its head. Returns `OutOfMemory` where an allocation fails.
 pub(crate) fn advance(
+    fields: &mut HeaderMap<Span>,
     to_head: bool,
     ended: bool,
     unread: &[u8],
     pending: Option<Pending<ResponseHead>>,
-) -> (Option<Pending<ResponseHead>>, Outcome<ResponseHead>)
+) -> (
+    Option<Pending<ResponseHead>>,
+    Result<Outcome<ResponseHead>, OutOfMemory>,
+)
     requires { IsPending (response_form to_head) unread.now pending }
-    ensures { AdvanceSays (response_form to_head) ended unread.now result.0 (Ok result.1) }
+    ensures { AdvanceSays (response_form to_head) ended unread.now result.0 result.1 }
 {
     match pending {
-        Some(pending) => finish(ended, unread, pending),
-        None => match read_response(to_head, unread) {
-            HeadStep::Head(read) => {
+        Some(pending) => {
+            let (later, outcome) = finish(ended, unread, pending);
+            (later, Ok(outcome))
+        }
+        None => match read_response(fields, to_head, unread) {
+            Ok(HeadStep::Head(read)) => {
                 let pending = Pending {
                     head: read.head,
                     len: read.len,
                     framing: read.framing,
                     place: 0,
                 };
-                finish(ended, unread, pending)
+                let (later, outcome) = finish(ended, unread, pending);
+                (later, Ok(outcome))
             }
-            HeadStep::More => (None, Outcome::More),
-            HeadStep::Fault(error) => (None, Outcome::Fault(error)),
+            Ok(HeadStep::More) => (None, Ok(Outcome::More)),
+            Ok(HeadStep::Fault(error)) => (None, Ok(Outcome::Fault(error))),
+            Err(error) => (None, Err(error)),
         },
     }
 }
@@ -97,6 +110,7 @@ impl ResponseFrames {
         ResponseFrames {
             alloc,
             buffer: Buffer::new(alloc),
+            fields: HeaderMap::empty(alloc),
             ended: false,
             to_head: false,
             pending: None,
@@ -154,7 +168,7 @@ impl ResponseFrames {
         ensures { NextSays (response_form head_request) self.old result self.new }
     {
         match self.find(head_request) {
-            Outcome::Message(found) => {
+            Ok(Outcome::Message(found)) => {
                 let unread = self.buffer.as_slice();
                 match Bytes::from_slice(self.alloc, &unread[..found.len]) {
                     Ok(bytes) => {
@@ -167,8 +181,9 @@ impl ResponseFrames {
                     Err(_) => Err(FrameFault::OutOfMemory),
                 }
             }
-            Outcome::More => Ok(Step::More),
-            Outcome::Fault(error) => Err(FrameFault::Frame(error)),
+            Ok(Outcome::More) => Ok(Step::More),
+            Ok(Outcome::Fault(error)) => Err(FrameFault::Frame(error)),
+            Err(_) => Err(FrameFault::OutOfMemory),
         }
     }
 
@@ -181,19 +196,25 @@ impl ResponseFrames {
         self.buffer.advance(len);
     }
 
-    /// Finds the first response, which stays at the front. It takes no memory.
-    fn find(&mut self, head_request: bool) -> Outcome<ResponseHead>
-        ensures { FindSays (response_form head_request) self.old (Ok result) self.new }
+    /// Finds the first response, which stays at the front. Returns `OutOfMemory` where an allocation fails.
+    fn find(&mut self, head_request: bool) -> Result<Outcome<ResponseHead>, OutOfMemory>
+        ensures { FindSays (response_form head_request) self.old result self.new }
     {
         if let Some(error) = self.failed {
-            return Outcome::Fault(error);
+            return Ok(Outcome::Fault(error));
         }
         let pending = of_kind(self.pending.take(), self.to_head, head_request);
         self.to_head = head_request;
         let unread = self.buffer.as_slice();
-        let (pending, outcome) = advance(head_request, self.ended, unread, pending);
+        let (pending, outcome) = advance(
+            &mut self.fields,
+            head_request,
+            self.ended,
+            unread,
+            pending,
+        );
         self.pending = pending;
-        if let Outcome::Fault(error) = outcome {
+        if let Ok(Outcome::Fault(error)) = outcome {
             self.failed = Some(error);
         }
         outcome

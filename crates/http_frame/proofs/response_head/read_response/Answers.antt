@@ -1,6 +1,8 @@
 use Rattle.std.proofs.Common.{◌∙◌, ◌<◌, ap, arith, sym, subst, length, take, drop, Err, rules}
+use Rattle.std.proofs.lemmas.Result.{IfOk-weaker}
 use Rattle.http_frame.specs.Forms.{response_form}
 use Rattle.http_frame.specs.Heads.{BeginsWith}
+use Rattle.http_frame.specs.inside.Heads.{HeadCause}
 use Rattle.http_frame.proofs.HeadLemmas.{says_cause, limit_fault, response_form_gives}
 use Rattle.httparse.specs.Grammar.{ResponseHead, IsResponseHead, print_response, HasNoResponse, NeverHasResponse}
 use Rattle.httparse.specs.Grammar.{MayBecomeResponse}
@@ -48,8 +50,9 @@ returns-else-line_feeds-gt-MOST_LINES c =
     } in
     let at : IsResponseAt c.front_of-front.result.now c.parse_response.new.headers spans of.0 =
     subst (λ ys. IsResponseAt ys c.parse_response.new.headers spans of.0) (sym c.front_of-front.ensures) of.1 in
-    says_cause (response_form c.args.to_head) (response_form_gives c.args.to_head) bytes of.0 spans.len
-    c.response_step.result begins of.1.len (c.response_step.ensures of.0 at)
+    IfOk-weaker c.response_step.result _ (HeadCause (response_form c.args.to_head) bytes)
+    (λ step says. says_cause (response_form c.args.to_head) (response_form_gives c.args.to_head) bytes of.0 spans.len
+    step begins of.1.len (says of.0 at)) c.response_step.ensures
 
 pub returns-in-Some : goal.returns-in-Some
 returns-in-Some c =
