@@ -43,3 +43,5 @@ mod sink;
 mod texts;
 #[cfg(test)]
 mod trace;
+#[cfg(test)]
+mod watches;

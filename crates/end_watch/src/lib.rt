@@ -1,35 +1,20 @@
 //! A descriptor whose end is the user's word to end.
 #![tactic(auto)]
 
-use libc::net::{POLLERR, POLLHUP, POLLIN, POLLNVAL, POLLOUT, poll};
+mod seen;
+
+use crate::seen::{Seen, look_at};
+use libc::net::{POLLIN, POLLOUT, poll};
 use libc::types::pollfd;
-use libc::{EAGAIN, EINTR};
-use os::errno;
 use std::os::fd::RawFd;
 use std::sync::atomic::{AtomicBool, Ordering};
 
 // What `poll` passes over.
 const NONE: RawFd = -1;
 
-// How many bytes of what somebody writes there are passed over at a look.
-const CHUNK: usize = 4_096;
-
 // For how many milliseconds the descriptor isn't waited for after a look that found something to read there, so that
 // one where there is always something, as `/dev/zero`, keeps no processor.
 const REST: i32 = 100;
-
-// What is seen of a descriptor.
-#[derive(Clone, Copy, PartialEq, Eq)]
-enum Seen {
-    // It is open, and there was nothing to read.
-    Open,
-    // It is open, and somebody wrote something.
-    Written,
-    // It is at its end.
-    Ended,
-    // There is no such descriptor, or it can't be read.
-    Gone,
-}
 
 /// What a descriptor is waited for.
 #[derive(Clone, Copy, PartialEq, Eq)]
@@ -59,45 +44,12 @@ pub fn wait_for(descriptor: RawFd, wanted: Wanted, milliseconds: i32) -> bool {
     poll(&mut asked, milliseconds) > 0
 }
 
-// Passes over some of what can be read. A read that was refused since another reader was first, or since a signal came,
-// tells nothing.
-fn pass_over(descriptor: RawFd) -> Seen {
-    let mut bytes = [0u8; CHUNK];
-    match libc::read(descriptor, &mut bytes) {
-        0 => Seen::Ended,
-        1.. => Seen::Written,
-        _ => match errno() {
-            EAGAIN | EINTR => Seen::Written,
-            _ => Seen::Gone,
-        },
-    }
-}
-
-// Looks at a descriptor, without waiting. Of what somebody wrote there some is passed over.
-fn look_at(descriptor: RawFd) -> Seen {
-    let mut asked = [asked(descriptor, Wanted::Input)];
-    if poll(&mut asked, 0) <= 0 {
-        return Seen::Open;
-    }
-    let said = asked[0].revents;
-    if said & POLLNVAL != 0 {
-        return Seen::Gone;
-    }
-    if said & POLLIN != 0 {
-        return pass_over(descriptor);
-    }
-    if said & (POLLHUP | POLLERR) != 0 {
-        return Seen::Ended;
-    }
-    Seen::Open
-}
-
 /// A descriptor whose end is looked for, where there is one. Several threads may look. One that isn't there, or that
 /// can't be read, never ends.
 #[derive(Drop)]
 pub struct EndWatch {
     descriptor: Option<RawFd>,
-    // Whether a thread is looking: a second reader would wait for more.
+    // Whether a thread is looking. The others needn't, meanwhile.
     is_looked_at: AtomicBool,
     // Whether the last look found something to read.
     is_written: AtomicBool,
