@@ -8,14 +8,24 @@ use crate::Sender;
 use packet_record::Item;
 use std::sync::Wait;
 use std::sync::atomic::{AtomicU64, Ordering};
-use std::thread::yield_now;
+use std::time::Duration;
 use text_base::OutOfMemory;
 
-// How often all who wait look, together, before the run is given up.
-const LOOKS: u32 = 10_000_000;
+// How many milliseconds one who waits sleeps at a time, unless the last worker begins meanwhile. Beside busy processes a
+// thread gets a processor some milliseconds late after each sleep, so there are few long ones.
+const REST_MILLISECONDS: u64 = 100;
 
-// The count of a run that was given up. It is above the number of any run's workers.
-const GIVEN_UP: u64 = 1 << 63;
+// How often one who waits sleeps before the run is given up: two seconds in all.
+const RESTS: u32 = 20;
+
+// Some workers have yet to begin.
+const AWAITED: u32 = 0;
+
+// All workers have begun.
+const ALL_BEGUN: u32 = 1;
+
+// The run was given up before all workers had begun.
+const GIVEN_UP: u32 = 2;
 
 /// How many workers of a run have begun, and how many must.
 ///
@@ -23,42 +33,49 @@ const GIVEN_UP: u64 = 1 << 63;
 /// all have begun could wait for room for ever.
 #[derive(Drop)]
 pub struct Begun {
-    // How many workers have begun, or at least `GIVEN_UP`.
-    count: AtomicU64,
     // How many must begin.
     workers: u64,
-    // How often those who wait have looked so far.
-    looked: AtomicU64,
-    // How often they may look.
-    looks: u64,
+    // How many have begun.
+    count: AtomicU64,
+    // Whether all have begun, or the run was given up. It changes once.
+    state: AtomicU64,
+    // How often one who waits sleeps at most.
+    rests: u32,
 }
 
 impl Begun {
-    /// A run of `workers` workers, none of which has begun. All who wait look 10,000,000 times together, which takes
-    /// some seconds.
-    pub fn new(workers: u64) -> Begun {
-        Begun::with_looks(workers, LOOKS)
+    /// A run of `workers` workers, none of which has begun. Whoever waits for two seconds gives it up.
+    pub fn new(workers: u64) -> Begun
+        ensures { result.workers ≡ workers }
+    {
+        Begun::with_rests(workers, RESTS)
     }
 
-    /// As `new`, but all who wait look `looks` times together.
-    pub fn with_looks(workers: u64, looks: u32) -> Begun {
+    /// As `new`, but whoever waits for `rests` tenths of a second gives it up.
+    pub fn with_rests(workers: u64, rests: u32) -> Begun
+        ensures { result.workers ≡ workers }
+    {
+        let state = if workers == 0 { ALL_BEGUN } else { AWAITED };
         Begun {
-            count: AtomicU64::new(0),
             workers,
-            looked: AtomicU64::new(0),
-            looks: looks as u64,
+            count: AtomicU64::new(0),
+            state: AtomicU64::new(u64::from(state)),
+            rests,
         }
     }
 
-    /// Counts a worker that begins.
+    /// Counts a worker that begins. The last one wakes all who wait.
     pub fn raise(&self) {
-        self.count.fetch_add(1, Ordering::SeqCst);
+        let before = self.count.fetch_add(1, Ordering::SeqCst);
+        if before.saturating_add(1) >= self.workers {
+            self.settle(ALL_BEGUN);
+        }
     }
 
-    /// Waits until all workers have begun. It gives way to other threads between looks, and takes no memory.
+    /// Waits until all workers have begun. It sleeps meanwhile, and takes no memory.
     ///
-    /// Where they haven't begun at the last look of all who wait, the run is given up. Then each one who waits, then or
-    /// later, breaks both directions off and returns `OutOfMemory`.
+    /// If they haven't begun two seconds after somebody began to wait, the run is given up. Then each one who waits, then
+    /// or later, breaks both directions off and returns `OutOfMemory`.
     pub fn wait<R: Wait>(
         &self,
         rt: &R,
@@ -71,7 +88,7 @@ impl Begun {
             × (down.new.flow ≡ after down.old.flow Item.Broken)) }
         ensures same { IsSameEnd up.old up.new × IsSameEnd down.old down.new }
     {
-        if self.have_all_begun() {
+        if self.have_all_begun(rt) {
             return Ok(());
         }
         up.send(rt, Item::Broken);
@@ -79,19 +96,30 @@ impl Begun {
         Err(OutOfMemory)
     }
 
-    // Looks until all workers have begun. Returns false where the run was given up, or gives it up after the last look.
-    fn have_all_begun(&self) -> bool {
-        for _ in 0..self.looks {
-            let count = self.count.load(Ordering::SeqCst);
-            if count >= self.workers {
-                return count < GIVEN_UP;
-            }
-            if self.looked.fetch_add(1, Ordering::SeqCst) >= self.looks {
+    // Sleeps until all workers have begun. Returns false if the run was given up, or gives it up after the last sleep.
+    fn have_all_begun<R: Wait>(&self, rt: &R) -> bool {
+        for _ in 0..self.rests {
+            if self.state.load(Ordering::SeqCst) != u64::from(AWAITED) {
                 break;
             }
-            yield_now();
+            let rest = Duration::from_millis(REST_MILLISECONDS);
+            self.state.park_timeout(rt, AWAITED, rest);
         }
-        self.count.store(GIVEN_UP, Ordering::SeqCst);
-        false
+        self.settle(GIVEN_UP);
+        self.state.load(Ordering::SeqCst) == u64::from(ALL_BEGUN)
+    }
+
+    // Ends the wait in this state, unless it has ended, and wakes all who wait.
+    fn settle(&self, state: u32) {
+        let awaited = u64::from(AWAITED);
+        let settled = self.state.compare_exchange(
+            awaited,
+            u64::from(state),
+            Ordering::SeqCst,
+            Ordering::SeqCst,
+        );
+        if settled.is_ok() {
+            self.state.wake_all();
+        }
     }
 }

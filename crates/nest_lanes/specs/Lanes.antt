@@ -1,5 +1,6 @@
 -- A direction of a run: the sender that the source has, the stages of the shells, and the receiver behind the last.
-use Rattle.std.specs.Prelude.{◌≡◌, ℕ, List, [], ◌∷◌, map}
+use Rattle.std.specs.Prelude.{◌≡◌, ◌+◌, ◌*◌, ℕ, List, [], ◌∷◌, length, map}
+use Rattle.packet_record.specs.declared.both.Both.{Both}
 use Rattle.packet_record.specs.declared.packet.Timed.{Timed}
 use Rattle.packet_record.specs.declared.packet.Direction.{Direction}
 use Rattle.packet_record.specs.declared.packet.Row.{Row}
@@ -36,6 +37,14 @@ pub record IsWired (horizon : ℕ) (specs : List DirSpec) (lane : Lane) : Type 0
   pub linked : Linked lane.head.channel lane.path.stages.items lane.path.last.channel
   pub own : AllOwn horizon lane.path.stages.items
   pub specs_are : specs_of lane.path.stages.items ≡ specs
+
+-- how many workers a path has: a feeder and a drain for each shell, and a collector
+abbrev pub workers_of : Path → ℕ
+workers_of path = 2 * length path.stages.items + 1
+
+-- how many workers the paths of both directions have
+abbrev pub workers_in : Both Path → ℕ
+workers_in paths = workers_of paths.up + workers_of paths.down
 
 -- Nothing has gone through the path.
 abbrev pub IsFreshPath : Path → Type 0

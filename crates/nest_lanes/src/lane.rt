@@ -41,6 +41,7 @@ impl Lane {
         ensures wired { IfOk result (λ lane. IsWired nest.now.horizon (directions_of direction nest.now) lane) }
         ensures fresh { IfOk result (λ lane. IsFreshLane nest.now.horizon lane) }
         ensures few { IfOk result (λ lane. length lane.path.stages.items ≤ 8) }
+        ensures long { IfOk result (λ lane. length lane.path.stages.items ≡ length nest.now.shells) }
     {
         let horizon = nest.horizon();
         nest.shells(); // fact: a nest has at most 8 shells

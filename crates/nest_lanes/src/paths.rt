@@ -7,7 +7,7 @@ ghost use Rattle.mark_channel.specs.Boths.{BothKeep, OfBoth};
 ghost use Rattle.mark_channel.specs.Ends.{IsSameEnd};
 ghost use Rattle.shell_workers.specs.Ends.{IfEnded};
 ghost use Rattle.shell_workers.specs.Stages.{AllDone, AllFresh, AllSame};
-ghost use Rattle.nest_lanes.specs.Lanes.{IsDonePath, IsFreshPath, IsSamePath};
+ghost use Rattle.nest_lanes.specs.Lanes.{IsDonePath, IsFreshPath, IsSamePath, workers_in};
 
 use crate::lane::Path;
 use mark_channel::Run;
@@ -23,12 +23,14 @@ const MOST: u32 = 256;
 
 /// Runs the workers of the paths of both directions beside each other: a feeder and a drain for each shell, and a
 /// collector behind the last. `shells` is how many shells the nest has. Each worker counts itself among those that have
-/// begun. Returns the worse of the ends of the two paths, as `WorkEnd::worse` does.
+/// begun, and the run waits for as many as there are. Returns the worse of the ends of the two paths, as
+/// `WorkEnd::worse` does.
 pub fn run_paths<Q: Pace + Sync, R: Threads + Wait + Sync>(
     run: &Run<'_, Q, R>,
     paths: &mut Both<Path>,
     shells: u32,
 ) -> WorkEnd
+    requires waits { run.now.begun.now.workers ≡ workers_in paths.old }
     requires fresh { OfBoth IsFreshPath paths.old }
     requires few { OfBoth (λ path. length path.stages.items ≤ 8) paths.old }
     ensures done { IfEnded result (OfBoth IsDonePath paths.new) }

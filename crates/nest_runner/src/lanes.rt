@@ -1,8 +1,8 @@
 // Both directions of a run.
-ghost use Rattle.std.specs.Prelude.{◌≡◌, ◌≤◌, length, IfOk};
+ghost use Rattle.std.specs.Prelude.{◌≡◌, ◌≤◌, ◌+◌, ◌*◌, length, IfOk};
 ghost use Rattle.mark_channel.specs.Boths.{ByDirection, OfBoth};
 ghost use Rattle.nest_spec.specs.Nests.{directions_of};
-ghost use Rattle.nest_lanes.specs.Lanes.{IsFreshLane, IsWired};
+ghost use Rattle.nest_lanes.specs.Lanes.{IsFreshLane, IsWired, workers_in};
 ghost use Rattle.nest_runner.specs.inside.Lanes.{lanes_of};
 
 use mark_channel::Sender;
@@ -27,6 +27,7 @@ impl Lanes {
             (λ d lane. IsWired nest.now.horizon (directions_of d nest.now) lane) (lanes_of lanes)) }
         ensures fresh { IfOk result (λ lanes. OfBoth (IsFreshLane nest.now.horizon) (lanes_of lanes)) }
         ensures few { IfOk result (λ lanes. OfBoth (λ path. length path.stages.items ≤ 8) lanes.paths) }
+        ensures workers { IfOk result (λ lanes. workers_in lanes.paths ≡ 4 * length nest.now.shells + 2) }
     {
         let Lane {
             head: up_head,

@@ -11,6 +11,7 @@ ghost use Rattle.nest_spec.specs.Nests.{result_of};
 ghost use Rattle.nest_spec.specs.Once.{HaveOneFate};
 ghost use Rattle.shell_workers.specs.Ends.{IfEnded};
 ghost use Rattle.nest_lanes.specs.Lanes.{HasCarried, HasRun, IsDonePath, IsFreshLane, IsFreshPath, IsSamePath};
+ghost use Rattle.nest_lanes.specs.Lanes.{workers_in};
 ghost use Rattle.nest_lanes.specs.inside.Lanes.{HasEnded, IsSameLane};
 ghost use Rattle.nest_runner.specs.inside.Lanes.{lanes_of};
 
@@ -101,6 +102,7 @@ fn run_lanes<Q: Pace + Sync, R: Threads + Wait + Sync>(
     lanes: &mut Lanes,
     shells: u32,
 ) -> WorkEnd
+    requires waits { run.now.begun.now.workers ≡ workers_in lanes.old.paths }
     requires fresh { OfBoth (IsFreshLane horizon) (lanes_of lanes.old) }
     requires few { OfBoth (λ path. length path.stages.items ≤ 8) lanes.old.paths }
     requires rises { Rises 0 rows.now }
@@ -113,8 +115,8 @@ fn run_lanes<Q: Pace + Sync, R: Threads + Wait + Sync>(
     let (passed, sent) = join_mut(
         run.rt,
         &mut || -> WorkEnd
-            requires { OfBoth IsFreshPath paths.now × OfBoth (λ path. length path.stages.items ≤ 8) paths.now
-                × IsSync R.row × IsSync Q.row }
+            requires { (run.now.begun.now.workers ≡ workers_in paths.now) × OfBoth IsFreshPath paths.now
+                × OfBoth (λ path. length path.stages.items ≤ 8) paths.now × IsSync R.row × IsSync Q.row }
             ensures done { IfEnded result (OfBoth IsDonePath paths.exit.now) }
             ensures same { BothKeep IsSamePath paths.entry.now paths.exit.now }
         { run_paths(run, paths, shells) },

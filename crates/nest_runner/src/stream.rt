@@ -9,7 +9,7 @@ ghost use Rattle.shell_workers.specs.Ends.{IfEnded};
 ghost use Rattle.shell_workers.specs.Reading.{IsUnread, ReadsFile};
 ghost use Rattle.shell_workers.specs.Sending.{IsUnsent};
 ghost use Rattle.shell_workers.specs.StreamParts.{AllSent, IsStreamed};
-ghost use Rattle.nest_lanes.specs.Lanes.{HasRun, IsDonePath, IsFreshLane, IsFreshPath, IsSamePath};
+ghost use Rattle.nest_lanes.specs.Lanes.{HasRun, IsDonePath, IsFreshLane, IsFreshPath, IsSamePath, workers_in};
 ghost use Rattle.nest_lanes.specs.inside.Lanes.{HasEnded, IsSameLane};
 ghost use Rattle.nest_runner.specs.inside.Lanes.{lanes_of};
 ghost use Rattle.nest_runner.specs.Streaming.{HasStreamCause, IsScheduleOf, StreamsTo};
@@ -134,6 +134,7 @@ fn stream_lanes<D: Disk, Q: Pace + Sync, R: Threads + Wait + Sync>(
 ) -> (WorkEnd, Result<(), DiskError>)
     requires size { HasSize (D.view disk.old).files file.old.place.name.now file.old.place.size }
     requires unread { IsUnread file.old }
+    requires waits { run.now.begun.now.workers ≡ workers_in lanes.old.paths }
     requires fresh { OfBoth (IsFreshLane horizon) (lanes_of lanes.old) }
     requires few { OfBoth (λ path. length path.stages.items ≤ 8) lanes.old.paths }
     ensures done { IfEnded result.0 (OfBoth IsDonePath lanes.new.paths) }
@@ -148,8 +149,8 @@ fn stream_lanes<D: Disk, Q: Pace + Sync, R: Threads + Wait + Sync>(
     join_mut(
         run.rt,
         &mut || -> WorkEnd
-            requires { OfBoth IsFreshPath paths.now × OfBoth (λ path. length path.stages.items ≤ 8) paths.now
-                × IsSync R.row × IsSync Q.row }
+            requires { (run.now.begun.now.workers ≡ workers_in paths.now) × OfBoth IsFreshPath paths.now
+                × OfBoth (λ path. length path.stages.items ≤ 8) paths.now × IsSync R.row × IsSync Q.row }
             ensures done { IfEnded result (OfBoth IsDonePath paths.exit.now) }
             ensures same { BothKeep IsSamePath paths.entry.now paths.exit.now }
         { run_paths(run, paths, shells) },

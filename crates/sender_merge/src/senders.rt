@@ -31,8 +31,8 @@ const MERGES: u64 = 2;
 /// threads get their turns. In it the row of line `l` of sender `c`, both counted from 1, has the number
 /// `16 * (l - 1) + c`.
 ///
-/// No sender sends before all threads have begun. Where one can't begin beside the others, all senders break off after
-/// some seconds, and the feeding returns `OutOfMemory`.
+/// No sender sends before all threads have begun. If one can't begin beside the others, all senders break off after two
+/// seconds, and the feeding returns `OutOfMemory`.
 #[derive(Drop)]
 pub struct Senders {
     alloc: Global,
@@ -100,9 +100,10 @@ impl Senders {
         self.schedules.len() as u64 + MERGES
     }
 
-    /// Feeds as `feed` does, by threads that wait for each other by `begun`. The pace is asked before each row of each
-    /// sender, in its thread, with the row's place in its schedule counted from 1. Where `begun` waits for more workers
-    /// than `threads` returns, all senders break off, and the feeding returns `OutOfMemory`.
+    /// Feeds as `feed` does, by threads that wait for each other by `begun`, which waits for at least as many workers as
+    /// `threads` returns. The pace is asked before each row of each sender, in its thread, with the row's place in its
+    /// schedule counted from 1. If `begun` waits for more workers than that, all senders break off, and the feeding
+    /// returns `OutOfMemory`.
     pub fn feed_at<Q: Pace + Sync, R: Threads + Wait + Sync>(
         &mut self,
         rt: &R,
@@ -112,6 +113,7 @@ impl Senders {
         down: &mut Sender,
         pace: &Q,
     ) -> FeedEnd
+        requires waits { length self.old + 2 ≤ begun.workers }
         requires empty { (up.old.flow ≡ no_items) × (down.old.flow ≡ no_items) }
         requires within { (up.old.horizon ≡ horizon) × (down.old.horizon ≡ horizon) }
         ensures same_senders { self.new ≡ self.old }

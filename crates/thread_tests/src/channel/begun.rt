@@ -78,7 +78,7 @@ const BROKEN: Option<(Item, Item)> = Some((Item::Broken, Item::Broken));
 // At the limit both directions are broken off, and at once for whoever waits later, though all have begun then.
 #[test]
 fn a_wait_at_its_limit_breaks_both_directions_off(rt: HostRuntime) {
-    let begun = Begun::with_looks(2, 100);
+    let begun = Begun::with_rests(2, 2);
     begun.raise();
     check(
         &rt,
@@ -95,7 +95,7 @@ fn a_wait_at_its_limit_breaks_both_directions_off(rt: HostRuntime) {
 
 #[test]
 fn nobody_waits_where_all_have_begun(rt: HostRuntime) {
-    let begun = Begun::with_looks(1, 1);
+    let begun = Begun::with_rests(1, 1);
     begun.raise();
     check(
         &rt,

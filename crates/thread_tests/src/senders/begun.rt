@@ -26,7 +26,7 @@ fn feed_without_one<R: Threads + Wait + Sync + Abort>(
 ) -> (FeedEnd, Item, Item) {
     let mut senders = senders_from(rt, alloc, texts);
     let mut ways = open_ways(alloc, 64, 10).expect(rt, "memory");
-    let begun = Begun::with_looks(senders.threads().saturating_add(1), 1_000);
+    let begun = Begun::with_rests(senders.threads().saturating_add(1), 5);
     let end = senders.feed_at(rt, 10, begun, &mut ways.up, &mut ways.down, &NoPace);
     (end, ways.up_end.recv(rt), ways.down_end.recv(rt))
 }

@@ -17,3 +17,12 @@ returns-clause-few c =
     ap (λ (l : List DirSpec). length l) (c.in_ok-path.ensures.specs ∙ c.in_ok-specs.ensures.list) in
     let one = length-map stages (λ (s : Stage). s.cell.opening.spec) in
     omega (arith, shells_long c.args.direction c.args.nest.now)
+
+pub returns-clause-long : goal.returns-clause-long
+returns-clause-long c =
+    let stages = c.in_ok-path.path.stages.items in
+    let long = length-map (shells_in c.args.direction c.args.nest.now) (λ (s : ShellDirection). s.spec) in
+    let same : length (specs_of stages) ≡ length (directions_of c.args.direction c.args.nest.now) =
+    ap (λ (l : List DirSpec). length l) (c.in_ok-path.ensures.specs ∙ c.in_ok-specs.ensures.list) in
+    let one = length-map stages (λ (s : Stage). s.cell.opening.spec) in
+    omega (arith, shells_long c.args.direction c.args.nest.now)
