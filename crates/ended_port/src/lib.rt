@@ -4,6 +4,8 @@
 mod ending;
 mod link;
 mod port;
+mod shortage;
 
 pub use link::{EndedLink, Silence};
 pub use port::EndedPort;
+pub use shortage::{is_shortage, rest_at_shortage};

@@ -1,5 +1,5 @@
 // A connection over TCP that waits no longer for its peer once its user has asked it to end. It tells no content.
-ghost use Rattle.std.specs.Prelude.{◌≡◌, ◌≤◌, ◌<◌, None, false, IfOk};
+ghost use Rattle.std.specs.Prelude.{◌≡◌, ◌≤◌, ◌<◌, length, None, false, IfOk};
 ghost use Rattle.mm_base.specs.Counts.{Rose};
 
 use crate::ending::{Ending, Wait};
@@ -30,9 +30,12 @@ pub enum Silence {
 ///
 /// Where its watch can end, a peer to which nothing was given, and whose output wasn't closed, is left at once when its
 /// connection is ended.
+///
+/// Closing its output ends the connection: it holds no descriptor from then on, and a read or a write is a fault.
 #[derive(Drop)]
 pub struct EndedLink<'a, K: Clock + Copy + Drop> {
-    link: TcpLink<K>,
+    // None: its output was closed.
+    link: Option<TcpLink<K>>,
     limits: TcpLimits,
     ending: Ending<'a, K>,
     silence: Silence,
@@ -59,7 +62,7 @@ impl<'a, K: Clock + Copy + Drop> EndedLink<'a, K> {
             seen: None,
         };
         Ok(EndedLink {
-            link: TcpLink::new(clock, stream, limits)?,
+            link: Some(TcpLink::new(clock, stream, limits)?),
             limits,
             ending,
             silence,
@@ -71,9 +74,38 @@ impl<'a, K: Clock + Copy + Drop> EndedLink<'a, K> {
     /// Ends the connection. Where its output wasn't closed before, it is closed first and the peer heard out, unless
     /// the watch can end and nothing was given that the peer might lose.
     pub fn end(self) {
-        if self.is_given || !self.ending.can_end() {
-            self.link.end();
+        let is_heard_out = self.is_given || !self.ending.can_end();
+        match self.link {
+            Some(link) if is_heard_out => link.end(),
+            _ => {}
         }
+    }
+
+    // Takes bytes of the peer, and counts no fault.
+    fn take(&mut self, buf: &mut [u8]) -> Result<usize, EndError>
+        ensures within { IfOk result (λ n. n ≤ length buf.old) }
+        ensures faults { self.new.faults ≡ self.old.faults }
+    {
+        let Some(link) = &mut self.link else {
+            return Err(EndError::Failed);
+        };
+        match self.ending.wait(self.limits.reading) {
+            Wait::Ready => link.read(buf),
+            Wait::Over if self.silence == Silence::End => Ok(0),
+            _ => Err(EndError::Failed),
+        }
+    }
+
+    // Gives bytes of the front of a piece, and counts no fault.
+    fn give(&mut self, piece: &[u8]) -> Result<usize, EndError>
+        ensures within { IfOk result (λ n. n ≤ length piece.now) }
+        ensures some { IfOk result (λ n. 0 < length piece.now → 0 < n) }
+        ensures faults { self.new.faults ≡ self.old.faults }
+    {
+        let Some(link) = &mut self.link else {
+            return Err(EndError::Failed);
+        };
+        self.ending.give(link, piece)
     }
 
     // Counts a fault, unless memory was wanting.
@@ -93,19 +125,14 @@ impl<'a, K: Clock + Copy + Drop> Link for EndedLink<'a, K> {
     ghost view = { λ l. record { told = None; faults = l.faults; never_fails = false } };
 
     fn read(&mut self, buf: &mut [u8]) -> Result<usize, EndError> {
-        let answer = match self.ending.wait(self.limits.reading) {
-            Wait::Ready => self.link.read(buf),
-            Wait::Over if self.silence == Silence::End => Ok(0),
-            _ => Err(EndError::Failed),
-        };
-        match answer {
+        match self.take(buf) {
             Ok(count) => Ok(count),
             Err(error) => Err(self.refuse(error)),
         }
     }
 
     fn write(&mut self, piece: &[u8]) -> Result<usize, EndError> {
-        match self.ending.give(&mut self.link, piece) {
+        match self.give(piece) {
             Ok(count) => {
                 self.is_given = true;
                 Ok(count)
@@ -115,6 +142,8 @@ impl<'a, K: Clock + Copy + Drop> Link for EndedLink<'a, K> {
     }
 
     fn close_output(&mut self) {
-        self.link.close_output();
+        if let Some(link) = self.link.take() {
+            link.end();
+        }
     }
 }

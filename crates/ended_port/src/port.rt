@@ -4,6 +4,7 @@ ghost use Rattle.mm_base.specs.Counts.{Rose};
 ghost use Rattle.mm_base.specs.Listened.{never};
 
 use crate::link::{EndedLink, Silence};
+use crate::shortage::{is_passed_over, is_shortage, rest_at_shortage};
 use end_watch::{EndWatch, Waking, Wanted};
 use mm_base::{EndError, Listened, Port, TcpLimits};
 use std::io::{self, ErrorKind, Write};
@@ -15,28 +16,11 @@ use std::time::Clock;
 // How often it is waited in a row for a connection that goes away before it is accepted. No run meets it.
 const TRIES: u64 = u64::MAX;
 
-// The numbers of Linux's errors that it has no more descriptors, for the program or at all, or no buffer.
-const SHORTAGES: [i32; 3] = [24, 23, 105];
-
-// How long it rests where the system has no descriptor or no buffer for the next connection, in milliseconds.
-const SHORTAGE_REST: i32 = 100;
-
-// The number of no descriptor, which the system passes over.
-const NONE: i32 = -1;
-
-// Whether an error of accepting is that the system has no descriptor or no buffer now.
-fn is_shortage(error: &io::Error) -> bool {
-    match error.raw_os_error() {
-        Some(number) => SHORTAGES.contains(&number),
-        None => false,
-    }
-}
-
 /// A port of TCP at the address 127.0.0.1, as `TcpPort` is one, which is drained once its watch is at its end. It tells
 /// no content. Each error other than out of memory is counted as a fault: a port that can't be had, an `accept` before
 /// `listen`, or one more connection than a `u64` counts. A client that goes away before it is accepted is passed over.
-/// Where its watch can end, an `accept` for which the system has no descriptor or no buffer is tried again after a
-/// tenth of a second. After an `accept` that was refused, or that found it drained, it doesn't listen any more, so that
+/// So is one that the network failed before. Where its watch can end, an `accept` for which the system has no
+/// descriptor or no buffer is tried again after a tenth of a second. After an `accept` that was refused, or that found it drained, it doesn't listen any more, so that
 /// whoever connects then is refused and doesn't wait.
 #[derive(Drop)]
 pub struct EndedPort<
@@ -49,6 +33,8 @@ pub struct EndedPort<
     program: &'static str,
     notes: W,
     watch: &'a EndWatch,
+    // Whether a connection is accepted only while there is a descriptor for one more.
+    is_sparing: bool,
     listener: Option<TcpListener>,
     listened: Listened,
     accepted: u64,
@@ -88,6 +74,7 @@ impl<
             program,
             notes,
             watch,
+            is_sparing: false,
             listener: None,
             listened: Listened::never(),
             accepted: 0,
@@ -95,6 +82,17 @@ impl<
             faults: 0,
             last_error: None,
         }
+    }
+
+    /// A port as `new` makes it, for a user that dials a connection for each that comes in. Where its watch can end, it
+    /// accepts one only while the system has a descriptor for the dialed one too.
+    pub fn for_dialing(rt: R, watch: &'a EndWatch, program: &'static str, notes: W) -> Self
+        ensures begun { (result.accepted ≡ 0) × (result.faults ≡ 0) × (result.drained ≡ false) }
+        ensures listened { result.listened ≡ never }
+    {
+        let mut port = Self::new(rt, watch, program, notes);
+        port.is_sparing = true;
+        port
     }
 
     /// The number of the port at which it listens. None where it doesn't. After `listen(0)` it is one that was free.
@@ -172,18 +170,30 @@ impl<
             {
                 continue;
             }
-            match listener.accept() {
-                Ok((stream, _)) => return Ok(Some(stream)),
-                Err(error) if error.kind() == ErrorKind::ConnectionAborted => {}
-                Err(error) if error.kind() == ErrorKind::WouldBlock => {}
+            match accept_from(listener, self.is_sparing && self.watch.can_end()) {
+                Ok(stream) => return Ok(Some(stream)),
+                Err(error) if is_passed_over(&error) => {}
                 Err(error) if self.watch.can_end() && is_shortage(&error) => {
-                    self.watch.wait_beside(NONE, Wanted::Input, SHORTAGE_REST);
+                    rest_at_shortage(self.watch);
                 }
                 Err(error) => return Err(error),
             }
         }
         Err(io::Error::from(ErrorKind::ConnectionAborted))
     }
+}
+
+// Accepts the next stream. One that is sparing is accepted only while there is a descriptor for one more, which is free
+// again afterwards.
+fn accept_from(listener: &TcpListener, is_sparing: bool) -> io::Result<TcpStream> {
+    let spare = if is_sparing {
+        Some(listener.try_clone()?)
+    } else {
+        None
+    };
+    let (stream, _) = listener.accept()?;
+    drop(spare);
+    Ok(stream)
 }
 
 // Listens at the port of this number, without waiting in `accept`.
