@@ -19,7 +19,7 @@ mod standing;
 mod steps;
 mod workers;
 
-pub use crew::Crew;
+pub use crew::{Crew, Said};
 pub use ends::{ConnEnd, ServeError, Served};
 pub use giving::give;
 pub use plan::ServingPlan;

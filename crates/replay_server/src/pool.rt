@@ -7,7 +7,7 @@ ghost use Rattle.replay_server.specs.Servings.{IsServing, ListensAt, most_served
 ghost use Rattle.replay_server.specs.inside.Pools.{InPool, IsCounted, IsStopped, MovesPool, PoolServes};
 
 use crate::alone::serve_alone;
-use crate::crew::Crew;
+use crate::crew::{Crew, Said};
 use crate::ends::{ServeError, Served};
 use crate::indexed_store::IndexedStore;
 use crate::messages::{Ended, Fresh, Serving};
@@ -49,19 +49,6 @@ pub(crate) fn take_back<K: Serving, P: Port>(
     standing.finished(end, done)
 }
 
-/// Returns the next connection that a worker has served, or `None` where none has. While the workers have as many as
-/// they may, it waits for one.
-fn next_done<K: Serving, C: Link + Send + Drop, R: Wait>(
-    rt: &R,
-    workers: &ServingWorkers<K, C>,
-    out: u32,
-) -> Option<Ended<K, C>> {
-    if out < workers.crew.at_a_time() {
-        return workers.back.try_recv(rt).ok();
-    }
-    workers.back.recv(rt).ok()
-}
-
 /// Takes back the connections that were served. Afterwards fewer are out than may be.
 fn clear<K: Serving, P: Port, R: Wait>(
     rt: &R,
@@ -77,7 +64,7 @@ fn clear<K: Serving, P: Port, R: Wait>(
 {
     let mut standing = standing;
     'done: while standing.out > 0 {
-        let Some(ended) = next_done(rt, workers, standing.out) else {
+        let Some(ended) = workers.crew.next_done(rt, &workers.back, standing.out) else {
             return standing;
         };
         standing = take_back(port, ended, standing);
@@ -170,7 +157,7 @@ fn take_all<K: Serving, P: Port, R: Wait>(
 {
     let mut standing = standing;
     'out: while standing.out > 0 {
-        let Ok(ended) = workers.back.recv(rt) else {
+        let Some(ended) = workers.crew.wait_done(rt, &workers.back) else {
             return Err(ServeError::OutOfMemory);
         };
         standing = take_back(port, ended, standing);
@@ -268,7 +255,9 @@ fn run_pool<K: Serving + Send + Sync, P: Port + Send, Q: Pace + Sync, R: Threads
     let Ok((to, jobs)) = bounded::<Fresh<P::Conn>, Global>(alloc, most as usize) else {
         return Err(ServeError::OutOfMemory);
     };
-    let Ok((done, back)) = bounded::<Ended<K, P::Conn>, Global>(alloc, most as usize) else {
+    // Each worker says once that it has begun, and has one connection at a time.
+    let room = 2 * most as usize;
+    let Ok((done, back)) = bounded::<Said<Ended<K, P::Conn>>, Global>(alloc, room) else {
         return Err(ServeError::OutOfMemory);
     };
     let workers = ServingWorkers {
@@ -283,7 +272,8 @@ fn run_pool<K: Serving + Send + Sync, P: Port + Send, Q: Pace + Sync, R: Threads
 /// Listens at the port of a plan, and serves its connections, up to `connections` of them at a time (`serve_conn`),
 /// until the port has no more, or 4,294,967,295 were accepted. None waits for another while fewer than `connections`
 /// are being served. One that has ended has said so to its peer, and is finished once the next one has come, or at the
-/// end. Where fewer threads can be made, fewer are served at a time, and where none can be made, one after the other.
+/// end. Where fewer threads can be made, fewer are served at a time, one more as soon as a late one begins, and where
+/// none can be made, one after the other.
 ///
 /// `Listen` comes where the port can't be listened at, and `Accept` where a connection can't be accepted or finished,
 /// each only where a fault of the port was counted. Those accepted before are served to their end.

@@ -2,7 +2,7 @@
 ghost use Rattle.std.specs.Prelude.{◌≡◌};
 ghost use Rattle.std.specs.Thread.{IsSync};
 
-use crate::crew::Crew;
+use crate::crew::{Crew, Said};
 use crate::messages::{Ended, Fresh, Serving};
 use crate::server::Server;
 use crate::serving::serve_fresh;
@@ -13,13 +13,13 @@ use std::marker::{PhantomData, Send, Sync};
 use std::sync::Wait;
 use std::thread::{Threads, map_indices};
 
-/// The workers of a pool, and the channels of their connections: `jobs` brings them to the workers. A worker sends each
-/// that it has served into `done`, and it comes out of `back`.
+/// The workers of a pool, and the channels of their connections: `jobs` brings them to the workers. A worker says in
+/// `done` that it has begun, and sends each connection there that it has served; both come out of `back`.
 #[derive(Drop)]
 pub(crate) struct ServingWorkers<K: Serving, C: Link + Send + Drop> {
     pub jobs: Receiver<Fresh<C>>,
-    pub done: Sender<Ended<K, C>>,
-    pub back: Receiver<Ended<K, C>>,
+    pub done: Sender<Said<Ended<K, C>>>,
+    pub back: Receiver<Said<Ended<K, C>>>,
     pub crew: Crew,
 }
 
@@ -58,7 +58,7 @@ fn work<K: Serving, C: Link + Send + Drop, Q: Pace, R: Wait>(
             return;
         };
         let ended = serve_one::<K, C, Q, R>(rt, alloc, server, fresh);
-        let Ok(()) = workers.done.send(rt, ended) else {
+        let Ok(()) = workers.done.send(rt, Said::Done(ended)) else {
             return;
         };
     }
@@ -78,7 +78,7 @@ pub(crate) fn work_all<
         requires { (server.now.source.store.now ≡ K.store) × (server.now.source.index.port ≡ K.site_port)
             × IsSync R.row × IsSync Q.row }
     {
-        workers.crew.begin();
+        workers.crew.begin(rt, &workers.done);
         work::<K, C, Q, R>(rt, alloc, server, workers);
     };
     let _ = map_indices(rt, alloc, workers.crew.most() as usize, &worker);
