@@ -191,6 +191,23 @@ fn a_peer_to_which_nothing_was_given_is_left_at_once(rt: HostRuntime) {
     assert!(rt; (SILENCE..LATE).contains(&passed));
 }
 
+// Returns whether a connection whose output was closed gives and takes nothing more, though its end hasn't come.
+fn is_over_once_closed(rt: &HostRuntime) -> io::Result<bool> {
+    let (reader, _writer) = pipe(rt)?;
+    let watch = EndWatch::new(Some(reader.as_raw_fd()));
+    let (mut client, mut link) = link_beside(rt, &watch, Silence::End)?;
+    client.write_all(b"said")?;
+    drop(client);
+    link.close_output();
+    let is_deaf = link.read(&mut [0u8; 8]) == Err(EndError::Failed);
+    Ok(is_deaf && link.write(b"x") == Err(EndError::Failed) && !watch.is_at_end())
+}
+
+#[test]
+fn a_connection_is_over_once_its_output_was_closed(rt: HostRuntime) {
+    assert!(rt; is_over_once_closed(&rt).expect(&rt, "a link"));
+}
+
 // Returns whether a port beside this descriptor gives a connection, and a read of it waits until its limit.
 fn goes_on_beside(rt: &HostRuntime, descriptor: i32) -> io::Result<bool> {
     let watch = EndWatch::new(Some(descriptor));

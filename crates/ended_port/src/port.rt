@@ -18,10 +18,10 @@ const TRIES: u64 = u64::MAX;
 
 /// A port of TCP at the address 127.0.0.1, as `TcpPort` is one, which is drained once its watch is at its end. It tells
 /// no content. Each error other than out of memory is counted as a fault: a port that can't be had, an `accept` before
-/// `listen`, or one more connection than a `u64` counts. A client that goes away before it is accepted is passed over.
-/// So is one that the network failed before. Where its watch can end, an `accept` for which the system has no
-/// descriptor or no buffer is tried again after a tenth of a second. After an `accept` that was refused, or that found it drained, it doesn't listen any more, so that
-/// whoever connects then is refused and doesn't wait.
+/// `listen`, or one more connection than a `u64` counts. A client that goes away before it is accepted is passed over,
+/// and so is one that the network fails before. Where its watch can end, an `accept` for which the system has no
+/// descriptor or no buffer is tried again after a tenth of a second. After an `accept` that was refused, or that found
+/// it drained, it doesn't listen any more, so that whoever connects then is refused and doesn't wait.
 #[derive(Drop)]
 pub struct EndedPort<
     'a,

@@ -94,7 +94,7 @@ fn run_until<'a, T: Threads + Wait + Sync>(
 ) -> io::Result<u8> {
     let mut out = StdSink::new(rt.stdout());
     let mut disk = SeenDisk::new(FileDisk::new(rt.clone()?));
-    let mut port: EndedPort<'a, HostRuntime, Stderr> = EndedPort::new(
+    let mut port: EndedPort<'a, HostRuntime, Stderr> = EndedPort::for_dialing(
         rt.clone()?,
         watch,
         NAME,

@@ -59,7 +59,7 @@ fn serve_job<P: Port + Send, X: Dialer + Send, R: Threads + Wait + Sync>(
     let served = if job.until_ended {
         serve_until_ended(host.threads, host.alloc, job, port, dialer, store)
     } else {
-        serve(host.alloc, job, port, dialer, store)
+        serve(host.threads, host.alloc, job, port, dialer, store)
     };
     match served {
         Ok(served) => Ok(served),

@@ -19,7 +19,7 @@ use crate::workers::{RecordingWorkers, work_all};
 use crossbeam_channel::{Sender, bounded};
 use mm_base::{EndError, Link, Port};
 use record_store::Store;
-use replay_server::{Crew, Served};
+use replay_server::{Crew, Said, Served};
 use std::alloc::Global;
 use std::marker::{Brand, Send, Sync};
 use std::sync::Wait;
@@ -102,24 +102,6 @@ fn back<K: Site, A: Link, B: Link>(
     }
 }
 
-/// Returns the next pair that a worker gave back, or `None` where none did. While the workers have as many as they may,
-/// it waits for one.
-fn next_back<K: Site, A: Link + Send + Drop, B: Link + Send + Drop, R: Wait>(
-    rt: &R,
-    workers: &RecordingWorkers<K, A, B>,
-    away: u32,
-) -> Option<Result<Passed<K, A, B>, ProxyError>>
-    ensures { result ≢ Some (Err ProxyError.Port) }
-{
-    if away >= workers.crew.at_a_time() {
-        return Some(back(workers.back.recv(rt).ok()));
-    }
-    match workers.back.try_recv(rt) {
-        Ok(came) => Some(back(Some(came))),
-        Err(_) => None,
-    }
-}
-
 /// Takes back the pairs that came. Afterwards fewer are away than may be.
 fn clear<K: Site, P: Port, X: Dialer, R: Wait>(
     rt: &R,
@@ -138,7 +120,7 @@ fn clear<K: Site, P: Port, X: Dialer, R: Wait>(
 {
     let mut standing = standing;
     'back: while standing.away > 0 {
-        let Some(came) = next_back(rt, workers, standing.away) else {
+        let Some(came) = workers.crew.next_done(rt, &workers.back, standing.away) else {
             return Ok(standing);
         };
         standing = take_back(port, dialer, came?, standing)?;
@@ -251,7 +233,7 @@ fn take_all<K: Site, P: Port, X: Dialer, R: Wait>(
 {
     let mut standing = standing;
     'away: while standing.away > 0 {
-        let passed = back(workers.back.recv(rt).ok())?;
+        let passed = back(workers.crew.wait_done(rt, &workers.back))?;
         standing = take_back(port, dialer, passed, standing)?;
     }
     Ok(standing)
@@ -354,10 +336,12 @@ fn run_pool<K: Site + Send + Sync, P: Port + Send, X: Dialer + Send, R: Threads 
     let Ok((to, jobs)) = bounded::<Pair<P::Conn, X::Conn>, Global>(alloc, most as usize) else {
         return Err(ProxyError::OutOfMemory);
     };
-    let Ok((done, back)) = bounded::<Result<Passed<K, P::Conn, X::Conn>, OutOfMemory>, Global>(
-        alloc,
-        most as usize,
-    ) else {
+    // Each worker says once that it has begun, and has one pair at a time.
+    let room = 2 * most as usize;
+    let Ok((done, back)) = bounded::<
+        Said<Result<Passed<K, P::Conn, X::Conn>, OutOfMemory>>,
+        Global,
+    >(alloc, room) else {
         return Err(ProxyError::OutOfMemory);
     };
     let site_port = job.site_port;

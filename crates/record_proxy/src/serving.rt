@@ -17,6 +17,8 @@ use mm_base::{EndError, Link, Port};
 use record_store::Store;
 use replay_server::Served;
 use std::alloc::Global;
+use std::marker::Send;
+use std::thread::{Threads, join_mut};
 use text_base::OutOfMemory;
 
 /// One end more. None: the dialer failed.
@@ -62,13 +64,25 @@ fn ended(
     }
 }
 
-/// Says to both sides that nothing further will be given.
-pub(crate) fn part<A: Link, B: Link>(client: &mut A, server: &mut B)
+/// Says to both sides that nothing further will be given, to each beside the other, so that neither waits while the
+/// other one is heard out. Where no thread can be made, the client hears it first.
+pub(crate) fn part<A: Link + Send, B: Link + Send, R: Threads>(
+    rt: &R,
+    client: &mut A,
+    server: &mut B,
+)
     ensures client { A.view client.new ≡ A.view client.old }
     ensures server { B.view server.new ≡ B.view server.old }
 {
-    client.close_output();
-    server.close_output();
+    join_mut(
+        rt,
+        &mut ||
+            ensures { B.view server.exit.now ≡ B.view server.entry.now }
+        { server.close_output() },
+        &mut ||
+            ensures { A.view client.exit.now ≡ A.view client.entry.now }
+        { client.close_output() },
+    );
 }
 
 /// Finishes a dialed connection.
@@ -84,7 +98,8 @@ pub(crate) fn finish_dialed<X: Dialer>(dialer: &mut X, server: X::Conn) -> Resul
 }
 
 /// Passes what a client and a dialed connection say, and finishes that one. None: the dialer failed.
-fn join<A: Link, X: Dialer>(
+fn join<A: Link + Send, X: Dialer, R: Threads>(
+    rt: &R,
     alloc: Global,
     site_port: u16,
     client: &mut A,
@@ -100,13 +115,14 @@ fn join<A: Link, X: Dialer>(
 {
     let mut server = server;
     let end = proxy_conn(alloc, client, &mut server, site_port, store);
-    part(client, &mut server);
+    part(rt, client, &mut server);
     let done = finish_dialed(dialer, server);
     ended(end, done)
 }
 
 /// Dials for a client, and passes what the two say. None: the dialer failed.
-fn pass<A: Link, X: Dialer>(
+fn pass<A: Link + Send, X: Dialer, R: Threads>(
+    rt: &R,
     alloc: Global,
     site_port: u16,
     client: &mut A,
@@ -119,7 +135,7 @@ fn pass<A: Link, X: Dialer>(
     ensures asks { (X.view dialer.new).asked ≡ asked_at site_port (X.view dialer.old).asked }
 {
     match dialer.dial(site_port) {
-        Ok(server) => join(alloc, site_port, client, server, dialer, store),
+        Ok(server) => join(rt, alloc, site_port, client, server, dialer, store),
         Err(EndError::Failed) => Ok(None),
         Err(EndError::OutOfMemory) => Err(OutOfMemory),
     }
@@ -143,7 +159,8 @@ fn served(
 }
 
 /// Serves a client that was accepted, and finishes it.
-fn serve_client<P: Port, X: Dialer>(
+fn serve_client<P: Port, X: Dialer, R: Threads>(
+    rt: &R,
     alloc: Global,
     site_port: u16,
     client: P::Conn,
@@ -161,7 +178,7 @@ fn serve_client<P: Port, X: Dialer>(
     ensures cause { result ≡ Err ProxyError.Port → Rose (P.view port.old).faults (P.view port.new).faults }
 {
     let mut client = client;
-    let end = pass(alloc, site_port, &mut client, dialer, store);
+    let end = pass(rt, alloc, site_port, &mut client, dialer, store);
     let done = port.finish(client);
     served(end, done)
 }
@@ -172,7 +189,8 @@ fn serve_client<P: Port, X: Dialer>(
 ///
 /// `Port` comes only where a fault of the port was counted: it can't be listened at, or a client can't be accepted or
 /// finished. `OutOfMemory` means out of memory.
-pub fn serve<P: Port, X: Dialer>(
+pub fn serve<P: Port, X: Dialer, R: Threads>(
+    rt: &R,
     alloc: Global,
     job: &ProxyJob<'_>,
     port: &mut P,
@@ -194,6 +212,7 @@ pub fn serve<P: Port, X: Dialer>(
     'clients: while left > 0 {
         match port.accept() {
             Ok(Some(client)) => match serve_client(
+                rt,
                 alloc,
                 job.site_port,
                 client,

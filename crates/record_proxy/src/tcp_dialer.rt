@@ -6,20 +6,24 @@ ghost use Rattle.record_proxy.specs.declared.ports_asked.PortsAsked.TheVariants.
 use crate::dialer::Dialer;
 use crate::ports_asked::PortsAsked;
 use end_watch::EndWatch;
-use ended_port::{EndedLink, Silence};
+use ended_port::{EndedLink, Silence, is_shortage, rest_at_shortage};
 use mm_base::{EndError, TcpLimits};
 use std::io::{self, ErrorKind};
 use std::marker::Send;
 use std::net::{Ipv4Addr, Net, SocketAddr, TcpListener, TcpStream};
 use std::time::{Clock, Duration};
 
+// How often a dial is tried at most. No run meets it.
+const TRIES: u64 = u64::MAX;
+
 // How long it waits for a site that has no room for one more connection, in seconds.
 const DIAL_LIMIT: u64 = 10;
 
 /// A dialer of TCP at the address 127.0.0.1. It tells no content, but at which ports it was asked. Each error other
 /// than out of memory is counted as a fault: a port at which nobody listens, a site that has no room for one more
-/// connection for ten seconds, or one more connection than a `u64` counts. A connection that it gives waits for a byte
-/// no longer than a minute; then its read is a fault of that connection.
+/// connection for ten seconds, or one more connection than a `u64` counts. Where its watch can end, a dial for which the
+/// system has no descriptor or no buffer is tried again until the watch is at its end. A connection that it gives waits
+/// for a byte no longer than a minute; then its read is a fault of that connection.
 #[derive(Drop)]
 pub struct TcpDialer<'a, R: Net<Stream = TcpStream, Listener = TcpListener> + Clock + Copy + Drop> {
     rt: R,
@@ -99,7 +103,20 @@ impl<'a, R: Net<Stream = TcpStream, Listener = TcpListener> + Clock + Copy + Dro
             return Err(io::Error::from(ErrorKind::Unsupported));
         }
         let address = SocketAddr::from((Ipv4Addr::LOCALHOST, number));
-        TcpStream::connect_timeout(&self.rt, &address, Duration::from_secs(DIAL_LIMIT))
+        for _ in 0..TRIES {
+            match TcpStream::connect_timeout(&self.rt, &address, Duration::from_secs(DIAL_LIMIT)) {
+                Err(error) if is_shortage(&error) && self.may_rest() => {
+                    rest_at_shortage(self.watch);
+                }
+                dialed => return dialed,
+            }
+        }
+        Err(io::Error::from(ErrorKind::TimedOut))
+    }
+
+    // Whether a dial for which the system has no descriptor or no buffer is tried again.
+    fn may_rest(&self) -> bool {
+        self.watch.can_end() && !self.watch.is_at_end()
     }
 }
 

@@ -10,7 +10,7 @@ use crate::serving::part;
 use crossbeam_channel::{Receiver, Sender};
 use mm_base::Link;
 use record_store::Store;
-use replay_server::Crew;
+use replay_server::{Crew, Said};
 use std::alloc::Global;
 use std::marker::{PhantomData, Send, Sync};
 use std::sync::Wait;
@@ -36,7 +36,8 @@ fn passed_of<K: Site, A: Link + Send + Drop, B: Link + Send + Drop>(
 }
 
 /// Passes what a client and the site say, and says to both that nothing further will be given.
-fn pass_pair<K: Site, A: Link + Send + Drop, B: Link + Send + Drop>(
+fn pass_pair<K: Site, A: Link + Send + Drop, B: Link + Send + Drop, R: Threads>(
+    rt: &R,
     alloc: Global,
     site_port: u16,
     pair: Pair<A, B>,
@@ -48,7 +49,7 @@ fn pass_pair<K: Site, A: Link + Send + Drop, B: Link + Send + Drop>(
     let mut server = server;
     let mut records = Store::new(alloc);
     let end = proxy_conn(alloc, &mut client, &mut server, site_port, &mut records);
-    part(&mut client, &mut server);
+    part(rt, &mut client, &mut server);
     match end {
         Ok(end) => Ok(passed_of::<K, A, B>(client, server, records, end)),
         Err(error) => Err(error),
@@ -56,19 +57,19 @@ fn pass_pair<K: Site, A: Link + Send + Drop, B: Link + Send + Drop>(
 }
 
 /// The workers of a pool, the site's port, and the channels of their pairs: `jobs` brings them to the workers. A worker
-/// sends each whose exchanges are over into `done`, and it comes out of `back`.
+/// says in `done` that it has begun, and sends each pair there whose exchanges are over; both come out of `back`.
 #[derive(Drop)]
 pub(crate) struct RecordingWorkers<K: Site, A: Link + Send + Drop, B: Link + Send + Drop> {
     pub alloc: Global,
     pub site_port: u16,
     pub jobs: Receiver<Pair<A, B>>,
-    pub done: Sender<Result<Passed<K, A, B>, OutOfMemory>>,
-    pub back: Receiver<Result<Passed<K, A, B>, OutOfMemory>>,
+    pub done: Sender<Said<Result<Passed<K, A, B>, OutOfMemory>>>,
+    pub back: Receiver<Said<Result<Passed<K, A, B>, OutOfMemory>>>,
     pub crew: Crew,
 }
 
 /// Passes what pairs say, one after the other, until none is sent any more.
-fn work<K: Site, A: Link + Send + Drop, B: Link + Send + Drop, R: Wait>(
+fn work<K: Site, A: Link + Send + Drop, B: Link + Send + Drop, R: Threads + Wait>(
     rt: &R,
     workers: &RecordingWorkers<K, A, B>,
 )
@@ -78,8 +79,8 @@ fn work<K: Site, A: Link + Send + Drop, B: Link + Send + Drop, R: Wait>(
         let Ok(pair) = workers.jobs.recv(rt) else {
             return;
         };
-        let passed = pass_pair::<K, A, B>(workers.alloc, workers.site_port, pair);
-        let Ok(()) = workers.done.send(rt, passed) else {
+        let passed = pass_pair::<K, A, B, R>(rt, workers.alloc, workers.site_port, pair);
+        let Ok(()) = workers.done.send(rt, Said::Done(passed)) else {
             return;
         };
     }
@@ -97,7 +98,7 @@ pub(crate) fn work_all<
     let worker = |_index: usize|
         requires { (workers.now.site_port ≡ K.port) × IsSync R.row }
     {
-        workers.crew.begin();
+        workers.crew.begin(rt, &workers.done);
         work::<K, A, B, R>(rt, workers);
     };
     let _ = map_indices(rt, workers.alloc, workers.crew.most() as usize, &worker);

@@ -3,6 +3,7 @@ ghost use Rattle.std.specs.Prelude.{◌≤◌};
 
 mod commands;
 mod limits;
+mod parting;
 mod pool;
 mod silent;
 mod tcp;

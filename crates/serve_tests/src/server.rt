@@ -1,6 +1,7 @@
 // Sessions over links in memory.
 ghost use Rattle.std.specs.Prelude.{◌≤◌};
 
+mod crew;
 mod leaving;
 mod order;
 mod pool;
