@@ -1,11 +1,12 @@
 -- What opening the wire leaves for the relay.
-use Rattle.std.proofs.Common.{◌≡◌, ◌⊎◌, ◌↔◌, inl, inr, ℕ, ◌+◌, ◌<◌, ◌≤◌, List, Some}
+use Rattle.std.proofs.Common.{◌≡◌, ◌⊎◌, ◌↔◌, inl, inr, ℕ, ◌+◌, ◌<◌, ◌≤◌, List}
 use Rattle.std.proofs.Common.{length, refl, subst, ◌∙◌, arith}
 use Rattle.mm_base.specs.Counts.{Rose}
 use Rattle.mm_base.specs.declared.errors.EndError.{EndError}
 use Rattle.mm_base.specs.declared.errors.EndError.TheVariants as wires
 use Rattle.nest_spec.specs.Nests.{NestParts}
 use Rattle.live_relay.specs.Clocks.{ClockView}
+use Rattle.live_relay.specs.Opened.{opened_at, refused_at}
 use Rattle.live_relay.specs.Relays.{AreWithin, EndsBy, IfTold, IsRelayed, IsStopped}
 use Rattle.live_relay.specs.Stamped.{Turn}
 use Rattle.live_relay.specs.Wires.{WireTold, WireView}
@@ -71,7 +72,7 @@ end_exactly Turns limit h last turns within ends =
 
 pub has_relayed : (job : RelayJob) (nest : NestParts) (old_clock new_clock : ClockView) (old mid new : WireView)
     (r : RelayResult) → mid.told ≡ old.told → mid.asked ≡ old.asked
-    → mid.opened ≡ Some (job.listen, job.to) → new.opened ≡ mid.opened
+    → mid.opened ≡ opened_at job.listen job.to old.opened → new.opened ≡ mid.opened
     → IsRelayed nest job.turns old_clock new_clock mid new r
     → HasRelayed job nest (net old_clock old) (net new_clock new) r
 has_relayed job nest old_clock new_clock old mid new r same asked opened kept is = record {
@@ -84,9 +85,11 @@ has_relayed job nest old_clock new_clock old mid new r same asked opened kept is
 -- the wire couldn't be opened
 pub stops_opening : (job : RelayJob) (nest : NestParts) (clock : ClockView) (old new : WireView) (error : EndError)
     (cause : Cause) → new.told ≡ old.told → new.asked ≡ old.asked
+    → new.opened ≡ refused_at job.listen job.to old.opened
     → (error ≡ wires.Failed → Rose old.faults new.faults) → cause ≡ cause_of_wire error
     → HasStopped job nest (net clock old) (net clock new) cause
-stops_opening job nest clock old new error cause same asked rose is = record {
+stops_opening job nest clock old new error cause same asked refused rose is = record {
+  opened = inr refused;
   stopped = stopped_from nest job.turns clock clock old new new same asked (stops_first nest job.turns clock new);
   why = by error rose is;
 }
@@ -99,13 +102,16 @@ stops_opening job nest clock old new error cause same asked rose is = record {
 -- the relay stopped
 pub stops_relaying : (job : RelayJob) (nest : NestParts) (old_clock new_clock : ClockView) (old mid new : WireView)
     (error : RelayError) (cause : Cause) → mid.told ≡ old.told → mid.asked ≡ old.asked
+    → mid.opened ≡ opened_at job.listen job.to old.opened → new.opened ≡ mid.opened
     → IsStopped nest job.turns old_clock new_clock mid new
     → old.faults ≤ mid.faults → (error ≡ relays.WireFault → Rose mid.faults new.faults) → cause ≡ cause_of_relay error
     → HasStopped job nest (net old_clock old) (net new_clock new) cause
-stops_relaying job nest old_clock new_clock old mid new error cause same asked stopped more rose is = record {
-  stopped = stopped_from nest job.turns old_clock new_clock old mid new same asked stopped;
-  why = by error rose is;
-}
+stops_relaying job nest old_clock new_clock old mid new error cause same asked opened kept stopped more rose is =
+    record {
+      opened = inl (kept ∙ opened);
+      stopped = stopped_from nest job.turns old_clock new_clock old mid new same asked stopped;
+      why = by error rose is;
+    }
   where
     later : Rose mid.faults new.faults → Rose old.faults new.faults
     later rise below = let lt = rise below in let low = more in omega arith

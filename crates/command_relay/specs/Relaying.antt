@@ -1,11 +1,12 @@
 -- What a relay reads and refuses, in order, and what it does with its clock and its wire.
-use Rattle.std.specs.Prelude.{◌≡◌, ◌⊎◌, ◌↔◌, ◌<◌, ℕ, List, [], ◌∷◌, ◌++◌, Option, Some, map}
+use Rattle.std.specs.Prelude.{◌≡◌, ◌⊎◌, ◌↔◌, ◌<◌, ℕ, List, [], ◌∷◌, ◌++◌, Option, map}
 use Rattle.mm_base.specs.Counts.{Rose}
 use Rattle.trace_reader.specs.TraceIn.{trace_in}
 use Rattle.trace_reader.specs.Traces.{TraceView}
 use Rattle.nest_spec.specs.Nests.{NestParts, built}
 use Rattle.nest_spec.specs.Words.{NestPlan, nest_of}
 use Rattle.live_relay.specs.Clocks.{ClockView}
+use Rattle.live_relay.specs.Opened.{opened_at, refused_at}
 use Rattle.live_relay.specs.Relays.{IsRelayed, IsStopped}
 use Rattle.live_relay.specs.Wires.{CountsWireFaults, WireView}
 use Rattle.live_relay.specs.declared.outcome.RelayEnd.TheVariants.{Horizon}
@@ -65,15 +66,22 @@ pub record RelayNet : Type 0 where
 abbrev pub net : ClockView → WireView → RelayNet
 net clock wire = record { clock = clock; wire = wire }
 
--- The wire was opened at the job's ports, and the datagrams passed this nest. The end is the horizon's exactly where
+-- The wire was asked once to open, at the job's ports: it is open there, unless that was refused.
+abbrev pub OpensAt : RelayJob → WireView → WireView → Type 0
+OpensAt job old new =
+    (new.opened ≡ opened_at job.listen job.to old.opened) ⊎ (new.opened ≡ refused_at job.listen job.to old.opened)
+
+-- The wire was opened once, at the job's ports, and the datagrams passed this nest. The end is the horizon's exactly if
 -- the last moment that was read is above it.
 pub record HasRelayed (job : RelayJob) (nest : NestParts) (old new : RelayNet) (r : RelayResult) : Type 0 where
-  pub opened : new.wire.opened ≡ Some (job.listen, job.to)
+  pub opened : new.wire.opened ≡ opened_at job.listen job.to old.wire.opened
   pub relayed : IsRelayed nest job.turns old.clock new.clock old.wire new.wire r
   pub end : (r.end ≡ Horizon) ↔ (nest.horizon < new.clock.latest)
 
--- The wire couldn't be opened, or the relay stopped, by a fault of the wire that was counted, or for lack of memory.
+-- The wire couldn't be opened at the job's ports, or the relay stopped, by a fault of the wire that was counted, or for
+-- lack of memory. At no other ports was the wire asked to open.
 pub record HasStopped (job : RelayJob) (nest : NestParts) (old new : RelayNet) (cause : Cause) : Type 0 where
+  pub opened : OpensAt job old.wire new.wire
   pub stopped : IsStopped nest job.turns old.clock new.clock old.wire new.wire
   pub why : ((cause ≡ NetFault) × Rose old.wire.faults new.wire.faults) ⊎ (cause ≡ OutOfMemory)
 

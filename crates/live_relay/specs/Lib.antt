@@ -1,5 +1,6 @@
 pub mod Clocks
 pub mod MemClocks
+pub mod Opened
 pub mod Wires
 pub mod MemWires
 pub mod Stamped

@@ -5,12 +5,13 @@ use Rattle.mm_base.specs.Counts.{one_more}
 use Rattle.mm_base.specs.declared.errors.EndError.{EndError}
 use Rattle.mm_base.specs.declared.errors.EndError.TheVariants.{Failed}
 use Rattle.live_relay.specs.Wires.{Datagram, WireTold, WireView}
+use Rattle.live_relay.specs.declared.opened.Opened.{Opened}
 
--- the answers that are still to come, the ports of its opening, what was sent and received, the calls that are to
+-- the answers that are still to come, at which ports it was asked to open, what was sent and received, the calls that are to
 -- fail, and how many calls and faults there were
 pub record MemWireState : Type 0 where
   pub answers : List (Option Datagram)
-  pub opened : Option (ℕ × ℕ)
+  pub opened : Opened
   pub told : WireTold
   pub fails : List ℕ
   pub calls : ℕ

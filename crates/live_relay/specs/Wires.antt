@@ -2,6 +2,7 @@
 use Rattle.std.specs.Prelude.{ℕ, ◌+◌, ◌++◌, Bool, List, [], ◌∷◌, length, take, Option, Some, None, Result, Ok, Err}
 use Rattle.mm_base.specs.Counts.{CountsFaults}
 use Rattle.mm_base.specs.declared.errors.EndError.{EndError}
+use Rattle.live_relay.specs.declared.opened.Opened.{Opened}
 use Rattle.live_relay.specs.declared.received.Received.{Received}
 use Rattle.live_relay.specs.declared.side.Side.{Side}
 use Rattle.live_relay.specs.declared.side.Side.TheVariants.{Client, Server}
@@ -21,8 +22,8 @@ pub record WireTold : Type 0 where
   pub received : List Received
 
 pub record WireView : Type 0 where
-  -- the ports at which it listens and of the server, once it was opened
-  pub opened : Option (ℕ × ℕ)
+  -- at which ports it was asked to open
+  pub opened : Opened
   -- what was sent and received, where the wire tells it
   pub told : Option WireTold
   -- how many receives were not refused
@@ -40,11 +41,6 @@ CountsWireFaults old new = CountsFaults (λ (w : WireView). w.faults) (λ (w : W
 abbrev pub datagram_in : List ℕ → Option (Side × ℕ) → Option Datagram
 datagram_in buf None = None
 datagram_in buf (Some got) = Some (got.0, take got.1 buf)
-
--- the ports of an opening; one that is refused changes nothing
-abbrev pub opened_after : ℕ → ℕ → Result Unit EndError → Option (ℕ × ℕ) → Option (ℕ × ℕ)
-opened_after listen to (Ok done) opened = Some (listen, to)
-opened_after listen to (Err error) opened = opened
 
 -- a receive into a buffer of a given length
 abbrev pub receiving : ℕ → Option Datagram → WireTold → WireTold

@@ -1,13 +1,14 @@
 // A wire in memory, which fails by a list.
-ghost use Rattle.std.specs.Prelude.{◌≡◌, ◌≤◌, ◌∷◌, [], length, None, Some, IfOk, IfSome, OnOk, OnErr, IsErrOf};
+ghost use Rattle.std.specs.Prelude.{◌≡◌, ◌≤◌, ◌∷◌, [], length, Some, IfOk, IfSome, OnOk, OnErr, IsErrOf};
 ghost use Rattle.std.specs.Option.{option_map};
 ghost use Rattle.mm_base.specs.Counts.{Rose};
+ghost use Rattle.live_relay.specs.Opened.{after_open, never};
 ghost use Rattle.live_relay.specs.Wires.{CountsWireFaults, after_receive, after_send, asked_after, datagram_in};
-ghost use Rattle.live_relay.specs.Wires.{opened_after, receiving, sending_all, sent_to};
+ghost use Rattle.live_relay.specs.Wires.{receiving, sending_all, sent_to};
 ghost use Rattle.live_relay.specs.MemWires.{IsWireCall, cut_at, empty_wire, mem_wire_view, next_answer, rest_answers};
 ghost use Rattle.live_relay.specs.inside.MemWires.{lent_answer};
 
-use crate::{Received, Side, Wire};
+use crate::{Opened, Received, Side, Wire};
 use mm_base::{EndError, is_failing};
 use std::alloc::Global;
 use std::collections::VecDeque;
@@ -20,7 +21,7 @@ use text_base::{Bytes, OutOfMemory};
 #[derive(Drop)]
 pub struct MemWire {
     answers: VecDeque<Option<(Side, Bytes)>>,
-    opened: Option<(u16, u16)>,
+    opened: Opened,
     client: Vec<Bytes>,
     server: Vec<Bytes>,
     received: Vec<Received>,
@@ -44,7 +45,7 @@ impl MemWire {
     pub fn new(alloc: Global, answers: Vec<Option<(Side, Bytes)>>, fails: Vec<u64>) -> Self
         ensures { result ≡ record {
           answers = answers.items;
-          opened = None;
+          opened = never;
           told = empty_wire;
           fails = fails.items;
           calls = 0;
@@ -53,7 +54,7 @@ impl MemWire {
     {
         MemWire {
             answers: VecDeque::from(answers),
-            opened: None,
+            opened: Opened::never(),
             client: Vec::new(alloc),
             server: Vec::new(alloc),
             received: Vec::new(alloc),
@@ -63,8 +64,8 @@ impl MemWire {
         }
     }
 
-    /// The ports with which it was last opened: at which it listens, and of the server. `None` where it wasn't opened.
-    pub fn opened(&self) -> Option<(u16, u16)>
+    /// At which ports it was asked to open.
+    pub fn opened(&self) -> Opened
         ensures { result ≡ self.now.opened }
     {
         self.opened
@@ -181,14 +182,17 @@ impl Wire for MemWire {
     fn open(&mut self, listen: u16, to: u16) -> Result<(), EndError>
         ensures call { IsWireCall self.old self.new result }
         ensures answers { self.new.answers ≡ self.old.answers }
-        ensures opened { self.new.opened ≡ opened_after listen to result self.old.opened }
+        ensures opened { self.new.opened ≡ after_open listen to result self.old.opened }
         ensures told { Some self.new.told ≡ Some self.old.told }
         ensures asked { length self.new.told.received ≡ length self.old.told.received }
         ensures counts { CountsWireFaults (mem_wire_view self.old) (mem_wire_view self.new) }
         ensures failed_cause { IsErrOf result EndError.Failed → Rose self.old.faults self.new.faults }
     {
-        self.call()?;
-        self.opened = Some((listen, to));
+        if let Err(error) = self.call() {
+            self.opened.refuse(listen, to);
+            return Err(error);
+        }
+        self.opened.open(listen, to);
         Ok(())
     }
 

@@ -1,10 +1,11 @@
 // A wire over UDP on this machine alone. It tells no content.
 ghost use Rattle.std.specs.Prelude.{◌≡◌, ◌≤◌, ◌<◌, ◌-◌, ◌^◌, None, false, length, IfOk, IfSome};
 ghost use Rattle.mm_base.specs.Counts.{Rose};
+ghost use Rattle.live_relay.specs.Opened.{never};
 
 use crate::ends::{Ends, Given, local};
 use crate::unsent::Unsent;
-use crate::{Pulse, Side, Wire};
+use crate::{Opened, Pulse, Side, Wire};
 use libc::net::{POLLOUT, SO_RCVBUF, SOL_SOCKET, getsockopt, poll, setsockopt};
 use libc::types::pollfd;
 use mm_base::EndError;
@@ -47,7 +48,7 @@ const WAIT: i32 = 10;
 pub struct UdpWire<'a, R: Net + Eprint + Drop> {
     rt: R,
     pulse: &'a Pulse,
-    opened: Option<(u16, u16)>,
+    opened: Opened,
     ends: Option<Ends>,
     unsent: Unsent,
     asked: u64,
@@ -77,12 +78,12 @@ impl<'a, R: Net + Eprint + Drop> UdpWire<'a, R> {
     pub fn new(alloc: Global, rt: R, pulse: &'a Pulse) -> Self
         ensures counts { (result.asked ≡ 0) × (result.faults ≡ 0) }
         ensures lost { result.lost ≡ 0 }
-        ensures opened { result.opened ≡ None }
+        ensures opened { result.opened ≡ never }
     {
         UdpWire {
             rt,
             pulse,
-            opened: None,
+            opened: Opened::never(),
             ends: None,
             unsent: Unsent::new(alloc),
             asked: 0,
@@ -251,11 +252,14 @@ impl<'a, R: Net + Eprint + Drop> Wire for UdpWire<'a, R> {
                     server: local(to),
                     client: None,
                 });
-                self.opened = Some((listen, to));
+                self.opened.open(listen, to);
                 self.say_opened(to);
                 Ok(())
             }
-            Err(error) => Err(self.refuse(error)),
+            Err(error) => {
+                self.opened.refuse(listen, to);
+                Err(self.refuse(error))
+            }
         }
     }
 

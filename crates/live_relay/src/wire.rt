@@ -2,8 +2,8 @@
 ghost use Rattle.std.specs.Prelude.{◌≡◌, ◌≤◌, length, IfOk, IfSome, IsErrOf};
 ghost use Rattle.std.specs.Option.{option_map};
 ghost use Rattle.mm_base.specs.Counts.{Rose};
+ghost use Rattle.live_relay.specs.Opened.{after_open};
 ghost use Rattle.live_relay.specs.Wires.{WireView, CountsWireFaults, after_receive, after_send, asked_after};
-ghost use Rattle.live_relay.specs.Wires.{opened_after};
 
 use crate::Side;
 use mm_base::EndError;
@@ -15,11 +15,12 @@ pub trait Wire {
     /// What the wire tells, and what it counts.
     ghost view: { Self → WireView };
 
-    /// Listens for the client at one port, and takes the other for the server's.
+    /// Listens for the client at one port, and takes the other for the server's. That it was asked to is told, and
+    /// whether it was refused.
     ///
     /// `Failed` is counted as a fault. After a refusal it is open as before.
     fn open(&mut self, listen: u16, to: u16) -> Result<(), EndError>
-        ensures opened { (view self.new).opened ≡ opened_after listen to result (view self.old).opened }
+        ensures opened { (view self.new).opened ≡ after_open listen to result (view self.old).opened }
         ensures told { (view self.new).told ≡ (view self.old).told }
         ensures asked { (view self.new).asked ≡ (view self.old).asked }
         ensures counts { CountsWireFaults (view self.old) (view self.new) }

@@ -1,5 +1,5 @@
 // The files that a run writes: its logs in order, and then its fates.
-ghost use Rattle.std.specs.Prelude.{◌≡◌, ◌<◌, ◌-◌, ℕ, length, take, map, IfErr, OnOk, OnErr};
+ghost use Rattle.std.specs.Prelude.{◌≡◌, ◌<◌, ◌-◌, ◌++◌, ℕ, length, take, map, IfErr, OnOk, OnErr};
 ghost use Rattle.std.specs.List.{flat_map};
 ghost use Rattle.mm_base.specs.Disk.{OnlyWrites, HasWriteCause};
 ghost use Rattle.mm_base.specs.Files.{holding, lengthened};
@@ -19,29 +19,32 @@ use shell_log::HEADER;
 use std::alloc::Global;
 use text_base::{LineBuffer, PrintLine};
 
-// Appends a line to the file `name` for each entry that `pieces` still makes, piece by piece. Where it stops, a front
-// of these lines was appended, but not all.
+// Appends a line to the file `name` for each entry of the piece in hand, and of those that `pieces` still makes, piece
+// by piece. Where it stops, a front of these lines was appended, but not all.
 fn append_pieces<D: Disk>(
     disk: &mut D,
     name: &str,
     lines: &mut LineBuffer,
     pieces: &mut LogPieces,
 ) -> Result<(), DiskError>
-    ensures ok { OnOk result
-        ((D.view disk.new).files ≡ lengthened name.now (lines_text pieces.old.rest) (D.view disk.old).files) }
-    ensures err { let text = lines_text pieces.old.rest in OnErr result ((n : ℕ) × (n < length text)
-        × ((D.view disk.new).files ≡ lengthened name.now (take n text) (D.view disk.old).files)) }
+    ensures ok { let text = lines_text (pieces.old.piece ++ pieces.old.rest) in OnOk result
+        ((D.view disk.new).files ≡ lengthened name.now text (D.view disk.old).files) }
+    ensures err { let text = lines_text (pieces.old.piece ++ pieces.old.rest) in OnErr result ((n : ℕ)
+        × (n < length text) × ((D.view disk.new).files ≡ lengthened name.now (take n text) (D.view disk.old).files)) }
     ensures only_writes { OnlyWrites (D.view disk.old) (D.view disk.new) }
     ensures cause { HasWriteCause (D.view disk.old) (D.view disk.new) result }
 {
-    'pieces: while pieces.next()? {
+    'pieces: loop {
         append_lines(disk, name, lines, pieces.piece())?;
+        if !pieces.next()? {
+            return Ok(());
+        }
     }
-    Ok(())
 }
 
 // Makes the file `name` hold a log's text: its header, and then a line for each entry, written piece by piece as the
-// log is made. Where it stops, the file is as before, or holds a front of the text, but not all.
+// log is made. Where it stops, the file is as before, or holds a front of the text, but not all. The first piece is made
+// before the file is, so that a want of memory for it leaves the file as before; the later ones go on in its room.
 fn save_pieces<D: Disk>(
     disk: &mut D,
     name: &str,
@@ -54,8 +57,9 @@ fn save_pieces<D: Disk>(
     ensures only_writes { OnlyWrites (D.view disk.old) (D.view disk.new) }
     ensures cause { HasWriteCause (D.view disk.old) (D.view disk.new) result }
 {
-    save(disk, name, HEADER)?;
     let mut pieces = log.pieces();
+    let _ = pieces.next()?;
+    save(disk, name, HEADER)?;
     append_pieces(disk, name, lines, &mut pieces)
 }
 

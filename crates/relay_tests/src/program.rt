@@ -1,7 +1,7 @@
 // `mm-relay` over files, a clock and a wire in memory.
 use crate::clocks::{Times, clock_of};
 use command_relay::relay_main;
-use live_relay::{MemClock, MemWire, Side};
+use live_relay::{MemClock, MemWire, Opened, Side};
 use std::alloc::Global;
 use std::process::Abort;
 use test_outside::{ABSENT, TestOutside, words_of};
@@ -40,10 +40,12 @@ fn status_of(
     )
 }
 
-// How a wire was used: the ports that it opened last, and how many datagrams were received, and sent to the server.
+// How a wire was used: the ports at which it was asked to open, once; whether it is open there; and how many datagrams
+// were received, and sent to the server.
 #[derive(Clone, Copy)]
 struct Used {
-    opened: Option<(u16, u16)>,
+    ports: (u16, u16),
+    is_open: bool,
     received: usize,
     sent: usize,
 }
@@ -63,11 +65,21 @@ struct Case {
     used: Option<Used>,
 }
 
+// What a wire that was used so tells of its opening.
+fn opened_of(used: Used) -> Opened {
+    let ports = Some(used.ports);
+    Opened {
+        times: 1,
+        last: ports,
+        current: if used.is_open { ports } else { None },
+    }
+}
+
 // Whether a wire was used as it is stated, if that is looked at.
 fn is_used(wire: &MemWire, used: Option<Used>) -> bool {
     match used {
         Some(used) => {
-            wire.opened() == used.opened
+            wire.opened() == opened_of(used)
                 && wire.received().len() == used.received
                 && wire.sent(Side::Server).len() == used.sent
         }
@@ -106,7 +118,8 @@ const DELAYED: Case = Case {
     printed: "packets 1 refused 0 end horizon\n",
     files: &[("f", "1 up departed 6\n")],
     used: Some(Used {
-        opened: Some((7, 9)),
+        ports: (7, 9),
+        is_open: true,
         received: 3,
         sent: 1,
     }),
@@ -120,7 +133,8 @@ const LINKED: Case = Case {
     times: &Times::OneTurn,
     files: &[("f", "1 up departed 8\n"), ("u", BUSY)],
     used: Some(Used {
-        opened: Some((65_535, 1)),
+        ports: (65_535, 1),
+        is_open: true,
         received: 1,
         sent: 1,
     }),
@@ -139,7 +153,8 @@ static DONE: [Case; 4] = [
             ("u", "# base timestamp: 0\n4 # 1504\n8 # 1504\n"),
         ],
         used: Some(Used {
-            opened: Some((65_535, 1)),
+            ports: (65_535, 1),
+            is_open: true,
             received: 1,
             sent: 0,
         }),
@@ -152,7 +167,8 @@ static DONE: [Case; 4] = [
         printed: "packets 2 refused 1 end turns\n",
         files: &[("f", "1 up departed 5\n2 up departed 5\n")],
         used: Some(Used {
-            opened: Some((7, 9)),
+            ports: (7, 9),
+            is_open: true,
             received: 4,
             sent: 2,
         }),
@@ -173,7 +189,8 @@ static THOUSANDS: Case = Case {
     printed: "packets 4000 refused 0 end turns\n",
     files: &[],
     used: Some(Used {
-        opened: Some((7, 9)),
+        ports: (7, 9),
+        is_open: true,
         received: 4_000,
         sent: 0,
     }),
@@ -203,7 +220,8 @@ const NET_FAULT: Case = Case {
 
 // How a wire was used that was opened, and failed at its first receive.
 const FAILED: Used = Used {
-    opened: Some((7, 9)),
+    ports: (7, 9),
+    is_open: true,
     received: 0,
     sent: 0,
 };
@@ -231,7 +249,7 @@ static FAULTS: [Case; 8] = [
     Case {
         fails: (0, 0, 1),
         used: Some(Used {
-            opened: None,
+            is_open: false,
             ..FAILED
         }),
         ..NET_FAULT

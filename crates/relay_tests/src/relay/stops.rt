@@ -2,7 +2,7 @@
 use super::{Answer, relay_by, sizes_are, wire_of};
 use crate::clocks::{Times, clock_of};
 use crate::nests::nest_of;
-use live_relay::{MemWire, RelayError, Side, Wire};
+use live_relay::{MemWire, Opened, RelayError, Side, Wire};
 use mm_base::EndError;
 use std::alloc::Global;
 use std::process::Abort;
@@ -76,12 +76,19 @@ fn open(wire: &mut MemWire) -> Result<(), EndError> {
     wire.open(7, 9)
 }
 
+// What a wire tells that was asked to open twice, the first time in vain.
+const TWICE: Opened = Opened {
+    times: 2,
+    last: Some((7, 9)),
+    current: Some((7, 9)),
+};
+
 // Whether a wire has no ports after a call of `open` that fails, and has them after the next one.
 fn opens_again(wire: &mut MemWire) -> bool {
     open(wire) == Err(EndError::Failed)
-        && wire.opened().is_none()
+        && wire.opened().current.is_none()
         && open(wire).is_ok()
-        && wire.opened() == Some((7, 9))
+        && wire.opened() == TWICE
 }
 
 #[test]

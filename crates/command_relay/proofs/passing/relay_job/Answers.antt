@@ -8,7 +8,7 @@ returns-in-Err-clause-stopped g c =
     let e = c.in-Err.ensures in
     stops_opening (relay_values c.args.job.now) c.args.nest.now (g.C.Clock.view c.args.clock.now)
     (g.W.Wire.view c.args.wire.now) (g.W.Wire.view c.open.new.self) c.in-Err.error c.cause_of_wire.result e.told e.asked
-    (λ is. e.failed_cause (ap Err is)) c.cause_of_wire.ensures
+    e.opened (λ is. e.failed_cause (ap Err is)) c.cause_of_wire.ensures
 
 pub returns-in-Ok-clause-relayed : goal.returns-in-Ok-clause-relayed
 returns-in-Ok-clause-relayed g c =
@@ -24,5 +24,5 @@ returns-in-Err-relay-clause-stopped g c =
     stops_relaying (relay_values c.args.job.now) c.args.nest.now (g.C.Clock.view c.args.clock.now)
     (g.C.Clock.view c.relay.new.clock) (g.W.Wire.view c.args.wire.now) (g.W.Wire.view c.open.new.self)
     (g.W.Wire.view c.relay.new.wire) c.in-Err-relay.error c.cause_of_relay.result e.told e.asked
-    c.in-Err-relay.ensures.stopped e.counts.grows (λ is. c.in-Err-relay.ensures.failed_cause (ap Err is))
+    e.opened c.in-Err-relay.ensures.opened c.in-Err-relay.ensures.stopped e.counts.grows (λ is. c.in-Err-relay.ensures.failed_cause (ap Err is))
     c.cause_of_relay.ensures

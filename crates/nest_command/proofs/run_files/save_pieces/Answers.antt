@@ -1,4 +1,4 @@
-use Rattle.std.proofs.Common.{◌∷◌, ◌++◌, [], ap, ◌∙◌}
+use Rattle.std.proofs.Common.{◌∷◌, ◌++◌, [], ap, sym, ◌∙◌}
 use Rattle.std.proofs.lemmas.Result.{on_ok_weaker, on_err_weaker}
 use Rattle.mm_base.specs.Files.{holding}
 use Rattle.mm_base.proofs.FilesLemmas.{holding-lengthened}
@@ -18,13 +18,13 @@ returns-clause-ok g c =
     on_ok_weaker c.append_pieces.result
     (λ added. holding-lengthened _ _ _ _ (header ++ 10 ∷ []) _ c.in_ok-save.ensures.ok added
     ∙ ap (λ es. holding c.args.name.now (log_text es) (g.D.Disk.view c.args.disk.now).files)
-    c.pieces-pieces.ensures.rest)
+    (sym c.next.ensures.same ∙ c.pieces-pieces.ensures.rest))
     c.append_pieces.ensures.ok
 
 pub returns-clause-err : goal.returns-clause-err
 returns-clause-err g c =
     on_err_weaker c.append_pieces.result
     (λ part. text_cut (g.D.Disk.view c.args.disk.now).files (g.D.Disk.view c.save.new.disk).files
-    (g.D.Disk.view c.append_pieces.new.disk).files c.args.name.now _ c.args.log part.0 c.pieces-pieces.ensures.rest
-    part.1 c.in_ok-save.ensures.ok part.2)
+    (g.D.Disk.view c.append_pieces.new.disk).files c.args.name.now _ c.args.log part.0
+    (sym c.next.ensures.same ∙ c.pieces-pieces.ensures.rest) part.1 c.in_ok-save.ensures.ok part.2)
     c.append_pieces.ensures.err
