@@ -3,7 +3,7 @@ ghost use Rattle.std.specs.Prelude.{◌≡◌, ◌<◌, ◌++◌, [], IsTrue, If
 ghost use Rattle.record_store.specs.declared.header.StoreForm.TheVariants as forms;
 ghost use Rattle.record_store.specs.StoreText.{records_text, store_text};
 
-use crate::printing::write_record;
+use crate::printing::{most_of_record, most_of_text, write_record};
 use crate::record::{Record, Store};
 use std::alloc::Global;
 use std::marker::Model;
@@ -20,6 +20,15 @@ pub struct StorePieces<'a> {
     /// Whether the text's first line was given.
     begun: bool,
     piece: Bytes,
+}
+
+// Returns how many bytes the longest piece of these records has at most: a record may be added to one that is nearly full.
+fn most_of_piece(records: &[Record]) -> usize {
+    let mut longest = 0;
+    for record in records {
+        longest = most_of_record(record).max(longest);
+    }
+    FULL.saturating_add(longest).min(most_of_text(records))
 }
 
 // Writes records until the piece is full, and returns those that are left.
@@ -60,6 +69,14 @@ impl<'a> StorePieces<'a> {
             begun: false,
             piece: Bytes::new(alloc),
         }
+    }
+
+    /// Takes the memory that the longest piece still to come needs, so that `next` takes none. In either case the piece
+    /// in hand and the text that is still to come stay as they were.
+    pub fn reserve(&mut self) -> Result<(), OutOfMemory>
+        ensures { self.new ≡ self.old }
+    {
+        self.piece.reserve(most_of_piece(self.records))
     }
 
     /// Goes on to the next piece, and returns whether there is one. A piece isn't empty.

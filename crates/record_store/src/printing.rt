@@ -9,13 +9,19 @@ use crate::record::{Record, Store};
 use std::alloc::Global;
 use text_base::{Bytes, OutOfMemory, write_decimal};
 
+// How many bytes the text's first line has.
+const FIRST_BYTES: usize = 10;
+
+// How many bytes a record has at most beside its request and its response: its header line and the last line feed.
+const HEADER_BYTES: usize = 37;
+
 /// Returns the text of a store in form 2: `MMSTORE 2`, then for each record its header line
 /// `record http PORT REQLEN RESLEN`, the request's bytes, the response's bytes and a line feed. Returns `OutOfMemory`
 /// where an allocation fails.
 pub fn print_store(alloc: Global, store: &Store) -> Result<Bytes, OutOfMemory>
     ensures { IfOk result (λ text. text ≡ store_text forms.Two store.now) }
 {
-    let mut out = Bytes::with_capacity(alloc, length_of(store.records()))?;
+    let mut out = Bytes::with_capacity(alloc, most_of_text(store.records()))?;
     out.append(b"MMSTORE 2\n")?;
     for record in store.records() {
         write_record(&mut out, record)?;
@@ -60,14 +66,18 @@ fn write_lengths(out: &mut Bytes, request: usize, response: usize) -> Result<(),
     write_decimal(out, response as u64)
 }
 
-// Returns how many bytes the text has at most.
-fn length_of(records: &[Record]) -> usize {
-    let mut length = 10usize;
+/// Returns how many bytes the text of a record has at most.
+pub(crate) fn most_of_record(record: &Record) -> usize {
+    HEADER_BYTES
+        .saturating_add(record.request.bytes.len())
+        .saturating_add(record.response.bytes.len())
+}
+
+/// Returns how many bytes the text of a store of these records has at most.
+pub(crate) fn most_of_text(records: &[Record]) -> usize {
+    let mut most = FIRST_BYTES;
     for record in records {
-        length = length
-            .saturating_add(37)
-            .saturating_add(record.request.bytes.len())
-            .saturating_add(record.response.bytes.len());
+        most = most.saturating_add(most_of_record(record));
     }
-    length
+    most
 }

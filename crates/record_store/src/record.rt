@@ -54,9 +54,11 @@ impl Store {
         Ok(())
     }
 
-    /// Adds the records of another store at the end.
+    /// Adds the records of another store at the end. If an allocation fails it returns `OutOfMemory`, and the store is
+    /// as it was; the records of the other are dropped.
     pub fn append(&mut self, other: Store) -> Result<(), OutOfMemory>
-        ensures { OnOk result (self.new ≡ self.old ++ other) }
+        ensures ok { OnOk result (self.new ≡ self.old ++ other) }
+        ensures err { OnErr result (self.new ≡ self.old) }
     {
         let mut other = other;
         self.records.append(&mut other.records)?;
