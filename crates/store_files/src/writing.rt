@@ -14,7 +14,8 @@ use record_store::{Store, StorePieces};
 use std::alloc::Global;
 
 // Makes the file `name` hold a store's text in form 2. Where it stops, the file is as before, or holds a front of the
-// text, but not all.
+// text, but not all. The memory for all pieces is taken before the file is made, so that a want of it leaves the file as
+// before.
 fn save_store<D: Disk>(
     alloc: Global,
     disk: &mut D,
@@ -29,6 +30,7 @@ fn save_store<D: Disk>(
     ensures cause { HasWriteCause (D.view disk.old) (D.view disk.new) result }
 {
     let mut pieces = StorePieces::new(alloc, store);
+    pieces.reserve()?;
     disk.create(name)?;
     'pieces: while pieces.next()? {
         append_all(disk, name, pieces.piece())?;

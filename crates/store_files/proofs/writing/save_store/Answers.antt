@@ -13,7 +13,7 @@ returns-in_err-create-clause-err g c =
 
 pub pieces-init : goal.pieces-init
 pieces-init g c = record {
-  so_far = ([], ap (λ p. p.rest) c.new-pieces.ensures, c.in_ok-create.ensures.ok);
+  so_far = ([], ap (λ p. p.rest) (c.reserve.ensures ∙ c.new-pieces.ensures), c.in_ok-create.ensures.ok);
   only_writes = c.create.ensures.only_writes;
 }
 
