@@ -123,6 +123,33 @@ fn reads_a_text_in_pieces(rt: HostRuntime) {
     }
 }
 
+// Returns how many rows there are of a text that was refused, or `None` if it wasn't.
+fn rows_of_refused(alloc: Global, text: &[u8]) -> Result<Option<usize>, OutOfMemory> {
+    let mut reading = ScheduleText::new(alloc, text.len())?;
+    reading.push(text);
+    reading.end();
+    Ok(if reading.is_refused() {
+        Some(reading.rows().len())
+    } else {
+        None
+    })
+}
+
+// Texts that are refused at a line, and how many lines are before it.
+static REFUSED: [(&[u8], usize); 4] = [
+    (b"x\n5 up 1\n", 0),
+    (b"5 up 1\n4 up 1\n6 up 1\n", 1),
+    (b"5 up 1\n5 up 1505\n6 up 1\n", 1),
+    (b"5 up 1\n6 up 1\n6 up", 2),
+];
+
+#[test]
+fn a_line_that_is_refused_has_no_row(rt: HostRuntime) {
+    for &(text, rows) in &REFUSED {
+        assert!(rt; rows_of_refused(rt.alloc(), text).expect(&rt, "memory") == Some(rows));
+    }
+}
+
 // Returns the text of the load that is made of `number`, with `packets` packets.
 fn load_text(alloc: Global, number: u64, packets: u32) -> Result<Bytes, OutOfMemory>
     requires some { 1 ≤ packets }
