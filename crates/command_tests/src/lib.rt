@@ -5,6 +5,8 @@
 #![tactic(auto)]
 
 #[cfg(test)]
+mod at_a_time;
+#[cfg(test)]
 mod case;
 #[cfg(test)]
 mod exchange;
