@@ -5,8 +5,6 @@
 #![tactic(auto)]
 
 #[cfg(test)]
-mod at_a_time;
-#[cfg(test)]
 mod case;
 #[cfg(test)]
 mod exchange;
