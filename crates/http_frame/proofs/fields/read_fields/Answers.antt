@@ -1,4 +1,4 @@
-use Rattle.std.proofs.Common.{◌≡◌, ◌+◌, [], ◌∷◌, ◌++◌, get_or, take, ap, subst, refl, cond, sym, arith, rules}
+use Rattle.std.proofs.Common.{◌≡◌, ◌+◌, [], ◌∷◌, ◌++◌, get_or, take, ap, subst, cond, sym, arith}
 use Rattle.std.proofs.lemmas.List.{take_more}
 use Rattle.httparse.specs.declared.spans.HeaderSpan.{HeaderSpan}
 use Rattle.httparse.specs.Spans.{span_bytes}
@@ -10,14 +10,6 @@ use Rattle.http_frame.proofs.fields.read_fields.Goals as goal
 
 abbrev EMPTY : HeaderSpan
 EMPTY = record { name = record { start = 0; end = 0 }; value = record { start = 0; end = 0 } }
-
-pub loop-header-init : goal.loop-header-init
-loop-header-init c = rw c.clear.ensures record {
-  names = omega arith;
-  count = omega arith;
-  within = λ name. search rules;
-  values = λ name wanted. refl;
-}
 
 pub loop-header-preserved : goal.loop-header-preserved
 loop-header-preserved c =
