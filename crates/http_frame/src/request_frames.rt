@@ -31,7 +31,7 @@ use text_base::{Bytes, OutOfMemory};
 pub struct RequestFrames {
     alloc: Global,
     buffer: Buffer,
-    /// The fields of the head that was read last. It is kept for its memory.
+    /// The fields of the last head, kept so that the next one reuses the memory.
     fields: HeaderMap<Span>,
     pending: Option<Pending<RequestHead>>,
     failed: Option<FrameError>,
@@ -55,7 +55,7 @@ pub fn requests_are_found()
 {}
 
 /// Reads on with the first request. `pending` is what an earlier call kept, and what is returned first is for the next.
-/// The map is for the fields of its head. Returns `OutOfMemory` where an allocation fails.
+/// `fields` becomes the map of its head's fields. Returns `OutOfMemory` if an allocation fails.
 pub(crate) fn advance(
     alloc: Global,
     fields: &mut HeaderMap<Span>,
@@ -211,7 +211,7 @@ impl RequestFrames {
         self.buffer.advance(len);
     }
 
-    /// Finds the first request, which stays at the front. Returns `OutOfMemory` where an allocation fails.
+    /// Finds the first request, which stays at the front. Returns `OutOfMemory` if an allocation fails.
     fn find(&mut self) -> Result<Outcome<RequestHead>, OutOfMemory>
         ensures { FindSays request_form self.old result self.new }
     {

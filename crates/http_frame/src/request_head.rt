@@ -81,7 +81,8 @@ fn head_of(
     })
 }
 
-/// Returns what reading a whole head gives, by the spans of its parts. The map is for its fields.
+/// Returns what reading a whole head gives, by the spans of its parts. `fields` becomes the map of its
+/// fields. Returns `OutOfMemory` if an allocation fails.
 fn request_step(
     alloc: Global,
     fields: &mut HeaderMap<Span>,
@@ -116,8 +117,8 @@ fn request_step(
     }
 }
 
-/// Reads the head at the front of `bytes`. The map is for its fields, and is kept from head to head. Returns
-/// `OutOfMemory` where an allocation fails.
+/// Reads the head at the front of `bytes`. `fields` becomes the map of its fields; a caller keeps it from head to head
+/// for its memory. Returns `OutOfMemory` if an allocation fails.
 pub fn read_request(
     alloc: Global,
     fields: &mut HeaderMap<Span>,

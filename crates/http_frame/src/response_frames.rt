@@ -27,7 +27,7 @@ use text_base::{Bytes, OutOfMemory};
 pub struct ResponseFrames {
     alloc: Global,
     buffer: Buffer,
-    /// The fields of the head that was read last. It is kept for its memory.
+    /// The fields of the last head, kept so that the next one reuses the memory.
     fields: HeaderMap<Span>,
     ended: bool,
     /// Whether the pending head was read as that of a response to a HEAD request.
@@ -57,7 +57,7 @@ fn of_kind(
 }
 
 /// Reads on with the first response. `pending` is what an earlier call kept, and what is returned first is for the
-/// next. The map is for the fields of its head. Returns `OutOfMemory` where an allocation fails.
+/// next. `fields` becomes the map of its head's fields. Returns `OutOfMemory` if an allocation fails.
 pub(crate) fn advance(
     fields: &mut HeaderMap<Span>,
     to_head: bool,
@@ -196,7 +196,7 @@ impl ResponseFrames {
         self.buffer.advance(len);
     }
 
-    /// Finds the first response, which stays at the front. Returns `OutOfMemory` where an allocation fails.
+    /// Finds the first response, which stays at the front. Returns `OutOfMemory` if an allocation fails.
     fn find(&mut self, head_request: bool) -> Result<Outcome<ResponseHead>, OutOfMemory>
         ensures { FindSays (response_form head_request) self.old result self.new }
     {

@@ -38,7 +38,8 @@ fn head_of(front: &[u8], framing: Framing, status: u16, fields: &HeaderMap<Span>
     ResponseHead { status, closes }
 }
 
-/// Returns what reading a whole head gives, by the spans of its parts. The map is for its fields.
+/// Returns what reading a whole head gives, by the spans of its parts. `fields` becomes the map of its
+/// fields. Returns `OutOfMemory` if an allocation fails.
 fn response_step(
     fields: &mut HeaderMap<Span>,
     to_head: bool,
@@ -62,8 +63,9 @@ fn response_step(
     }
 }
 
-/// Reads the head at the front of `bytes`, of a response to a HEAD request (`to_head`) or to another. The map is for
-/// its fields, and is kept from head to head. Returns `OutOfMemory` where an allocation fails.
+/// Reads the head at the front of `bytes`, of a response to a HEAD request (`to_head`) or to another. `fields` becomes
+/// the map of its fields; a caller keeps it from head to head for its memory. Returns `OutOfMemory` if an allocation
+/// fails.
 pub fn read_response(
     fields: &mut HeaderMap<Span>,
     to_head: bool,

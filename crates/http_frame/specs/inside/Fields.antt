@@ -15,11 +15,11 @@ is_wanted name =
     bytes_eq name (codes "content-length")
     || bytes_eq name (codes "transfer-encoding")
 
--- The values under a name. The spans are those of a head that begins at the front.
+-- The values of the name. The spans point into `front`.
 abbrev pub values_in : List ℕ → Entries Span → List ℕ → List (List ℕ)
 values_in front fields name = map (span_bytes front) (get_all fields name)
 
--- All spans of the map are within the bytes.
+-- All spans of the map are within `front`.
 abbrev pub AreWithin : List ℕ → Entries Span → Type 0
 AreWithin front fields = (name : List ℕ) → All (IsWithin (length front)) (get_all fields name)
 
