@@ -22,7 +22,8 @@ pub struct StorePieces<'a> {
     piece: Bytes,
 }
 
-// Returns how many bytes the longest piece of these records has at most: a record may be added to one that is nearly full.
+// Returns how many bytes the longest piece of these records has at most: a record may be added to one that is nearly
+// full.
 fn most_of_piece(records: &[Record]) -> usize {
     let mut longest = 0;
     for record in records {
