@@ -7,8 +7,8 @@ use Rattle.mm_base.specs.declared.errors.EndError.TheVariants.{Failed}
 use Rattle.live_relay.specs.Wires.{Datagram, WireTold, WireView}
 use Rattle.live_relay.specs.declared.opened.Opened.{Opened}
 
--- the answers that are still to come, at which ports it was asked to open, what was sent and received, the calls that are to
--- fail, and how many calls and faults there were
+-- the answers that are still to come, at which ports it was asked to open, what was sent and received, the calls that
+-- are to fail, and how many calls and faults there were
 pub record MemWireState : Type 0 where
   pub answers : List (Option Datagram)
   pub opened : Opened

@@ -43,8 +43,8 @@ fn append_pieces<D: Disk>(
 }
 
 // Makes the file `name` hold a log's text: its header, and then a line for each entry, written piece by piece as the
-// log is made. Where it stops, the file is as before, or holds a front of the text, but not all. The first piece is made
-// before the file is, so that a want of memory for it leaves the file as before; the later ones go on in its room.
+// log is made. Where it stops, the file is as before, or holds a front of the text, but not all. The first piece is
+// made before the file is, so that a want of memory for it leaves the file as before; later ones go on in its room.
 fn save_pieces<D: Disk>(
     disk: &mut D,
     name: &str,

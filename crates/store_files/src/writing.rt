@@ -14,8 +14,8 @@ use record_store::{Store, StorePieces};
 use std::alloc::Global;
 
 // Makes the file `name` hold a store's text in form 2. Where it stops, the file is as before, or holds a front of the
-// text, but not all. The memory for all pieces is taken before the file is made, so that a want of it leaves the file as
-// before.
+// text, but not all. The memory for all pieces is taken before the file is made, so that a want of it leaves the file
+// as before.
 fn save_store<D: Disk>(
     alloc: Global,
     disk: &mut D,

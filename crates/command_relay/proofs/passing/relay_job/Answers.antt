@@ -24,5 +24,6 @@ returns-in-Err-relay-clause-stopped g c =
     stops_relaying (relay_values c.args.job.now) c.args.nest.now (g.C.Clock.view c.args.clock.now)
     (g.C.Clock.view c.relay.new.clock) (g.W.Wire.view c.args.wire.now) (g.W.Wire.view c.open.new.self)
     (g.W.Wire.view c.relay.new.wire) c.in-Err-relay.error c.cause_of_relay.result e.told e.asked
-    e.opened c.in-Err-relay.ensures.opened c.in-Err-relay.ensures.stopped e.counts.grows (λ is. c.in-Err-relay.ensures.failed_cause (ap Err is))
+    e.opened c.in-Err-relay.ensures.opened c.in-Err-relay.ensures.stopped e.counts.grows
+    (λ is. c.in-Err-relay.ensures.failed_cause (ap Err is))
     c.cause_of_relay.ensures
