@@ -9,7 +9,7 @@ use Rattle.packet_record.specs.declared.packet.Direction.{Direction}
 use Rattle.packet_record.specs.declared.item.FlowEnd.TheVariants.{Open, Ended}
 use Rattle.packet_record.specs.Rows.{entering, goes}
 use Rattle.nest_spec.specs.Nests.{NestParts, directions_of}
-use Rattle.nest_line.specs.Lines.{IsFront, IsSettled, up_to}
+use Rattle.live_relay.specs.Lines.{IsFront, IsSettled, up_to}
 use Rattle.live_relay.specs.declared.side.Side.{Side}
 use Rattle.live_relay.specs.declared.way.Way.{Way}
 use Rattle.live_relay.specs.Due.{bytes_in}
