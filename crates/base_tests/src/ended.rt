@@ -1,6 +1,5 @@
 // Tests of a port that its user asks to end, and of its connections.
-use end_watch::EndWatch;
-use ended_port::{EndedLink, EndedPort, Silence};
+use ended_port::{EndWatch, EndedLink, EndedPort, Silence, is_shortage};
 use mm_base::{EndError, Link, Port, TcpLimits};
 use std::fs::File;
 use std::io::{self, PipeWriter, Read, Sink, Write, pipe, sink};
@@ -240,4 +239,15 @@ fn a_descriptor_that_can_not_be_read_has_no_end(rt: HostRuntime) {
     let folder = File::open(&rt, "/proc").expect(&rt, "a folder");
     let watch = EndWatch::new(Some(folder.as_raw_fd()));
     assert!(rt; watch.can_end() && !watch.is_at_end() && !watch.can_end());
+}
+
+// Whether the system's error of this number is a shortage.
+fn is_short(number: i32) -> bool {
+    is_shortage(&io::Error::from_raw_os_error(number))
+}
+
+// EMFILE, ENFILE and ENOBUFS are shortages, and EBADF isn't.
+#[test]
+fn a_lack_of_descriptors_or_buffers_is_a_shortage(rt: HostRuntime) {
+    assert!(rt; is_short(24) && is_short(23) && is_short(105) && !is_short(9));
 }

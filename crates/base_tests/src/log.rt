@@ -1,5 +1,5 @@
 // Tests of logs that are read and printed.
-use shell_log::{Entry, Log, LogError, LogText, print_log, read_log};
+use shell_log::{Entry, Log, LogError, LogParser, print_log, read_log};
 use std::alloc::Global;
 use std::process::Abort;
 use text_base::OutOfMemory;
@@ -45,7 +45,7 @@ fn a_log_is_printed_and_read(rt: HostRuntime) {
 }
 
 // Returns how many entries the reader returns of a piece.
-fn count_entries(reader: &mut LogText, piece: &[u8]) -> u64 {
+fn count_entries(reader: &mut LogParser, piece: &[u8]) -> u64 {
     let mut count = 0u64;
     let mut rest = piece;
     'entries: while let Some((_, after)) = reader.next(rest) {
@@ -57,7 +57,7 @@ fn count_entries(reader: &mut LogText, piece: &[u8]) -> u64 {
 
 // Reads a text in pieces of `size` bytes. Returns how many entries the reader returned, and its refusal.
 fn refusal_in_pieces(alloc: Global, text: &[u8], size: usize) -> (u64, Option<LogError>) {
-    let mut reader = LogText::new(alloc);
+    let mut reader = LogParser::new(alloc);
     let mut count = 0u64;
     for piece in text.chunks(size.max(1)) {
         count = count.saturating_add(count_entries(&mut reader, piece));

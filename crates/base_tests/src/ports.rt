@@ -1,6 +1,5 @@
 // The ports of TCP over which the tests of connections run.
-use end_watch::EndWatch;
-use ended_port::EndedPort;
+use ended_port::{EndWatch, EndedPort};
 use mm_base::{TcpLimits, TcpPort};
 use std::io::{self, PipeReader, PipeWriter, Sink, pipe, sink};
 use std::os::fd::AsRawFd;

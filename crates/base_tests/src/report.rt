@@ -1,5 +1,5 @@
 // Tests of reports of whole logs, and of their texts in pieces.
-use log_report::{EMPTY, ReportError, ReportText, print_report, report};
+use log_report::{EMPTY, ReportBuilder, ReportError, print_report, report};
 use shell_log::{Log, LogError, read_log};
 use std::alloc::Global;
 use text_base::{Bytes, OutOfMemory, PieceReader};
@@ -40,7 +40,7 @@ used 0\ndelay none\n",
 ];
 
 // Returns what is printed of the text that was read.
-fn finished(alloc: Global, reader: ReportText) -> Result<Bytes, LogError> {
+fn finished(alloc: Global, reader: ReportBuilder) -> Result<Bytes, LogError> {
     Ok(match reader.finish()? {
         Some(report) => print_report(alloc, &report)?,
         None => Bytes::from_slice(alloc, EMPTY)?,
@@ -49,7 +49,7 @@ fn finished(alloc: Global, reader: ReportText) -> Result<Bytes, LogError> {
 
 // Returns what is printed of a text that is read in pieces of `size` bytes.
 fn printed(alloc: Global, text: &[u8], size: usize) -> Result<Bytes, LogError> {
-    let mut reader = ReportText::new(alloc)?;
+    let mut reader = ReportBuilder::new(alloc)?;
     for piece in text.chunks(size.max(1)) {
         reader.push(piece);
     }

@@ -2,7 +2,7 @@
 ghost use Rattle.std.specs.Prelude.{◌≤◌};
 
 use packet_record::{
-    Draws, ScheduleError, ScheduleReader, ScheduleText, make_load, print_schedule, read_schedule,
+    Draws, ScheduleError, ScheduleParser, ScheduleReader, make_load, print_schedule, read_schedule,
 };
 use std::alloc::Global;
 use text_base::limits::MOST_LINES;
@@ -49,7 +49,7 @@ fn prints_what_it_read(rt: HostRuntime) {
 // `said`.
 fn ends_as(
     alloc: Global,
-    reading: ScheduleText,
+    reading: ScheduleParser,
     said: Result<&[u8], (u32, u64)>,
 ) -> Result<bool, OutOfMemory> {
     match reading.finish() {
@@ -68,7 +68,7 @@ fn is_read_in_pieces(
     size: usize,
     said: Result<&[u8], (u32, u64)>,
 ) -> Result<bool, OutOfMemory> {
-    let mut reading = ScheduleText::new(alloc, text.len())?;
+    let mut reading = ScheduleParser::new(alloc, text.len())?;
     for piece in text.chunks(size.max(1)) {
         reading.push(piece);
     }
@@ -125,7 +125,7 @@ fn reads_a_text_in_pieces(rt: HostRuntime) {
 
 // Returns how many rows there are of a text that was refused, or `None` if it wasn't.
 fn rows_of_refused(alloc: Global, text: &[u8]) -> Result<Option<usize>, OutOfMemory> {
-    let mut reading = ScheduleText::new(alloc, text.len())?;
+    let mut reading = ScheduleParser::new(alloc, text.len())?;
     reading.push(text);
     reading.end();
     Ok(if reading.is_refused() {

@@ -1,5 +1,5 @@
 // Tests of what is seen of a descriptor whose end is looked for.
-use end_watch::EndWatch;
+use ended_port::EndWatch;
 use std::io::{self, Write, pipe};
 use std::net::{Ipv4Addr, Net, Shutdown, SocketAddr, TcpStream};
 use std::os::fd::AsRawFd;

@@ -182,11 +182,11 @@ ends_refused work old refusal there =
 
 module _ {A N : Type 0} (work : A → Work N) where
   pub ends_usage : (old : Outside N) (reading : Reading A) (cause : Cause) → usage ≡ reading
-      → cause ≡ Refused (Words Usage) → Ends work reading old old (Some cause)
+      → cause ≡ Refused (Words (Usage tt)) → Ends work reading old old (Some cause)
   ends_usage old reading cause e is =
       subst (λ (r : Reading A). Ends work r old old (Some cause)) e
       (subst (λ (k : Cause). Ends work usage old old (Some k)) (sym is)
-      (ends_refused work old (Words Usage) (λ name h. cc h)))
+      (ends_refused work old (Words (Usage tt)) (λ name h. cc h)))
 
   -- words that ask for a job end as the job does
   pub ends_asked : {J : Type 0} (found : Option J) (job : J) (reading : J → Reading A) (old new : Outside N)
@@ -197,7 +197,7 @@ module _ {A N : Type 0} (work : A → Work N) where
 
   -- and words that ask for nothing are refused
   pub ends_unasked : {J : Type 0} (found : Option J) (reading : J → Reading A) (old : Outside N) (cause : Cause)
-      → None ≡ found → cause ≡ Refused (Words Usage)
+      → None ≡ found → cause ≡ Refused (Words (Usage tt))
       → Ends work (asked found reading) old old (Some cause)
   ends_unasked {J} found reading old cause e is =
       ends_usage old (asked found reading) cause (ap (λ (o : Option J). asked o reading) e) is
@@ -214,7 +214,7 @@ module _ {A N : Type 0} (work : A → Work N) where
   -- and of which none was
   pub ends_no_job : {J K : Type 0} (values : J → K) (read : Option J) (found : Option K) (reading : K → Reading A)
       (old : Outside N) (cause : Cause) → read ≡ None → option_map values read ≡ found
-      → cause ≡ Refused (Words Usage) → Ends work (asked found reading) old old (Some cause)
+      → cause ≡ Refused (Words (Usage tt)) → Ends work (asked found reading) old old (Some cause)
   ends_no_job {J} values read found reading old cause is found_is =
       ends_unasked found reading old cause (ap (λ (o : Option J). option_map values o) (sym is) ∙ found_is)
 

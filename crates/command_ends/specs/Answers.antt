@@ -11,6 +11,7 @@ use Rattle.command_ends.specs.Readings.{Reading}
 use Rattle.command_ends.specs.Works.{Work}
 use Rattle.command_ends.specs.declared.cause.Cause.{Cause}
 use Rattle.command_ends.specs.declared.cause.Cause.TheVariants.{OutOfMemory}
+use Rattle.command_ends.specs.declared.ending.Ending.{Ending}
 
 -- The line was written, or a front of it where a fault of the sink was counted.
 pub record Writes (line : List ℕ) (old new : SinkView) : Type 0 where
@@ -67,6 +68,13 @@ pub record Concludes (answer : Option Cause) (old new : SinkView) (status : ℕ)
       × (new.written ≡ sending (take count (line_of cause)) old.written)
       × (cause ≢ OutOfMemory → count < length (line_of cause))
   pub counts : CountsSinkFaults old new
+
+-- The command ended by the answer of this ending, whose status is that of the answer as it was explained.
+pub record IsEnding {A N : Type 0} (work : A → Work N) (reading : Reading A) (old new : Outside N) (ending : Ending) :
+    Type 0 where
+  pub ended : SinkView
+  pub ends : Ends work reading old (outside new.disk ended new.net) (cause_in ending.answer)
+  pub concludes : Concludes (cause_in ending.answer) ended new.out ending.status
 
 -- A disk's counts never fall, and where it never fails it goes on so, and no fault is counted.
 pub record CountsDisk (old new : DiskView) : Type 0 where

@@ -44,7 +44,7 @@ abbrev pub named_pieces : List ℕ → Text → List (List ℕ)
 named_pieces words name = words ∷ name ∷ codes "\n" ∷ []
 
 abbrev pub words_pieces : WordsRefusal → List (List ℕ)
-words_pieces Usage = codes "mm: usage\n" ∷ []
+words_pieces (Usage fault) = codes "mm: usage\n" ∷ []
 words_pieces (Nest number place inner) = codes "mm: nest " ∷ decimal number ∷ codes " " ∷ decimal place ∷ inner_pieces
     inner
 words_pieces (Name name) = named_pieces (codes "mm: name ") name

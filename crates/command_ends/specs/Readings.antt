@@ -19,7 +19,7 @@ pub data Reading (A : Type 0) : Type 1 where
 
 -- words that ask for nothing
 abbrev pub usage : {A : Type 0} → Reading A
-usage = Refuses (Words Usage)
+usage = Refuses (Words (Usage tt))
 
 -- the reading of a job, if the words have one
 abbrev pub asked : {A J : Type 0} → Option J → (J → Reading A) → Reading A

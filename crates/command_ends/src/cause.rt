@@ -3,14 +3,15 @@ ghost use Rattle.std.specs.Prelude.{◌≡◌};
 ghost use Rattle.command_ends.specs.Causes.{status_of};
 ghost use Rattle.command_ends.specs.declared.cause.Cause.TheVariants as causes;
 
+use option_words::WordFault;
 use std::alloc::{AllocError, AllocFailed};
 use text_base::{OutOfMemory, Text};
 
 /// What the words of a command line are refused for, or a name.
 #[derive(Drop)]
 pub enum WordsRefusal {
-    /// The words ask for nothing.
-    Usage,
+    /// The words have no job: their first fault.
+    Usage(WordFault),
     /// The words of the shells are no nest: the number of their refusal, the word or the shell that it names, or 0,
     /// and the number of the refusal inside it, if it has one.
     Nest {
@@ -79,11 +80,11 @@ impl Refusal {
 }
 
 impl Cause {
-    /// The words ask for nothing.
-    pub fn usage() -> Self
-        ensures { result ≡ causes.Refused (Refusal.Words WordsRefusal.Usage) }
+    /// The words have no job, for this fault.
+    pub fn usage(fault: WordFault) -> Self
+        ensures { result ≡ causes.Refused (Refusal.Words (WordsRefusal.Usage tt)) }
     {
-        Cause::Refused(Refusal::Words(WordsRefusal::Usage))
+        Cause::Refused(Refusal::Words(WordsRefusal::Usage(fault)))
     }
 
     /// An output has this name, which is taken.

@@ -66,7 +66,7 @@ fn send_words<O: Sink>(refusal: &WordsRefusal, out: &mut O) -> Result<(), EndErr
     ensures { Sends (flat_map (λ piece. piece) (words_pieces refusal.now)) (O.view out.old) (O.view out.new) result }
 {
     match refusal {
-        WordsRefusal::Usage => send_pieces(out, &[b"mm: usage\n"]),
+        WordsRefusal::Usage(_) => send_pieces(out, &[b"mm: usage\n"]),
         WordsRefusal::Nest {
             number,
             place,

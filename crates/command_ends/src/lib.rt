@@ -3,6 +3,7 @@
 #![tactic(auto)]
 
 mod cause;
+mod ending;
 mod environment;
 mod explain;
 mod host;
@@ -11,6 +12,7 @@ mod names;
 mod outputs;
 
 pub use cause::{Cause, Limit, Refusal, WordsRefusal};
+pub use ending::Ending;
 pub use environment::{exit_code, read_end, read_words};
 pub use explain::conclude;
 pub use host::Host;

@@ -1,4 +1,3 @@
-pub mod WordLemmas
 pub mod ListLemmas
 pub mod ScheduleLemmas
 pub mod MergeLemmas

@@ -27,7 +27,7 @@ use Rattle.command_ends.proofs.EndLemmas.{finishes_only}
 use Rattle.command_ends.proofs.ReadingLemmas.{HasOneEnd, found_stop, leads_text, leads_then, leads_unless}
 use Rattle.command_ends.proofs.ReadingLemmas.{stops_at, stops_later, text_stops}
 use Rattle.nest_command.specs.Inputs.{reading_traces, schedule_refusal, trace_refusal}
-use Rattle.nest_command.specs.NestReading.{refused_count, refused_horizon, with_nest}
+use Rattle.nest_command.specs.NestReading.{refused_count, refused_horizon, refused_outputs, with_nest}
 use Rattle.nest_command.proofs.InputLemmas.{have_said, have_texts, leads_traces}
 use Rattle.nest_command.proofs.NestLemmas.{count_text, count_within, names_there}
 use Rattle.command_merge.specs.List.{list_refusal}
@@ -35,13 +35,13 @@ use Rattle.command_merge.specs.inside.Loaded.{AddsSchedules, HasSenders, HasTrac
 use Rattle.command_merge.specs.Merge.{GivesMerge, MergeJob, MergeTask, merge_files, merge_of, nest_for}
 use Rattle.command_merge.specs.MergeReading.{merge_inputs, merge_reading, merge_words, reading_schedules}
 use Rattle.command_merge.specs.MergeReading.{refused_listed}
-use Rattle.command_merge.specs.MergeReading.{refused_outputs, refused_total, schedule_inputs, sender_inputs}
+use Rattle.command_merge.specs.MergeReading.{refused_total, schedule_inputs, sender_inputs}
 use Rattle.command_merge.proofs.ListLemmas.{list_text}
 use Rattle.command_merge.proofs.ScheduleLemmas.{leads_schedules, schedule_texts, schedules_stop}
 
 -- what is read and refused once the nest is known
 abbrev after_nest : MergeJob → NestPlan → Reading MergeTask
-after_nest job plan = unless (refused_outputs job plan) (unless (refused_horizon job.horizon) (merge_inputs job plan))
+after_nest job plan = unless (refused_outputs (job.senders ∷ []) job.out plan) (unless (refused_horizon job.horizon) (merge_inputs job plan))
 
 -- what is read and refused once the traces were read
 abbrev pub after_traces : MergeJob → NestPlan → List (List ℕ) → Reading MergeTask
@@ -203,7 +203,7 @@ traces_one (name ∷ names) next one = λ text.
 nest_one : (job : MergeJob) (nest : Result NestPlan NestError) → HasOneEnd (with_nest nest (after_nest job))
 nest_one job (Err error) = tt
 nest_one job (Ok plan) =
-    unless_one (refused_outputs job plan) (unless (refused_horizon job.horizon) (merge_inputs job plan))
+    unless_one (refused_outputs (job.senders ∷ []) job.out plan) (unless (refused_horizon job.horizon) (merge_inputs job plan))
     (unless_one (refused_horizon job.horizon) (merge_inputs job plan)
     (traces_one plan.traces (after_traces job plan) (λ traces.
     unless_one (refused_count job.horizon plan.shells (map trace_in traces)) (sender_inputs job plan traces)

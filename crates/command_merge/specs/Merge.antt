@@ -1,5 +1,5 @@
 -- What `merge` is asked for, and what it gives.
-use Rattle.std.specs.Prelude.{◌≡◌, ℕ, ◌+◌, List, [], ◌∷◌, ◌++◌, Option, Some, None, map, position, take, drop}
+use Rattle.std.specs.Prelude.{◌≡◌, ℕ, List, [], ◌∷◌, ◌++◌, Option, Some, None, map}
 use Rattle.std.specs.Prelude.{option_and_then}
 use Rattle.text_base.specs.Numbers.{decimal_of}
 use Rattle.packet_record.specs.Schedules.{IsScheduleText}
@@ -9,13 +9,14 @@ use Rattle.nest_spec.specs.Nests.{NestParts, RunLists, built, result_of}
 use Rattle.nest_spec.specs.Once.{HaveOneFate}
 use Rattle.nest_spec.specs.Words.{NestPlan}
 use Rattle.sender_merge.specs.Merges.{merge_rows}
-use Rattle.option_words.specs.Commands.{MergeTexts, merge_texts}
+use Rattle.option_words.specs.Commands.{table_of}
 use Rattle.option_words.specs.Givens.{◌>>=◌}
 use Rattle.option_words.specs.Numbers.{seed_of}
+use Rattle.option_words.specs.Shells.{split_words}
+use Rattle.option_words.specs.declared.command.Command.TheVariants.{Merge}
 use Rattle.command_ends.specs.Causes.{Text}
 use Rattle.command_ends.specs.Outputs.{NamedText, Output, named_text, writes}
 use Rattle.nest_command.specs.Inputs.{AreTraceTexts}
-use Rattle.nest_command.specs.Words.{ends_options}
 use Rattle.nest_command.specs.RunFiles.{log_file}
 use Rattle.command_merge.specs.FateLines.{merged_fates_text}
 
@@ -28,21 +29,21 @@ pub record MergeJob : Type 0 where
   pub seed : ℕ
   pub shells : List Text
 
--- the job, where the numbers are decimals
-unfoldable pub merge_numbers : List Text → MergeTexts → Option MergeJob
-merge_numbers shells texts = do
-  horizon ← decimal_of texts.until
-  seed ← seed_of texts.seed
-  Some (record { horizon = horizon; senders = texts.senders; out = texts.out; seed = seed; shells = shells })
+-- The job of what is given of each option, and of the words of the shells. The numbers are decimals; `--until`,
+-- `--senders` and `--out` must be there.
+unfoldable pub merge_from : List (Option Text) → List Text → Option MergeJob
+merge_from (until ∷ senders ∷ out ∷ seed ∷ []) shells = do
+  given_until ← until
+  horizon ← decimal_of given_until
+  number ← seed_of seed
+  given_senders ← senders
+  given_out ← out
+  Some (record { horizon = horizon; senders = given_senders; out = given_out; seed = number; shells = shells })
+merge_from _ shells = None
 
--- the job, where the options end at `place`: the words before it are options, and those after it are the shells'
-abbrev pub merge_at : Option ℕ → List Text → Option MergeJob
-merge_at None words = None
-merge_at (Some place) words = option_and_then (merge_numbers (drop (place + 1) words)) (merge_texts (take place words))
-
--- The job of the words after `merge`. The first `--` ends the options and must be there.
+-- The job of the words after `merge`.
 unfoldable pub merge_of : List Text → Option MergeJob
-merge_of words = merge_at (position ends_options words) words
+merge_of words = option_and_then (λ split. merge_from split.given split.shells) (split_words (table_of Merge) words)
 
 -- a job whose words ask for the nest `plan`, and the texts of its traces and of its senders' schedules
 pub record MergeTask : Type 0 where

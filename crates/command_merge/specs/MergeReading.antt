@@ -2,7 +2,7 @@
 use Rattle.std.specs.Prelude.{ℕ, ◌+◌, List, [], ◌∷◌, ◌++◌, Option, Some, None, length, map, nat_lt, if◌then◌else◌}
 use Rattle.text_base.specs.Lines.{lines_of}
 use Rattle.trace_reader.specs.TraceIn.{trace_in}
-use Rattle.nest_spec.specs.Words.{NestPlan, nest_of}
+use Rattle.nest_spec.specs.Words.{NestPlan}
 use Rattle.command_ends.specs.Causes.{Text}
 use Rattle.command_ends.specs.Names.{refused_names}
 use Rattle.command_ends.specs.Readings.{Reading, Done, asked, reading_text, unless}
@@ -10,17 +10,13 @@ use Rattle.command_ends.specs.declared.cause.Limit.TheVariants.{Packets}
 use Rattle.command_ends.specs.declared.cause.Refusal.{Refusal}
 use Rattle.command_ends.specs.declared.cause.Refusal.TheVariants.{Limit}
 use Rattle.nest_command.specs.Inputs.{reading_schedule, reading_traces}
-use Rattle.nest_command.specs.NestReading.{refused_count, refused_horizon, with_nest}
+use Rattle.nest_command.specs.NestReading.{plan_reading, refused_count}
 use Rattle.command_merge.specs.List.{list_refusal}
 use Rattle.command_merge.specs.Merge.{MergeJob, MergeTask, merge_of}
 
 -- the names of the outputs: the logs, in the order of the shells, up before down, and the fates
 abbrev pub output_names : MergeJob → NestPlan → List Text
 output_names job plan = plan.logs ++ job.out ∷ []
-
--- an output that has the name of a trace, of the list, or of an output before it is refused
-abbrev pub refused_outputs : MergeJob → NestPlan → Option Refusal
-refused_outputs job plan = refused_names (plan.traces ++ job.senders ∷ []) (output_names job plan)
 
 -- an output that has a name on a line of the list is refused
 abbrev pub refused_listed : MergeJob → NestPlan → List ℕ → Option Refusal
@@ -65,11 +61,7 @@ merge_inputs job plan =
 
 -- Words that name no nest, names that are taken and a horizon past an hour are refused before any file is read.
 abbrev pub merge_reading : MergeJob → Reading MergeTask
-merge_reading job =
-    with_nest (nest_of job.shells) (λ plan.
-    unless (refused_outputs job plan) (
-    unless (refused_horizon job.horizon) (
-    merge_inputs job plan)))
+merge_reading job = plan_reading job.shells (job.senders ∷ []) job.out job.horizon (merge_inputs job)
 
 -- what `merge` reads and refuses by the words after it
 abbrev pub merge_words : List Text → Reading MergeTask

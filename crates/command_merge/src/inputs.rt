@@ -86,7 +86,7 @@ fn check_listed(
         → MatchResult result (λ _. refused_listed (merge_values job.now) nest.now list ≡ None)
         (λ cause. RefusesText (refused_listed (merge_values job.now) nest.now list) cause) }
 {
-    let outputs = names_of(alloc, nest.logs(), job.out)?;
+    let outputs = names_of(alloc, nest.logs(), &[job.out])?;
     check_outputs(alloc, names, outputs.as_slice())
 }
 

@@ -1,5 +1,5 @@
 // The command `merge`: its words, its inputs, its packets, and the files that it writes.
-ghost use Rattle.std.specs.Prelude.{◌≡◌, ◌≤◌, None, IfErr, IfOk, MatchResult, OnOk, map, string_bytes};
+ghost use Rattle.std.specs.Prelude.{◌≡◌, ◌≤◌, IfErr, IfOk, OnOk, map, string_bytes};
 ghost use Rattle.mm_base.specs.Disk.{DiskView, OnlyReads};
 ghost use Rattle.mm_base.specs.Sink.{SinkView};
 ghost use Rattle.command_ends.specs.Answers.{CountsDisk, cause_in};
@@ -8,11 +8,11 @@ ghost use Rattle.command_ends.specs.inside.Ends.{FinishesOnly};
 ghost use Rattle.command_ends.specs.Outputs.{writes};
 ghost use Rattle.command_ends.specs.Alone.{IsLeftAlone};
 ghost use Rattle.command_ends.specs.inside.Accepted.{AcceptsWords};
-ghost use Rattle.command_ends.specs.Stops.{RefusesText, StopsReading};
+ghost use Rattle.command_ends.specs.Stops.{StopsReading};
 ghost use Rattle.command_ends.specs.inside.Stops.{ReadsOn};
 ghost use Rattle.command_ends.specs.Works.{only};
 ghost use Rattle.command_merge.specs.Merge.{GivesMerge, merge_files};
-ghost use Rattle.command_merge.specs.MergeReading.{merge_inputs, merge_reading, merge_words, refused_outputs};
+ghost use Rattle.command_merge.specs.MergeReading.{merge_inputs, merge_reading, merge_words};
 ghost use Rattle.command_merge.specs.inside.Values.{merge_values};
 
 use crate::files::write_files;
@@ -20,25 +20,15 @@ use crate::inputs::{load_nest_traces, load_senders};
 use crate::job::{MergeJob, read_merge};
 use command_ends::{Cause, Host};
 use mm_base::{Disk, Pace};
-use nest_command::{check_horizon, check_outputs, names_of, nest_cause};
+use nest_command::read_plan;
 use nest_plain::NestRun;
 use nest_runner::run_nest_feeds;
-use nest_spec::{NestWords, build, read_nest};
+use nest_spec::{NestWords, build};
 use sender_merge::Senders;
 use std::alloc::Global;
 use std::marker::Sync;
 use std::sync::Wait;
 use std::thread::Threads;
-
-// Refuses the first output that has the name of a trace, of the list, or of an output before it.
-fn check_names(alloc: Global, job: &MergeJob<'_>, nest: &NestWords) -> Result<(), Cause>
-    ensures { MatchResult result (λ _. refused_outputs (merge_values job.now) nest.now ≡ None)
-        (λ cause. RefusesText (refused_outputs (merge_values job.now) nest.now) cause) }
-{
-    let inputs = names_of(alloc, nest.traces(), job.senders)?;
-    let outputs = names_of(alloc, nest.logs(), job.out)?;
-    check_outputs(alloc, inputs.as_slice(), outputs.as_slice())
-}
 
 // Returns the words of the job's nest. Refuses words that name no nest, then a name that is taken, then a horizon past
 // an hour.
@@ -48,13 +38,7 @@ fn read_words(alloc: Global, job: &MergeJob<'_>) -> Result<NestWords, Cause>
     ensures accepts { OnOk result (AcceptsWords (merge_reading (merge_values job.now))) }
     ensures small { OnOk result (job.now.horizon ≤ 3600000) }
 {
-    let nest = match read_nest(alloc, job.shells) {
-        Ok(nest) => nest,
-        Err(error) => return Err(nest_cause(error)),
-    };
-    check_names(alloc, job, &nest)?;
-    check_horizon(job.horizon)?;
-    Ok(nest)
+    read_plan(alloc, job.shells, &[job.senders], job.out, job.horizon)
 }
 
 // Reads the inputs of a job and returns its run. The nest and the schedules are dropped before any file is written, but
@@ -115,7 +99,7 @@ pub fn answer_merge<R: Threads + Wait + Sync, D: Disk, Q: Pace + Sync>(
     ensures counts { CountsDisk (D.view disk.old) (D.view disk.new) }
 {
     match read_merge(host.alloc, words)? {
-        Some(job) => merge(host, &job, disk, pace),
-        None => Err(Cause::usage()),
+        Ok(job) => merge(host, &job, disk, pace),
+        Err(fault) => Err(Cause::usage(fault)),
     }
 }

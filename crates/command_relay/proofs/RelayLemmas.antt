@@ -21,7 +21,7 @@ use Rattle.command_ends.proofs.ReadingLemmas.{HasOneEnd, RefusesNoWords, Refuses
 use Rattle.command_ends.proofs.ReadingLemmas.{leads_then, leads_unless}
 use Rattle.command_ends.proofs.ReadingLemmas.{unless_no_words}
 use Rattle.nest_command.specs.RunFiles.{run_files}
-use Rattle.nest_command.specs.NestReading.{refused_count}
+use Rattle.nest_command.specs.NestReading.{refused_count, refused_outputs}
 use Rattle.nest_command.proofs.InputLemmas.{have_said, have_texts, leads_traces}
 use Rattle.nest_command.proofs.NestLemmas.{count_text, count_within}
 use Rattle.nest_command.proofs.NestRefusals.{nest_first, traces_no_words}
@@ -29,7 +29,7 @@ use Rattle.command_relay.specs.Jobs.{RelayJob, relay_of}
 use Rattle.command_relay.specs.Lines.{relay_line}
 use Rattle.command_relay.specs.inside.Loaded.{HasNest}
 use Rattle.command_relay.specs.Relaying.{HasRelayed, HasStopped, RelayNet, RelayTask}
-use Rattle.command_relay.specs.Relaying.{refused_outputs, relay_inputs, relay_reading, relay_words, relay_work}
+use Rattle.command_relay.specs.Relaying.{relay_inputs, relay_reading, relay_words, relay_work}
 
 -- what is to be done
 abbrev pub done_with : RelayJob → NestPlan → List (List ℕ) → Reading RelayTask
@@ -118,7 +118,7 @@ inputs_no_words job plan =
 
 pub relay_first : (words : List Text) → RefusesWordsFirst (relay_words words)
 relay_first words = asked_first (relay_of words) relay_reading (λ job.
-    nest_first (nest_of job.shells) (refused_outputs job) job.horizon (relay_inputs job) (inputs_no_words job))
+    nest_first (nest_of job.shells) (refused_outputs [] job.out) job.horizon (relay_inputs job) (inputs_no_words job))
 
 -- and the files lead to one end
 pub relay_one : (words : List Text) → HasOneEnd (relay_words words)

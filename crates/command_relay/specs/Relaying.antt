@@ -1,10 +1,10 @@
 -- What a relay reads and refuses, in order, and what it does with its clock and its wire.
-use Rattle.std.specs.Prelude.{◌≡◌, ◌⊎◌, ◌↔◌, ◌<◌, ℕ, List, [], ◌∷◌, ◌++◌, Option, map}
+use Rattle.std.specs.Prelude.{◌≡◌, ◌⊎◌, ◌↔◌, ◌<◌, ℕ, List, [], Option, map}
 use Rattle.mm_base.specs.Counts.{Rose}
 use Rattle.trace_reader.specs.TraceIn.{trace_in}
 use Rattle.trace_reader.specs.Traces.{TraceView}
 use Rattle.nest_spec.specs.Nests.{NestParts, built}
-use Rattle.nest_spec.specs.Words.{NestPlan, nest_of}
+use Rattle.nest_spec.specs.Words.{NestPlan}
 use Rattle.live_relay.specs.Clocks.{ClockView}
 use Rattle.live_relay.specs.Opened.{opened_at, refused_at}
 use Rattle.live_relay.specs.Relays.{IsRelayed, IsStopped}
@@ -12,17 +12,15 @@ use Rattle.live_relay.specs.Wires.{CountsWireFaults, WireView}
 use Rattle.live_relay.specs.declared.outcome.RelayEnd.TheVariants.{Horizon}
 use Rattle.live_relay.specs.declared.outcome.RelayResult.{RelayResult}
 use Rattle.command_ends.specs.Causes.{Text}
-use Rattle.command_ends.specs.Names.{refused_names}
 use Rattle.command_ends.specs.Outputs.{Output}
 use Rattle.command_ends.specs.Readings.{Reading, Done, asked, unless}
 use Rattle.command_ends.specs.TopCalls.{NetCounts}
 use Rattle.command_ends.specs.Works.{Work}
 use Rattle.command_ends.specs.declared.cause.Cause.{Cause}
 use Rattle.command_ends.specs.declared.cause.Cause.TheVariants.{NetFault, OutOfMemory}
-use Rattle.command_ends.specs.declared.cause.Refusal.{Refusal}
 use Rattle.nest_command.specs.Inputs.{AreTraceTexts, reading_traces}
 use Rattle.nest_command.specs.RunFiles.{run_files}
-use Rattle.nest_command.specs.NestReading.{refused_count, refused_horizon, with_nest}
+use Rattle.nest_command.specs.NestReading.{plan_reading, refused_count}
 use Rattle.command_relay.specs.Jobs.{RelayJob, relay_of}
 use Rattle.command_relay.specs.Lines.{relay_line}
 
@@ -32,10 +30,6 @@ pub record RelayTask : Type 0 where
   pub plan : NestPlan
   pub traces : List (List ℕ)
 
--- The outputs are the logs, in the order of the shells, up before down, and the fates; the inputs are the traces.
-abbrev pub refused_outputs : RelayJob → NestPlan → Option Refusal
-refused_outputs job plan = refused_names plan.traces (plan.logs ++ job.out ∷ [])
-
 -- the traces, in the order of the shells, up before down
 abbrev pub relay_inputs : RelayJob → NestPlan → Reading RelayTask
 relay_inputs job plan =
@@ -44,11 +38,7 @@ relay_inputs job plan =
     Done (record { job = job; plan = plan; traces = traces })))
 
 abbrev pub relay_reading : RelayJob → Reading RelayTask
-relay_reading job =
-    with_nest (nest_of job.shells) (λ plan.
-    unless (refused_outputs job plan) (
-    unless (refused_horizon job.horizon) (
-    relay_inputs job plan)))
+relay_reading job = plan_reading job.shells [] job.out job.horizon (relay_inputs job)
 
 -- the words after the program's name
 abbrev pub relay_words : List Text → Reading RelayTask

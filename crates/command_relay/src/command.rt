@@ -3,7 +3,7 @@ ghost use Rattle.std.specs.Prelude.{map, string_bytes};
 ghost use Rattle.mm_base.specs.Sink.{CountsSinkFaults};
 ghost use Rattle.live_relay.specs.Wires.{CountsWireFaults};
 ghost use Rattle.command_ends.specs.Alone.{IsLeftAlone};
-ghost use Rattle.command_ends.specs.Answers.{CountsDisk, cause_in};
+ghost use Rattle.command_ends.specs.Answers.{CountsDisk, IsEnding, cause_in};
 ghost use Rattle.command_ends.specs.Ends.{Ends, outside};
 ghost use Rattle.command_ends.specs.TopCalls.{RefusesByWords, TopCall};
 ghost use Rattle.command_relay.specs.Relaying.{net, net_counts, relay_reading, relay_words, relay_work};
@@ -14,7 +14,7 @@ use crate::job::RelayJob;
 use crate::line::print_relayed;
 use crate::passing::relay_job;
 use crate::words::read_relay;
-use command_ends::{Cause, conclude};
+use command_ends::{Cause, Ending, conclude};
 use live_relay::{Clock, Wire};
 use mm_base::{Disk, Sink};
 use nest_command::write_whole;
@@ -46,7 +46,7 @@ fn run<D: Disk, O: Sink, C: Clock, W: Wire>(
 }
 
 // Does what the words say.
-pub(crate) fn answer<D: Disk, O: Sink, C: Clock, W: Wire>(
+fn answer<D: Disk, O: Sink, C: Clock, W: Wire>(
     alloc: Global,
     words: &[String],
     disk: &mut D,
@@ -63,8 +63,8 @@ pub(crate) fn answer<D: Disk, O: Sink, C: Clock, W: Wire>(
     ensures alone { IsLeftAlone (relay_words (map string_bytes words.now)) (D.view disk.old) (D.view disk.new) }
 {
     match read_relay(alloc, words)? {
-        Some(job) => run(alloc, &job, disk, out, clock, wire),
-        None => Err(Cause::usage()),
+        Ok(job) => run(alloc, &job, disk, out, clock, wire),
+        Err(fault) => Err(Cause::usage(fault)),
     }
 }
 
@@ -94,6 +94,32 @@ pub fn relay_main<D: Disk, O: Sink, C: Clock, W: Wire>(
     // 2 comes by the words alone.
     ensures usage { RefusesByWords (relay_words (map string_bytes words.now)) result }
 {
+    relay_ending(alloc, words, disk, out, clock, wire).status
+}
+
+/// Does what `relay_main` does, and returns the answer of the command line beside its exit status, so that it can be
+/// said to a person why the command line isn't done.
+pub fn relay_ending<D: Disk, O: Sink, C: Clock, W: Wire>(
+    alloc: Global,
+    words: &[String],
+    disk: &mut D,
+    out: &mut O,
+    clock: &mut C,
+    wire: &mut W,
+) -> Ending
+    ensures ending { IsEnding relay_work (relay_words (map string_bytes words.now))
+        (outside (D.view disk.old) (O.view out.old) (net (C.view clock.old) (W.view wire.old)))
+        (outside (D.view disk.new) (O.view out.new) (net (C.view clock.new) (W.view wire.new))) result }
+
+    // What `relay_main` leaves.
+    ensures top { TopCall net_counts relay_work (relay_words (map string_bytes words.now))
+        (outside (D.view disk.old) (O.view out.old) (net (C.view clock.old) (W.view wire.old)))
+        (outside (D.view disk.new) (O.view out.new) (net (C.view clock.new) (W.view wire.new))) result.status }
+
+    // 2 comes by the words alone.
+    ensures usage { RefusesByWords (relay_words (map string_bytes words.now)) result.status }
+{
     let answer = answer(alloc, words, disk, out, clock, wire);
-    conclude(&answer, out)
+    let status = conclude(&answer, out);
+    Ending { answer, status }
 }

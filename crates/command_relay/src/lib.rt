@@ -7,8 +7,6 @@ mod inputs;
 mod job;
 mod line;
 mod passing;
-mod telling;
 mod words;
 
-pub use command::relay_main;
-pub use telling::relay_main_told;
+pub use command::{relay_ending, relay_main};

@@ -1,13 +1,14 @@
 -- What the command `report` is asked for, and what it prints.
-use Rattle.std.specs.Prelude.{◌≡◌, ℕ, List, Option}
-use Rattle.std.specs.Option.{option_map}
+use Rattle.std.specs.Prelude.{◌≡◌, ℕ, List, [], ◌∷◌, Option, Some, None, option_and_then}
 use Rattle.shell_log.specs.Entries.{IsLog}
 use Rattle.shell_log.specs.LogText.{log_text}
 use Rattle.shell_log.specs.declared.entry.Entry.{Entry}
 use Rattle.log_report.specs.ReportText.{report_text}
 use Rattle.log_report.specs.Reports.{report_of}
-use Rattle.log_report.specs.declared.figures.Report.{Report}
-use Rattle.option_words.specs.Commands.{ReportTexts, report_texts}
+use Rattle.log_report.specs.declared.figures.Report as figures
+use Rattle.option_words.specs.Commands.{table_of}
+use Rattle.option_words.specs.Givens.{givens, ◌>>=◌}
+use Rattle.option_words.specs.declared.command.Command.TheVariants.{Report}
 use Rattle.command_ends.specs.Causes.{Text}
 use Rattle.command_ends.specs.Outputs.{Output, prints}
 
@@ -15,16 +16,19 @@ use Rattle.command_ends.specs.Outputs.{Output, prints}
 pub record ReportJob : Type 0 where
   pub log : Text
 
--- The job of the options' texts.
-abbrev pub report_with : ReportTexts → ReportJob
-report_with texts = record { log = texts.log }
+-- The job of what is given of each option: `--log LOG`, which must be there.
+unfoldable pub report_from : List (Option Text) → Option ReportJob
+report_from (log ∷ []) = do
+  given_log ← log
+  Some (record { log = given_log })
+report_from _ = None
 
 -- The job of the words after `report`, if they have one.
 unfoldable pub report_job_of : List Text → Option ReportJob
-report_job_of words = option_map report_with (report_texts words)
+report_job_of words = option_and_then report_from (givens (table_of Report) words)
 
 -- `report` is that of the log with the text `text`, or none where the log has no entry.
-pub record IsReport (text : List ℕ) (report : Option Report) : Type 0 where
+pub record IsReport (text : List ℕ) (report : Option figures.Report) : Type 0 where
   pub entries : List Entry
   pub log : IsLog entries
   pub text_is : text ≡ log_text entries
@@ -32,6 +36,6 @@ pub record IsReport (text : List ℕ) (report : Option Report) : Type 0 where
 
 -- The report of the log with the text `text` is printed.
 pub record GivesReport (text : List ℕ) (output : Output) : Type 0 where
-  pub report : Option Report
+  pub report : Option figures.Report
   pub is : IsReport text report
   pub output_is : output ≡ prints (report_text report)

@@ -1,6 +1,15 @@
-//! The command `report`: its words, the log that it reads, and the report that it prints.
+//! The commands `report` and `make`: the report of a log, and the summary of a run whose load and trace are made of a
+//! number.
 #![tactic(auto)]
 
+mod made;
+mod make;
+mod make_job;
+mod printing;
 mod report;
+mod run;
+mod summary;
+mod words;
 
+pub use make::answer_make;
 pub use report::answer_report;

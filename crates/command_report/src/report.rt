@@ -1,11 +1,12 @@
 // Carries out the command `report`: reads its words and its log, and prints the report.
 ghost use Rattle.std.specs.Prelude.{◌≡◌, ◌≢◌, ℕ, List, Some, None, IfOk, IfErr, MatchResult, map, string_bytes};
 ghost use Rattle.std.specs.Option.{option_map};
+ghost use Rattle.std.specs.Result.{result_ok};
 ghost use Rattle.mm_base.specs.Disk.{OnlyReads};
 ghost use Rattle.mm_base.specs.Sink.{CountsSinkFaults};
 ghost use Rattle.shell_log.specs.Reading.{log_fault};
 ghost use Rattle.log_report.specs.ReportText.{report_text};
-ghost use Rattle.log_report.specs.ReportTexts.{HasRead};
+ghost use Rattle.log_report.specs.ReportBuilder.{HasRead};
 ghost use Rattle.command_ends.specs.Answers.{CountsDisk, cause_in};
 ghost use Rattle.command_ends.specs.Ends.{Ends, offline};
 ghost use Rattle.command_ends.specs.inside.Ends.{FinishesOnly};
@@ -13,16 +14,16 @@ ghost use Rattle.command_ends.specs.Outputs.{prints};
 ghost use Rattle.command_ends.specs.Alone.{IsLeftAlone};
 ghost use Rattle.command_ends.specs.Stops.{IsInput, RefusesText, StopsAtFile, StopsReading};
 ghost use Rattle.command_ends.specs.Works.{only};
-ghost use Rattle.command_report.specs.Report.{GivesReport, IsReport, report_job_of};
+ghost use Rattle.command_report.specs.Report.{GivesReport, IsReport, report_from, report_job_of};
 ghost use Rattle.command_report.specs.ReportReading.{log_refusal, report_reading, report_words};
 ghost use Rattle.command_report.specs.inside.Values.{report_values};
 
 use command_ends::{Cause, Refusal, input_size, print, read_pieces};
-use log_report::{EMPTY, Report, ReportText, print_report};
+use log_report::{EMPTY, Report, ReportBuilder, print_report};
 use mm_base::{Disk, Sink};
-use option_words::parse_report;
+use option_words::{Command, WordFault, job_or_fault, read_given};
 use shell_log::LogError;
-use std::alloc::Global;
+use std::alloc::{AllocError, Global};
 use text_base::{Bytes, OutOfMemory, Text};
 
 // The job of a report: the name of the log's file.
@@ -31,16 +32,37 @@ pub(crate) struct ReportJob<'a> {
     pub log: &'a str,
 }
 
-// Returns the job of `words`, the words after `report`, or `None` where they name none. Returns `OutOfMemory` where an
-// allocation fails.
-#[tactic(auto, unfolding(crate::specs::Report::report_job_of))]
-fn read_report<'a>(alloc: Global, words: &'a [String]) -> Result<Option<ReportJob<'a>>, OutOfMemory>
+// Returns the job of what is given of each option.
+#[tactic(auto, unfolding(crate::specs::Report::report_from))]
+fn report_job<'a>(given: &[Option<&'a str>]) -> Option<ReportJob<'a>>
+    ensures { option_map report_values result ≡ report_from (map (λ o. option_map (λ s. s.now) o) given.now) }
+{
+    let [log] = given else {
+        return None;
+    };
+    Some(ReportJob { log: (*log)? })
+}
+
+// Returns the job of `words`, the words after `report`, or `None` if they have none.
+fn find_report<'a>(alloc: Global, words: &'a [String]) -> Result<Option<ReportJob<'a>>, AllocError>
     ensures { IfOk result (λ found. option_map report_values found ≡ report_job_of (map string_bytes words.now)) }
 {
-    match parse_report(alloc, words)? {
-        Some(texts) => Ok(Some(ReportJob { log: texts.log })),
+    match read_given(alloc, Command::Report, words)? {
+        Some(given) => Ok(report_job(&given)),
         None => Ok(None),
     }
+}
+
+// Returns the job of `words`, or their first fault.
+fn read_report<'a>(
+    alloc: Global,
+    words: &'a [String],
+) -> Result<Result<ReportJob<'a>, WordFault>, AllocError>
+    ensures { IfOk result (λ read. option_map report_values (result_ok read) ≡ report_job_of
+        (map string_bytes words.now)) }
+{
+    let found = find_report(alloc, words)?;
+    Ok(job_or_fault(found, Command::Report, words))
 }
 
 // Returns the cause for which a log's text, in the file `name`, isn't accepted.
@@ -59,21 +81,21 @@ fn log_cause(name: Text, error: LogError) -> Cause
 }
 
 // Reads a log's text from the file `name`, in pieces.
-fn read_log_file<D: Disk>(alloc: Global, disk: &mut D, name: &str) -> Result<ReportText, Cause>
+fn read_log_file<D: Disk>(alloc: Global, disk: &mut D, name: &str) -> Result<ReportBuilder, Cause>
     ensures read { IfOk result (λ text. ((bytes : List ℕ) × IsInput (D.view disk.old).files name.now bytes
         × HasRead bytes text)) }
     ensures stopped { IfErr result (λ cause. StopsAtFile name.now (D.view disk.old) (D.view disk.new) cause) }
     ensures only_reads { OnlyReads (D.view disk.old) (D.view disk.new) }
 {
     let size = input_size(alloc, disk, name)?;
-    let mut text = ReportText::new(alloc)?;
+    let mut text = ReportBuilder::new(alloc)?;
     read_pieces(alloc, disk, name, size, &mut text)?;
     Ok(text)
 }
 
 // Returns the report of the log whose text was read, or `None` where the log has no entry. A refusal names the file
 // `name`.
-fn report_of(alloc: Global, name: &str, text: ReportText) -> Result<Option<Report>, Cause>
+fn report_of(alloc: Global, name: &str, text: ReportBuilder) -> Result<Option<Report>, Cause>
     ensures report { (bytes : List ℕ) → HasRead bytes text → IfOk result (λ report. IsReport bytes report) }
     ensures refused { (bytes : List ℕ) → HasRead bytes text
         → MatchResult result (λ _. log_refusal name.now bytes ≡ None)
@@ -145,7 +167,7 @@ pub fn answer_report<D: Disk, O: Sink>(
     ensures out_counts { CountsSinkFaults (O.view out.old) (O.view out.new) }
 {
     match read_report(alloc, words)? {
-        Some(job) => report(alloc, &job, disk, out),
-        None => Err(Cause::usage()),
+        Ok(job) => report(alloc, &job, disk, out),
+        Err(fault) => Err(Cause::usage(fault)),
     }
 }

@@ -1,4 +1,3 @@
-pub mod WordLemmas
 pub mod RunLemmas
 pub mod FirstLemmas
 pub mod StreamLemmas

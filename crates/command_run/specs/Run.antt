@@ -1,6 +1,6 @@
 -- What `run` is asked for, and what it gives.
-use Rattle.std.specs.Prelude.{◌≡◌, ℕ, ◌+◌, Bool, List, Option, Some, None, position, take}
-use Rattle.std.specs.Prelude.{drop, option_and_then, is_some, ◌&&◌, if◌then◌else◌}
+use Rattle.std.specs.Prelude.{◌≡◌, ℕ, Bool, List, [], ◌∷◌, Option, Some, None, option_and_then, is_some, ◌&&◌}
+use Rattle.std.specs.Prelude.{if◌then◌else◌}
 use Rattle.text_base.specs.Numbers.{decimal_of}
 use Rattle.packet_record.specs.Schedules.{IsScheduleText}
 use Rattle.packet_record.specs.declared.packet.Row.{Row}
@@ -8,18 +8,15 @@ use Rattle.trace_reader.specs.Traces.{TraceView}
 use Rattle.nest_spec.specs.Nests.{NestParts, built, result_of}
 use Rattle.nest_spec.specs.Once.{HaveOneFate}
 use Rattle.nest_spec.specs.Words.{NestPlan}
+use Rattle.option_words.specs.Commands.{table_of}
+use Rattle.option_words.specs.Givens.{◌>>=◌}
 use Rattle.option_words.specs.Numbers.{seed_of}
-use Rattle.option_words.specs.RunApp.{RunTexts, run_texts}
+use Rattle.option_words.specs.Shells.{split_words}
+use Rattle.option_words.specs.declared.command.Command.TheVariants.{Run}
 use Rattle.command_ends.specs.Causes.{Text}
 use Rattle.command_ends.specs.Outputs.{Output, writes}
 use Rattle.nest_command.specs.Inputs.{AreTraceTexts}
 use Rattle.nest_command.specs.RunFiles.{run_files}
-use Rattle.nest_command.specs.Words.{ends_options}
-
-infixl 10 ◌>>=◌
--- `f` of the value, if there is one
-abbrev pub ◌>>=◌ : {A B : Type 0} → Option A → (A → Option B) → Option B
-o >>= f = option_and_then f o
 
 -- the horizon in milliseconds, the names of the files, with that of the order if there is one, the seed, whether
 -- packets pass shell by shell, and the words of the shells
@@ -32,33 +29,30 @@ pub record RunJob : Type 0 where
   pub order : Option Text
   pub shells : List Text
 
--- the job, where the numbers are decimals
-unfoldable pub run_numbers : List Text → RunTexts → Option RunJob
-run_numbers shells texts = do
-  horizon ← decimal_of texts.until
-  seed ← seed_of texts.seed
-  Some (record {
-    horizon = horizon;
-    schedule = texts.schedule;
-    out = texts.out;
-    seed = seed;
-    plain = texts.plain;
-    order = texts.order;
-    shells = shells;
-  })
+-- The job of what is given of each option, and of the words of the shells. The numbers are decimals; `--until`,
+-- `--schedule` and `--out` must be there; `--plain` and `--order` exclude each other.
+unfoldable pub run_from : List (Option Text) → List Text → Option RunJob
+run_from (until ∷ schedule ∷ out ∷ seed ∷ plain ∷ order ∷ []) shells =
+    if is_some plain && is_some order then None else do
+      given_until ← until
+      horizon ← decimal_of given_until
+      number ← seed_of seed
+      given_schedule ← schedule
+      given_out ← out
+      Some (record {
+        horizon = horizon;
+        schedule = given_schedule;
+        out = given_out;
+        seed = number;
+        plain = is_some plain;
+        order = order;
+        shells = shells;
+      })
+run_from _ shells = None
 
--- the job of the options' texts; `--plain` and `--order` exclude each other
-abbrev pub run_with : List Text → RunTexts → Option RunJob
-run_with shells texts = if texts.plain && is_some texts.order then None else run_numbers shells texts
-
--- the job, where the options end at `place`: the words before it are options, and those after it are the shells'
-abbrev pub run_at : Option ℕ → List Text → Option RunJob
-run_at None words = None
-run_at (Some place) words = option_and_then (run_with (drop (place + 1) words)) (run_texts (take place words))
-
--- The job of the words after `run`. The first `--` ends the options and must be there.
+-- The job of the words after `run`.
 unfoldable pub run_of : List Text → Option RunJob
-run_of words = run_at (position ends_options words) words
+run_of words = option_and_then (λ split. run_from split.given split.shells) (split_words (table_of Run) words)
 
 -- a job whose words ask for the nest `plan`, and the texts of its traces and of its schedule
 pub record RunTask : Type 0 where

@@ -1,24 +1,17 @@
 -- What `run` reads and refuses, in order.
-use Rattle.std.specs.Prelude.{List, [], ◌∷◌, ◌++◌, Option, Some, None, map}
+use Rattle.std.specs.Prelude.{List, ◌∷◌, Option, Some, None, map}
 use Rattle.std.specs.Prelude.{option_to_list}
-use Rattle.nest_spec.specs.Words.{NestPlan, nest_of}
+use Rattle.nest_spec.specs.Words.{NestPlan}
 use Rattle.command_ends.specs.Causes.{Text}
-use Rattle.command_ends.specs.Names.{refused_names}
 use Rattle.command_ends.specs.Readings.{Reading, Done, Reads, asked, unless}
-use Rattle.command_ends.specs.declared.cause.Refusal.{Refusal}
 use Rattle.nest_command.specs.Inputs.{reading_schedule, reading_traces}
-use Rattle.nest_command.specs.NestReading.{refused_count, refused_horizon, with_nest}
+use Rattle.nest_command.specs.NestReading.{plan_reading, refused_count}
 use Rattle.command_run.specs.Run.{RunJob, RunTask, run_of}
 use Rattle.trace_reader.specs.TraceIn.{trace_in}
 
--- the names of the inputs: the traces, the schedule, and the order if there is one
-abbrev pub input_names : RunJob → NestPlan → List Text
-input_names job plan = (plan.traces ++ job.schedule ∷ []) ++ option_to_list job.order
-
--- An output that has the name of an input, or of an output before it, is refused. The outputs are the logs, in the
--- order of the shells, up before down, and the fates.
-abbrev pub refused_outputs : RunJob → NestPlan → Option Refusal
-refused_outputs job plan = refused_names (input_names job plan) (plan.logs ++ job.out ∷ [])
+-- the names of the inputs beside the traces: the schedule, and the order if there is one
+abbrev pub input_names : RunJob → List Text
+input_names job = job.schedule ∷ option_to_list job.order
 
 -- The file of the order is read, if there is one. Any bytes are an order, and the run gives the same by each.
 abbrev pub reading_order : {A : Type 0} → Option Text → Reading A → Reading A
@@ -36,11 +29,7 @@ run_inputs job plan =
 
 -- Words that name no nest, names that are taken and a horizon past an hour are refused before any file is read.
 abbrev pub run_reading : RunJob → Reading RunTask
-run_reading job =
-    with_nest (nest_of job.shells) (λ plan.
-    unless (refused_outputs job plan) (
-    unless (refused_horizon job.horizon) (
-    run_inputs job plan)))
+run_reading job = plan_reading job.shells (input_names job) job.out job.horizon (run_inputs job)
 
 -- what `run` reads and refuses by the words after it
 abbrev pub run_words : List Text → Reading RunTask

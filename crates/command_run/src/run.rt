@@ -1,5 +1,5 @@
 // The command `run`: its words, its inputs, its packets, and the files that it writes.
-ghost use Rattle.std.specs.Prelude.{◌≡◌, ◌≤◌, None, IfErr, IfOk, MatchResult, OnOk, map, string_bytes};
+ghost use Rattle.std.specs.Prelude.{◌≡◌, ◌≤◌, IfErr, IfOk, OnOk, map, string_bytes};
 ghost use Rattle.mm_base.specs.Disk.{DiskView, OnlyReads};
 ghost use Rattle.mm_base.specs.Sink.{SinkView};
 ghost use Rattle.command_ends.specs.Answers.{CountsDisk, cause_in};
@@ -8,13 +8,13 @@ ghost use Rattle.command_ends.specs.inside.Ends.{FinishesOnly};
 ghost use Rattle.command_ends.specs.Outputs.{writes};
 ghost use Rattle.command_ends.specs.Alone.{IsLeftAlone};
 ghost use Rattle.command_ends.specs.inside.Accepted.{AcceptsWords};
-ghost use Rattle.command_ends.specs.Stops.{RefusesText, StopsReading};
+ghost use Rattle.command_ends.specs.Stops.{StopsReading};
 ghost use Rattle.command_ends.specs.inside.Stops.{ReadsOn};
 ghost use Rattle.command_ends.specs.Works.{only};
 ghost use Rattle.command_run.specs.inside.Loaded.{HasNest};
 ghost use Rattle.nest_command.specs.RunFiles.{run_files};
 ghost use Rattle.command_run.specs.Run.{GivesRun};
-ghost use Rattle.command_run.specs.RunReading.{input_names, refused_outputs, run_inputs, run_reading, run_words};
+ghost use Rattle.command_run.specs.RunReading.{input_names, run_inputs, run_reading, run_words};
 ghost use Rattle.command_run.specs.inside.Passed.{passed_lists};
 ghost use Rattle.command_run.specs.inside.Values.{run_values};
 
@@ -24,37 +24,24 @@ use crate::run_files::write_files;
 use crate::run_job::{RunJob, read_run};
 use command_ends::{Cause, Host};
 use mm_base::{Disk, Pace};
-use nest_command::{check_count, check_horizon, check_outputs, load_traces, names_of, nest_cause};
-use nest_spec::{Nest, NestWords, build, read_nest};
+use nest_command::{check_count, load_traces, read_plan};
+use nest_spec::{Nest, NestWords, build};
 use std::alloc::Global;
 use std::marker::Sync;
 use std::sync::Wait;
 use std::thread::Threads;
 use text_base::OutOfMemory;
 
-// Returns the names of a run's inputs: the traces, the schedule, and the order if there is one.
-fn input_names<'a>(
-    alloc: Global,
-    job: &RunJob<'a>,
-    nest: &'a NestWords,
-) -> Result<Vec<&'a str>, OutOfMemory>
-    ensures { IfOk result (λ names. map (λ name. name.now) names.items ≡ input_names (run_values job.now) nest.now) }
+// Returns the names of the inputs beside the traces: the schedule, and the order if there is one.
+fn input_names<'a>(alloc: Global, job: &RunJob<'a>) -> Result<Vec<&'a str>, OutOfMemory>
+    ensures { IfOk result (λ names. map (λ name. name.now) names.items ≡ input_names (run_values job.now)) }
 {
-    let mut names = names_of(alloc, nest.traces(), job.schedule)?;
+    let mut names = Vec::with_capacity(alloc, 2)?;
+    names.push(job.schedule)?;
     if let Some(order) = job.order {
         names.push(order)?;
     }
     Ok(names)
-}
-
-// Refuses the first output that has the name of an input, or of an output before it.
-fn check_names(alloc: Global, job: &RunJob<'_>, nest: &NestWords) -> Result<(), Cause>
-    ensures { MatchResult result (λ _. refused_outputs (run_values job.now) nest.now ≡ None)
-        (λ cause. RefusesText (refused_outputs (run_values job.now) nest.now) cause) }
-{
-    let inputs = input_names(alloc, job, nest)?;
-    let outputs = names_of(alloc, nest.logs(), job.out)?;
-    check_outputs(alloc, inputs.as_slice(), outputs.as_slice())
 }
 
 // Returns the words of the job's nest. Refuses words that name no nest, then a name that is taken, then a horizon past
@@ -65,13 +52,8 @@ fn read_words(alloc: Global, job: &RunJob<'_>) -> Result<NestWords, Cause>
     ensures accepts { OnOk result (AcceptsWords (run_reading (run_values job.now))) }
     ensures small { OnOk result (job.now.horizon ≤ 3600000) }
 {
-    let nest = match read_nest(alloc, job.shells) {
-        Ok(nest) => nest,
-        Err(error) => return Err(nest_cause(error)),
-    };
-    check_names(alloc, job, &nest)?;
-    check_horizon(job.horizon)?;
-    Ok(nest)
+    let inputs = input_names(alloc, job)?;
+    read_plan(alloc, job.shells, inputs.as_slice(), job.out, job.horizon)
 }
 
 // Returns the nest of `words` with its traces, which are read from their files.
@@ -150,7 +132,7 @@ pub fn answer_run<R: Threads + Wait + Sync, D: Disk, Q: Pace + Sync>(
     ensures counts { CountsDisk (D.view disk.old) (D.view disk.new) }
 {
     match read_run(host.alloc, words)? {
-        Some(job) => run(host, &job, disk, pace),
-        None => Err(Cause::usage()),
+        Ok(job) => run(host, &job, disk, pace),
+        Err(fault) => Err(Cause::usage(fault)),
     }
 }

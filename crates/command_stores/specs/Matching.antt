@@ -4,8 +4,9 @@ use Rattle.http_frame.specs.declared.messages.RequestHead.{RequestHead}
 use Rattle.record_store.specs.StoreText.{StoreSays}
 use Rattle.record_store.specs.declared.record.Record.{Record}
 use Rattle.request_match.specs.Match.{BestCause}
-use Rattle.option_words.specs.Commands.{MatchTexts, match_texts}
-use Rattle.option_words.specs.Givens.{◌>>=◌}
+use Rattle.option_words.specs.Commands.{table_of}
+use Rattle.option_words.specs.Givens.{givens, ◌>>=◌}
+use Rattle.option_words.specs.declared.command.Command.TheVariants.{Match}
 use Rattle.command_ends.specs.Causes.{Text}
 use Rattle.command_ends.specs.Outputs.{Output, prints}
 use Rattle.command_ends.specs.Readings.{Reading, Done, asked}
@@ -19,19 +20,18 @@ pub record MatchJob : Type 0 where
   pub request : Text
   pub port : Option ℕ
 
--- the job of the options' texts and their port
-abbrev pub match_at : MatchTexts → Option ℕ → MatchJob
-match_at texts port = record { store = texts.store; request = texts.request; port = port }
-
--- the job of the options' texts, where that of the port, if given, is a port
-unfoldable pub match_with : MatchTexts → Option MatchJob
-match_with texts = do
-  port ← given_port texts.port
-  Some (match_at texts port)
+-- The job of what is given of each option. `--store` and `--request` must be there.
+unfoldable pub match_from : List (Option Text) → Option MatchJob
+match_from (store ∷ request ∷ port ∷ []) = do
+  number ← given_port port
+  given_store ← store
+  given_request ← request
+  Some (record { store = given_store; request = given_request; port = number })
+match_from _ = None
 
 -- the job of the words after `match`
 unfoldable pub match_job_of : List Text → Option MatchJob
-match_job_of words = option_and_then match_with (match_texts words)
+match_job_of words = option_and_then match_from (givens (table_of Match) words)
 
 -- a job, and the texts of the store and of the request
 pub record MatchTask : Type 0 where

@@ -1,9 +1,10 @@
 -- What `migrate` is asked for, what it reads and refuses, and what it gives.
-use Rattle.std.specs.Prelude.{◌≡◌, ℕ, List, [], ◌∷◌, Option, Ok}
-use Rattle.std.specs.Option.{option_map}
+use Rattle.std.specs.Prelude.{◌≡◌, ℕ, List, [], ◌∷◌, Option, Some, None, Ok, option_and_then}
 use Rattle.record_store.specs.StoreText.{StoreSays}
 use Rattle.record_store.specs.declared.record.Record.{Record}
-use Rattle.option_words.specs.Commands.{MigrateTexts, migrate_texts}
+use Rattle.option_words.specs.Commands.{table_of}
+use Rattle.option_words.specs.Givens.{givens, ◌>>=◌}
+use Rattle.option_words.specs.declared.command.Command.TheVariants.{Migrate}
 use Rattle.command_ends.specs.Causes.{Text}
 use Rattle.command_ends.specs.Names.{refused_names}
 use Rattle.command_ends.specs.Outputs.{Output, writes}
@@ -16,13 +17,17 @@ pub record MigrateJob : Type 0 where
   pub store : Text
   pub out : Text
 
--- the job of the options' texts
-abbrev pub migrate_with : MigrateTexts → MigrateJob
-migrate_with texts = record { store = texts.store; out = texts.out }
+-- The job of what is given of each option, both of which must be there.
+unfoldable pub migrate_from : List (Option Text) → Option MigrateJob
+migrate_from (store ∷ out ∷ []) = do
+  given_store ← store
+  given_out ← out
+  Some (record { store = given_store; out = given_out })
+migrate_from _ = None
 
 -- the job of the words after `migrate`
 unfoldable pub migrate_job_of : List Text → Option MigrateJob
-migrate_job_of words = option_map migrate_with (migrate_texts words)
+migrate_job_of words = option_and_then migrate_from (givens (table_of Migrate) words)
 
 -- a job, and the text of the store
 pub record MigrateTask : Type 0 where

@@ -2,11 +2,12 @@
 use Rattle.std.specs.Prelude.{◌≡◌, ◌≢◌, ℕ, List, [], ◌∷◌, Option, Some, None, Ok, Err, unwrap_or, option_and_then}
 use Rattle.record_store.specs.Pairs.{Pairs}
 use Rattle.record_store.specs.Refusals.{pair_number, request_named}
-use Rattle.record_store.specs.declared.record.Record.{Record}
+use Rattle.record_store.specs.declared.record.Record as stored
 use Rattle.record_store.specs.declared.errors.PairError.{PairError}
 use Rattle.record_store.specs.declared.errors.PairError.TheVariants as errors
-use Rattle.option_words.specs.Commands.{RecordTexts, record_texts}
-use Rattle.option_words.specs.Givens.{◌>>=◌}
+use Rattle.option_words.specs.Commands.{table_of}
+use Rattle.option_words.specs.Givens.{givens, ◌>>=◌}
+use Rattle.option_words.specs.declared.command.Command.TheVariants.{Record}
 use Rattle.command_ends.specs.Causes.{Text}
 use Rattle.command_ends.specs.Names.{refused_names}
 use Rattle.command_ends.specs.Outputs.{Output, writes}
@@ -24,20 +25,20 @@ pub record RecordJob : Type 0 where
   pub out : Text
   pub port : ℕ
 
--- the job of the options' texts and their port, which is 0 where none is given
-abbrev pub record_at : RecordTexts → Option ℕ → RecordJob
-record_at texts port =
-    record { client = texts.client; server = texts.server; out = texts.out; port = unwrap_or port 0 }
-
--- the job of the options' texts, where that of the port, if given, is a port
-unfoldable pub record_with : RecordTexts → Option RecordJob
-record_with texts = do
-  port ← given_port texts.port
-  Some (record_at texts port)
+-- The job of what is given of each option. `--client`, `--server` and `--out` must be there; the port is 0 if none is
+-- given.
+unfoldable pub record_from : List (Option Text) → Option RecordJob
+record_from (client ∷ server ∷ out ∷ port ∷ []) = do
+  number ← given_port port
+  given_client ← client
+  given_server ← server
+  given_out ← out
+  Some (record { client = given_client; server = given_server; out = given_out; port = unwrap_or number 0 })
+record_from _ = None
 
 -- the job of the words after `record`
 unfoldable pub record_job_of : List Text → Option RecordJob
-record_job_of words = option_and_then record_with (record_texts words)
+record_job_of words = option_and_then record_from (givens (table_of Record) words)
 
 -- the file that a refusal of the streams names: the client's for a bad request, else the server's
 abbrev pub stream_named : RecordJob → PairError → Text
@@ -50,7 +51,7 @@ stream_named job errors.OutOfMemory = job.server
 -- The streams pair, or they are refused. The refusal names a file, the number of the error, and the request that the
 -- error names.
 abbrev pub PairVerdict : RecordJob → List ℕ → List ℕ → Option Refusal → Type 0
-PairVerdict job client server None = (rs : List Record) × Pairs client server job.port (Ok rs)
+PairVerdict job client server None = (rs : List stored.Record) × Pairs client server job.port (Ok rs)
 PairVerdict job client server (Some refusal) =
     (e : PairError) × (e ≢ errors.OutOfMemory) × Pairs client server job.port (Err e)
     × (refusal ≡ BadInput (stream_named job e) (pair_number e) (request_named e))
@@ -63,7 +64,7 @@ pub record RecordTask : Type 0 where
 
 -- The text of the store of the pairs is written.
 pub record GivesRecord (task : RecordTask) (output : Output) : Type 0 where
-  pub records : List Record
+  pub records : List stored.Record
   pub pairs : Pairs task.client task.server task.job.port (Ok records)
   pub output_is : output ≡ writes (store_file task.job.out records)
 

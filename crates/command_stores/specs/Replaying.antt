@@ -1,6 +1,6 @@
 -- What `replay` is asked for, what it reads and refuses, and what it does with its port.
-use Rattle.std.specs.Prelude.{◌≡◌, ℕ, Bool, List, Option, Some, None, Ok, Err}
-use Rattle.std.specs.Prelude.{option_and_then, if◌then◌else◌}
+use Rattle.std.specs.Prelude.{◌≡◌, ℕ, Bool, List, [], ◌∷◌, Option, Some, None, Ok, Err}
+use Rattle.std.specs.Prelude.{is_some, option_and_then, if◌then◌else◌}
 use Rattle.mm_base.specs.Counts.{Rose}
 use Rattle.mm_base.specs.Link.{LinkView}
 use Rattle.mm_base.specs.Port.{PortView}
@@ -10,9 +10,10 @@ use Rattle.replay_server.specs.Servings.{IsServing, ListensAt, most_served}
 use Rattle.replay_server.specs.declared.ends.Served.{Served}
 use Rattle.replay_server.specs.declared.ends.ServeError.{ServeError}
 use Rattle.replay_server.specs.declared.ends.ServeError.TheVariants as errors
-use Rattle.option_words.specs.Commands.{ReplayTexts, replay_texts}
-use Rattle.option_words.specs.Givens.{◌>>=◌}
+use Rattle.option_words.specs.Commands.{table_of}
+use Rattle.option_words.specs.Givens.{givens, ◌>>=◌}
 use Rattle.option_words.specs.Numbers.{number_within, port_of}
+use Rattle.option_words.specs.declared.command.Command.TheVariants.{Replay}
 use Rattle.command_ends.specs.Causes.{Text}
 use Rattle.command_ends.specs.Outputs.{Output, prints}
 use Rattle.command_ends.specs.Readings.{Reading, Done, asked}
@@ -40,23 +41,28 @@ abbrev pub site_port_in : ℕ → Option Text → Option ℕ
 site_port_in port None = Some port
 site_port_in port (Some text) = port_of text
 
--- the numbers are within their ranges
-unfoldable pub replay_with : ReplayTexts → Option ReplayJob
-replay_with texts = do
-  port ← port_of texts.port
-  connections ← number_within 1 64 texts.connections
-  site_port ← site_port_in port texts.site_port
+-- The job of what is given of each option. The numbers are decimals within their ranges; `--store`, `--port` and
+-- `--connections` must be there.
+unfoldable pub replay_from : List (Option Text) → Option ReplayJob
+replay_from (store ∷ port ∷ connections ∷ site_port ∷ until_ended ∷ []) = do
+  given_port ← port
+  listened ← port_of given_port
+  given_connections ← connections
+  number ← number_within 1 64 given_connections
+  asked_at ← site_port_in listened site_port
+  given_store ← store
   Some (record {
-    store = texts.store;
-    port = port;
-    connections = connections;
-    site_port = site_port;
-    until_ended = texts.until_ended;
+    store = given_store;
+    port = listened;
+    connections = number;
+    site_port = asked_at;
+    until_ended = is_some until_ended;
   })
+replay_from _ = None
 
 -- the job of `replay`'s words
 unfoldable pub replay_job_of : List Text → Option ReplayJob
-replay_job_of words = option_and_then replay_with (replay_texts words)
+replay_job_of words = option_and_then replay_from (givens (table_of Replay) words)
 
 -- a job, and the text of its store
 pub record ReplayTask : Type 0 where

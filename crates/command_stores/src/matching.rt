@@ -3,7 +3,7 @@ ghost use Rattle.std.specs.Prelude.{◌≡◌, ◌<◌, ◌+◌, IfOk, IfErr, le
 ghost use Rattle.std.specs.Option.{option_map};
 ghost use Rattle.mm_base.specs.Disk.{OnlyReads};
 ghost use Rattle.mm_base.specs.Sink.{CountsSinkFaults};
-ghost use Rattle.option_words.specs.View.{match_texts_of};
+ghost use Rattle.std.specs.Result.{result_ok};
 ghost use Rattle.command_ends.specs.Answers.{CountsDisk, cause_in};
 ghost use Rattle.command_ends.specs.Ends.{Ends, offline};
 ghost use Rattle.command_ends.specs.inside.Ends.{FinishesOnly};
@@ -11,7 +11,7 @@ ghost use Rattle.command_ends.specs.Outputs.{prints};
 ghost use Rattle.command_ends.specs.Alone.{IsLeftAlone};
 ghost use Rattle.command_ends.specs.Stops.{StopsReading};
 ghost use Rattle.command_ends.specs.Works.{only};
-ghost use Rattle.command_stores.specs.Matching.{GivesMatch, HasNumber, match_job_of, match_reading, match_with};
+ghost use Rattle.command_stores.specs.Matching.{GivesMatch, HasNumber, match_job_of, match_reading, match_from};
 ghost use Rattle.command_stores.specs.Matching.{match_words, number_text};
 ghost use Rattle.command_stores.specs.inside.Values.{match_values};
 
@@ -20,10 +20,10 @@ use crate::request_file::load_request;
 use command_ends::{Cause, print};
 use http_frame::RequestHead;
 use mm_base::{Disk, Sink};
-use option_words::{MatchWords, parse_match};
+use option_words::{Command, WordFault, job_or_fault, read_given};
 use record_store::Store;
 use request_match::best;
-use std::alloc::Global;
+use std::alloc::{AllocError, Global};
 use store_files::load_store;
 use text_base::{Bytes, OutOfMemory, write_decimal};
 
@@ -36,31 +36,41 @@ pub(crate) struct MatchJob<'a> {
     pub port: Option<u16>,
 }
 
-// Returns the job of `words`, the words after `match`, or `None` where they name none. Returns `OutOfMemory` where an
-// allocation fails.
-#[tactic(auto, unfolding(crate::specs::Matching::match_job_of))]
-fn read_match<'a>(alloc: Global, words: &'a [String]) -> Result<Option<MatchJob<'a>>, OutOfMemory>
+// Returns the job of what is given of each option.
+#[tactic(auto, unfolding(crate::specs::Matching::match_from))]
+fn match_job<'a>(given: &[Option<&'a str>]) -> Option<MatchJob<'a>>
+    ensures { option_map match_values result ≡ match_from (map (λ o. option_map (λ s. s.now) o) given.now) }
+{
+    let [store, request, port] = given else {
+        return None;
+    };
+    let port = given_port(*port)?;
+    Some(MatchJob {
+        store: (*store)?,
+        request: (*request)?,
+        port,
+    })
+}
+
+// Returns the job of `words`, or `None` if they have none.
+fn find_match<'a>(alloc: Global, words: &'a [String]) -> Result<Option<MatchJob<'a>>, AllocError>
     ensures { IfOk result (λ found. option_map match_values found ≡ match_job_of (map string_bytes words.now)) }
 {
-    match parse_match(alloc, words)? {
-        Some(texts) => Ok(with_port(texts)),
+    match read_given(alloc, Command::Match, words)? {
+        Some(given) => Ok(match_job(&given)),
         None => Ok(None),
     }
 }
 
-// Returns the job of the options' values, where the text of the port, if given, is a port.
-#[tactic(auto, unfolding(crate::specs::Matching::match_with))]
-fn with_port<'a>(texts: MatchWords<'a>) -> Option<MatchJob<'a>>
-    ensures { option_map match_values result ≡ match_with (match_texts_of texts.entry) }
+// Returns the job of `words`, the words after the command's name, or their first fault.
+fn read_match<'a>(
+    alloc: Global,
+    words: &'a [String],
+) -> Result<Result<MatchJob<'a>, WordFault>, AllocError>
+    ensures { IfOk result (λ read. option_map match_values (result_ok read) ≡ match_job_of (map string_bytes words.now)) }
 {
-    match given_port(texts.port) {
-        Some(port) => Some(MatchJob {
-            store: texts.store,
-            request: texts.request,
-            port,
-        }),
-        None => None,
-    }
+    let found = find_match(alloc, words)?;
+    Ok(job_or_fault(found, Command::Match, words))
 }
 
 // Returns the number of the record at `place`, counted from 1.
@@ -145,7 +155,7 @@ pub fn answer_match<D: Disk, O: Sink>(
     ensures out_counts { CountsSinkFaults (O.view out.old) (O.view out.new) }
 {
     match read_match(alloc, words)? {
-        Some(job) => print_best(alloc, &job, disk, out),
-        None => Err(Cause::usage()),
+        Ok(job) => print_best(alloc, &job, disk, out),
+        Err(fault) => Err(Cause::usage(fault)),
     }
 }

@@ -1,6 +1,7 @@
 // The command `migrate`: its words, and the store that it writes in form 2.
 ghost use Rattle.std.specs.Prelude.{◌≡◌, IfOk, IfErr, map, string_bytes, OnOk};
 ghost use Rattle.std.specs.Option.{option_map};
+ghost use Rattle.std.specs.Result.{result_ok};
 ghost use Rattle.mm_base.specs.Disk.{DiskView, OnlyReads};
 ghost use Rattle.mm_base.specs.Sink.{SinkView};
 ghost use Rattle.command_ends.specs.Answers.{CountsDisk, cause_in};
@@ -13,18 +14,17 @@ ghost use Rattle.command_ends.specs.Stops.{StopsReading};
 ghost use Rattle.command_ends.specs.inside.Stops.{ReadsOn};
 ghost use Rattle.command_ends.specs.Works.{only};
 ghost use Rattle.command_stores.specs.Migrating.{GivesMigrate, migrate_inputs, migrate_job_of, migrate_reading};
-ghost use Rattle.command_stores.specs.Migrating.{migrate_words};
+ghost use Rattle.command_stores.specs.Migrating.{migrate_from, migrate_words};
 ghost use Rattle.command_stores.specs.inside.Values.{migrate_values};
 ghost use Rattle.store_files.specs.Written.{store_file};
 
 use crate::names::check_names;
 use command_ends::Cause;
 use mm_base::Disk;
-use option_words::parse_migrate;
+use option_words::{Command, WordFault, job_or_fault, read_given};
 use record_store::Store;
-use std::alloc::Global;
+use std::alloc::{AllocError, Global};
 use store_files::{load_store, write_store};
-use text_base::OutOfMemory;
 
 // The job of `migrate`: the names of the files of a store in either form, and of the same store in form 2.
 #[derive(Drop)]
@@ -33,22 +33,42 @@ pub(crate) struct MigrateJob<'a> {
     pub out: &'a str,
 }
 
-// Returns the job of `words`, the words after `migrate`, or `None` where they name none. Returns `OutOfMemory` where an
-// allocation fails.
-#[tactic(auto, unfolding(crate::specs::Migrating::migrate_job_of))]
+// Returns the job of what is given of each option.
+#[tactic(auto, unfolding(crate::specs::Migrating::migrate_from))]
+fn migrate_job<'a>(given: &[Option<&'a str>]) -> Option<MigrateJob<'a>>
+    ensures { option_map migrate_values result ≡ migrate_from (map (λ o. option_map (λ s. s.now) o) given.now) }
+{
+    let [store, out] = given else {
+        return None;
+    };
+    Some(MigrateJob {
+        store: (*store)?,
+        out: (*out)?,
+    })
+}
+
+// Returns the job of `words`, or `None` if they have none.
+fn find_migrate<'a>(
+    alloc: Global,
+    words: &'a [String],
+) -> Result<Option<MigrateJob<'a>>, AllocError>
+    ensures { IfOk result (λ found. option_map migrate_values found ≡ migrate_job_of (map string_bytes words.now)) }
+{
+    match read_given(alloc, Command::Migrate, words)? {
+        Some(given) => Ok(migrate_job(&given)),
+        None => Ok(None),
+    }
+}
+
+// Returns the job of `words`, the words after the command's name, or their first fault.
 fn read_migrate<'a>(
     alloc: Global,
     words: &'a [String],
-) -> Result<Option<MigrateJob<'a>>, OutOfMemory>
-    ensures { IfOk result (λ found. option_map migrate_values found ≡ migrate_job_of (map string_bytes words.now)) }
+) -> Result<Result<MigrateJob<'a>, WordFault>, AllocError>
+    ensures { IfOk result (λ read. option_map migrate_values (result_ok read) ≡ migrate_job_of (map string_bytes words.now)) }
 {
-    match parse_migrate(alloc, words)? {
-        Some(texts) => Ok(Some(MigrateJob {
-            store: texts.store,
-            out: texts.out,
-        })),
-        None => Ok(None),
-    }
+    let found = find_migrate(alloc, words)?;
+    Ok(job_or_fault(found, Command::Migrate, words))
 }
 
 // Refuses an output that has the name of the input.
@@ -94,7 +114,7 @@ pub fn answer_migrate<D: Disk>(alloc: Global, words: &[String], disk: &mut D) ->
     ensures counts { CountsDisk (D.view disk.old) (D.view disk.new) }
 {
     match read_migrate(alloc, words)? {
-        Some(job) => migrate(alloc, &job, disk),
-        None => Err(Cause::usage()),
+        Ok(job) => migrate(alloc, &job, disk),
+        Err(fault) => Err(Cause::usage(fault)),
     }
 }

@@ -4,7 +4,7 @@ ghost use Rattle.std.specs.Option.{option_map};
 ghost use Rattle.mm_base.specs.Disk.{DiskView, OnlyReads};
 ghost use Rattle.mm_base.specs.Sink.{SinkView};
 ghost use Rattle.record_store.specs.Pairs.{Pairs};
-ghost use Rattle.option_words.specs.View.{record_texts_of};
+ghost use Rattle.std.specs.Result.{result_ok};
 ghost use Rattle.command_ends.specs.Answers.{CountsDisk, cause_in};
 ghost use Rattle.command_ends.specs.Ends.{Ends, offline};
 ghost use Rattle.command_ends.specs.inside.Ends.{FinishesOnly};
@@ -16,7 +16,7 @@ ghost use Rattle.command_ends.specs.inside.Stops.{ReadsOn, RefusesBy};
 ghost use Rattle.command_ends.specs.Works.{only};
 ghost use Rattle.command_stores.specs.Recording.{GivesRecord, PairVerdict, record_inputs, record_job_of};
 ghost use Rattle.command_stores.specs.Recording.{record_reading};
-ghost use Rattle.command_stores.specs.Recording.{record_with, record_words, stream_named};
+ghost use Rattle.command_stores.specs.Recording.{record_from, record_words, stream_named};
 ghost use Rattle.command_stores.specs.inside.Values.{record_values};
 ghost use Rattle.store_files.specs.Written.{store_file};
 
@@ -24,11 +24,11 @@ use crate::names::check_names;
 use crate::port::given_port;
 use command_ends::{Cause, Refusal, read_input};
 use mm_base::Disk;
-use option_words::{RecordWords, parse_record};
+use option_words::{Command, WordFault, job_or_fault, read_given};
 use record_store::{PairError, Store, pair};
-use std::alloc::Global;
+use std::alloc::{AllocError, Global};
 use store_files::write_store;
-use text_base::{OutOfMemory, Text};
+use text_base::Text;
 
 // The job of `record`: the names of the files of the two streams and of the store, and the port that each record gets,
 // which is that of the server, or 0 for any.
@@ -40,32 +40,42 @@ pub(crate) struct RecordJob<'a> {
     pub port: u16,
 }
 
-// Returns the job of `words`, the words after `record`, or `None` where they name none. Returns `OutOfMemory` where an
-// allocation fails.
-#[tactic(auto, unfolding(crate::specs::Recording::record_job_of))]
-fn read_record<'a>(alloc: Global, words: &'a [String]) -> Result<Option<RecordJob<'a>>, OutOfMemory>
+// Returns the job of what is given of each option. The port is 0 if none is given.
+#[tactic(auto, unfolding(crate::specs::Recording::record_from))]
+fn record_job<'a>(given: &[Option<&'a str>]) -> Option<RecordJob<'a>>
+    ensures { option_map record_values result ≡ record_from (map (λ o. option_map (λ s. s.now) o) given.now) }
+{
+    let [client, server, out, port] = given else {
+        return None;
+    };
+    let port = given_port(*port)?;
+    Some(RecordJob {
+        client: (*client)?,
+        server: (*server)?,
+        out: (*out)?,
+        port: port.unwrap_or(0),
+    })
+}
+
+// Returns the job of `words`, or `None` if they have none.
+fn find_record<'a>(alloc: Global, words: &'a [String]) -> Result<Option<RecordJob<'a>>, AllocError>
     ensures { IfOk result (λ found. option_map record_values found ≡ record_job_of (map string_bytes words.now)) }
 {
-    match parse_record(alloc, words)? {
-        Some(texts) => Ok(with_port(texts)),
+    match read_given(alloc, Command::Record, words)? {
+        Some(given) => Ok(record_job(&given)),
         None => Ok(None),
     }
 }
 
-// Returns the job of the options' values, where the text of the port, if given, is a port. It is 0 where none is given.
-#[tactic(auto, unfolding(crate::specs::Recording::record_with))]
-fn with_port<'a>(texts: RecordWords<'a>) -> Option<RecordJob<'a>>
-    ensures { option_map record_values result ≡ record_with (record_texts_of texts.entry) }
+// Returns the job of `words`, the words after the command's name, or their first fault.
+fn read_record<'a>(
+    alloc: Global,
+    words: &'a [String],
+) -> Result<Result<RecordJob<'a>, WordFault>, AllocError>
+    ensures { IfOk result (λ read. option_map record_values (result_ok read) ≡ record_job_of (map string_bytes words.now)) }
 {
-    match given_port(texts.port) {
-        Some(port) => Some(RecordJob {
-            client: texts.client,
-            server: texts.server,
-            out: texts.out,
-            port: port.unwrap_or(0),
-        }),
-        None => None,
-    }
+    let found = find_record(alloc, words)?;
+    Ok(job_or_fault(found, Command::Record, words))
 }
 
 // Returns the name of the file that a refusal of the streams names: the client's for a bad request, else the server's.
@@ -147,7 +157,7 @@ pub fn answer_record<D: Disk>(alloc: Global, words: &[String], disk: &mut D) -> 
     ensures counts { CountsDisk (D.view disk.old) (D.view disk.new) }
 {
     match read_record(alloc, words)? {
-        Some(job) => make_store(alloc, &job, disk),
-        None => Err(Cause::usage()),
+        Ok(job) => make_store(alloc, &job, disk),
+        Err(fault) => Err(Cause::usage(fault)),
     }
 }

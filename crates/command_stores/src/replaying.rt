@@ -133,7 +133,7 @@ pub fn answer_replay<R: Threads + Wait + Sync, D: Disk, O: Sink, P: Port + Send,
     ensures port_counts { KeepsPort (P.view port.old) (P.view port.new) }
 {
     match read_replay(host.alloc, words)? {
-        Some(job) => replay(host, &job, disk, out, port, pace),
-        None => Err(Cause::usage()),
+        Ok(job) => replay(host, &job, disk, out, port, pace),
+        Err(fault) => Err(Cause::usage(fault)),
     }
 }

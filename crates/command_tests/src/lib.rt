@@ -17,8 +17,6 @@ mod run;
 #[cfg(test)]
 mod serving;
 #[cfg(test)]
-mod telling;
-#[cfg(test)]
 mod turns;
 #[cfg(test)]
 mod wanting;

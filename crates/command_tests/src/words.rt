@@ -1,18 +1,18 @@
 // Words that spell the options of a run, and words that don't.
-use option_words::{RunWords, parse_run};
+use option_words::{Command, read_given};
 use std::alloc::{AllocError, Global};
 use test_outside::words_of;
 use text_base::OutOfMemory;
 
 // Whether these are the values that the options of each run give.
-fn are_given(run: &RunWords<'_>) -> bool {
-    run.until == "100" && run.schedule == "s" && run.out == "f"
+fn are_given(given: &[Option<&str>]) -> bool {
+    matches!(given, [Some("100"), Some("s"), Some("f"), ..])
 }
 
 // Whether words are the options of a run, with those values, where they should be, and aren't where they shouldn't.
 fn is_read_so(alloc: Global, words: &[String], is_read: bool) -> Result<bool, AllocError> {
-    match parse_run(alloc, words)? {
-        Some(run) => Ok(is_read && are_given(&run)),
+    match read_given(alloc, Command::Run, words)? {
+        Some(given) => Ok(is_read && are_given(&given)),
         None => Ok(!is_read),
     }
 }

@@ -7,6 +7,7 @@ use crate::rule::Rule;
 use packet_record::Timed;
 use std::alloc::Global;
 use text_base::OutOfMemory;
+use text_base::limits::HOUR;
 
 // How many packets depart up to the horizon: the first of them, since the moments rise.
 fn departing(rule: Rule, packets: &[Timed]) -> usize
@@ -27,7 +28,7 @@ fn ids(alloc: Global, packets: &[Timed]) -> Result<Vec<u32>, OutOfMemory>
 
 // Each packet as it departs.
 fn let_out(rule: Rule, packets: &mut [Timed])
-    requires { AreUpTo 3600000 packets.old }
+    requires { AreUpTo HOUR packets.old }
     ensures { packets.new ≡ map (later rule.delay) packets.old }
 {
     for t in packets.iter_mut() {
@@ -44,8 +45,8 @@ pub fn delay_all(
     horizon: u64,
     packets: &mut Vec<Timed>,
 ) -> Result<Vec<u32>, OutOfMemory>
-    requires ms { ms ≤ 3600000 }
-    requires horizon { horizon ≤ 3600000 }
+    requires ms { ms ≤ HOUR }
+    requires horizon { horizon ≤ HOUR }
     requires rises { Rise packets.old.items }
     requires within { AreUpTo horizon packets.old.items }
     ensures departed { OnOk result (packets.new.items ≡ delayed ms horizon packets.old.items) }

@@ -1,7 +1,7 @@
 // How long a connection waits for its peer, before and after its user has asked it to end.
 ghost use Rattle.std.specs.Prelude.{◌≤◌, ◌<◌, length, IfOk};
 
-use end_watch::{EndWatch, Waking, Wanted, wait_for};
+use crate::watch::{EndWatch, Waking, Wanted, wait_for};
 use mm_base::{EndError, GIVING_WAITS, TcpLink};
 use std::os::fd::RawFd;
 use std::time::{Clock, Duration, Instant};

@@ -3,7 +3,7 @@ ghost use Rattle.std.specs.Prelude.{◌≡◌, ◌≤◌, ◌<◌, length, None,
 ghost use Rattle.mm_base.specs.Counts.{Rose};
 
 use crate::ending::{Ending, Wait};
-use end_watch::EndWatch;
+use crate::watch::EndWatch;
 use mm_base::{EndError, Link, TcpLimits, TcpLink};
 use std::io;
 use std::net::TcpStream;

@@ -5,7 +5,7 @@ ghost use Rattle.mm_base.specs.Listened.{never};
 
 use crate::link::{EndedLink, Silence};
 use crate::shortage::{is_passed_over, is_shortage, rest_at_shortage};
-use end_watch::{EndWatch, Waking, Wanted};
+use crate::watch::{EndWatch, Waking, Wanted};
 use mm_base::{EndError, Listened, Port, TcpLimits};
 use std::io::{self, ErrorKind, Write};
 use std::marker::Send;

@@ -1,5 +1,5 @@
 // What the system's errors say when a connection is accepted or dialed.
-use end_watch::{EndWatch, Wanted};
+use crate::watch::{EndWatch, Wanted};
 use std::io::{self, ErrorKind};
 
 // The numbers of Linux's errors EMFILE, ENFILE and ENOBUFS: it has no more descriptors, for the program or at all, or

@@ -202,7 +202,7 @@ impl RequestFrames {
         }
     }
 
-    /// Takes a message of `len` bytes off the front.
+    // Takes a message of `len` bytes off the front.
     fn take_off(&mut self, len: usize)
         requires { len ≤ length self.old.unread }
         ensures { self.new ≡ record self.old { unread = drop len self.old.unread } }
@@ -211,7 +211,7 @@ impl RequestFrames {
         self.buffer.advance(len);
     }
 
-    /// Finds the first request, which stays at the front. Returns `OutOfMemory` if an allocation fails.
+    // Finds the first request, which stays at the front. Returns `OutOfMemory` if an allocation fails.
     fn find(&mut self) -> Result<Outcome<RequestHead>, OutOfMemory>
         ensures { FindSays request_form self.old result self.new }
     {

@@ -18,7 +18,7 @@ use httparse::{Error, Status};
 use std::alloc::Global;
 use text_base::{Bytes, OutOfMemory};
 
-/// Returns the request line, with one space between its parts.
+// Returns the request line, with one space between its parts.
 fn line_of(alloc: Global, method: &[u8], target: &[u8], minor: u8) -> Result<Bytes, OutOfMemory>
     requires { minor ≤ 1 }
     ensures { IfOk result (λ line. line ≡ request_line method.now target.now minor) }
@@ -34,7 +34,7 @@ fn line_of(alloc: Global, method: &[u8], target: &[u8], minor: u8) -> Result<Byt
     Ok(Bytes::from_vec(line))
 }
 
-/// Returns a copy of what `span` covers, if there is a span.
+// Returns a copy of what `span` covers, if there is a span.
 fn copy_of(alloc: Global, front: &[u8], span: Option<Span>) -> Result<Option<Bytes>, OutOfMemory>
     requires { IfSome span (IsSpanWithin (length front.now)) }
     ensures { IfOk result (λ bytes. bytes ≡ option_map (span_bytes front.now) span) }
@@ -45,14 +45,14 @@ fn copy_of(alloc: Global, front: &[u8], span: Option<Span>) -> Result<Option<Byt
     }
 }
 
-/// Returns whether the connection closes after the request, as it always does at version 1.0.
+// Returns whether the connection closes after the request, as it always does at version 1.0.
 fn closes_after(minor: u8, asks: bool) -> bool
     ensures { result ≡ (minor == 0 || asks) }
 {
     minor == 0 || asks
 }
 
-/// Returns what a head says, by its parts.
+// Returns what a head says, by its parts.
 fn head_of(
     alloc: Global,
     front: &[u8],
@@ -81,8 +81,8 @@ fn head_of(
     })
 }
 
-/// Returns what reading a whole head gives, by the spans of its parts. `fields` becomes the map of its
-/// fields. Returns `OutOfMemory` if an allocation fails.
+// Returns what reading a whole head gives, by the spans of its parts. `fields` becomes the map of its
+// fields. Returns `OutOfMemory` if an allocation fails.
 fn request_step(
     alloc: Global,
     fields: &mut HeaderMap<Span>,

@@ -44,7 +44,7 @@ pub fn responses_are_found_once()
         → MayStop p.framing ended x → MayStop q.framing ended y → a ++ x ≡ b ++ y → (a ≡ b) × (h ≡ k) }
 {}
 
-/// Returns the pending head, if it was read as that of a response of the wanted kind.
+// Returns the pending head, if it was read as that of a response of the wanted kind.
 fn of_kind(
     pending: Option<Pending<ResponseHead>>,
     read_for: bool,
@@ -187,7 +187,7 @@ impl ResponseFrames {
         }
     }
 
-    /// Takes a message of `len` bytes off the front.
+    // Takes a message of `len` bytes off the front.
     fn take_off(&mut self, len: usize)
         requires { len ≤ length self.old.unread }
         ensures { self.new ≡ record self.old { unread = drop len self.old.unread } }
@@ -196,7 +196,7 @@ impl ResponseFrames {
         self.buffer.advance(len);
     }
 
-    /// Finds the first response, which stays at the front. Returns `OutOfMemory` if an allocation fails.
+    // Finds the first response, which stays at the front. Returns `OutOfMemory` if an allocation fails.
     fn find(&mut self, head_request: bool) -> Result<Outcome<ResponseHead>, OutOfMemory>
         ensures { FindSays (response_form head_request) self.old result self.new }
     {

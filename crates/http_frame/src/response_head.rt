@@ -18,7 +18,7 @@ use httparse::spans::{EMPTY_HEADER_SPAN, HeaderSpan, ResponseSpans, Span, parse_
 use httparse::{Error, Status};
 use text_base::OutOfMemory;
 
-/// Returns whether the connection closes after the response, as it always does where the body ends with the input.
+// Returns whether the connection closes after the response, as it always does where the body ends with the input.
 fn closes_after(framing: Framing, asks: bool) -> bool
     ensures { result ≡ (ends_late framing || asks) }
 {
@@ -29,7 +29,7 @@ fn closes_after(framing: Framing, asks: bool) -> bool
     }
 }
 
-/// Returns what a head says, by its parts.
+// Returns what a head says, by its parts.
 fn head_of(front: &[u8], framing: Framing, status: u16, fields: &HeaderMap<Span>) -> ResponseHead
     requires { All (IsSpanWithin (length front.now)) (get_all fields.now (codes "connection")) }
     ensures { result ≡ response_said framing status (values_in front.now fields.now (codes "connection")) }
@@ -38,8 +38,8 @@ fn head_of(front: &[u8], framing: Framing, status: u16, fields: &HeaderMap<Span>
     ResponseHead { status, closes }
 }
 
-/// Returns what reading a whole head gives, by the spans of its parts. `fields` becomes the map of its
-/// fields. Returns `OutOfMemory` if an allocation fails.
+// Returns what reading a whole head gives, by the spans of its parts. `fields` becomes the map of its
+// fields. Returns `OutOfMemory` if an allocation fails.
 fn response_step(
     fields: &mut HeaderMap<Span>,
     to_head: bool,

@@ -17,6 +17,7 @@ use packet_record::Timed;
 use std::alloc::Global;
 use std::marker::Model;
 use text_base::OutOfMemory;
+use text_base::limits::{HOUR, MOST_OPPORTUNITIES};
 use trace_reader::Trace;
 
 /// One direction of a link: delivery opportunities, a queue in front of them, and the packet in transit. It keeps no
@@ -57,8 +58,8 @@ impl LinkCore {
         queue: QueueSpec,
         horizon: u64,
     ) -> Result<LinkCore, OutOfMemory>
-        requires horizon { horizon ≤ 3600000 }
-        requires few { length (opps trace.opportunities once horizon) ≤ 16000000 }
+        requires horizon { horizon ≤ HOUR }
+        requires few { length (opps trace.opportunities once horizon) ≤ MOST_OPPORTUNITIES }
         ensures ok { IsOk result }
         ensures value { IfOk result (λ c. c ≡ record {
           trace = trace;

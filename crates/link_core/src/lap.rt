@@ -3,6 +3,7 @@ ghost use Rattle.std.specs.Prelude.{◌≡◌, ◌+◌, ◌<◌, ◌≤◌, ◌�
 ghost use Rattle.trace_reader.specs.Opps.{entry};
 ghost use Rattle.link_core.specs.inside.Laps.{IsLap};
 
+use text_base::limits::{HOUR, MOST_OPPORTUNITIES};
 use trace_reader::{Opportunity, Trace};
 
 /// The lap that begins with opportunity number `first`, counted from 0, at the moment `start`.
@@ -15,7 +16,7 @@ pub struct Lap {
 impl Lap {
     /// The lap of opportunity number `j`.
     pub fn of(trace: &Trace, j: u32) -> Lap
-        requires { j < 16000000 }
+        requires { j < MOST_OPPORTUNITIES }
         ensures lap { IsLap trace.now.opportunities result.first result.start }
         ensures low { result.first ≤ j }
         ensures high { j < result.first + length trace.now.opportunities }
@@ -40,7 +41,7 @@ impl Lap {
         requires lap { IsLap trace.now.opportunities self.first self.start }
         requires low { self.first ≤ j }
         requires high { j < self.first + length trace.now.opportunities }
-        requires within { IfSome (entry trace.now.opportunities j) (λ o. o.moment ≤ 3600000) }
+        requires within { IfSome (entry trace.now.opportunities j) (λ o. o.moment ≤ HOUR) }
         ensures { Some result ≡ entry trace.now.opportunities j }
     {
         let found = trace.at((j - self.first) as usize);

@@ -16,6 +16,7 @@ use shell_log::Log;
 use std::alloc::Global;
 use std::marker::Model;
 use text_base::OutOfMemory;
+use text_base::limits::{HOUR, MOST_OPPORTUNITIES};
 use trace_reader::Trace;
 
 /// The log of a link: of the packets that arrived, and of the opportunities that were burnt. It isn't written out: it
@@ -80,8 +81,8 @@ impl LinkLog {
         horizon: u64,
         arrivals: Vec<Timed>,
     ) -> LinkLog
-        requires horizon { horizon ≤ 3600000 }
-        requires few { length (opps trace.opportunities once horizon) ≤ 16000000 }
+        requires horizon { horizon ≤ HOUR }
+        requires few { length (opps trace.opportunities once horizon) ≤ MOST_OPPORTUNITIES }
         requires rises { Rise arrivals.items }
         requires within { AreUpTo horizon arrivals.items }
         ensures { result ≡ link_log queue (opps trace.opportunities once horizon) arrivals.items }

@@ -7,20 +7,25 @@ ghost use Rattle.link_core.specs.views.Span.{span_opps};
 use crate::lap::Lap;
 use std::marker::Model;
 use text_base::OutOfMemory;
+use text_base::limits::{HOUR, MOST_OPPORTUNITIES};
 use trace_reader::{Opportunity, Trace};
 
+/// The opportunities of a trace up to a horizon. Contracts see the trace, whether it is played once, and the horizon.
 #[derive(Drop)]
 pub struct Opportunities {
     trace: Trace,
     once: bool,
     horizon: u64,
+    // How many there are.
     number: u32,
+    // The lap in which the latest one was looked up.
     lap: Lap,
 }
 
 impl Model for Opportunities {
     ghost use Rattle.std.specs.Prelude.{◌≡◌, ◌≤◌, length};
     ghost use Rattle.trace_reader.specs.Opps.{opps};
+    ghost use Rattle.text_base.specs.declared.limits.TheConstants.{HOUR, MOST_OPPORTUNITIES};
     ghost use Rattle.link_core.specs.inside.Laps.{IsLap};
     ghost use Rattle.link_core.specs.views.Span.{Span};
 
@@ -28,8 +33,8 @@ impl Model for Opportunities {
 
     ghost view = { λ s. record { trace = s.trace; once = s.once; horizon = s.horizon } };
 
-    ghost invariant = { λ s. (s.number ≡ length (opps s.trace.opportunities s.once s.horizon)) × (s.number ≤ 16000000)
-        × (s.horizon ≤ 3600000)
+    ghost invariant = { λ s. (s.number ≡ length (opps s.trace.opportunities s.once s.horizon)) × (s.number ≤ MOST_OPPORTUNITIES)
+        × (s.horizon ≤ HOUR)
         × IsLap s.trace.opportunities s.lap.first s.lap.start };
 }
 
@@ -37,9 +42,10 @@ impl Model for Opportunities {
 const NEAR: u32 = 8;
 
 impl Opportunities {
+    /// The opportunities of a trace up to the horizon, in milliseconds.
     pub fn new(trace: Trace, once: bool, horizon: u64) -> Self
-        requires horizon { horizon ≤ 3600000 }
-        requires few { length (opps trace.opportunities once horizon) ≤ 16000000 }
+        requires horizon { horizon ≤ HOUR }
+        requires few { length (opps trace.opportunities once horizon) ≤ MOST_OPPORTUNITIES }
         ensures { result ≡ record { trace = trace; once = once; horizon = horizon } }
     {
         let number = trace.count_to(horizon, once) as u32;
@@ -57,6 +63,15 @@ impl Opportunities {
         ensures { result ≡ length (span_opps self.now) }
     {
         self.number
+    }
+
+    // What holds of them.
+    pub fn stands(&self)
+        ensures few { length (span_opps self.now) ≤ MOST_OPPORTUNITIES }
+        ensures order { AreRising (span_opps self.now) }
+        ensures horizon { self.now.horizon ≤ HOUR }
+    {
+        self.trace.len(); // fact: the trace's moments never fall
     }
 
     /// The same opportunities, whose trace is shared and not copied, or out of memory.
@@ -77,8 +92,8 @@ impl Opportunities {
     pub fn take(&mut self, j: u32) -> Opportunity
         requires { j < length (span_opps self.old) }
         ensures at { Some result ≡ slice_get (span_opps self.old) j }
-        ensures within { result.moment ≤ 3600000 }
-        ensures few { length (span_opps self.old) ≤ 16000000 }
+        ensures within { result.moment ≤ HOUR }
+        ensures few { length (span_opps self.old) ≤ MOST_OPPORTUNITIES }
         ensures order { AreRising (span_opps self.old) }
         ensures same { self.new ≡ self.old }
     {
@@ -92,8 +107,8 @@ impl Opportunities {
     /// Opportunity number `j`, counted from 0. Returns `None` where there are no more than `j`.
     pub fn at(&self, j: u32) -> Option<Opportunity>
         ensures at { result ≡ slice_get (span_opps self.now) j }
-        ensures within { IfSome result (λ o. o.moment ≤ 3600000) }
-        ensures few { length (span_opps self.now) ≤ 16000000 }
+        ensures within { IfSome result (λ o. o.moment ≤ HOUR) }
+        ensures few { length (span_opps self.now) ≤ MOST_OPPORTUNITIES }
     {
         if j >= self.number {
             return None;
@@ -107,9 +122,9 @@ impl Opportunities {
         ensures due { MatchOption result (length (up_to moment (span_opps self.old)) ≤ j)
             (λ _. j < length (up_to moment (span_opps self.old))) }
         ensures at { IfSome result (λ o. Some o ≡ slice_get (span_opps self.old) j) }
-        ensures within { IfSome result (λ o. o.moment ≤ 3600000) }
-        ensures few { IfSome result (λ _. j < 16000000) }
-        ensures horizon { self.old.horizon ≤ 3600000 }
+        ensures within { IfSome result (λ o. o.moment ≤ HOUR) }
+        ensures few { IfSome result (λ _. j < MOST_OPPORTUNITIES) }
+        ensures horizon { self.old.horizon ≤ HOUR }
         ensures same { self.new ≡ self.old }
     {
         if j >= self.number {
@@ -135,8 +150,8 @@ impl Opportunities {
         requires { j ≤ length (up_to moment (span_opps self.old)) }
         ensures count { result ≡ length (up_to moment (span_opps self.old)) }
         ensures within { result ≤ length (span_opps self.old) }
-        ensures few { length (span_opps self.old) ≤ 16000000 }
-        ensures horizon { self.old.horizon ≤ 3600000 }
+        ensures few { length (span_opps self.old) ≤ MOST_OPPORTUNITIES }
+        ensures horizon { self.old.horizon ≤ HOUR }
         ensures same { self.new ≡ self.old }
     {
         for count in j..self.number.min(j + NEAR) {
@@ -151,9 +166,9 @@ impl Opportunities {
     pub fn count_to(&self, moment: u64) -> u32
         ensures count { result ≡ length (up_to moment (span_opps self.now)) }
         ensures within { result ≤ length (span_opps self.now) }
-        ensures few { length (span_opps self.now) ≤ 16000000 }
+        ensures few { length (span_opps self.now) ≤ MOST_OPPORTUNITIES }
         ensures order { AreRising (span_opps self.now) }
-        ensures horizon { self.now.horizon ≤ 3600000 }
+        ensures horizon { self.now.horizon ≤ HOUR }
     {
         let until = moment.min(self.horizon);
         self.trace.count_to(until, self.once) as u32

@@ -19,15 +19,24 @@ use packet_queue::{PacketQueue, QueueSpec};
 use packet_record::Timed;
 use std::alloc::Global;
 use text_base::OutOfMemory;
+use text_base::limits::GREATEST_MOMENT;
 use trace_reader::Opportunity;
 
+/// The state of one direction of a link. Whoever runs it (`LinkCore`, `LogPieces`, `run_link`) takes what has departed
+/// or was written down out of it, so clauses say with `IsSoundAfter` what was taken before.
 #[derive(Drop)]
 pub struct Parts {
+    /// The opportunities up to the horizon.
     pub opportunities: Opportunities,
+    /// How many of the opportunities are burnt: these are the first.
     pub burnt: u32,
+    /// The packet in transit, and those in the queue.
     pub buffer: Buffer,
+    /// The packets that arrived, and those that are to come.
     pub arrived: Arrivals,
+    /// The packets that departed and weren't taken yet, each at the moment of its departure.
     pub departed: Vec<Timed>,
+    /// The entries of the log that weren't taken yet, if one is kept.
     pub log: Journal,
 }
 
@@ -50,7 +59,7 @@ impl Parts {
         ensures departed { result.departed.items ≡ [] }
         ensures entries { result.log.entries ≡ [] }
     {
-        let _all = opportunities.count_to(0);
+        opportunities.stands(); // fact: they rise
         Parts {
             opportunities,
             burnt: 0,
@@ -96,7 +105,7 @@ impl Parts {
         requires sound { IsSoundAfter gone self.old }
         requires next { Some o ≡ slice_get (span_opps self.old.opportunities) self.old.burnt }
         requires few { self.old.burnt < 4294967295 }
-        requires short { o.moment ≤ 9999999999 }
+        requires short { o.moment ≤ GREATEST_MOMENT }
         requires departures { length (inside_buffer self.old.buffer) + vec_len self.old.departed
             ≤ vec_capacity self.old.departed }
         requires entries { 1 + length (inside_buffer self.old.buffer) ≤ self.old.log.spare }

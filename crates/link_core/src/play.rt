@@ -14,6 +14,7 @@ ghost use Rattle.link_core.specs.views.Play.{rest_of};
 use crate::parts::Parts;
 use packet_record::Timed;
 use text_base::OutOfMemory;
+use text_base::limits::{GREATEST_MOMENT, MOST_OPPORTUNITIES};
 use trace_reader::Opportunity;
 
 // How many steps are taken after room was made for them.
@@ -26,16 +27,16 @@ const STEP_ENTRIES: usize = 3;
 const PIECE_ENTRIES: usize = 2048;
 
 impl Parts {
-    // Burns the opportunity `o`, which is the next one and due at `moment`. Where nothing is inside and no log is kept,
-    // it burns all that are due.
+    // Burns the next opportunity, `o`, which is due at `moment`. If nothing is inside and no log is kept, it burns all
+    // that are due.
     #[inline(always)]
     fn burn_due(&mut self, o: Opportunity, moment: u64)
         ghost gone: { Gone }
         requires sound { IsSoundAfter gone self.old }
         requires next { Some o ≡ slice_get (span_opps self.old.opportunities) self.old.burnt }
         requires due { self.old.burnt < length (up_to moment (span_opps self.old.opportunities)) }
-        requires few { self.old.burnt < 16000000 }
-        requires short { o.moment ≤ 9999999999 }
+        requires few { self.old.burnt < MOST_OPPORTUNITIES }
+        requires short { o.moment ≤ GREATEST_MOMENT }
         requires departures { length (inside_buffer self.old.buffer) + vec_len self.old.departed
             ≤ vec_capacity self.old.departed }
         requires entries { 1 + length (inside_buffer self.old.buffer) ≤ self.old.log.spare }
@@ -54,9 +55,9 @@ impl Parts {
         }
     }
 
-    // Burns each opportunity that is due before the packet `t`, the next to come, and then lets it in. Each of these is
-    // a step, and so are all that are due together, where nothing is inside and no log is kept. It takes at most `steps`
-    // steps, and returns how many it didn't take.
+    // Burns the opportunities that are due before the next packet, `t`, and then lets it in. Takes at most `steps` steps,
+    // and returns how many are left. To burn one opportunity is a step; so is to burn all that are due, if nothing is
+    // inside and no log is kept; so is to let the packet in. Only the clauses use `_last`.
     #[inline(always)]
     fn go_to(&mut self, t: Timed, _last: u32, steps: usize) -> usize
         ghost gone: { Gone }
@@ -85,8 +86,8 @@ impl Parts {
         0
     }
 
-    // Takes a step where no packet is to come: it burns the next opportunity, or all where nothing is inside and no log
-    // is kept. Returns `steps - 1`, or `steps` where the first `last` are burnt already and there is no step to take.
+    // Takes a step if no packet is to come: burns the next opportunity, or all if nothing is inside and no log is kept.
+    // Returns `steps - 1`, or `steps` if the first `last` are burnt and no step is left to take.
     fn burn_rest(&mut self, last: u32, steps: usize) -> usize
         ghost gone: { Gone }
         requires sound { IsSoundAfter gone self.old }

@@ -12,6 +12,7 @@ use crate::journal::Journal;
 use packet_queue::Dropped;
 use packet_record::Timed;
 use shell_log::Entry;
+use text_base::limits::GREATEST_MOMENT;
 use trace_reader::Opportunity;
 
 /// Uses the opportunity `o`: the packets whose last bytes it carries depart. The opportunity and each departure are
@@ -21,7 +22,7 @@ pub fn serve(buffer: &mut Buffer, o: Opportunity, departed: &mut Vec<Timed>, log
     requires part { IsPart buffer.old.packet buffer.old.used }
     requires room { length (inside_buffer buffer.old) + vec_len departed.old ≤ vec_capacity departed.old }
     requires spare { 1 + length (inside_buffer buffer.old) ≤ log.old.spare }
-    requires short { o.moment ≤ 9999999999 }
+    requires short { o.moment ≤ GREATEST_MOMENT }
     requires order { AreUpTo o.moment log.old.entries }
     ensures buffer { IsServed o buffer.old buffer.new }
     ensures departed { departed.new.items ≡ departed.old.items ++ map (moved_to o.moment) (served buffer.old o) }
@@ -54,7 +55,7 @@ pub fn serve(buffer: &mut Buffer, o: Opportunity, departed: &mut Vec<Timed>, log
 pub fn note(log: &mut Journal, t: Timed, dropped: Dropped)
     requires spare { 2 ≤ log.old.spare }
     requires order { AreUpTo t.moment log.old.entries }
-    requires short { t.moment ≤ 9999999999 }
+    requires short { t.moment ≤ GREATEST_MOMENT }
     requires some { 0 < dropped.packets → 0 < dropped.bytes }
     requires packets { dropped.packets ≤ dropped.bytes }
     requires bytes { dropped.bytes ≤ 3008 }

@@ -18,6 +18,7 @@ use packet_queue::QueueSpec;
 use packet_record::Timed;
 use std::alloc::Global;
 use text_base::OutOfMemory;
+use text_base::limits::{HOUR, MOST_OPPORTUNITIES};
 use trace_reader::Trace;
 
 // A link after all its arrivals and its first `last` opportunities.
@@ -90,8 +91,8 @@ pub fn run_link(
     logged: bool,
     arrivals: Vec<Timed>,
 ) -> Result<Passage, OutOfMemory>
-    requires horizon { horizon ≤ 3600000 }
-    requires few { length (opps trace.opportunities once horizon) ≤ 16000000 }
+    requires horizon { horizon ≤ HOUR }
+    requires few { length (opps trace.opportunities once horizon) ≤ MOST_OPPORTUNITIES }
     requires rises { Rise arrivals.items }
     requires within { AreUpTo horizon arrivals.items }
     ensures departed { IfOk result (λ p. p.departed.items ≡ link_out queue (opps trace.opportunities once horizon)

@@ -28,7 +28,7 @@ front_on {A} xs ys zs a b = record {
   is = b.is ∙ ap (λ (l : List A). l ++ b.more) a.is ∙ append_assoc xs a.more b.more;
 }
 
--- behind the same front
+-- behind the same prefix
 pub front_behind : {A : Type 0} (xs ys zs : List A) → IsFrontOf ys zs → IsFrontOf (xs ++ ys) (xs ++ zs)
 front_behind {A} xs ys zs a = record {
   more = a.more;

@@ -14,14 +14,14 @@ use Rattle.packet_record.specs.Rows.{entering}
 use Rattle.packet_record.specs.Moments.{AreFrom, Rise}
 use Rattle.packet_record.proofs.RowsLemmas.{entering-append}
 use Rattle.packet_record.specs.Packets.{number}
-use Rattle.shell_core.specs.declared.spec.DirSpec.{DirSpec}
-use Rattle.shell_core.specs.Shells.{whole_out}
+use Rattle.shell_state.specs.declared.spec.DirSpec.{DirSpec}
+use Rattle.shell_state.specs.Shells.{whole_out}
 use Rattle.shell_state.specs.Promises.{MayCome}
 use Rattle.nest_spec.specs.declared.shell.ShellDirection.{ShellDirection}
 use Rattle.nest_spec.specs.Nests.{NestParts, directions_of, shells_in}
 use Rattle.nest_spec.specs.Walk.{last_list, walk}
-use Rattle.nest_line.specs.Lines.{IsFront, last_out, out_of, up_to}
-use Rattle.nest_line.proofs.Settling.{up_to-append}
+use Rattle.live_relay.specs.Lines.{IsFront, last_out, out_of, up_to}
+use Rattle.live_relay.proofs.Settling.{up_to-append}
 use Rattle.live_relay.specs.declared.side.Side.{Side}
 use Rattle.live_relay.specs.declared.way.Way.{Way}
 use Rattle.live_relay.specs.Due.{bytes_in, departures, due, pieces_of, towards}

@@ -1,7 +1,7 @@
 -- What the end of a relay leaves, past the horizon, and where it may stop.
 use Rattle.std.proofs.Common.{◌≡◌, inl, inr, ℕ, ◌≤◌, List, Some, option_map, sym, subst, ◌∙◌, refl, arith}
 use Rattle.nest_spec.specs.Nests.{NestParts}
-use Rattle.nest_line.specs.Lines.{IsSettled}
+use Rattle.live_relay.specs.Lines.{IsSettled}
 use Rattle.live_relay.specs.declared.relay_state.Relay.{Relay}
 use Rattle.live_relay.specs.declared.side.Side.TheVariants.{Client, Server}
 use Rattle.live_relay.specs.Due.{due, last_moment}

@@ -8,11 +8,10 @@ use Rattle.packet_record.specs.declared.packet.Row.{Row}
 use Rattle.packet_record.specs.declared.packet.Timed.{Timed}
 use Rattle.packet_record.specs.Rows.{entering}
 use Rattle.packet_record.proofs.RowsLemmas.{entering-append}
-use Rattle.packet_record.specs.declared.item.Stream.{Stream}
-use Rattle.packet_record.specs.Streams.{no_items}
+use Rattle.packet_record.specs.Streams.{Stream, no_items}
 use Rattle.packet_record.specs.Packets.{number}
 use Rattle.nest_spec.specs.Nests.{NestParts, directions_of}
-use Rattle.nest_line.specs.Lines.{IsSettled, LineParts, out_of, up_to}
+use Rattle.live_relay.specs.Lines.{IsSettled, LineParts, out_of, up_to}
 use Rattle.live_relay.specs.declared.relay_state.Relay.{Relay}
 use Rattle.live_relay.specs.declared.side.Side.TheVariants.{Client, Server}
 use Rattle.live_relay.specs.declared.way.Way.{Way}

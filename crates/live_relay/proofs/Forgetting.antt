@@ -10,7 +10,7 @@ use Rattle.packet_record.specs.declared.packet.Packet.{Packet}
 use Rattle.packet_record.specs.declared.packet.Timed.{Timed}
 use Rattle.packet_record.specs.Packets.{number}
 use Rattle.link_core.proofs.OnceLaws.{number_append}
-use Rattle.nest_line.specs.Lines.{number_all}
+use Rattle.live_relay.specs.Lines.{number_all}
 use Rattle.live_relay.specs.declared.kept.Kept.{Kept}
 use Rattle.live_relay.specs.inside.Pieces.{has_number, kept_at}
 

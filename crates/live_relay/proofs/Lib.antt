@@ -13,3 +13,7 @@ pub mod Turning
 pub mod Ending
 pub mod Coursing
 pub mod Forgetting
+pub mod Growing
+pub mod Settling
+pub mod Carrying
+pub mod Lining

@@ -186,7 +186,7 @@ not_fits moment side bytes not = by (nat_le 1 (length bytes)) (nat_le (length by
     by false true e f = (refl, refl)
     by false false e f = (refl, refl)
 
--- the row of a datagram at the front of a buffer
+-- the row of a datagram at the start of a buffer
 pub row_is : (moment id : ℕ) (side : Side) (buf : List ℕ) (size : ℕ) (p : Packet) (d : Direction)
     → size ≤ length buf → p.id ≡ id → p.size ≡ size → d ≡ direction_of side
     → record { direction = d; timed = record { moment = moment; packet = p } } ∷ []

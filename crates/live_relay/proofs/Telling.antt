@@ -112,7 +112,7 @@ some_none nest turns turns' m start w sent client server are = record {
       (front_whole (due nest turns Server (last_moment turns)));
 }
 
--- a front of what waits was sent up
+-- a prefix of what waits was sent up
 pub some_up : (nest : NestParts) (turns turns' : List Turn) (m : ℕ) (r : Relay) (front : List (List ℕ))
     (start w : WireTold) → Grown nest turns turns' m r → IsFrontOf front (waits_up (all_of turns') m r)
     → HasSent nest turns (last_moment turns) start.sent w.sent
@@ -132,7 +132,7 @@ some_up nest turns turns' m r front start w g some sent are =
       order = order_of nest turns turns' m client (server ++ front) are (front_whole client) (front_then server front);
     }
 
--- all that waits was sent up, and a front of what waits down
+-- all that waits was sent up, and a prefix of what waits down
 pub some_down : (nest : NestParts) (turns turns' : List Turn) (m : ℕ) (r : Relay) (front : List (List ℕ))
     (start w : WireTold) → Grown nest turns turns' m r → IsFrontOf front (waits_down (all_of turns') m r)
     → HasSent nest turns (last_moment turns) start.sent w.sent

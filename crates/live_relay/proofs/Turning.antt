@@ -4,7 +4,7 @@ use Rattle.std.proofs.Common.{refl, arith}
 use Rattle.std.proofs.lemmas.List.{length-append}
 use Rattle.packet_record.specs.declared.packet.Direction.TheVariants.{Up, Down}
 use Rattle.nest_spec.specs.Nests.{NestParts}
-use Rattle.nest_line.specs.Lines.{IsSettled, up_to}
+use Rattle.live_relay.specs.Lines.{IsSettled, up_to}
 use Rattle.live_relay.specs.declared.relay_state.Relay.{Relay}
 use Rattle.live_relay.specs.declared.side.Side.TheVariants.{Client, Server}
 use Rattle.live_relay.specs.Due.{last_moment}

@@ -7,7 +7,7 @@ use Rattle.std.proofs.lemmas.List.{drop-take}
 use Rattle.packet_record.specs.declared.packet.Timed.{Timed}
 use Rattle.packet_record.specs.Moments.{AreFrom, Rise}
 use Rattle.packet_record.proofs.MomentsLemmas.{from_at, from_lower}
-use Rattle.nest_line.specs.Lines.{IsFront, up_to}
+use Rattle.live_relay.specs.Lines.{IsFront, up_to}
 
 -- none of these is up to this moment
 pub none_later : (m : ℕ) (ts : List Timed) → AreFrom (m + 1) ts → up_to m ts ≡ []

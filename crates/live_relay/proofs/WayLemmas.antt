@@ -6,15 +6,14 @@ use Rattle.std.proofs.Common.{arith, rules, tests}
 use Rattle.std.proofs.lemmas.List.{append-nil}
 use Rattle.packet_record.specs.declared.item.Item.{Item}
 use Rattle.packet_record.specs.declared.item.Item.TheVariants.{Packet, Mark, End}
-use Rattle.packet_record.specs.declared.item.Stream.{Stream}
 use Rattle.packet_record.specs.declared.item.FlowEnd.TheVariants.{Open}
 use Rattle.packet_record.specs.declared.packet.Direction.{Direction}
 use Rattle.packet_record.specs.declared.packet.Row.{Row}
 use Rattle.packet_record.specs.declared.packet.Timed.{Timed}
 use Rattle.packet_record.specs.Rows.{entering, goes}
-use Rattle.packet_record.specs.Streams.{after, MayFollow, IsUpTo}
+use Rattle.packet_record.specs.Streams.{Stream, after, MayFollow, IsUpTo}
 use Rattle.shell_state.specs.Steps.{breaks}
-use Rattle.nest_line.specs.Lines.{IsFed}
+use Rattle.live_relay.specs.Lines.{IsFed}
 use Rattle.live_relay.specs.declared.way.Way.{Way}
 use Rattle.live_relay.specs.inside.Ways.{EndsWay, GoesOn, item_in}
 

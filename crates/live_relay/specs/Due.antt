@@ -6,7 +6,7 @@ use Rattle.packet_record.specs.declared.packet.Timed.{Timed}
 use Rattle.packet_record.specs.Rows.{entering}
 use Rattle.nest_spec.specs.Nests.{NestParts, walk_of}
 use Rattle.nest_spec.specs.Walk.{last_list, last_of}
-use Rattle.nest_line.specs.Lines.{up_to}
+use Rattle.live_relay.specs.Lines.{up_to}
 use Rattle.live_relay.specs.declared.side.Side.{Side}
 use Rattle.live_relay.specs.declared.side.Side.TheVariants.{Client, Server}
 use Rattle.live_relay.specs.Stamped.{Stamp, Turn, rows_of, stamps_of}

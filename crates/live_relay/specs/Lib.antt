@@ -7,5 +7,6 @@ pub mod Stamped
 pub mod Due
 pub mod Errors
 pub mod Relays
+pub mod Lines
 pub mod inside
 pub mod views

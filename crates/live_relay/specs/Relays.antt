@@ -17,7 +17,7 @@ abbrev pub AreWithin : ℕ → List Turn → Type 0
 AreWithin h [] = Unit {0}
 AreWithin h (t ∷ turns) = (t.moment ≤ h) × AreWithin h turns
 
--- the front of a list, which may be all of it
+-- a prefix of a list, which may be all of it
 pub record IsFrontOf {A : Type 0} (front all : List A) : Type 0 where
   pub more : List A
   pub is : all ≡ front ++ more
@@ -52,7 +52,7 @@ pub record HasSent (nest : NestParts) (turns : List Turn) (m : ℕ) (old now : S
 abbrev pub but_last : List Turn → List Turn
 but_last turns = take (length turns - 1) turns
 
--- Of what is due to each side a front was sent since. Up comes before down: to the client was sent only what was due
+-- Of what is due to each side a prefix was sent since. Up comes before down: to the client was sent only what was due
 -- before the last turn; or only what was due in it, and to the server all that was; or to the server all.
 pub record HasSentSome (nest : NestParts) (turns : List Turn) (m : ℕ) (old now : Sent) : Type 0 where
   pub to_client : List (List ℕ)

@@ -37,7 +37,7 @@ pub record WireView : Type 0 where
 abbrev pub CountsWireFaults : WireView → WireView → Type 0
 CountsWireFaults old new = CountsFaults (λ (w : WireView). w.faults) (λ (w : WireView). w.never_fails) old new
 
--- what a receive answered: the front of the buffer is the datagram
+-- what a receive answered: the buffer begins with the datagram
 abbrev pub datagram_in : List ℕ → Option (Side × ℕ) → Option Datagram
 datagram_in buf None = None
 datagram_in buf (Some got) = Some (got.0, take got.1 buf)

@@ -4,3 +4,5 @@ pub mod Pieces
 pub mod Stamped
 pub mod Turns
 pub mod Ways
+pub mod LineViews
+pub mod Meeting

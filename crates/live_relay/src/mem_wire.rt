@@ -105,7 +105,7 @@ impl MemWire {
     }
 }
 
-// Puts a datagram into the front of the buffer, cut at its length.
+// Puts a datagram at the start of the buffer, cut at its length.
 fn put_into(answer: Option<&Option<(Side, Bytes)>>, buf: &mut [u8]) -> Option<(Side, usize)>
     ensures within { IfSome result (λ r. r.1 ≤ length buf.old) }
     ensures datagram { datagram_in buf.new result ≡ cut_at (length buf.old) (lent_answer answer.entry) }

@@ -7,7 +7,7 @@ ghost use Rattle.packet_record.specs.declared.packet.Direction.TheVariants.{Up, 
 ghost use Rattle.nest_spec.specs.Nests.{result_of};
 ghost use Rattle.nest_spec.specs.Once.{HaveOneFate};
 ghost use Rattle.packet_record.specs.Rows.{AreApart};
-ghost use Rattle.nest_line.specs.Lines.{IsSettled, up_to};
+ghost use Rattle.live_relay.specs.Lines.{IsSettled, up_to};
 ghost use Rattle.live_relay.specs.Due.{last_moment};
 ghost use Rattle.live_relay.specs.Stamped.{Turn};
 ghost use Rattle.live_relay.specs.inside.Pieces.{KeepsBoth};

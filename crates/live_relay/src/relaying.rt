@@ -21,7 +21,7 @@ const ROOM: usize = MOST + 1;
 /// moments up to this one, and wasn't sent yet, is sent, up before down.
 ///
 /// `WireFault` comes only where a fault of the wire was counted, and `OutOfMemory` means out of memory. After either
-/// what was sent is a front of what is due for the datagrams received so far, and what was received isn't given back.
+/// what was sent is a prefix of what is due for the datagrams received so far, and what was received isn't given back.
 pub fn relay<C: Clock, W: Wire>(
     alloc: Global,
     nest: &Nest,

@@ -66,7 +66,7 @@ impl Stamps {
         }
     }
 
-    /// Takes what a turn at this moment received, which is the front of the buffer. Answers the row that it is, if it
+    /// Takes what a turn at this moment received, which is at the start of the buffer. Answers the row that it is, if it
     /// is one.
     pub fn take_in(
         &mut self,

@@ -2,7 +2,7 @@
 ghost use Rattle.std.specs.Prelude.{◌≡◌, None};
 
 use crate::{Clock, Pulse};
-use end_watch::{EndWatch, Wanted, wait_for};
+use ended_port::{EndWatch, Wanted, wait_for};
 use std::os::fd::RawFd;
 use std::thread;
 use std::time::{Clock as Time, Duration, Instant};

@@ -8,16 +8,15 @@ ghost use Rattle.packet_record.specs.Packets.{number};
 ghost use Rattle.packet_record.specs.declared.item.FlowEnd.TheVariants.{Open};
 ghost use Rattle.packet_record.specs.Streams.{no_items};
 ghost use Rattle.nest_spec.specs.Nests.{directions_of};
-ghost use Rattle.nest_line.specs.Lines.{IsSettled, number_all, up_to};
+ghost use Rattle.live_relay.specs.Lines.{IsSettled, number_all, up_to};
 ghost use Rattle.live_relay.specs.Due.{bytes_in};
 ghost use Rattle.live_relay.specs.inside.Pieces.{Keeps, has_number, kept_at};
 ghost use Rattle.live_relay.specs.inside.Ways.{EndsWay, GoesOn, item_in, StopsSending, waiting};
 ghost use Rattle.live_relay.specs.Wires.{CountsWireFaults, sending_all};
 
 use crate::kept::Kept;
-use crate::{Side, Wire};
+use crate::{Line, Side, Wire};
 use mm_base::EndError;
-use nest_line::Line;
 use nest_spec::Nest;
 use packet_record::{Direction, Item, Row, Timed};
 use std::alloc::Global;

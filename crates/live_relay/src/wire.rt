@@ -26,7 +26,7 @@ pub trait Wire {
         ensures counts { CountsWireFaults (view self.old) (view self.new) }
         ensures failed_cause { IsErrOf result EndError.Failed → Rose (view self.old).faults (view self.new).faults };
 
-    /// Takes a datagram into the front of `buf`, cut at its length, and returns the side that it comes from and how
+    /// Takes a datagram into the start of `buf`, cut at its length, and returns the side that it comes from and how
     /// many bytes it has there. `None` comes only where no datagram came in this call.
     ///
     /// `Failed` is counted as a fault. After a refusal nothing was received.

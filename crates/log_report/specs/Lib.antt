@@ -3,5 +3,5 @@ pub mod Reports
 pub mod ReportText
 pub mod Counted
 pub mod Summed
-pub mod ReportTexts
+pub mod ReportBuilder
 pub mod inside

@@ -1,6 +1,7 @@
 // The delays of departures, kept as far as their ranks need it.
 ghost use Rattle.std.specs.Prelude.{◌≡◌, ◌≤◌, ◌<◌, ◌+◌, ◌++◌, ◌∷◌, ℕ, List, [], length, sum, OnOk, IfOk};
 ghost use Rattle.log_report.specs.Ranks.{at_rank, delays_of};
+ghost use Rattle.log_report.specs.declared.delays.TheConstants.{SHORT};
 
 use crate::Delays;
 use std::alloc::Global;
@@ -19,7 +20,7 @@ pub(crate) struct DelayCounts {
     // The other delays.
     pub long: Vec<u64>,
     ghost few: { count ≤ 134217728 },
-    ghost short_len: { length short.items ≡ 65536 },
+    ghost short_len: { length short.items ≡ SHORT },
     ghost all: { sum short.items + length long.items ≡ count },
 }
 
@@ -56,7 +57,7 @@ impl DelayCounts {
         Ok(())
     }
 
-    // Returns the median, the 95th percentile and the greatest of the delays, or `None` where there is none.
+    // Returns the median, the 95th percentile and the greatest of the delays, or `None` if there is none.
     pub(crate) fn ranks(mut self) -> Option<Delays>
         ensures { (delays : List ℕ) → AreCounts delays self → result ≡ delays_of delays }
     {

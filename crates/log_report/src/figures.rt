@@ -32,9 +32,9 @@ pub struct Report {
     pub departed: (u64, u64),
     /// The packets that were dropped.
     pub dropped: (u64, u64),
-    /// The departed bytes in thousandths of the offered bytes, rounded down, or `None` where no byte was offered.
+    /// The departed bytes in thousandths of the offered bytes, rounded down, or `None` if no byte was offered.
     pub used: Option<u64>,
-    /// The delays of the departures, or `None` where nothing departed.
+    /// The delays of the departures, or `None` if nothing departed.
     pub delays: Option<Delays>,
 }
 

@@ -3,14 +3,14 @@
 //! read.
 #![tactic(auto)]
 
+mod builder;
 mod delays;
 mod figures;
 mod printing;
 mod sums;
-mod text;
 mod whole;
 
+pub use builder::ReportBuilder;
 pub use figures::{Delays, Report, ReportError};
 pub use printing::{EMPTY, print_report};
-pub use text::ReportText;
 pub use whole::report;

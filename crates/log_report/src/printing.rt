@@ -19,7 +19,7 @@ const MOST_BYTES: usize = 512;
 /// - `used P` in thousandths, or `used none`;
 /// - `delay M P X` with the median, the 95th percentile and the greatest in milliseconds, or `delay none`.
 ///
-/// Returns `OutOfMemory` where an allocation fails.
+/// Returns `OutOfMemory` if an allocation fails.
 pub fn print_report(alloc: Global, report: &Report) -> Result<Bytes, OutOfMemory>
     ensures { IfOk result (λ text. text ≡ report_text (Some report.now)) }
 {

@@ -118,7 +118,7 @@ impl Sums {
         }
     }
 
-    // Returns the report of the entries, or `None` where there is none.
+    // Returns the report of the entries, or `None` if there is none.
     pub(crate) fn report(self) -> Option<Report>
         ensures { (es : List EntryValue) → AreSums es self → result ≡ report_of es }
     {
@@ -140,7 +140,7 @@ impl Sums {
     }
 }
 
-// Returns `part` in thousandths of `whole`, rounded down, or `None` where `whole` is 0.
+// Returns `part` in thousandths of `whole`, rounded down, or `None` if `whole` is 0.
 fn thousandths(part: u64, whole: u64) -> Option<u64>
     requires { 1000 * part < 2 ^ 64 }
     ensures { result ≡ thousandths part whole }

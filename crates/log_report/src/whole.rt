@@ -7,8 +7,8 @@ use crate::{Report, ReportError};
 use shell_log::Log;
 use std::alloc::Global;
 
-/// Returns the report of a log of at most 134,217,728 entries. Returns `Empty` exactly where the log has no entry, and
-/// `OutOfMemory` where an allocation fails.
+/// Returns the report of a log of at most 134,217,728 entries. Returns `Empty` exactly if the log has no entry, and
+/// `OutOfMemory` if an allocation fails.
 pub fn report(alloc: Global, log: &Log) -> Result<Report, ReportError>
     requires { length log.now.entries ≤ 134217728 }
     ensures ok { IfOk result (λ r. report_of log.now.entries ≡ Some r) }

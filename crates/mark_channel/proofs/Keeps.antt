@@ -8,7 +8,7 @@ use Rattle.atomic_table.proofs.Lists.{at_set, at_snoc}
 use Rattle.packet_record.specs.declared.item.Item.{Item}
 use Rattle.packet_record.specs.Streams.{after_all, MayFollow, IsUpTo, AllFollow}
 use Rattle.mark_channel.specs.inside.Carrying.{nothing, carrying, carrying_all}
-use Rattle.mark_channel.specs.declared.rule.Carried.{Carried}
+use Rattle.mark_channel.specs.Carried.{Carried}
 use Rattle.mark_channel.specs.declared.rule.View.{View}
 use Rattle.mark_channel.specs.inside.Rules.{known, opening, sending, getting, settling, spent, Fits, FitsWriter}
 use Rattle.mark_channel.specs.inside.Rules.{FitsFresh, Kept, Sends, Gets, Settles}

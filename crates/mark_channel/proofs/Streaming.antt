@@ -6,10 +6,9 @@ use mathlib.Core.List.{IsPrefix}
 use Rattle.packet_record.specs.declared.item.Item.{Item}
 use Rattle.packet_record.specs.declared.item.Item.TheVariants.{Packet, Mark, End, Broken}
 use Rattle.packet_record.specs.declared.item.FlowEnd.TheVariants.{Open}
-use Rattle.packet_record.specs.declared.item.Stream.{Stream}
-use Rattle.packet_record.specs.Streams.{after, after_all, MayFollow, IsUpTo, AllFollow, IsStreamPrefix}
+use Rattle.packet_record.specs.Streams.{Stream, after, after_all, MayFollow, IsUpTo, AllFollow, IsStreamPrefix}
 use Rattle.mark_channel.specs.inside.Carrying.{carrying, carrying_all}
-use Rattle.mark_channel.specs.declared.rule.Carried.{Carried}
+use Rattle.mark_channel.specs.Carried.{Carried}
 
 pub carrying_all-snoc : (c : Carried) (xs : List Item) (x : Item)
     → carrying_all c (xs ++ x ∷ []) ≡ carrying (carrying_all c xs) x

@@ -1,7 +1,7 @@
 -- What one who feeds both directions of a run has sent.
 use Rattle.std.specs.Prelude.{◌≡◌, ℕ, List}
 use Rattle.packet_record.specs.declared.item.FlowEnd.TheVariants.{Ended as IsOver}
-use Rattle.packet_record.specs.declared.item.Stream.{Stream}
+use Rattle.packet_record.specs.Streams.{Stream}
 use Rattle.packet_record.specs.declared.packet.Direction.{Direction}
 use Rattle.packet_record.specs.declared.packet.Row.{Row}
 use Rattle.packet_record.specs.Rows.{entering}

@@ -1,2 +1,3 @@
 -- What contracts see of each public type (`.now`), by its fields.
+pub mod Carried
 pub mod Sides

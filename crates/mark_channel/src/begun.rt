@@ -1,4 +1,4 @@
-//! Counts the workers of a run that have begun. Whoever sends first waits until all have.
+// Counts the workers of a run that have begun. Whoever sends first waits until all have.
 ghost use Rattle.std.specs.Prelude.{◌≡◌, OnErr, OnOk};
 ghost use Rattle.packet_record.specs.declared.item.FlowEnd.TheVariants.{Open};
 ghost use Rattle.packet_record.specs.Streams.{after};
@@ -11,11 +11,12 @@ use std::sync::atomic::{AtomicU64, Ordering};
 use std::time::Duration;
 use text_base::OutOfMemory;
 
-// How many milliseconds one who waits sleeps at a time, unless the last worker begins meanwhile. Beside busy processes a
-// thread gets a processor some milliseconds late after each sleep, so there are few long ones.
+// How many milliseconds a waiting source sleeps at a time, unless the last worker begins meanwhile. On a busy machine a
+// thread gets a processor some milliseconds late after each sleep, so a few long sleeps are better than many short
+// ones.
 const REST_MILLISECONDS: u64 = 100;
 
-// How often one who waits sleeps before the run is given up: two seconds in all.
+// How often a waiting source sleeps before the run is given up: two seconds in all.
 const RESTS: u32 = 20;
 
 // Some workers have yet to begin.
@@ -29,8 +30,8 @@ const GIVEN_UP: u32 = 2;
 
 /// How many workers of a run have begun, and how many must.
 ///
-/// Where no thread can be made for a worker, it begins only once what runs beside it has ended. So whoever sent before
-/// all have begun could wait for room for ever.
+/// If no thread can be made for a worker, it begins only once what runs beside it has ended. So a source that sent
+/// before all workers have begun could wait forever for room.
 #[derive(Drop)]
 pub struct Begun {
     // How many must begin.
@@ -39,7 +40,7 @@ pub struct Begun {
     count: AtomicU64,
     // Whether all have begun, or the run was given up. It changes once.
     state: AtomicU64,
-    // How often one who waits sleeps at most.
+    // How often a waiting source sleeps at most.
     rests: u32,
 }
 
@@ -74,8 +75,8 @@ impl Begun {
 
     /// Waits until all workers have begun. It sleeps meanwhile, and takes no memory.
     ///
-    /// If they haven't begun two seconds after somebody began to wait, the run is given up. Then each one who waits, then
-    /// or later, breaks both directions off and returns `OutOfMemory`.
+    /// If they haven't begun two seconds after somebody began to wait, the run is given up. Then each source that
+    /// waits, now or later, breaks both directions off and returns `OutOfMemory`.
     pub fn wait<R: Wait>(
         &self,
         rt: &R,

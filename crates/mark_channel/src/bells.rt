@@ -1,9 +1,9 @@
 // The bells by which the two ends of a channel wake each other.
+use crate::bell::{Bell, Ringer};
 use packet_record::Item;
 use std::alloc::Global;
 use std::sync::Arc;
 use text_base::OutOfMemory;
-use wake_bell::{Bell, Ringer};
 
 // The bells of a channel. At each one end sleeps until the other end rings.
 #[derive(Drop)]
@@ -30,7 +30,7 @@ impl EndBells {
         }
     }
 
-    // Rings where items were sent for whoever sleeps, however few.
+    // Rings if any items, however few, were sent since the sleeping receiver was last rung for.
     pub fn ring_owed(&self) {
         self.ringer.ring_owed(&self.shared.sent);
     }

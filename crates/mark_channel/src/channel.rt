@@ -1,4 +1,4 @@
-//! Makes channels, and ends them.
+// Makes channels, and ends them.
 ghost use Rattle.std.specs.Prelude.{◌≡◌, ◌≤◌, ◌≢◌, [], IfOk};
 ghost use mathlib.Core.List.{IsPrefix};
 ghost use Rattle.packet_record.specs.declared.item.FlowEnd.TheVariants.{Open};
@@ -19,8 +19,8 @@ use text_base::OutOfMemory;
 
 /// Makes a channel that holds up to `capacity` items, 1 to 64, for a run up to `horizon` milliseconds.
 ///
-/// All memory that the channel will ever need is taken here, so no later call takes any. Returns `OutOfMemory` where an
-/// allocation fails.
+/// All memory that the channel will ever need is allocated here, so no later call allocates. Returns `OutOfMemory` if
+/// an allocation fails.
 pub fn open(alloc: Global, capacity: u32, horizon: u64) -> Result<(Sender, Receiver), OutOfMemory>
     requires some { 1 ≤ capacity }
     requires most { capacity ≤ 64 }
@@ -61,8 +61,8 @@ fn split<L: HasHorizon>(
     end.another::<Roles<L>>(pass)
 }
 
-/// Ends a channel. What was received is a front of what was sent, item by item, and all of it where `End` or `Broken`
-/// was received. Items that are still in the channel are dropped.
+/// Ends a channel. What was received is a prefix of what was sent, item by item. If `End` or `Broken` was received, it
+/// is all of it. Items that are still in the channel are dropped.
 pub fn settle(sender: Sender, receiver: Receiver)
     requires { sender.channel ≡ receiver.channel }
     ensures prefix { IsStreamPrefix receiver.flow sender.flow }

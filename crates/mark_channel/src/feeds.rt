@@ -1,4 +1,4 @@
-//! Whatever feeds both directions of a run.
+// Whatever feeds both directions of a run.
 ghost use Rattle.std.specs.Prelude.{◌≡◌, ◌≢◌, List};
 ghost use Rattle.std.specs.Thread.{IsSync};
 ghost use Rattle.packet_record.specs.declared.item.FlowEnd.TheVariants.{Open};
@@ -38,7 +38,7 @@ pub trait Feeds {
     /// Sends what the rows give in each direction up to `horizon`, in milliseconds, which is that of both channels.
     /// Nothing was sent before. When it returns, `End` or `Broken` was sent in both directions.
     ///
-    /// Returns `FeedEnd::OutOfMemory` where an allocation fails, in any thread, or a thread can't be made.
+    /// Returns `FeedEnd::OutOfMemory` if an allocation fails, in any thread, or a thread can't be made.
     fn feed<R: Threads + Wait + Sync>(
         &mut self,
         rt: &R,

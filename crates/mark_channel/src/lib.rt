@@ -6,6 +6,7 @@
 #![tactic(auto)]
 
 mod begun;
+pub mod bell;
 mod bells;
 mod channel;
 mod feeds;

@@ -1,17 +1,17 @@
-//! The receiving end of a channel.
+// The receiving end of a channel.
 ghost use Rattle.std.specs.Prelude.{◌≡◌, ◌++◌, ◌∷◌, [], IfSome, IfNone};
 ghost use Rattle.packet_record.specs.declared.item.FlowEnd.TheVariants.{Open};
 ghost use Rattle.packet_record.specs.Streams.{after, MayFollow, IsUpTo};
 ghost use Rattle.mark_channel.specs.Ends.{IsSameEnd};
 ghost use Rattle.mark_channel.specs.inside.Ends.{MayPass, with_item};
 
+use crate::bell::{LOOKS, pause};
 use crate::bells::EndBells;
 use crate::rule::{Got, InOrder, View};
 use crossbeam_channel::{Pass, RuledReceiver};
 use packet_record::Item;
 use std::marker::Model;
 use std::sync::Wait;
-use wake_bell::{LOOKS, pause};
 
 /// The receiving end of a channel. Contracts see the stream of what was received, its items, the horizon and the
 /// channel.
@@ -62,7 +62,7 @@ impl Receiver {
         unreachable!()
     }
 
-    // Returns the first item and rings for the room, or returns `None` where the channel is empty.
+    // Returns the first item and rings for the room, or returns `None` if the channel is empty.
     fn receive_at_once<R: Wait>(&mut self, rt: &R) -> Option<Item>
         ensures got { IfSome result (λ item. MayPass self.old item × (self.new ≡ with_item self.old item)) }
         ensures kept { IfNone result (self.new ≡ self.old) }

@@ -1,4 +1,4 @@
-//! What the workers of a run share.
+// What the workers of a run share.
 use crate::Begun;
 
 /// What the workers of a run share.

@@ -1,16 +1,16 @@
-//! The sending end of a channel.
+// The sending end of a channel.
 ghost use Rattle.std.specs.Prelude.{◌≡◌, ◌++◌, ◌∷◌, [], IsTrue, IsFalse};
 ghost use Rattle.packet_record.specs.Streams.{after, MayFollow, IsUpTo};
 ghost use Rattle.mark_channel.specs.Ends.{IsSameEnd};
 ghost use Rattle.mark_channel.specs.inside.Ends.{MayPass, with_item};
 
+use crate::bell::{LOOKS, pause};
 use crate::bells::EndBells;
 use crate::rule::{InOrder, Sent, View};
 use crossbeam_channel::{Pass, RuledSender};
 use packet_record::Item;
 use std::marker::Model;
 use std::sync::Wait;
-use wake_bell::{LOOKS, pause};
 
 /// The sending end of a channel. Contracts see the stream of what was sent, its items, the horizon and the channel.
 #[derive(Drop)]
@@ -37,8 +37,8 @@ impl Sender {
     /// Waits for room, and adds the item at the end of what was sent. It takes no memory.
     ///
     /// The item may follow what was sent before, and is within the channel's horizon: a packet up to it, a mark up to
-    /// one millisecond past it. Nothing is promised of how long it waits: a sender whose receiver is gone may wait for
-    /// ever.
+    /// one millisecond past it. Nothing is promised of how long it waits: a sender whose receiver is gone may wait
+    /// forever.
     pub fn send<R: Wait>(&mut self, rt: &R, item: Item)
         requires follows { MayFollow self.old.flow item }
         requires within { IsUpTo self.old.horizon item }
@@ -57,8 +57,8 @@ impl Sender {
         unreachable!()
     }
 
-    /// Sends the item as `send` does. Before it sleeps it wakes whoever sleeps for what `other` has sent: the one who
-    /// is to make room here may wait for that.
+    /// Sends the item as `send` does. Before it sleeps, it wakes the receiver of `other` if that sleeps: the thread
+    /// that is to make room here may be waiting for what `other` has sent.
     pub fn send_beside<R: Wait>(&mut self, rt: &R, item: Item, other: &Sender)
         requires follows { MayFollow self.old.flow item }
         requires within { IsUpTo self.old.horizon item }
@@ -73,7 +73,7 @@ impl Sender {
         self.send(rt, item);
     }
 
-    // Sends the item where there is room within `LOOKS` looks. Returns whether it did.
+    // Sends the item if there is room within `LOOKS` looks. Returns whether it did.
     fn send_soon<R: Wait>(&mut self, rt: &R, item: Item) -> bool
         requires { MayPass self.old item }
         ensures sent { IsTrue result → self.new ≡ with_item self.old item }
@@ -88,7 +88,7 @@ impl Sender {
         false
     }
 
-    // Sends the item where there is room, and rings for it. Returns whether it did.
+    // Sends the item if there is room, and rings for it. Returns whether it did.
     fn send_at_once<R: Wait>(&mut self, rt: &R, item: Item) -> bool
         requires { MayPass self.old item }
         ensures sent { IsTrue result → self.new ≡ with_item self.old item }
@@ -104,7 +104,7 @@ impl Sender {
         is_sent
     }
 
-    // Sends the item where there is room, or sleeps until the receiver has made some. Returns whether it sent.
+    // Sends the item if there is room. Otherwise sleeps until the receiver has made some. Returns whether it sent.
     fn send_or_sleep<R: Wait>(&mut self, rt: &R, item: Item) -> bool
         requires { MayPass self.old item }
         ensures sent { IsTrue result → self.new ≡ with_item self.old item }

@@ -3,12 +3,10 @@
 #![tactic(auto)]
 
 use command_ends::{exit_code, read_end, read_words};
-use end_watch::EndWatch;
-use ended_port::EndedPort;
+use ended_port::{EndWatch, EndedPort};
+use front_words::{Program, Reason, tell};
 use mm_base::{FileDisk, NoPace, StdSink};
-use mm_program::mm_main_told;
-use refusal_lines::{tell_files, tell_outside};
-use refusal_words::Program;
+use mm_program::mm_ending;
 use request_notes::{NotedPort, Notes, Recorded, read_recorded};
 use std::io::Stderr;
 use std::marker::Sync;
@@ -64,8 +62,7 @@ fn run_until<'a, T: Threads + Wait + Sync>(
     let mut out = StdSink::new(rt.stdout());
     let mut disk = FileDisk::new(rt.clone()?);
     let mut port: LocalPort<'a> = new_port(rt, watch, recorded)?;
-    let mut told = StdSink::new(rt.stderr());
-    let ending = mm_main_told(
+    let ending = mm_ending(
         threads,
         rt.alloc(),
         words,
@@ -73,16 +70,10 @@ fn run_until<'a, T: Threads + Wait + Sync>(
         &mut out,
         &mut port,
         &NoPace,
-        &mut told,
     );
-    tell_outside(
-        Program::Mm,
-        &ending,
-        &disk,
-        port.port().last_error(),
-        &mut told,
-    );
-    tell_files(rt, words, &ending, &mut told);
+    let reason = Reason::of_ending(&ending, &disk, port.port().last_error());
+    let mut told = StdSink::new(rt.stderr());
+    tell(rt, Program::Mm, words, &ending, reason, &mut told);
     Ok(ending.status)
 }
 

@@ -4,7 +4,7 @@ use std::fs::Metadata;
 use std::os::unix::fs::MetadataExt;
 use text_base::{OutOfMemory, Text};
 
-/// A file as its file system knows it, whatever path leads to it.
+// A file as its file system knows it, whatever path leads to it.
 #[derive(Clone, Copy, PartialEq, Eq)]
 struct FileNode {
     device: u64,

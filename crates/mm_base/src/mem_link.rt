@@ -138,7 +138,7 @@ impl MemLink {
         Ok(())
     }
 
-    // Fills the front of a buffer with what a read gives, and returns how much.
+    // Fills the start of a buffer with what a read gives, and returns how much.
     fn fill(&mut self, buf: &mut [u8]) -> usize
         ensures count { result ≡ read_count self.old buf.old }
         ensures front { take result buf.new ≡ take result self.old.bytes.rest }

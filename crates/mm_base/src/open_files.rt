@@ -44,7 +44,8 @@ impl OpenFiles {
         Some(&self.files[place].file)
     }
 
-    /// Keeps a file open under this name, in place of the one that was.
+    /// Keeps a file open under this name, in place of the one that was. If an allocation fails it returns
+    /// `OutOfMemory`, and the file is closed.
     pub fn keep(&mut self, name: &str, file: File) -> Result<(), OutOfMemory> {
         match self.place_of(name) {
             Some(place) => self.files[place].file = file,

@@ -4,7 +4,7 @@ use Rattle.mm_base.specs.Link.{LinkView}
 use Rattle.mm_base.specs.Port.{PortView, KeepsPort}
 use Rattle.command_ends.specs.TopCalls.{NetCounts}
 use Rattle.command_ends.specs.Works.{Work, only}
-use Rattle.command_make.specs.Make.{MakeJob, GivesMake}
+use Rattle.command_report.specs.Make.{MakeJob, GivesMake}
 use Rattle.command_merge.specs.Merge.{MergeTask, GivesMerge}
 use Rattle.command_stores.specs.Replaying.{ReplayTask, serve_work}
 use Rattle.command_report.specs.Report.{GivesReport}

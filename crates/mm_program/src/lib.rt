@@ -1,9 +1,7 @@
 //! The top call: what the words of a command line make of the files of a disk and of a port, and what it returns.
 #![tactic(auto)]
 
-mod command;
-mod telling;
+mod commands;
 mod top;
 
-pub use telling::mm_main_told;
-pub use top::mm_main;
+pub use top::{mm_ending, mm_main};

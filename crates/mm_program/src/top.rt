@@ -1,63 +1,19 @@
 // The top call.
 ghost use Rattle.std.specs.Prelude.{◌≡◌, ◌≢◌, Some, map, string_bytes};
-ghost use Rattle.mm_base.specs.Port.{KeepsPort};
-ghost use Rattle.mm_base.specs.Sink.{CountsSinkFaults};
-ghost use Rattle.command_ends.specs.Alone.{IsLeftAlone};
-ghost use Rattle.command_ends.specs.Answers.{CountsDisk, cause_in};
-ghost use Rattle.command_ends.specs.Ends.{Ends, outside};
+ghost use Rattle.option_words.specs.declared.command.Command.TheVariants as commands;
+ghost use Rattle.command_ends.specs.Answers.{IsEnding};
+ghost use Rattle.command_ends.specs.Ends.{outside};
 ghost use Rattle.command_ends.specs.TopCalls.{RefusesByWords, TopCall};
 ghost use Rattle.mm_program.specs.Commands.{named_command, reading_of};
 ghost use Rattle.mm_program.specs.Tasks.{port_counts, work};
 
-use crate::command::{Command, read_command};
-use command_ends::{Cause, Host, conclude};
-use command_make::answer_make;
-use command_merge::answer_merge;
-use command_report::answer_report;
-use command_run::answer_run;
-use command_stores::{answer_match, answer_migrate, answer_record, answer_replay};
+use crate::commands::answer;
+use command_ends::{Ending, Host, conclude};
 use mm_base::{Disk, Pace, Port, Sink};
 use std::alloc::Global;
 use std::marker::{Send, Sync};
 use std::sync::Wait;
 use std::thread::Threads;
-
-// Does what the words say.
-pub(crate) fn answer<R: Threads + Wait + Sync, D: Disk, O: Sink, P: Port + Send, Q: Pace + Sync>(
-    host: &Host<'_, R>,
-    words: &[String],
-    disk: &mut D,
-    out: &mut O,
-    port: &mut P,
-    pace: &Q,
-) -> Result<(), Cause>
-    ensures ends { Ends (work P.Conn.view) (reading_of (map string_bytes words.now))
-        (outside (D.view disk.old) (O.view out.old) (P.view port.old))
-        (outside (D.view disk.new) (O.view out.new) (P.view port.new)) (cause_in result) }
-    ensures port { named_command (map string_bytes words.now) ≢ Some Command.Replay
-        → P.view port.new ≡ P.view port.old }
-    ensures make { named_command (map string_bytes words.now) ≡ Some Command.Make
-        → D.view disk.new ≡ D.view disk.old }
-    ensures alone { IsLeftAlone (reading_of (map string_bytes words.now)) (D.view disk.old) (D.view disk.new) }
-    ensures counts { CountsDisk (D.view disk.old) (D.view disk.new) }
-    ensures out_counts { CountsSinkFaults (O.view out.old) (O.view out.new) }
-    ensures port_counts { KeepsPort (P.view port.old) (P.view port.new) }
-{
-    let [word, words @ ..] = words else {
-        return Err(Cause::usage());
-    };
-    match read_command(word.as_str()) {
-        Command::Run => answer_run(host, words, disk, pace),
-        Command::Report => answer_report(host.alloc, words, disk, out),
-        Command::Make => answer_make(host.alloc, words, out),
-        Command::Replay => answer_replay(host, words, disk, out, port, pace),
-        Command::Record => answer_record(host.alloc, words, disk),
-        Command::Match => answer_match(host.alloc, words, disk, out),
-        Command::Migrate => answer_migrate(host.alloc, words, disk),
-        Command::Merge => answer_merge(host, words, disk, pace),
-        Command::Unknown => Err(Cause::usage()),
-    }
-}
 
 /// Does what the words after the program's name say, and returns the exit status.
 ///
@@ -100,14 +56,47 @@ pub fn mm_main<R: Threads + Wait + Sync, D: Disk + Send, O: Sink, P: Port + Send
 
     // 2 comes by the words alone, but of `merge` also by a name on its list. No other command than `replay` touches the
     // port, and `make` asks the disk for nothing.
-    ensures usage { named_command (map string_bytes words.now) ≢ Some Command.Merge
+    ensures usage { named_command (map string_bytes words.now) ≢ Some commands.Merge
         → RefusesByWords (reading_of (map string_bytes words.now)) result }
-    ensures port { named_command (map string_bytes words.now) ≢ Some Command.Replay
+    ensures port { named_command (map string_bytes words.now) ≢ Some commands.Replay
         → P.view port.new ≡ P.view port.old }
-    ensures make { named_command (map string_bytes words.now) ≡ Some Command.Make
+    ensures make { named_command (map string_bytes words.now) ≡ Some commands.Make
+        → D.view disk.new ≡ D.view disk.old }
+{
+    mm_ending(rt, alloc, words, disk, out, port, pace).status
+}
+
+/// Does what `mm_main` does, and returns the answer of the command line beside its exit status, so that it can be said
+/// to a person why the command line isn't done.
+pub fn mm_ending<R: Threads + Wait + Sync, D: Disk + Send, O: Sink, P: Port + Send, Q: Pace + Sync>(
+    rt: &R,
+    alloc: Global,
+    words: &[String],
+    disk: &mut D,
+    out: &mut O,
+    port: &mut P,
+    pace: &Q,
+) -> Ending
+    ensures ending { IsEnding (work P.Conn.view) (reading_of (map string_bytes words.now))
+        (outside (D.view disk.old) (O.view out.old) (P.view port.old))
+        (outside (D.view disk.new) (O.view out.new) (P.view port.new)) result }
+
+    // What `mm_main` leaves.
+    ensures top { TopCall port_counts (work P.Conn.view) (reading_of (map string_bytes words.now))
+        (outside (D.view disk.old) (O.view out.old) (P.view port.old))
+        (outside (D.view disk.new) (O.view out.new) (P.view port.new)) result.status }
+
+    // 2 comes by the words alone, but of `merge` also by a name on its list. No other command than `replay` touches the
+    // port, and `make` asks the disk for nothing.
+    ensures usage { named_command (map string_bytes words.now) ≢ Some commands.Merge
+        → RefusesByWords (reading_of (map string_bytes words.now)) result.status }
+    ensures port { named_command (map string_bytes words.now) ≢ Some commands.Replay
+        → P.view port.new ≡ P.view port.old }
+    ensures make { named_command (map string_bytes words.now) ≡ Some commands.Make
         → D.view disk.new ≡ D.view disk.old }
 {
     let host = Host { threads: rt, alloc };
     let answer = answer(&host, words, disk, out, port, pace);
-    conclude(&answer, out)
+    let status = conclude(&answer, out);
+    Ending { answer, status }
 }

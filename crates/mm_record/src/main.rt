@@ -8,12 +8,10 @@ mod seen_disk;
 use crate::look::look_at;
 use crate::seen_disk::SeenDisk;
 use command_ends::{exit_code, read_end, read_words};
-use end_watch::EndWatch;
-use ended_port::EndedPort;
+use ended_port::{EndWatch, EndedPort};
+use front_words::{Program, Reason, tell, tell_reason};
 use mm_base::{FileDisk, StdSink};
-use record_proxy::{TcpDialer, proxy_main_told, refuse_store, store_name};
-use refusal_lines::{Reason, system_reason, tell_files, tell_outside, tell_reason};
-use refusal_words::Program;
+use record_proxy::{TcpDialer, proxy_ending, refuse_store, store_name};
 use std::io;
 use std::io::Stderr;
 use std::marker::Sync;
@@ -25,24 +23,22 @@ use text_base::limits::MOST_FILE_BYTES;
 // Who says that it listens, and what became of the store.
 const NAME: &str = "mm-record";
 
-// The reason that an error of the system is.
+// Returns the reason that an error of the system is.
 fn reason_in(error: &io::Error) -> Option<Reason> {
-    system_reason(error.raw_os_error()?)
+    Reason::of_system(error.raw_os_error()?)
 }
 
-// The status where the system refuses to open the file of the store, of this name, once that is explained. A look that
-// a signal interrupted, or for which memory was wanting, tells nothing.
+// Returns the status if the system refuses to open the file of the store, of this name, once that is explained. A look
+// that a signal interrupted, or that was out of memory, tells nothing.
 fn refused(rt: &HostRuntime, words: &[String], name: &str) -> Option<u8> {
     let error = look_at(rt, name).err()?;
     if let io::ErrorKind::Interrupted | io::ErrorKind::OutOfMemory = error.kind() {
         return None;
     }
-    let mut out = StdSink::new(rt.stdout());
+    let ending = refuse_store(rt.alloc(), name, &mut StdSink::new(rt.stdout()));
+    let reason = reason_in(&error);
     let mut told = StdSink::new(rt.stderr());
-    let ending = refuse_store(rt.alloc(), words, name, &mut out, &mut told);
-    if let Some(reason) = reason_in(&error) {
-        let _ = tell_reason(Program::Record, reason, "", &mut told);
-    }
+    tell(rt, Program::Record, words, &ending, reason, &mut told);
     Some(ending.status)
 }
 
@@ -56,8 +52,8 @@ fn say_dialed(
         return Ok(());
     };
     eprintln!(rt; "{NAME}: for a client the site couldn't be reached at the port of --to")?;
-    if let Some(reason) = system_reason(error) {
-        let _ = tell_reason(Program::Record, reason, "", told);
+    if let Some(reason) = Reason::of_system(error) {
+        tell_reason(rt.alloc(), Program::Record, reason, told);
     }
     Ok(())
 }
@@ -101,8 +97,7 @@ fn run_until<'a, T: Threads + Wait + Sync>(
         rt.stderr(),
     );
     let mut dialer: TcpDialer<'a, HostRuntime> = TcpDialer::new(rt.clone()?, watch);
-    let mut told = StdSink::new(rt.stderr());
-    let ending = proxy_main_told(
+    let ending = proxy_ending(
         threads,
         rt.alloc(),
         words,
@@ -110,16 +105,10 @@ fn run_until<'a, T: Threads + Wait + Sync>(
         &mut out,
         &mut port,
         &mut dialer,
-        &mut told,
     );
-    tell_outside(
-        Program::Record,
-        &ending,
-        &disk.disk,
-        port.last_error(),
-        &mut told,
-    );
-    tell_files(rt, words, &ending, &mut told);
+    let reason = Reason::of_ending(&ending, &disk.disk, port.last_error());
+    let mut told = StdSink::new(rt.stderr());
+    tell(rt, Program::Record, words, &ending, reason, &mut told);
     let _ = say_dialed(rt, &dialer, &mut told);
     if ending.status == 0 {
         let _ = say_written(rt, name, &disk);

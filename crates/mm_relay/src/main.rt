@@ -3,11 +3,10 @@
 #![tactic(auto)]
 
 use command_ends::{exit_code, read_end, read_words};
-use command_relay::relay_main_told;
+use command_relay::relay_ending;
+use front_words::{Program, Reason, tell};
 use live_relay::{Pulse, SysClock, UdpWire, drops_at};
 use mm_base::{FileDisk, StdSink};
-use refusal_lines::{tell_files, tell_outside};
-use refusal_words::Program;
 use std::process::ExitCode;
 use std::{fs, io};
 
@@ -76,20 +75,19 @@ fn run(rt: &HostRuntime) -> io::Result<u8> {
     let mut disk = FileDisk::new(rt.clone()?);
     let mut wire = UdpWire::new(rt.alloc(), rt.clone()?, &pulse);
     let mut clock = SysClock::new(rt.clone()?, &pulse, read_end(rt));
-    let mut told = StdSink::new(rt.stderr());
-    let ending = relay_main_told(
+    let ending = relay_ending(
         rt.alloc(),
         &words,
         &mut disk,
         &mut out,
         &mut clock,
         &mut wire,
-        &mut told,
     );
     wire.finish();
+    let reason = Reason::of_ending(&ending, &disk, wire.last_error());
+    let mut told = StdSink::new(rt.stderr());
+    tell(rt, Program::Relay, &words, &ending, reason, &mut told);
     report(rt, ending.status, &clock, &wire);
-    tell_outside(Program::Relay, &ending, &disk, wire.last_error(), &mut told);
-    tell_files(rt, &words, &ending, &mut told);
     Ok(ending.status)
 }
 

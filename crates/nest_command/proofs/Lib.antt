@@ -1,4 +1,3 @@
-pub mod WordLemmas
 pub mod TraceLemmas
 pub mod InputLemmas
 pub mod NestLemmas

@@ -1,12 +1,12 @@
 -- Where a command leads that refuses words of a nest, then names of files, then a horizon, and then traces with too many
 -- opportunities.
 use Rattle.std.proofs.Common.{◌≡◌, ◌≢◌, ◌⊎◌, inl, inr, ℕ, List, [], ◌∷◌, Option, Some, None, Result, Ok, Err}
-use Rattle.std.proofs.Common.{map, subst, sym, arith}
+use Rattle.std.proofs.Common.{map, subst, sym, arith, MatchResult, OnOk}
 use Rattle.mm_base.specs.Disk.{DiskView}
 use Rattle.mm_base.specs.Files.{Files}
 use Rattle.trace_reader.specs.TraceIn.{trace_in}
 use Rattle.trace_reader.specs.Traces.{TraceView}
-use Rattle.nest_spec.specs.Words.{NestPlan}
+use Rattle.nest_spec.specs.Words.{NestPlan, nest_of}
 use Rattle.nest_spec.specs.declared.error.NestError.{NestError}
 use Rattle.nest_spec.specs.declared.error.NestError.TheVariants as nest_errors
 use Rattle.command_ends.specs.Causes.{Text, status_of_refusal}
@@ -14,6 +14,7 @@ use Rattle.command_ends.specs.Readings.{Reading, Refuses, unless}
 use Rattle.command_ends.specs.Stops.{RefusesText, StopsReading, ReadingWants}
 use Rattle.command_ends.specs.inside.Accepted.{AcceptsWords}
 use Rattle.command_ends.specs.inside.Readings.{Leads}
+use Rattle.command_ends.specs.inside.Stops.{ReadsOn}
 use Rattle.command_ends.specs.declared.cause.Cause.{Cause}
 use Rattle.command_ends.specs.declared.cause.Cause.TheVariants.{Refused, OutOfMemory}
 use Rattle.command_ends.specs.declared.cause.Refusal.{Refusal}
@@ -23,9 +24,11 @@ use Rattle.command_ends.proofs.ReadingLemmas.{RefusesNoWords, RefusesWordsFirst,
 use Rattle.command_ends.proofs.ReadingLemmas.{none_first, stays, stops_here, stops_later, unless_first, unless_no_words}
 use Rattle.nest_command.specs.Inputs.{reading_traces, trace_refusal}
 use Rattle.nest_command.specs.Loaded.{HaveTraces}
-use Rattle.nest_command.specs.NestReading.{nest_refusal, refused_count, refused_horizon, with_nest}
+use Rattle.nest_command.specs.NestReading.{IsPlan, StopsPlan, nest_refusal, plan_reading, refused_count}
+use Rattle.nest_command.specs.NestReading.{refused_horizon, refused_outputs, with_nest, WantsMemory, NoNest, Taken}
+use Rattle.nest_command.specs.NestReading.{TooLong}
 use Rattle.nest_command.proofs.InputLemmas.{have_said, leads_traces, trace_text}
-use Rattle.nest_command.proofs.NestLemmas.{count_text, horizon_text}
+use Rattle.nest_command.proofs.NestLemmas.{count_text, horizon_text, names_there}
 
 module _ {A : Type 0} (nest : Result NestPlan NestError) (taken : NestPlan → Option Refusal) (horizon : ℕ)
     (inputs : NestPlan → Reading A) where
@@ -44,20 +47,18 @@ module _ {A : Type 0} (nest : Result NestPlan NestError) (taken : NestPlan → O
       (stays (after_nest plan))
 
   -- the words name no nest
-  pub nest_stop : (error : NestError) (cause : Cause) → (error ≢ nest_errors.OutOfMemory → nest ≡ Err error)
-      → (cause ≡ OutOfMemory) ⊎ ((error ≢ nest_errors.OutOfMemory) × (cause ≡ Refused (nest_refusal error)))
+  nest_refused : (error : NestError) (cause : Cause) → nest ≡ Err error → cause ≡ Refused (nest_refusal error)
       → (disk : DiskView) → StopsReading nest_reading disk disk cause
-  nest_stop error cause e (inl is) disk = ReadingWants is
-  nest_stop error cause e (inr p) disk =
+  nest_refused error cause e is disk =
       let there : status_of_refusal (nest_refusal error) ≢ 3 = λ h. omega arith in
       let leads : Leads disk.files nest_reading (Refuses (nest_refusal error)) =
       subst (λ (r : Result NestPlan NestError). Leads disk.files (with_nest r after_nest)
-      (Refuses (nest_refusal error))) (sym (e p.0)) (stays (Refuses (nest_refusal error))) in
-      subst (λ (c : Cause). StopsReading nest_reading disk disk c) (sym p.1)
+      (Refuses (nest_refusal error))) (sym e) (stays (Refuses (nest_refusal error))) in
+      subst (λ (c : Cause). StopsReading nest_reading disk disk c) (sym is)
       (stops_here nest_reading disk disk (nest_refusal error) there leads)
 
   -- a name is taken
-  pub names_stop : (plan : NestPlan) (cause : Cause) → nest ≡ Ok plan
+  names_stop : (plan : NestPlan) (cause : Cause) → nest ≡ Ok plan
       → ((refusal : Refusal) → taken plan ≡ Some refusal → status_of_refusal refusal ≢ 3)
       → RefusesText (taken plan) cause → (disk : DiskView) → StopsReading nest_reading disk disk cause
   names_stop plan cause e there refused disk =
@@ -65,7 +66,7 @@ module _ {A : Type 0} (nest : Result NestPlan NestError) (taken : NestPlan → O
       (found_stop (taken plan) (within_horizon plan) disk disk cause there refused)
 
   -- the horizon is past an hour
-  pub horizon_stop : (plan : NestPlan) (cause : Cause) → nest ≡ Ok plan → taken plan ≡ None
+  horizon_stop : (plan : NestPlan) (cause : Cause) → nest ≡ Ok plan → taken plan ≡ None
       → RefusesText (refused_horizon horizon) cause → (disk : DiskView) → StopsReading nest_reading disk disk cause
   horizon_stop plan cause e free refused disk =
       stops_later nest_reading (within_horizon plan) disk disk disk cause
@@ -75,7 +76,7 @@ module _ {A : Type 0} (nest : Result NestPlan NestError) (taken : NestPlan → O
       (λ refusal h. (horizon_text horizon refusal h).not_absent) refused)
 
   -- nothing is refused
-  pub words_read : (plan : NestPlan) → nest ≡ Ok plan → taken plan ≡ None → refused_horizon horizon ≡ None
+  words_read : (plan : NestPlan) → nest ≡ Ok plan → taken plan ≡ None → refused_horizon horizon ≡ None
       → (disk : DiskView) → Leads disk.files nest_reading (inputs plan)
   words_read plan e free within disk =
       leads_then (nest_known disk.files plan e)
@@ -83,12 +84,45 @@ module _ {A : Type 0} (nest : Result NestPlan NestError) (taken : NestPlan → O
       (leads_unless disk.files (refused_horizon horizon) (inputs plan) within))
 
   -- and the words are accepted
-  pub words_accepted : (plan : NestPlan) → nest ≡ Ok plan → taken plan ≡ None → refused_horizon horizon ≡ None
+  words_accepted : (plan : NestPlan) → nest ≡ Ok plan → taken plan ≡ None → refused_horizon horizon ≡ None
       → AcceptsWords (inputs plan) → AcceptsWords nest_reading
   words_accepted plan known free within accepts =
       subst (λ (r : Result NestPlan NestError). AcceptsWords (with_nest r after_nest)) (sym known)
       (unless_accepted (taken plan) (within_horizon plan) free
       (unless_accepted (refused_horizon horizon) (inputs plan) within accepts))
+
+module _ {A : Type 0} (shells inputs : List Text) (out : Text) (horizon : ℕ) (next : NestPlan → Reading A) where
+  -- what a plan that was read, or the cause that there is none, says of the reading
+  pub plan_read : (result : Result NestPlan Cause)
+      → MatchResult result (IsPlan shells inputs out horizon) (StopsPlan shells inputs out horizon)
+      → (disk : DiskView) → ReadsOn (plan_reading shells inputs out horizon next) next disk disk result
+  plan_read (Ok plan) is disk =
+      words_read (nest_of shells) (refused_outputs inputs out) horizon next plan is.named is.free is.within disk
+  plan_read (Err cause) (WantsMemory is) disk = ReadingWants is
+  plan_read (Err cause) (NoNest error e is) disk =
+      nest_refused (nest_of shells) (refused_outputs inputs out) horizon next error cause e is disk
+  plan_read (Err cause) (Taken plan e refused) disk =
+      names_stop (nest_of shells) (refused_outputs inputs out) horizon next plan cause e (names_there _ _) refused disk
+  plan_read (Err cause) (TooLong plan e free refused) disk =
+      horizon_stop (nest_of shells) (refused_outputs inputs out) horizon next plan cause e free refused disk
+
+  -- the words of a plan are accepted
+  pub plan_accepted : (result : Result NestPlan Cause)
+      → MatchResult result (IsPlan shells inputs out horizon) (StopsPlan shells inputs out horizon)
+      → ((plan : NestPlan) → AcceptsWords (next plan))
+      → OnOk result (AcceptsWords (plan_reading shells inputs out horizon next))
+  plan_accepted (Ok plan) is accepts =
+      words_accepted (nest_of shells) (refused_outputs inputs out) horizon next plan is.named is.free is.within
+      (accepts plan)
+  plan_accepted (Err cause) stops accepts = tt
+
+-- words that name no nest have no plan
+pub nest_stops : (shells inputs : List Text) (out : Text) (horizon : ℕ) (error : NestError) (cause : Cause)
+    → (error ≢ nest_errors.OutOfMemory → nest_of shells ≡ Err error)
+    → (cause ≡ OutOfMemory) ⊎ ((error ≢ nest_errors.OutOfMemory) × (cause ≡ Refused (nest_refusal error)))
+    → StopsPlan shells inputs out horizon cause
+nest_stops shells inputs out horizon error cause e (inl is) = WantsMemory is
+nest_stops shells inputs out horizon error cause e (inr p) = NoNest error (e p.0) p.1
 
 -- reading traces refuses no words
 pub traces_no_words : {A : Type 0} (names : List Text) (next : List (List ℕ) → Reading A)

@@ -2,4 +2,3 @@ pub mod Inputs
 pub mod Loaded
 pub mod NestReading
 pub mod RunFiles
-pub mod Words

@@ -1,22 +1,23 @@
 // What commands that run a nest check: its words, the names of outputs, the horizon and the traces.
 ghost use Rattle.std.specs.Prelude.{◌≡◌, ◌≢◌, ◌⊎◌, ◌≤◌, ◌∷◌, ◌++◌, [], None, IfErr, IfOk, MatchResult, OnOk, length};
-ghost use Rattle.std.specs.Prelude.{map};
+ghost use Rattle.std.specs.Prelude.{map, string_bytes};
 ghost use Rattle.command_ends.specs.Names.{refused_names};
 ghost use Rattle.command_ends.specs.Stops.{RefusesText};
 ghost use Rattle.command_ends.specs.declared.cause.Cause.TheVariants as causes;
 ghost use Rattle.nest_spec.specs.Nests.{opportunities_of};
-ghost use Rattle.nest_command.specs.NestReading.{nest_refusal, refused_count, refused_horizon};
+ghost use Rattle.nest_command.specs.NestReading.{IsPlan, StopsPlan, nest_refusal, refused_count, refused_horizon};
+ghost use Rattle.nest_command.specs.NestReading.{refused_outputs};
 
 use command_ends::{Cause, Limit, Refusal, WordsRefusal, first_taken};
-use nest_spec::{NestError, NestWords};
+use nest_spec::{NestError, NestWords, read_nest};
 use std::alloc::Global;
 use text_base::limits::{HOUR, MOST_OPPORTUNITIES};
 use text_base::{OutOfMemory, Text};
 use trace_reader::Trace;
 
-/// Returns the cause of words that name no nest: the refusal with the number, the place and the inner number of
-/// `error`, or `OutOfMemory`.
-pub fn nest_cause(error: NestError) -> Cause
+// Returns the cause of words that name no nest: the refusal with the number, the place and the inner number of
+// `error`, or `OutOfMemory`.
+fn nest_cause(error: NestError) -> Cause
     ensures { (result ≡ causes.OutOfMemory)
         ⊎ ((error ≢ NestError.OutOfMemory) × (result ≡ causes.Refused (nest_refusal error))) }
 {
@@ -30,19 +31,22 @@ pub fn nest_cause(error: NestError) -> Cause
     }
 }
 
-/// Returns the names in `first`, and then `last`. Returns `OutOfMemory` where an allocation fails.
+/// Returns the names in `first`, and then those in `others`. Returns `OutOfMemory` where an allocation fails.
 pub fn names_of<'a>(
     alloc: Global,
     first: &'a [Text],
-    last: &'a str,
+    others: &[&'a str],
 ) -> Result<Vec<&'a str>, OutOfMemory>
-    ensures { IfOk result (λ names. map (λ name. name.now) names.items ≡ first.now ++ last.now ∷ []) }
+    ensures { IfOk result (λ names. map (λ name. name.now) names.items ≡ first.now ++ map
+        (λ name. name.now) others.now) }
 {
-    let mut names = Vec::new(alloc);
+    let mut names = Vec::with_capacity(alloc, first.len())?;
     for name in first {
         names.push(name.as_str())?;
     }
-    names.push(last)?;
+    for name in others {
+        names.push(*name)?;
+    }
     Ok(names)
 }
 
@@ -60,8 +64,8 @@ pub fn check_outputs(alloc: Global, inputs: &[&str], outputs: &[&str]) -> Result
     }
 }
 
-/// Refuses a horizon past an hour, 3,600,000 milliseconds.
-pub fn check_horizon(horizon: u64) -> Result<(), Cause>
+// Refuses a horizon past an hour, 3,600,000 milliseconds.
+fn check_horizon(horizon: u64) -> Result<(), Cause>
     ensures refused { MatchResult result (λ _. refused_horizon horizon ≡ None)
         (λ cause. RefusesText (refused_horizon horizon) cause) }
     ensures small { OnOk result (horizon ≤ 3600000) }
@@ -70,6 +74,41 @@ pub fn check_horizon(horizon: u64) -> Result<(), Cause>
         return Err(Cause::limit(Limit::Horizon));
     }
     Ok(())
+}
+
+// Refuses the first output that has the name of an input, or of an output before it.
+fn check_names(alloc: Global, nest: &NestWords, inputs: &[&str], out: &str) -> Result<(), Cause>
+    ensures { MatchResult result
+        (λ _. refused_outputs (map (λ name. name.now) inputs.now) out.now nest.now ≡ None)
+        (λ cause. RefusesText (refused_outputs (map (λ name. name.now) inputs.now) out.now nest.now) cause) }
+{
+    let inputs = names_of(alloc, nest.traces(), inputs)?;
+    let outputs = names_of(alloc, nest.logs(), &[out])?;
+    check_outputs(alloc, inputs.as_slice(), outputs.as_slice())
+}
+
+/// Returns the plan of a nest, which these words of shells name. Refuses words that name no nest, then the first output
+/// that has the name of an input or of an output before it, then a horizon past an hour. The inputs are the traces and
+/// those of the names `inputs`; the outputs are the logs and then `out`.
+pub fn read_plan(
+    alloc: Global,
+    shells: &[String],
+    inputs: &[&str],
+    out: &str,
+    horizon: u64,
+) -> Result<NestWords, Cause>
+    ensures plan { MatchResult result
+        (λ nest. IsPlan (map string_bytes shells.now) (map (λ name. name.now) inputs.now) out.now horizon nest)
+        (λ cause. StopsPlan (map string_bytes shells.now) (map (λ name. name.now) inputs.now) out.now horizon cause) }
+    ensures small { OnOk result (horizon ≤ 3600000) }
+{
+    let nest = match read_nest(alloc, shells) {
+        Ok(nest) => nest,
+        Err(error) => return Err(nest_cause(error)),
+    };
+    check_names(alloc, &nest, inputs, out)?;
+    check_horizon(horizon)?;
+    Ok(nest)
 }
 
 /// Refuses traces with more than 16,000,000 opportunities up to the horizon, in both directions together.

@@ -11,7 +11,7 @@ ghost use Rattle.nest_command.specs.Loaded.{HasSchedule};
 
 use command_ends::{Cause, Limit, Refusal, input_size, read_pieces};
 use mm_base::Disk;
-use packet_record::{PackedSchedule, Schedule, ScheduleError, ScheduleText};
+use packet_record::{PackedSchedule, Schedule, ScheduleError, ScheduleParser};
 use std::alloc::Global;
 use text_base::Text;
 
@@ -37,20 +37,20 @@ fn read_schedule_file<D: Disk>(
     alloc: Global,
     disk: &mut D,
     name: &str,
-) -> Result<ScheduleText, Cause>
+) -> Result<ScheduleParser, Cause>
     ensures read { IfOk result (λ text. ((bytes : List ℕ) × IsInput (D.view disk.old).files name.now bytes
         × HasRead bytes text)) }
     ensures stopped { IfErr result (λ cause. StopsAtFile name.now (D.view disk.old) (D.view disk.new) cause) }
     ensures only_reads { OnlyReads (D.view disk.old) (D.view disk.new) }
 {
     let size = input_size(alloc, disk, name)?;
-    let mut text = ScheduleText::new(alloc, size as usize)?;
+    let mut text = ScheduleParser::new(alloc, size as usize)?;
     read_pieces(alloc, disk, name, size, &mut text)?;
     Ok(text)
 }
 
 // Returns the schedule whose text was read. A refusal names the file `name`.
-fn schedule_of(alloc: Global, name: &str, text: ScheduleText) -> Result<PackedSchedule, Cause>
+fn schedule_of(alloc: Global, name: &str, text: ScheduleParser) -> Result<PackedSchedule, Cause>
     ensures rows { (bytes : List ℕ) → HasRead bytes text → IfOk result (λ rows. IsScheduleText bytes rows) }
     ensures refused { (bytes : List ℕ) → HasRead bytes text
         → MatchResult result (λ _. schedule_refusal name.now bytes ≡ None)

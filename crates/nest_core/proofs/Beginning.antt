@@ -3,12 +3,11 @@ use Rattle.std.proofs.Common.{◌≡◌, ℕ, suc, ◌≤◌, List, [], ◌∷�
 use Rattle.packet_record.specs.declared.packet.Direction.{Direction}
 use Rattle.packet_record.specs.declared.packet.Row.{Row}
 use Rattle.packet_record.specs.declared.item.Item.{Item}
-use Rattle.packet_record.specs.declared.item.Stream.{Stream}
-use Rattle.packet_record.specs.Streams.{no_items, after_all}
+use Rattle.packet_record.specs.Streams.{Stream, no_items, after_all}
 use Rattle.packet_record.specs.Sources.{source_items}
 use Rattle.packet_record.specs.Rows.{Rises}
 use Rattle.packet_record.proofs.SourcesLemmas.{source_packets, source_honest, items_end}
-use Rattle.shell_core.specs.declared.spec.DirSpec.{DirSpec}
+use Rattle.shell_state.specs.declared.spec.DirSpec.{DirSpec}
 use Rattle.shell_state.specs.States.{State}
 use Rattle.nest_spec.specs.Nests.{NestParts, directions_of}
 use Rattle.nest_core.specs.declared.station.Station.{Station}

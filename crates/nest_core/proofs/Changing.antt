@@ -3,8 +3,7 @@ use Rattle.std.proofs.Common.{◌≡◌, ℕ, zero, suc, ◌+◌, ◌*◌, ◌-�
 use Rattle.std.proofs.Common.{Option, Some, None, option_to_list, IfSome, Result, Ok, Err, OnOk, OnErr, IfOk, length}
 use Rattle.std.proofs.Common.{get_or, slice_set, ap, sym, subst, ◌∙◌, refl, arith}
 use Rattle.packet_record.specs.declared.item.Item.{Item}
-use Rattle.packet_record.specs.declared.item.Stream.{Stream}
-use Rattle.packet_record.specs.Streams.{MayFollow, IsUpTo}
+use Rattle.packet_record.specs.Streams.{Stream, MayFollow, IsUpTo}
 use Rattle.text_base.specs.declared.OutOfMemory.{OutOfMemory}
 use Rattle.shell_state.specs.States.{State}
 use Rattle.nest_core.specs.declared.station.Station.{Station}

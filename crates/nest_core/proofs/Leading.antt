@@ -3,16 +3,15 @@ use Rattle.std.proofs.Common.{◌≡◌, ◌⊎◌, inl, inr, ℕ, true, false, 
 use Rattle.std.proofs.Common.{sym, subst, ◌∙◌, refl, append_assoc, arith}
 use Rattle.std.proofs.lemmas.List.{append-nil, length-append, nil_from_length}
 use Rattle.packet_record.specs.declared.packet.Timed.{Timed}
-use Rattle.packet_record.specs.declared.item.Stream.{Stream}
 use Rattle.packet_record.specs.declared.item.Item.{Item}
 use Rattle.packet_record.specs.declared.item.Item.TheVariants.{Packet, Mark, End, Broken}
 use Rattle.packet_record.specs.declared.item.FlowEnd.{FlowEnd}
 use Rattle.packet_record.specs.declared.item.FlowEnd.TheVariants.{Open, Ended, Broken as Cut}
-use Rattle.packet_record.specs.Streams.{after, after_all, MayFollow, IsUpTo, AllFollow}
+use Rattle.packet_record.specs.Streams.{Stream, after, after_all, MayFollow, IsUpTo, AllFollow}
 use Rattle.packet_record.specs.Moments.{AreFrom, AreUpTo, Rise}
 use Rattle.packet_record.proofs.MomentsLemmas.{from_lower, up_to-append, up_to_back, rise-append, rise_rest}
-use Rattle.shell_core.specs.Shells.{whole_out, whole_log, opportunities}
-use Rattle.shell_core.proofs.Laws.{out_rises, out_within}
+use Rattle.shell_state.specs.Shells.{whole_out, whole_log, opportunities}
+use Rattle.shell_state.proofs.Laws.{out_rises, out_within}
 use Rattle.shell_state.specs.States.{State}
 use Rattle.shell_state.specs.Standing.{Stands, Foretells}
 use Rattle.shell_state.proofs.Foretelling.{foretells_more, finished}

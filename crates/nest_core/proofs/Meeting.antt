@@ -1,14 +1,13 @@
 -- Each step keeps how the streams of a world meet.
 use Rattle.std.proofs.Common.{◌≡◌, inl, ℕ, zero, suc, Bool, true, false, cond, List, [], ◌∷◌, ◌++◌, Option, Some, None}
 use Rattle.std.proofs.Common.{option_to_list, length, map, ap, sym, subst, ◌∙◌, refl, append_assoc, arith}
-use Rattle.packet_record.specs.declared.item.Stream.{Stream}
 use Rattle.packet_record.specs.declared.item.Item.{Item}
 use Rattle.packet_record.specs.declared.item.Item.TheVariants.{Packet, Mark, End, Broken}
 use Rattle.packet_record.specs.declared.item.FlowEnd.{FlowEnd}
 use Rattle.packet_record.specs.declared.item.FlowEnd.TheVariants.{Open, Ended, Broken as Cut}
-use Rattle.packet_record.specs.Streams.{after, after_all, MayFollow, IsUpTo, AllFollow}
+use Rattle.packet_record.specs.Streams.{Stream, after, after_all, MayFollow, IsUpTo, AllFollow}
 use Rattle.packet_record.proofs.MomentsLemmas.{up_to_back}
-use Rattle.shell_core.specs.declared.spec.DirSpec.{DirSpec}
+use Rattle.shell_state.specs.declared.spec.DirSpec.{DirSpec}
 use Rattle.shell_state.specs.declared.taken.Taken.{Taken}
 use Rattle.shell_state.specs.declared.taken.Taken.TheVariants.{Item as Gives, Again, NotYet}
 use Rattle.shell_state.specs.States.{State}

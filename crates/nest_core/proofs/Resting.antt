@@ -2,11 +2,10 @@
 use Rattle.std.proofs.Common.{◌≡◌, ◌⊎◌, inl, inr, ℕ, ◌≤◌, List, [], ◌∷◌}
 use Rattle.std.proofs.Common.{◌++◌, Option, None, option_to_list, ap, sym, ◌∙◌, refl, arith}
 use Rattle.std.proofs.lemmas.List.{append-nil}
-use Rattle.packet_record.specs.declared.item.Stream.{Stream}
 use Rattle.packet_record.specs.declared.item.Item.{Item}
 use Rattle.packet_record.specs.declared.item.FlowEnd.{FlowEnd}
 use Rattle.packet_record.specs.declared.item.FlowEnd.TheVariants.{Open, Ended, Broken as Cut}
-use Rattle.packet_record.specs.Streams.{after_all}
+use Rattle.packet_record.specs.Streams.{Stream, after_all}
 use Rattle.packet_record.proofs.MomentsLemmas.{from_lower}
 use Rattle.shell_state.proofs.GoingOn.{keeps_up}
 use Rattle.shell_state.specs.Causes.{Waits}

@@ -3,12 +3,12 @@
 use Rattle.std.proofs.Common.{◌≡◌, ◌↔◌, IsTrue, ℕ, zero, suc, ◌+◌, ◌*◌, ◌/◌, ◌%◌, ◌≤◌, ◌<◌, Bool, true, cond, List, []}
 use Rattle.std.proofs.Common.{◌∷◌, ◌++◌, Option, Some, None, option_to_list, length, map, ap, sym, subst, ◌∙◌, refl}
 use Rattle.std.proofs.Common.{arith, rules, tests}
-use Rattle.packet_record.specs.declared.item.Stream.{Stream}
+use Rattle.packet_record.specs.Streams.{Stream}
 use Rattle.packet_record.specs.declared.item.Item.{Item}
 use Rattle.packet_record.specs.declared.item.FlowEnd.{FlowEnd}
 use Rattle.packet_record.specs.declared.item.FlowEnd.TheVariants.{Open, Ended, Broken as Cut}
 use Rattle.shell_log.specs.declared.entry.Entry.{Entry}
-use Rattle.shell_core.specs.Shells.{shell_log, whole_out, whole_log}
+use Rattle.shell_state.specs.Shells.{shell_log, whole_out, whole_log}
 use Rattle.shell_state.specs.declared.taken.Taken.{Taken}
 use Rattle.shell_state.specs.declared.taken.Taken.TheVariants.{Item as Gives, Again, NotYet}
 use Rattle.shell_state.specs.States.{State}

@@ -2,7 +2,7 @@
 use Rattle.std.proofs.Common.{◌≡◌, ◌≢◌, ◌↔◌, ℕ, ◌+◌, ◌*◌, ◌<◌, Bool, true, false, IsTrue, Result, Ok, Err, OnOk, OnErr}
 use Rattle.std.proofs.Common.{IfOk, ap, sym, subst, ◌∙◌, refl, arith}
 use Rattle.std.specs.Bool.{OnTrue, OnFalse}
-use Rattle.packet_record.specs.declared.item.Stream.{Stream}
+use Rattle.packet_record.specs.Streams.{Stream}
 use Rattle.text_base.specs.declared.OutOfMemory.{OutOfMemory}
 use Rattle.nest_core.specs.declared.actor.Actor.{Actor}
 use Rattle.nest_core.specs.Worlds.{WorldParts}

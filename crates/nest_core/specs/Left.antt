@@ -2,7 +2,7 @@
 use Rattle.std.specs.Prelude.{ℕ, ◌+◌, ◌*◌, List, [], ◌∷◌, Option, length, option_to_list}
 use Rattle.packet_record.specs.declared.packet.Timed.{Timed}
 use Rattle.packet_record.specs.declared.item.Item.{Item}
-use Rattle.shell_core.specs.Shells.{whole_out}
+use Rattle.shell_state.specs.Shells.{whole_out}
 use Rattle.shell_state.specs.Promises.{takes_left}
 use Rattle.nest_core.specs.declared.station.Station.{Station}
 use Rattle.nest_core.specs.Channels.{ChannelParts}

@@ -4,7 +4,7 @@ use Rattle.std.specs.Prelude.{ℕ, Bool, Option, Some, None, is_some, not, ◌&&
 use Rattle.packet_record.specs.declared.item.Item.{Item}
 use Rattle.packet_record.specs.declared.item.FlowEnd.{FlowEnd}
 use Rattle.packet_record.specs.declared.item.FlowEnd.TheVariants.{Open, Ended, Broken}
-use Rattle.shell_core.specs.declared.spec.DirSpec.{DirSpec}
+use Rattle.shell_state.specs.declared.spec.DirSpec.{DirSpec}
 use Rattle.shell_state.specs.declared.taken.Taken.{Taken}
 use Rattle.shell_state.specs.declared.taken.Taken.TheVariants.{Item as Gives, Again, NotYet}
 use Rattle.shell_state.specs.States.{State, new_state}

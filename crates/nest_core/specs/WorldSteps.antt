@@ -1,8 +1,7 @@
 -- A step of a world: what each actor does. An actor that has nothing to do changes nothing.
 use Rattle.std.specs.Prelude.{ℕ, zero, suc, ◌+◌, ◌*◌, List, [], ◌∷◌, Option, Some, None, length, if◌then◌else◌}
 use Rattle.packet_record.specs.declared.item.Item.{Item}
-use Rattle.packet_record.specs.declared.item.Stream.{Stream}
-use Rattle.packet_record.specs.Streams.{after}
+use Rattle.packet_record.specs.Streams.{Stream, after}
 use Rattle.nest_core.specs.declared.station.Station.{Station}
 use Rattle.nest_core.specs.declared.actor.Actor.{Actor}
 use Rattle.nest_core.specs.declared.actor.Actor.TheVariants.{Source, Receiver, Feeder, Taker, Sender}

@@ -1,9 +1,8 @@
 -- A world: one direction of a nest in single steps.
 use Rattle.std.specs.Prelude.{ℕ, List, map}
 use Rattle.packet_record.specs.declared.item.Item.{Item}
-use Rattle.packet_record.specs.declared.item.Stream.{Stream}
-use Rattle.packet_record.specs.Streams.{no_items}
-use Rattle.shell_core.specs.declared.spec.DirSpec.{DirSpec}
+use Rattle.packet_record.specs.Streams.{Stream, no_items}
+use Rattle.shell_state.specs.declared.spec.DirSpec.{DirSpec}
 use Rattle.nest_core.specs.declared.station.Station.{Station}
 use Rattle.nest_core.specs.Channels.{ChannelParts, new_channel}
 use Rattle.nest_core.specs.Stations.{new_station}

@@ -1,15 +1,15 @@
 // A station of a world: one shell with its feeder, its drain, and the channel that the drain sends into.
 ghost use Rattle.std.specs.Prelude.{◌≡◌, ◌≤◌, OnOk, OnErr, IfOk, length, is_some};
-ghost use Rattle.shell_core.specs.Shells.{IsInRange, opportunities};
+ghost use Rattle.shell_state.specs.Shells.{IsInRange, opportunities};
 ghost use Rattle.shell_state.specs.States.{new_state};
 ghost use Rattle.shell_state.specs.Standing.{Stands};
 
 use crate::channel::Channel;
 use packet_record::{FlowEnd, Item};
-use shell_core::DirSpec;
-use shell_state::{ShellState, Taken};
+use shell_state::{DirSpec, ShellState, Taken};
 use std::alloc::Global;
 use text_base::OutOfMemory;
+use text_base::limits::{HOUR, MOST_OPPORTUNITIES};
 
 // The most opportunities that a drain burns in one step.
 pub(crate) const MOST: u32 = 4;
@@ -42,8 +42,8 @@ impl Station {
         capacity: usize,
     ) -> Result<Station, OutOfMemory>
         requires range { IsInRange spec }
-        requires horizon { horizon ≤ 3600000 }
-        requires few { length (opportunities spec horizon) ≤ 16000000 }
+        requires horizon { horizon ≤ HOUR }
+        requires few { length (opportunities spec horizon) ≤ MOST_OPPORTUNITIES }
         ensures is { IfOk result (λ s. s ≡ new_station spec horizon capacity) }
         ensures stands { OnOk result (Stands (new_state spec horizon)) }
     {

@@ -2,9 +2,9 @@
 use Rattle.std.proofs.Common.{◌≡◌, ◌∙◌, Bool, true, false, List, Option, Some, None, IsSome, is_some, refl}
 use Rattle.std.proofs.Common.{if◌then◌else◌}
 use Rattle.shell_log.specs.declared.entry.Entry.{Entry}
-use Rattle.shell_core.specs.declared.spec.DirSpec.{DirSpec}
-use Rattle.shell_core.specs.Shells.{meaning}
-use Rattle.shell_core.specs.Wholes.{IsLink, IsLogged, if_link, if_logged}
+use Rattle.shell_state.specs.declared.spec.DirSpec.{DirSpec}
+use Rattle.shell_state.specs.Shells.{meaning}
+use Rattle.shell_state.specs.Wholes.{IsLink, IsLogged, if_link, if_logged}
 use Rattle.nest_spec.specs.Words.{Text}
 
 logged : (b : Bool) (entries : List Entry) → IsLogged b → if_logged b entries ≡ Some entries

@@ -2,10 +2,10 @@
 use Rattle.std.proofs.Common.{◌≡◌, ◌≤◌, ℕ, List, subst, sym, length}
 use Rattle.packet_record.specs.declared.packet.Timed.{Timed}
 use Rattle.packet_record.specs.Moments.{AreUpTo, Rise}
-use Rattle.shell_core.specs.declared.spec.DirSpec.{DirSpec}
+use Rattle.shell_state.specs.declared.spec.DirSpec.{DirSpec}
 use Rattle.packet_record.proofs.MomentsLemmas.{up_to_higher}
-use Rattle.shell_core.specs.Shells.{IsBuilt, opportunities, whole_lost, whole_out}
-use Rattle.shell_core.proofs.Laws.{lost_within, out_rises, out_within}
+use Rattle.shell_state.specs.Shells.{IsBuilt, opportunities, whole_lost, whole_out}
+use Rattle.shell_state.proofs.Laws.{lost_within, out_rises, out_within}
 
 -- what departs may arrive at the next shell
 pub departed_rise : (c : DirSpec) (h : ℕ) (l departed : List Timed) → IsBuilt c → departed ≡ whole_out c h l → Rise l

@@ -1,12 +1,12 @@
 // The log of the first shell of a direction, whose arrivals are found again in the schedule.
 ghost use Rattle.std.specs.Prelude.{◌≡◌, ◌≤◌, true, length, IfOk};
-ghost use Rattle.shell_core.specs.Shells.{meaning, opportunities};
-ghost use Rattle.shell_core.specs.Wholes.{IsLink};
+ghost use Rattle.shell_state.specs.Shells.{meaning, opportunities};
+ghost use Rattle.shell_state.specs.Wholes.{IsLink};
 ghost use Rattle.nest_plain.specs.views.Arrivals.{entries_by};
 
 use crate::arrivals::ArrivalSource;
 use link_core::LinkLog;
-use shell_core::{DirSpec, whole_link_log};
+use shell_state::{DirSpec, whole_link_log};
 use std::alloc::Global;
 use text_base::OutOfMemory;
 

@@ -6,10 +6,10 @@ use Rattle.packet_record.specs.declared.packet.Row.{Row}
 use Rattle.packet_record.specs.Rows.{entering}
 use Rattle.mark_channel.specs.Boths.{BothKeep, ByDirection, OfBoth}
 use Rattle.nest_spec.specs.Nests.{NestParts, directions_of}
-use Rattle.nest_lanes.specs.declared.lane.Lane.{Lane}
-use Rattle.nest_lanes.specs.Lanes.{HasCarried, HasRun, IsWired}
-use Rattle.nest_lanes.specs.inside.Lanes.{HasEnded, IsSameLane}
-use Rattle.nest_lanes.proofs.Chains.{carried_ended, still_wired}
+use Rattle.nest_runner.specs.declared.lane.Lane.{Lane}
+use Rattle.nest_runner.specs.Lanes.{HasCarried, HasRun, IsWired}
+use Rattle.nest_runner.specs.inside.Lanes.{HasEnded, IsSameLane}
+use Rattle.nest_runner.proofs.Chains.{carried_ended, still_wired}
 
 -- lanes that have carried rows have ended
 pub both_ended : (h : ℕ) (rows : List Row) (lanes : Both Lane)

@@ -1,2 +1,5 @@
 pub mod BothLanes
+pub mod Carrying
+pub mod Chains
+pub mod Gathered
 pub mod Streamed

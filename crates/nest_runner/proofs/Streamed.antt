@@ -14,9 +14,9 @@ use Rattle.packet_record.specs.PartsRead.{PartRead}
 use Rattle.packet_record.specs.Rows.{entering}
 use Rattle.packet_record.specs.Schedules.{first_fault}
 use Rattle.shell_workers.specs.StreamParts.{AllSent, IsStreamed}
-use Rattle.nest_lanes.specs.declared.lane.Lane.{Lane}
+use Rattle.nest_runner.specs.declared.lane.Lane.{Lane}
 use Rattle.mark_channel.specs.Boths.{ByDirection, OfBoth}
-use Rattle.nest_lanes.specs.Lanes.{HasCarried, IsDonePath}
+use Rattle.nest_runner.specs.Lanes.{HasCarried, IsDonePath}
 use Rattle.nest_runner.specs.declared.lanes.Lanes.{Lanes}
 use Rattle.nest_runner.specs.inside.Lanes.{lanes_of}
 use Rattle.nest_runner.specs.Streaming.{HasStreamCause, of_disk, of_schedule}

@@ -1,2 +1,3 @@
+pub mod Lanes
 pub mod Streaming
 pub mod inside

@@ -2,11 +2,11 @@
 ghost use Rattle.std.specs.Prelude.{◌≡◌, ◌≤◌, ◌+◌, ◌*◌, length, IfOk};
 ghost use Rattle.mark_channel.specs.Boths.{ByDirection, OfBoth};
 ghost use Rattle.nest_spec.specs.Nests.{directions_of};
-ghost use Rattle.nest_lanes.specs.Lanes.{IsFreshLane, IsWired, workers_in};
+ghost use Rattle.nest_runner.specs.Lanes.{IsFreshLane, IsWired, workers_in};
 ghost use Rattle.nest_runner.specs.inside.Lanes.{lanes_of};
 
+use crate::lane::{Lane, Path};
 use mark_channel::Sender;
-use nest_lanes::{Lane, Path};
 use nest_spec::Nest;
 use packet_record::{Both, Direction};
 use std::alloc::Global;

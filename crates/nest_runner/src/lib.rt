@@ -5,8 +5,12 @@
 //! is promised of when a run returns, of fairness, or that two threads ran at once.
 #![tactic(auto)]
 
+mod begun;
 mod feeds;
+mod gathering;
+mod lane;
 mod lanes;
+mod paths;
 mod run;
 mod stream;
 mod stream_error;

@@ -9,19 +9,22 @@ ghost use Rattle.shell_workers.specs.Ends.{IfEnded};
 ghost use Rattle.shell_workers.specs.Reading.{IsUnread, ReadsFile};
 ghost use Rattle.shell_workers.specs.Sending.{IsUnsent};
 ghost use Rattle.shell_workers.specs.StreamParts.{AllSent, IsStreamed};
-ghost use Rattle.nest_lanes.specs.Lanes.{HasRun, IsDonePath, IsFreshLane, IsFreshPath, IsSamePath, workers_in};
-ghost use Rattle.nest_lanes.specs.inside.Lanes.{HasEnded, IsSameLane};
+ghost use Rattle.nest_runner.specs.Lanes.{HasRun, IsDonePath, IsFreshLane, IsFreshPath, IsSamePath, workers_in};
+ghost use Rattle.nest_runner.specs.inside.Lanes.{HasEnded, IsSameLane};
 ghost use Rattle.nest_runner.specs.inside.Lanes.{lanes_of};
 ghost use Rattle.nest_runner.specs.Streaming.{HasStreamCause, IsScheduleOf, StreamsTo};
 
 use crate::StreamError;
+use crate::begun::none_begun;
+use crate::gathering::gather_packed;
+use crate::lane::Lane;
 use crate::lanes::Lanes;
+use crate::paths::run_paths;
 use mark_channel::Run;
 use mm_base::{Disk, DiskError, FilePlace, Pace, piece_buffer, size_within};
-use nest_lanes::{Lane, gather_packed, none_begun, run_paths};
 use nest_plain::NestRun;
 use nest_spec::{Nest, RunResult};
-use packet_record::{Both, PackedSchedule, ScheduleText};
+use packet_record::{Both, PackedSchedule, ScheduleParser};
 use shell_workers::{ScheduleFile, WorkEnd, stream_source};
 use std::alloc::Global;
 use std::marker::Sync;
@@ -94,7 +97,7 @@ fn run_file<D: Disk, Q: Pace + Sync, R: Threads + Wait + Sync>(
     ensures only_reads { OnlyReads (D.view disk.old) (D.view disk.new) }
 {
     let mut lanes = Lanes::open(alloc, nest)?;
-    let text = ScheduleText::new(alloc, place.size as usize)?;
+    let text = ScheduleParser::new(alloc, place.size as usize)?;
     let piece = piece_buffer(alloc, place.size)?;
     let mut file = ScheduleFile {
         place: *place,

@@ -7,7 +7,7 @@ use Rattle.std.specs.Option.{is_none, option_map_or}
 use Rattle.packet_record.specs.declared.packet.Packet.{Packet}
 use Rattle.packet_record.specs.declared.packet.Timed.{Timed}
 use Rattle.packet_record.specs.Packets.{number}
-use Rattle.shell_core.specs.Shells.{whole_out, whole_lost}
+use Rattle.shell_state.specs.Shells.{whole_out, whole_lost}
 use Rattle.nest_spec.specs.declared.fate.Fate.{Fate}
 use Rattle.nest_spec.specs.declared.fate.Fate.TheVariants.{Departed, Dropped, Inside, Unsent}
 use Rattle.nest_spec.specs.declared.shell.ShellDirection.{ShellDirection}

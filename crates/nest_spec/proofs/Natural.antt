@@ -6,8 +6,8 @@ use Rattle.std.specs.Option.{is_none, option_map_or}
 use Rattle.packet_record.specs.declared.packet.Timed.{Timed}
 use Rattle.packet_record.specs.declared.packet.Row.{Row}
 use Rattle.packet_record.specs.Packets.{number}
-use Rattle.shell_core.specs.Shells.{whole_out, whole_lost}
-use Rattle.shell_core.specs.Shells.{whole_inside}
+use Rattle.shell_state.specs.Shells.{whole_out, whole_lost}
+use Rattle.shell_state.specs.Shells.{whole_inside}
 use Rattle.nest_spec.specs.declared.fate.Fate.{Fate}
 use Rattle.nest_spec.specs.declared.fate.Fate.TheVariants as fates
 use Rattle.nest_spec.specs.declared.mark.Mark.TheVariants.{Drops, Leaves}

@@ -5,10 +5,10 @@ use Rattle.std.specs.List.{list_any}
 use Rattle.packet_record.specs.declared.packet.Packet.{Packet}
 use Rattle.packet_record.specs.declared.packet.Timed.{Timed}
 use Rattle.packet_record.specs.Packets.{number}
-use Rattle.shell_core.specs.declared.spec.DirSpec.{DirSpec}
-use Rattle.shell_core.specs.Shells.{IsBuilt, opportunities, whole_out, whole_lost}
-use Rattle.shell_core.specs.Shells.{whole_inside}
-use Rattle.shell_core.proofs.Laws.{number_once}
+use Rattle.shell_state.specs.declared.spec.DirSpec.{DirSpec}
+use Rattle.shell_state.specs.Shells.{IsBuilt, opportunities, whole_out, whole_lost}
+use Rattle.shell_state.specs.Shells.{whole_inside}
+use Rattle.shell_state.proofs.Laws.{number_once}
 use Rattle.nest_spec.specs.Fates.{find_id}
 use Rattle.nest_spec.specs.inside.Marks.{ids_of}
 

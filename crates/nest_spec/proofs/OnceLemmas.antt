@@ -11,7 +11,7 @@ use Rattle.packet_record.specs.declared.packet.Direction.TheVariants.{Up, Down}
 use Rattle.packet_record.specs.Rows.{goes, entering}
 use Rattle.packet_record.specs.Rows.{AreApart}
 use Rattle.packet_record.specs.Packets.{number}
-use Rattle.shell_core.specs.Shells.{whole_out}
+use Rattle.shell_state.specs.Shells.{whole_out}
 use Rattle.nest_spec.specs.declared.fate.Fate.{Fate}
 use Rattle.nest_spec.specs.declared.fate.Fate.TheVariants as fates
 use Rattle.nest_spec.specs.declared.fate.FateRow.{FateRow}

@@ -3,13 +3,13 @@ use Rattle.std.proofs.Common.{◌≡◌, ℕ, suc, ◌<◌, ◌≤◌, List, [],
 use Rattle.std.proofs.lemmas.List.{length-map}
 use Rattle.packet_record.specs.declared.packet.Timed.{Timed}
 use Rattle.packet_record.specs.declared.item.FlowEnd.TheVariants.{Ended}
-use Rattle.shell_core.specs.declared.spec.DirSpec.{DirSpec}
-use Rattle.shell_core.specs.Shells.{lost, inside, shell_log, whole_out, whole_lost, whole_log}
-use Rattle.shell_core.specs.Shells.{whole_inside}
+use Rattle.shell_state.specs.declared.spec.DirSpec.{DirSpec}
+use Rattle.shell_state.specs.Shells.{lost, inside, shell_log, whole_out, whole_lost, whole_log}
+use Rattle.shell_state.specs.Shells.{whole_inside}
 use Rattle.shell_state.specs.States.{State}
 use Rattle.shell_state.specs.Standing.{Stands}
 use Rattle.shell_state.proofs.Foretelling.{taken_whole}
-use Rattle.packet_record.specs.declared.item.Stream.{Stream}
+use Rattle.packet_record.specs.Streams.{Stream}
 use Rattle.nest_spec.specs.declared.shell.ShellDirection.{ShellDirection}
 use Rattle.nest_spec.specs.Links.{specs_in}
 use Rattle.nest_spec.specs.Passed.{HavePassed}

@@ -10,8 +10,8 @@ use Rattle.text_base.specs.Numbers.{decimal_of}
 use Rattle.loss_core.specs.declared.rate.Rate.{Rate}
 use Rattle.loss_core.specs.RateValues.{rate_value}
 use Rattle.trace_reader.specs.declared.trace.Trace.{Trace}
-use Rattle.shell_core.specs.declared.spec.DirSpec.TheVariants as specs
-use Rattle.shell_core.specs.Shells.{IsInRange, opportunities}
+use Rattle.shell_state.specs.declared.spec.DirSpec.TheVariants as specs
+use Rattle.shell_state.specs.Shells.{IsInRange, opportunities}
 use Rattle.nest_spec.specs.Words.{Text, next, and_then, ShellRead, shell_read, delay_ms, delay_words, loss_direction}
 use Rattle.nest_spec.specs.Words.{loss_rate, rate_words, loss_words, nothing_given, LinkRead, link_from, queue_given}
 use Rattle.nest_spec.specs.Words.{side_words, queues_read, traces_read, link_end, link_words, shell_words}

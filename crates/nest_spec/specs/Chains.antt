@@ -3,7 +3,7 @@
 use Rattle.std.specs.Prelude.{ℕ, List, None, map}
 use Rattle.packet_record.specs.declared.packet.Timed.{Timed}
 use Rattle.shell_log.specs.declared.entry.Entry.{Entry}
-use Rattle.shell_core.specs.declared.spec.DirSpec.{DirSpec}
+use Rattle.shell_state.specs.declared.spec.DirSpec.{DirSpec}
 use Rattle.nest_spec.specs.declared.shell.ShellDirection.{ShellDirection}
 use Rattle.nest_spec.specs.Walk.{Step, walk, last_list}
 

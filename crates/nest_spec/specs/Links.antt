@@ -1,7 +1,7 @@
 -- What the shells of a direction do, and what holds of each.
 use Rattle.std.specs.Prelude.{◌≤◌, List, [], ◌∷◌, IsSome, map}
-use Rattle.shell_core.specs.declared.spec.DirSpec.{DirSpec}
-use Rattle.shell_core.specs.Wholes.{IsLink}
+use Rattle.shell_state.specs.declared.spec.DirSpec.{DirSpec}
+use Rattle.shell_state.specs.Wholes.{IsLink}
 use Rattle.nest_spec.specs.declared.shell.ShellDirection.{ShellDirection}
 
 -- What each shell does.

@@ -1,12 +1,13 @@
 -- A nest, what its shells do in each direction, and what a run of it gives.
 use Rattle.std.specs.Prelude.{ℕ, ◌+◌, ◌≤◌, List, [], ◌∷◌, length, map, reverse, nat_lt, if◌then◌else◌}
+use Rattle.text_base.specs.declared.limits.TheConstants.{HOUR, MOST_OPPORTUNITIES}
 use Rattle.packet_record.specs.declared.packet.Direction.{Direction}
 use Rattle.packet_record.specs.declared.packet.Direction.TheVariants.{Up, Down}
 use Rattle.packet_record.specs.declared.packet.Row.{Row}
 use Rattle.packet_record.specs.Rows.{entering}
 use Rattle.trace_reader.specs.declared.trace.Trace.{Trace}
-use Rattle.shell_core.specs.declared.spec.DirSpec.{DirSpec}
-use Rattle.shell_core.specs.Shells.{IsInRange, opportunities}
+use Rattle.shell_state.specs.declared.spec.DirSpec.{DirSpec}
+use Rattle.shell_state.specs.Shells.{IsInRange, opportunities}
 use Rattle.nest_spec.specs.declared.fate.Fate.{Fate}
 use Rattle.nest_spec.specs.declared.fate.Fate.TheVariants as fates
 use Rattle.nest_spec.specs.declared.fate.FateRow.{FateRow}
@@ -69,7 +70,7 @@ directions_of d nest = map (λ (s : ShellDirection). s.spec) (shells_in d nest)
 -- Each shell's delay is within its range, and each has at most 16,000,000 opportunities up to the horizon `h`.
 abbrev pub AllFit : ℕ → List DirSpec → Type 0
 AllFit h [] = Unit {0}
-AllFit h (c ∷ specs) = IsInRange c × (length (opportunities c h) ≤ 16000000) × AllFit h specs
+AllFit h (c ∷ specs) = IsInRange c × (length (opportunities c h) ≤ MOST_OPPORTUNITIES) × AllFit h specs
 
 -- What is true of every nest: it has 1 to 8 shells, delays and a horizon of at most an hour, and at most 16,000,000
 -- opportunities up to the horizon.
@@ -77,8 +78,8 @@ pub record IsNest (nest : NestParts) : Type 0 where
   pub some : 1 ≤ length nest.shells
   pub few : length nest.shells ≤ 8
   pub shells : AreShells nest.shells
-  pub horizon : nest.horizon ≤ 3600000
-  pub opportunities : all_opportunities nest.horizon nest.shells ≤ 16000000
+  pub horizon : nest.horizon ≤ HOUR
+  pub opportunities : all_opportunities nest.horizon nest.shells ≤ MOST_OPPORTUNITIES
 
 -- The walk of the packets that enter in a direction, up to the horizon, through the nest.
 abbrev pub walk_of : Direction → NestParts → List Row → List Step

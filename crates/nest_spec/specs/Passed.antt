@@ -2,7 +2,7 @@
 use Rattle.std.specs.Prelude.{◌≡◌, ℕ, List, [], ◌∷◌}
 use Rattle.packet_record.specs.declared.packet.Timed.{Timed}
 use Rattle.packet_record.specs.declared.item.FlowEnd.TheVariants.{Ended}
-use Rattle.shell_core.specs.declared.spec.DirSpec.{DirSpec}
+use Rattle.shell_state.specs.declared.spec.DirSpec.{DirSpec}
 use Rattle.shell_state.specs.States.{State}
 
 -- The states of shells that do `specs`, in passing order. The first was fed `arrived`, each other what was taken from

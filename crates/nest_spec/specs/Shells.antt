@@ -2,13 +2,14 @@
 -- is built, and what it does in each direction.
 use Rattle.std.specs.Prelude.{ℕ, ◌+◌, ◌*◌, ◌≤◌, Bool, List, [], ◌∷◌, Option, None, length, drop, if◌then◌else◌}
 use Rattle.std.specs.List.{slice_get}
+use Rattle.text_base.specs.declared.limits.TheConstants.{HOUR}
 use Rattle.packet_record.specs.declared.packet.Direction.{Direction}
 use Rattle.packet_record.specs.declared.packet.Direction.TheVariants.{Up, Down}
 use Rattle.packet_record.specs.Rows.{goes}
 use Rattle.trace_reader.specs.declared.trace.Trace.{Trace}
 use Rattle.trace_reader.specs.Opps.{opps}
-use Rattle.shell_core.specs.declared.spec.DirSpec.{DirSpec}
-use Rattle.shell_core.specs.declared.spec.DirSpec.TheVariants as specs
+use Rattle.shell_state.specs.declared.spec.DirSpec.{DirSpec}
+use Rattle.shell_state.specs.declared.spec.DirSpec.TheVariants as specs
 use Rattle.nest_spec.specs.declared.shell_words.LinkSide.{LinkSide}
 use Rattle.nest_spec.specs.declared.shell.Shell.{Shell}
 use Rattle.nest_spec.specs.declared.shell.Shell.TheVariants.{Delay, Loss, Link}
@@ -17,7 +18,7 @@ use Rattle.nest_spec.specs.Words.{Text}
 
 -- A delay is at most an hour.
 abbrev pub IsShell : {S : Type 0} → Shell S → Type 0
-IsShell (Delay ms) = ms ≤ 3600000
+IsShell (Delay ms) = ms ≤ HOUR
 IsShell (Loss d rate) = Unit {0}
 IsShell (Link once up down) = Unit {0}
 

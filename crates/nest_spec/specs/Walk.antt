@@ -4,8 +4,8 @@ use Rattle.std.specs.Prelude.{ℕ, List, [], ◌∷◌, ◌++◌, Option, map, r
 use Rattle.std.specs.List.{flat_map, zip}
 use Rattle.packet_record.specs.declared.packet.Timed.{Timed}
 use Rattle.shell_log.specs.declared.entry.Entry.{Entry}
-use Rattle.shell_core.specs.declared.spec.DirSpec.{DirSpec}
-use Rattle.shell_core.specs.Shells.{whole_out, whole_lost, whole_inside, whole_log}
+use Rattle.shell_state.specs.declared.spec.DirSpec.{DirSpec}
+use Rattle.shell_state.specs.Shells.{whole_out, whole_lost, whole_inside, whole_log}
 use Rattle.nest_spec.specs.declared.shell.ShellDirection.{ShellDirection}
 use Rattle.nest_spec.specs.Words.{Text}
 

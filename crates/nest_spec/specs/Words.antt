@@ -6,6 +6,7 @@ use Rattle.std.specs.Prelude.{if◌then◌else◌}
 use Rattle.std.specs.Option.{is_some, unwrap_or}
 use Rattle.std.specs.List.{position_or_len, before_first, after_first}
 use Rattle.std.specs.Str.{bytes_eq}
+use Rattle.text_base.specs.declared.limits.TheConstants.{HOUR}
 use Rattle.text_base.specs.Numbers.{decimal_of}
 use Rattle.packet_record.specs.declared.packet.Direction.{Direction}
 use Rattle.packet_record.specs.declared.packet.Direction.TheVariants.{Up, Down}
@@ -59,7 +60,7 @@ shell_read shell traces logs place rest = record {
 -- from 1.
 abbrev pub delay_ms : ℕ → Option ℕ → Result ℕ NestError
 delay_ms shell None = Err (errors.BadNumber shell)
-delay_ms shell (Some ms) = if nat_le ms 3600000 then Ok ms else Err (errors.BadNumber shell)
+delay_ms shell (Some ms) = if nat_le ms HOUR then Ok ms else Err (errors.BadNumber shell)
 
 -- Reads the words after `mm-delay`: `D`.
 abbrev pub delay_words : ℕ → ℕ → List Text → Result ShellRead NestError

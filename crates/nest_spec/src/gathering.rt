@@ -8,8 +8,8 @@ ghost use Rattle.packet_record.specs.Rows.{entering};
 ghost use Rattle.packet_record.specs.Rows.{AreApart};
 ghost use Rattle.nest_spec.specs.declared.fate.Fate.{Fate as FateValue};
 ghost use Rattle.nest_spec.specs.Fates.{fated};
-ghost use Rattle.shell_core.specs.Shells.{whole_log};
-ghost use Rattle.shell_core.specs.Wholes.{IsLink};
+ghost use Rattle.shell_state.specs.Shells.{whole_log};
+ghost use Rattle.shell_state.specs.Wholes.{IsLink};
 ghost use Rattle.nest_spec.specs.Links.{AreNestShells, specs_in};
 ghost use Rattle.nest_spec.specs.inside.Links.{AreBuilt};
 ghost use Rattle.nest_spec.specs.inside.Marks.{marked_through};
@@ -26,6 +26,7 @@ use crate::{Named, NamedLog, Nest, RunResult, ShellDirection};
 use packet_record::{Direction, Row, Timed};
 use shell_state::ShellState;
 use std::alloc::Global;
+use text_base::limits::HOUR;
 use text_base::{OutOfMemory, Text};
 
 // Marks the fates of packets that arrived at `shells` and passed them, and adds the log of each shell to `logs`, or
@@ -40,7 +41,7 @@ fn gather_shells(
 ) -> Result<(), OutOfMemory>
     requires passed { HavePassed horizon (specs_in shells.now) arrived.now states.now }
     requires within { AreUpTo horizon arrived.now }
-    requires short { horizon ≤ 3600000 }
+    requires short { horizon ≤ HOUR }
     requires shells { AreNestShells shells.now }
     ensures rows { marking.new.rows ≡ marking.old.rows }
     ensures fates { OnOk result ((f : RowValue → FateValue) → marking.old.fates ≡ fated f marking.old.rows

@@ -5,6 +5,7 @@ ghost use Rattle.nest_spec.specs.inside.PackedFates.{CanBePacked, HasNestShell};
 
 use crate::Fate;
 use packet_record::Timed;
+use text_base::limits::HOUR;
 
 // What happened to a packet that is marked.
 #[derive(Clone, Copy)]
@@ -18,7 +19,7 @@ pub(crate) enum Mark {
 // Returns the fate of a packet that is marked, at the packet's moment.
 pub(crate) fn fate_by(mark: Mark, t: Timed) -> Fate
     ensures fate { result ≡ mark_fate mark t }
-    ensures short { HasNestShell mark → t.moment ≤ 3600000 → CanBePacked result }
+    ensures short { HasNestShell mark → t.moment ≤ HOUR → CanBePacked result }
 {
     match mark {
         Mark::Drops { shell } => Fate::Dropped {

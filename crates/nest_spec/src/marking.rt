@@ -20,6 +20,7 @@ use packet_record::{PackedRow, Row, Schedule, Timed};
 use std::alloc::Global;
 use std::marker::Model;
 use text_base::OutOfMemory;
+use text_base::limits::HOUR;
 
 /// The rows of a run, and a fate for each, which changes while packets pass the shells. Contracts see both lists.
 #[derive(Drop)]
@@ -86,7 +87,7 @@ impl<'a> Marking<'a> {
     /// those numbered in `held` are still inside. Moments of `lost` are at most 3,600,000.
     pub fn pass(&mut self, number: u32, lost: &[Timed], held: &[u32])
         requires few { number ≤ 8 }
-        requires short { AreUpTo 3600000 lost.now }
+        requires short { AreUpTo HOUR lost.now }
         ensures rows { self.new.rows ≡ self.old.rows }
         ensures fates { (f : RowValue → FateValue) → self.old.fates ≡ fated f self.old.rows
             → self.new.fates ≡ fated (passed number lost.now held.now f) self.old.rows }
@@ -98,7 +99,7 @@ impl<'a> Marking<'a> {
 
     /// Marks `departed` as departed from the last shell of their direction. Their moments are at most 3,600,000.
     pub fn depart(&mut self, departed: &[Timed])
-        requires short { AreUpTo 3600000 departed.now }
+        requires short { AreUpTo HOUR departed.now }
         ensures rows { self.new.rows ≡ self.old.rows }
         ensures fates { (f : RowValue → FateValue) → self.old.fates ≡ fated f self.old.rows
             → self.new.fates ≡ fated (marked departed.now Mark.Leaves f) self.old.rows }
@@ -145,7 +146,7 @@ fn mark_all(
     list: &mut Vec<PackedFate>,
 )
     requires mark { HasNestShell mark }
-    requires short { AreUpTo 3600000 packets.now }
+    requires short { AreUpTo HOUR packets.now }
     requires places { ArePlaces (rows_in rows) places.now }
     requires length { length list.old.items ≡ length (rows_in rows) }
     ensures length { length list.new.items ≡ length (rows_in rows.entry) }

@@ -7,10 +7,11 @@ ghost use Rattle.nest_spec.specs.Links.{AreNestShells, specs_in};
 use crate::build_shells::build_shells;
 use crate::{LinkDirection, NestWords, Shell, ShellDirection};
 use packet_record::Direction;
-use shell_core::DirSpec;
+use shell_state::DirSpec;
 use std::alloc::Global;
 use std::marker::Model;
 use text_base::OutOfMemory;
+use text_base::limits::{HOUR, MOST_OPPORTUNITIES};
 use trace_reader::Trace;
 
 /// 1 to 8 shells, the outermost first, with the seed of their losses and the horizon in milliseconds.
@@ -46,8 +47,8 @@ pub fn build(
     horizon: u64,
 ) -> Result<Nest, OutOfMemory>
     requires traces { length traces.items ≡ length words.traces }
-    requires horizon { horizon ≤ 3600000 }
-    requires few { opportunities_of horizon words.shells traces.items ≤ 16000000 }
+    requires horizon { horizon ≤ HOUR }
+    requires few { opportunities_of horizon words.shells traces.items ≤ MOST_OPPORTUNITIES }
     ensures { IfOk result (λ nest. nest ≡ built words traces.items seed horizon) }
 {
     let shells = build_shells(alloc, words, traces)?;
@@ -71,7 +72,7 @@ impl Nest {
     /// it.
     pub fn horizon(&self) -> u64
         ensures value { result ≡ self.now.horizon }
-        ensures most { result ≤ 3600000 }
+        ensures most { result ≤ HOUR }
     {
         self.horizon
     }
@@ -83,7 +84,7 @@ impl Nest {
         ensures some { IfOk result (λ list. 1 ≤ length list.items) }
         ensures fit { IfOk result (λ list. AllFit self.now.horizon (specs_in list.items)) }
         ensures shells { IfOk result (λ list. AreNestShells list.items) }
-        ensures horizon { self.now.horizon ≤ 3600000 }
+        ensures horizon { self.now.horizon ≤ HOUR }
     {
         let mut list = Vec::new(*self.shells.allocator());
         push_directions(&mut list, direction, self.seed, 1, self.shells.as_slice())?;
@@ -94,7 +95,7 @@ impl Nest {
     pub fn directions(&self, direction: Direction) -> Result<Vec<DirSpec>, OutOfMemory>
         ensures list { IfOk result (λ list. list.items ≡ directions_of direction self.now) }
         ensures fit { IfOk result (λ list. AllFit self.now.horizon list.items) }
-        ensures horizon { self.now.horizon ≤ 3600000 }
+        ensures horizon { self.now.horizon ≤ HOUR }
     {
         let alloc = *self.shells.allocator();
         let shells = self.shells_in(direction)?;

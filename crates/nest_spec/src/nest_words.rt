@@ -14,6 +14,7 @@ use crate::shell_words::next;
 use crate::{LinkSide, NestError, Shell};
 use std::alloc::Global;
 use std::marker::Model;
+use text_base::limits::HOUR;
 use text_base::{OutOfMemory, Text};
 use trace_reader::Trace;
 
@@ -70,7 +71,7 @@ impl NestWords {
     /// for each name, in their order, and `horizon` is at most 3,600,000 ms.
     pub fn opportunities(&self, traces: &[Trace], horizon: u64) -> u64
         requires traces { length traces.now ≡ length self.now.traces }
-        requires horizon { horizon ≤ 3600000 }
+        requires horizon { horizon ≤ HOUR }
         ensures { result ≡ opportunities_of horizon self.now.shells traces.now }
     {
         count_opportunities(self.shells.as_slice(), traces, horizon)
@@ -94,7 +95,7 @@ impl NestWords {
 // Returns how many opportunities the links of `shells` have up to `horizon`.
 fn count_opportunities(shells: &[Shell<LinkSide>], traces: &[Trace], horizon: u64) -> u64
     requires traces { length traces.now ≡ trace_count shells.now }
-    requires horizon { horizon ≤ 3600000 }
+    requires horizon { horizon ≤ HOUR }
     requires few { length shells.now ≤ 8 }
     ensures count { result ≡ opportunities_of horizon shells.now traces.now }
     ensures most { result ≤ length shells.now * 7200002000000 }
@@ -113,7 +114,7 @@ fn count_opportunities(shells: &[Shell<LinkSide>], traces: &[Trace], horizon: u6
 // Returns how many opportunities one direction of a link has up to `horizon`.
 #[tactic(auto, using(crate::proofs::CountLemmas::count_within))]
 fn count_in(trace: &Trace, once: bool, horizon: u64) -> u64
-    requires { horizon ≤ 3600000 }
+    requires { horizon ≤ HOUR }
     ensures count { result ≡ length (opps trace.now.opportunities once horizon) }
     ensures most { result ≤ 3600001000000 }
 {

@@ -8,6 +8,7 @@ use packet_record::Direction;
 use std::alloc::Global;
 use std::marker::Model;
 use text_base::OutOfMemory;
+use text_base::limits::HOUR;
 
 // The kind of a fate, in the two lowest bits of `PackedFate::number`: the packet departed.
 const DEPARTED: u32 = 0;
@@ -69,7 +70,7 @@ impl PackedFate {
     fn of_kind(id: u32, direction: Direction, kind: u32, shell: u32, moment: u64) -> Self
         requires kind { kind < 4 }
         requires few { shell ≤ 8 }
-        requires short { moment ≤ 3600000 }
+        requires short { moment ≤ HOUR }
         ensures { result ≡ record { id = id; direction = direction; fate = fate_at kind shell moment } }
     {
         let up = shell * ONE_SHELL + moment as u32 * 8 + kind;

@@ -10,7 +10,7 @@ use crate::LinkSide;
 use loss_core::Rate;
 use packet_queue::QueueSpec;
 use packet_record::Direction;
-use shell_core::DirSpec;
+use shell_state::DirSpec;
 use std::alloc::Global;
 use std::vec::IntoIter;
 use text_base::{OutOfMemory, Text};

@@ -1,10 +1,10 @@
 // Directions of shells made of static words, and the logs that they leave.
 ghost use Rattle.std.specs.Prelude.{◌≤◌, length};
-ghost use Rattle.shell_core.specs.Shells.{IsInRange, opportunities};
+ghost use Rattle.shell_state.specs.Shells.{IsInRange, opportunities};
 
 use crate::inputs::{queue_of, rate_of, trace_of};
-use shell_core::{DirSpec, Passage};
 use shell_log::Log;
+use shell_state::{DirSpec, Passage};
 use std::alloc::Global;
 use std::process::Abort;
 use text_base::limits::{HOUR, MOST_OPPORTUNITIES};
@@ -23,7 +23,7 @@ pub enum Kind {
 }
 
 // Returns a link whose trace is played again and again. `queue` is the queue's name and its arguments.
-#[tactic(auto, unfolding(shell_core::specs::Shells::opportunities))]
+#[tactic(auto, unfolding(shell_state::specs::Shells::opportunities))]
 fn link_of(
     rt: &impl Abort,
     alloc: Global,
@@ -45,7 +45,7 @@ fn link_of(
 }
 
 // Returns the direction of a kind, for a run up to `horizon`.
-#[tactic(auto, unfolding(shell_core::specs::Shells::opportunities))]
+#[tactic(auto, unfolding(shell_state::specs::Shells::opportunities))]
 pub fn direction_of(rt: &impl Abort, alloc: Global, kind: Kind, horizon: u64) -> DirSpec
     requires horizon { horizon ≤ 3600000 }
     ensures range { IsInRange result }

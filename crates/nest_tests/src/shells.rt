@@ -2,8 +2,8 @@
 use crate::checks::check;
 use crate::directions::{Kind, direction_of, log_of};
 use crate::packets::{Ways, in_order, timed, went};
-use shell_core::{Passage, run_whole};
 use shell_log::{Log, print_log};
+use shell_state::{Passage, run_whole};
 use std::alloc::Global;
 use std::process::Abort;
 

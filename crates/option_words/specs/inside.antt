@@ -4,4 +4,3 @@ pub mod Found
 pub mod Givens
 pub mod Held
 pub mod Options
-pub mod Values

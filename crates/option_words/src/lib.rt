@@ -1,33 +1,28 @@
 //! The option words of each command, read by clap as a simple command without positional words.
 //!
+//! A table for each command states its options; words are read by it once, into what they give of each option. A
+//! command makes its job of that, or else tells the first fault of its words.
+//!
 //! An option is `--name value` or `--name=value`, in any order, each at most once. A value is a word that isn't empty
 //! and doesn't begin with a hyphen. Nothing else is an option word. What more than one command asks of a value, that it
 //! is a port, a seed or a number within a range, is read here too.
 #![tactic(auto)]
 
+mod command;
+mod fault;
 mod fit;
 mod given;
-mod make;
-mod matching;
-mod merge;
-mod migrate;
 mod numbers;
-mod proxying;
-mod recording;
-mod relaying;
-mod replay;
-mod report;
-mod run;
+mod options;
+mod split;
 mod table;
 
-pub use make::{MakeWords, parse_make};
-pub use matching::{MatchWords, parse_match};
-pub use merge::{MergeWords, parse_merge};
-pub use migrate::{MigrateWords, parse_migrate};
+pub use command::Command;
+pub use fault::{
+    Fault, WordFault, begins_with_hyphen, count_uses, job_or_fault, missing_option, name_and_value,
+    option_words,
+};
+pub use given::read_given;
 pub use numbers::{read_port, read_seed, read_within};
-pub use proxying::{ProxyWords, parse_proxy};
-pub use recording::{RecordWords, parse_record};
-pub use relaying::{RelayWords, parse_relay};
-pub use replay::{ReplayWords, parse_replay};
-pub use report::{ReportWords, parse_report};
-pub use run::{RunWords, parse_run};
+pub use options::{NumberSpec, OptionSpec, ValueSpec};
+pub use split::{SplitWords, end_of_options, read_split};

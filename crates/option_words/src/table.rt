@@ -1,43 +1,16 @@
 // A command's table of options, as clap reads it.
 ghost use Rattle.std.specs.Prelude.{◌≡◌, IfOk, map, string_bytes, true, false, if◌then◌else◌};
 ghost use Rattle.std.specs.List.{list_all};
-ghost use Rattle.option_words.specs.Givens.{flag, valued};
 ghost use Rattle.option_words.specs.inside.Options.{is_fit};
 ghost use Rattle.option_words.specs.inside.Found.{IsMatchOf};
-ghost use Rattle.option_words.specs.inside.Values.{opt};
+ghost use Rattle.option_words.specs.Values.{opt};
 ghost use Rattle.option_words.specs.inside.ClapTable.{app_for, rule_for};
 ghost use Rattle.clap.specs.Words.{app_of, rule_of};
 
+use crate::options::OptionSpec;
 use clap::error::ErrorKind;
 use clap::{Arg, ArgAction, ArgMatches, Command};
 use std::alloc::{AllocError, Global};
-
-// An option: its name, and whether it takes a value.
-#[derive(Clone, Copy)]
-pub(crate) struct OptionSpec<'a> {
-    pub name: &'a str,
-    pub takes_value: bool,
-}
-
-// An option that takes a value.
-pub(crate) fn valued<'a>(name: &'a str) -> OptionSpec<'a>
-    ensures { opt result ≡ valued name.now }
-{
-    OptionSpec {
-        name,
-        takes_value: true,
-    }
-}
-
-// An option that takes none.
-pub(crate) fn flag<'a>(name: &'a str) -> OptionSpec<'a>
-    ensures { opt result ≡ flag name.now }
-{
-    OptionSpec {
-        name,
-        takes_value: false,
-    }
-}
 
 fn action_for(takes_value: bool) -> ArgAction
     ensures { result ≡ (if takes_value then ArgAction.Set else ArgAction.SetTrue) }
@@ -49,16 +22,16 @@ fn action_for(takes_value: bool) -> ArgAction
     }
 }
 
-fn arg_for<'a>(alloc: Global, option: OptionSpec<'a>) -> Arg<'a>
-    ensures rule { rule_of result ≡ rule_for (opt option.entry) }
+fn arg_for<'a>(alloc: Global, option: OptionSpec) -> Arg<'a>
+    ensures rule { rule_of result ≡ rule_for (opt option) }
     ensures local { result.global ≡ false }
 {
     Arg::new(alloc, option.name)
         .long(option.name)
-        .action(action_for(option.takes_value))
+        .action(action_for(option.takes_value()))
 }
 
-fn command_for<'a>(alloc: Global, table: &[OptionSpec<'a>]) -> Result<Command<'a>, AllocError>
+fn command_for<'a>(alloc: Global, table: &[OptionSpec]) -> Result<Command<'a>, AllocError>
     ensures { IfOk result (λ c. app_of c ≡ app_for (map opt table.now)) }
 {
     let mut command = Command::new(alloc, "mm")
@@ -73,7 +46,7 @@ fn command_for<'a>(alloc: Global, table: &[OptionSpec<'a>]) -> Result<Command<'a
 // What clap makes of the words, or none where they spell no uses of these options.
 pub(crate) fn matches_for<'a>(
     alloc: Global,
-    table: &[OptionSpec<'a>],
+    table: &[OptionSpec],
     words: &'a [String],
 ) -> Result<Option<ArgMatches<'a>>, AllocError>
     requires { list_all is_fit (map string_bytes words.now) ≡ true }

@@ -4,6 +4,7 @@
 mod queue;
 mod reading;
 mod spec;
+mod waiting;
 
 pub use queue::{Dropped, PacketQueue};
 pub use reading::read_queue;

@@ -1,24 +1,33 @@
 // A queue of packets that may drop some.
-ghost use Rattle.std.specs.Prelude.{◌≡◌, ◌+◌, ◌-◌, ◌*◌, ◌^◌, ◌<◌, ◌≤◌, ◌&&◌, ◌++◌, ◌∷◌, [], length, map, IfOk};
+ghost use Rattle.std.specs.Prelude.{◌≡◌, ◌+◌, ◌-◌, ◌*◌, ◌^◌, ◌<◌, ◌≤◌, ◌++◌, ◌∷◌, [], length, map, IfOk};
 ghost use Rattle.std.specs.Prelude.{OnOk, OnErr, ◌↔◌, IsSome, option_to_list, vec_len, vec_capacity};
 ghost use Rattle.std.specs.VecDeque.{deque_capacity};
 ghost use Rattle.packet_record.specs.Packets.{bytes, moved_to};
-ghost use Rattle.packet_queue.specs.Queues.{is_within, fits, fitting, excess, enqueued, dropped};
+ghost use Rattle.packet_queue.specs.Queues.{fits, fitting, excess, enqueued, dropped};
 ghost use Rattle.packet_queue.specs.View.{Queue};
-ghost use Rattle.packet_queue.specs.inside.Kept.{AreKept, CanBeShed};
+ghost use Rattle.packet_queue.specs.inside.Kept.{AreKept};
 
 use crate::spec::{QueueKind, QueueSpec};
+use crate::waiting::Waiting;
 use packet_record::Timed;
 use std::alloc::Global;
-use std::collections::VecDeque;
 use std::marker::Model;
 use text_base::OutOfMemory;
 
 /// What one arrival dropped: how many packets, and their bytes.
 #[derive(Clone, Copy, PartialEq, Eq)]
 pub struct Dropped {
+    /// How many packets.
     pub packets: u64,
+    /// The sum of their sizes.
     pub bytes: u64,
+}
+
+impl Dropped {
+    pub(crate) const NOTHING: Dropped = Dropped {
+        packets: 0,
+        bytes: 0,
+    };
 }
 
 /// The packets that wait at a link, in order, and those that were dropped.
@@ -28,8 +37,7 @@ pub struct Dropped {
 #[derive(Drop)]
 pub struct PacketQueue {
     spec: QueueSpec,
-    waiting: VecDeque<Timed>,
-    size: u64,
+    waiting: Waiting,
     gone: Vec<Timed>,
     spare: usize,
 }
@@ -37,17 +45,17 @@ pub struct PacketQueue {
 impl Model for PacketQueue {
     ghost use Rattle.std.specs.Prelude.{◌≡◌, ◌+◌, ◌^◌, ◌≤◌, length, vec_len, vec_capacity};
     ghost use Rattle.std.specs.VecDeque.{deque_capacity};
-    ghost use Rattle.packet_record.specs.Packets.{bytes};
     ghost use Rattle.packet_queue.specs.View.{Queue};
     ghost use Rattle.packet_queue.specs.inside.Kept.{AreKept};
 
     ghost Value = { Queue };
 
-    ghost view = { λ q. record { spec = q.spec; packets = q.waiting.items; lost = q.gone.items; spare = q.spare } };
+    ghost view = { λ q. record { spec = q.spec; packets = q.waiting.packets.items; lost = q.gone.items; spare = q.spare } };
 
-    ghost invariant = { λ q. AreKept q.spec q.waiting.items × (q.size ≡ bytes q.waiting.items)
-        × (q.spare + length q.waiting.items ≤ 2 ^ 40)
-        × (q.spare + length q.waiting.items ≤ deque_capacity q.waiting) × (q.spare + length q.waiting.items + vec_len q.gone ≤ vec_capacity q.gone) };
+    ghost invariant = { λ q. AreKept q.spec q.waiting.packets.items
+        × (q.spare + length q.waiting.packets.items ≤ 2 ^ 40)
+        × (q.spare + length q.waiting.packets.items ≤ deque_capacity q.waiting.packets)
+        × (q.spare + length q.waiting.packets.items + vec_len q.gone ≤ vec_capacity q.gone) };
 }
 
 #[tactic(auto, using(crate::proofs::Sizes::queue_steps))]
@@ -58,8 +66,7 @@ impl PacketQueue {
     {
         PacketQueue {
             spec,
-            waiting: VecDeque::new(alloc),
-            size: 0,
+            waiting: Waiting::new(alloc),
             gone: Vec::new(alloc),
             spare: 0,
         }
@@ -77,21 +84,26 @@ impl PacketQueue {
         ensures len { result ≡ length self.now.packets }
         ensures few { result ≤ 2 ^ 40 }
     {
-        self.waiting.len()
+        self.waiting.packets.len()
     }
 
     /// The sum of the sizes of the packets that wait.
     pub fn bytes(&self) -> u128
         ensures { result ≡ bytes self.now.packets }
     {
-        self.size as u128
+        u128::from(self.waiting.size)
     }
 
     /// The numbers of the packets that wait, in order, or out of memory.
     pub fn ids(&self, alloc: Global) -> Result<Vec<u32>, OutOfMemory>
         ensures { IfOk result (λ ids. ids.items ≡ map (λ t. t.packet.id) self.now.packets) }
     {
-        let ids = self.waiting.iter().map(|t| t.packet.id).collect(alloc)?;
+        let ids = self
+            .waiting
+            .packets
+            .iter()
+            .map(|t| t.packet.id)
+            .collect(alloc)?;
         Ok(ids)
     }
 
@@ -120,34 +132,30 @@ impl PacketQueue {
         if n <= self.spare {
             return Ok(());
         }
-        let held = self.waiting.len();
+        let held = self.waiting.packets.len();
         let free = MOST - held;
         if n > free {
             return Err(OutOfMemory);
         }
         let room = n.max(AT_ONCE).min(free);
-        self.waiting.reserve(room)?;
+        self.waiting.packets.reserve(room)?;
         self.gone.reserve(held + room)?;
         self.spare = room;
         Ok(())
     }
 
-    /// Takes the first packet. Returns `None` exactly where none waits.
+    /// Takes the first packet. Returns `None` exactly if none waits.
     pub fn dequeue(&mut self) -> Option<Timed>
         ensures packets { self.old.packets ≡ option_to_list result ++ self.new.packets }
         ensures none { IsSome result ↔ (0 < length self.old.packets) }
         ensures same { self.new ≡ record self.old { packets = self.new.packets } }
     {
-        let first = self.waiting.pop_front();
-        if let Some(t) = first {
-            self.size -= t.packet.size as u64;
-        }
-        first
+        self.waiting.pop()
     }
 
     /// Lets in a packet that arrives at its moment, and returns what this dropped.
     ///
-    /// An infinite queue drops nothing. Droptail drops the new packet where the queue with it would pass a limit.
+    /// An infinite queue drops nothing. Droptail drops the new packet if the queue with it would pass a limit.
     /// Drophead appends it, and drops from the head until no limit is passed. (Manual page of mm-link.)
     pub fn enqueue(&mut self, t: Timed) -> Dropped
         requires { 1 ≤ self.old.spare }
@@ -166,12 +174,12 @@ impl PacketQueue {
         match self.spec.kind {
             QueueKind::Infinite => {
                 self.add(t);
-                NOTHING
+                Dropped::NOTHING
             }
             QueueKind::DropTail => {
                 if self.would_fit(t) {
                     self.add(t);
-                    NOTHING
+                    Dropped::NOTHING
                 } else {
                     self.refuse(t)
                 }
@@ -184,11 +192,9 @@ impl PacketQueue {
         requires { 1 ≤ self.now.spare }
         ensures { result ≡ fits self.now.spec (self.now.packets ++ t ∷ []) }
     {
-        fits_now(
-            &self.spec,
-            self.waiting.len() as u64 + 1,
-            self.size + t.packet.size as u64,
-        )
+        let packets = self.waiting.packets.len() as u64 + 1;
+        let size = self.waiting.size + u64::from(t.packet.size);
+        self.spec.fits(packets, size)
     }
 
     #[inline(always)]
@@ -197,8 +203,7 @@ impl PacketQueue {
         requires kept { AreKept self.old.spec (self.old.packets ++ t ∷ []) }
         ensures { self.new ≡ record self.old { packets = self.old.packets ++ t ∷ []; spare = self.old.spare - 1 } }
     {
-        self.size += t.packet.size as u64;
-        self.waiting.push_back(t).unwrap();
+        self.waiting.append(t);
         self.spare -= 1;
     }
 
@@ -215,7 +220,7 @@ impl PacketQueue {
         self.spare -= 1;
         Dropped {
             packets: 1,
-            bytes: t.packet.size as u64,
+            bytes: u64::from(t.packet.size),
         }
     }
 
@@ -233,17 +238,9 @@ impl PacketQueue {
         ensures packets { result.packets ≡ length (excess self.old.spec (self.old.packets ++ t ∷ [])) }
         ensures bytes { result.bytes ≡ bytes (excess self.old.spec (self.old.packets ++ t ∷ [])) }
     {
-        let spec = self.spec;
-        self.size += t.packet.size as u64;
-        self.waiting.push_back(t).unwrap();
+        self.waiting.append(t);
         self.spare -= 1;
-        shed(
-            &spec,
-            t.moment,
-            &mut self.waiting,
-            &mut self.size,
-            &mut self.gone,
-        )
+        self.waiting.shed(&self.spec, t.moment, &mut self.gone)
     }
 }
 
@@ -252,67 +249,3 @@ const MOST: usize = 1 << 40;
 
 // For how many packets room is made at once.
 const AT_ONCE: usize = 64;
-
-const NOTHING: Dropped = Dropped {
-    packets: 0,
-    bytes: 0,
-};
-
-// Whether a number is within a limit; 0 is no limit.
-fn within(limit: Option<u64>, n: u64) -> bool
-    ensures { result ≡ is_within limit n }
-{
-    match limit {
-        None => true,
-        Some(limit) => limit == 0 || n <= limit,
-    }
-}
-
-// Whether as many packets and bytes are within both limits.
-fn fits_now(spec: &QueueSpec, packets: u64, size: u64) -> bool
-    ensures { result ≡ (is_within spec.now.packets packets && is_within spec.now.bytes size) }
-{
-    within(spec.packets, packets) && within(spec.bytes, size)
-}
-
-// Drops from the head until the rest fits.
-#[tactic(auto, using(crate::proofs::Sizes::queue_steps))]
-fn shed(
-    spec: &QueueSpec,
-    moment: u64,
-    waiting: &mut VecDeque<Timed>,
-    size: &mut u64,
-    gone: &mut Vec<Timed>,
-) -> Dropped
-    requires { CanBeShed waiting.old.items size.old (vec_len gone.old) (vec_capacity gone.old) }
-    ensures waiting { waiting.new.items ≡ fitting spec.now waiting.old.items }
-    ensures capacity { deque_capacity waiting.new ≡ deque_capacity waiting.old }
-    ensures size { size.new ≡ bytes waiting.new.items }
-    ensures gone { gone.new.items ≡ gone.old.items ++ map (moved_to moment) (excess spec.now waiting.old.items) }
-    ensures room { length waiting.new.items + vec_len gone.new ≡ length waiting.old.items + vec_len gone.old }
-    ensures keeps { vec_capacity gone.old ≤ vec_capacity gone.new }
-    ensures packets { result.packets ≡ length (excess spec.now waiting.old.items) }
-    ensures bytes { result.bytes ≡ bytes (excess spec.now waiting.old.items) }
-{
-    let mut packets = 0;
-    let mut dropped_bytes = 0;
-    'heads: while !fits_now(spec, waiting.len() as u64, *size) {
-        match waiting.pop_front() {
-            None => break,
-            Some(t) => {
-                let less = t.packet.size as u64;
-                *size -= less;
-                packets += 1;
-                dropped_bytes += less;
-                gone.push_reserved(Timed {
-                    moment,
-                    packet: t.packet,
-                });
-            }
-        }
-    }
-    Dropped {
-        packets,
-        bytes: dropped_bytes,
-    }
-}

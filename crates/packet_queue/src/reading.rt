@@ -63,7 +63,7 @@ fn with_limits(
     }
 }
 
-// Returns a limit, where there is one above 0.
+// Returns a limit, if there is one above 0.
 fn above_zero(limit: Option<u64>) -> Option<u64>
     ensures { result ≡ limit_of (option_to_list limit) }
 {

@@ -1,6 +1,8 @@
 // Which queue a link has.
+ghost use Rattle.std.specs.Prelude.{◌≡◌, ◌&&◌};
+ghost use Rattle.packet_queue.specs.Queues.{is_within};
 
-/// What a queue does where a packet would pass its limits.
+/// What a queue does if a packet would pass its limits.
 #[derive(Clone, Copy, PartialEq, Eq)]
 pub enum QueueKind {
     /// It has no limit.
@@ -19,6 +21,15 @@ pub struct QueueSpec {
     pub bytes: Option<u64>,
 }
 
+impl QueueSpec {
+    // Whether as many packets and bytes are within both limits.
+    pub(crate) fn fits(&self, packets: u64, size: u64) -> bool
+        ensures { result ≡ (is_within self.now.packets packets && is_within self.now.bytes size) }
+    {
+        within(self.packets, packets) && within(self.bytes, size)
+    }
+}
+
 /// Why a kind and its arguments are no queue, numbered 1 to 4.
 #[derive(Clone, Copy, Debug, PartialEq, Eq)]
 pub enum QueueError {
@@ -33,7 +44,6 @@ pub enum QueueError {
 }
 
 impl QueueError {
-    ghost use Rattle.std.specs.Prelude.{◌≡◌};
     ghost use Rattle.packet_queue.specs.Faults.{number_of_fault};
 
     /// The number of this refusal, from 1.
@@ -46,5 +56,15 @@ impl QueueError {
             QueueError::NoLimit => 3,
             QueueError::LimitOnInfinite => 4,
         }
+    }
+}
+
+// Whether a number is within a limit; 0 is no limit.
+fn within(limit: Option<u64>, n: u64) -> bool
+    ensures { result ≡ is_within limit n }
+{
+    match limit {
+        None => true,
+        Some(limit) => limit == 0 || n <= limit,
     }
 }

@@ -14,8 +14,9 @@ use Rattle.text_base.specs.Numbers.{decimal_of, BeginsOtherwise}
 use Rattle.text_base.proofs.NumbersLemmas.{decimal_of-Some, is_one_line-digits}
 use Rattle.text_base.proofs.SplitLemmas.{none_is}
 use Rattle.text_base.proofs.TextLemmas.{is_one_line-append}
-use Rattle.packet_record.specs.Said.{words_of, direction_of, said_by_words, said_of}
+use Rattle.packet_record.specs.Said.{words_of, direction_of, said_by_words, said_of, fields}
 use Rattle.packet_record.specs.Printing.{direction_text}
+use Rattle.packet_record.specs.declared.line.RowFields.{RowFields}
 use Rattle.packet_record.specs.declared.packet.Direction.{Direction}
 use Rattle.packet_record.specs.declared.packet.Direction.TheVariants.{Up, Down}
 use Rattle.text_base.proofs.CutLemmas.{feed_first}
@@ -50,7 +51,7 @@ three_words d first third f t =
 
 -- what such a line says
 pub said_of_parts : (d : Direction) (first third : List ℕ) (m s : ℕ) → decimal_of first ≡ Some m
-    → decimal_of third ≡ Some s → said_of (first ++ direction_text d ++ third) ≡ Some (m, d, s)
+    → decimal_of third ≡ Some s → said_of (first ++ direction_text d ++ third) ≡ Some (fields m d s)
 said_of_parts d first third m s em es =
     ap said_by_words (three_words d first third (decimal_has_no_space first m em) (decimal_has_no_space third s es))
     ∙ rw (em, word_is d, es) refl
@@ -79,21 +80,21 @@ pub record HasParts (line : List ℕ) (m : ℕ) (d : Direction) (s : ℕ) : Type
   pub size : decimal_of third ≡ Some s
   pub cut : line ≡ first ++ direction_text d ++ third
 
-three_parts : (m z : Option ℕ) (d : Option Direction) (s : ℕ × Direction × ℕ)
-    → option_and_then (λ a. option_and_then (λ b. option_and_then (λ c. Some (a, b, c)) z) d) m ≡ Some s
-    → (m ≡ Some s.0) × (d ≡ Some s.1) × (z ≡ Some s.2)
+three_parts : (m z : Option ℕ) (d : Option Direction) (s : RowFields)
+    → option_and_then (λ a. option_and_then (λ b. option_and_then (λ c. Some (fields a b c)) z) d) m ≡ Some s
+    → (m ≡ Some s.moment) × (d ≡ Some s.direction) × (z ≡ Some s.size)
 three_parts None z d s e = absurd cc
 three_parts (Some m) z None s e = absurd cc
 three_parts (Some m) None (Some d) s e = absurd cc
-three_parts (Some m) (Some z) (Some d) s e = let same : (m, d, z) ≡ s = cc
+three_parts (Some m) (Some z) (Some d) s e = let same : fields m d z ≡ s = cc
     in (
-      ap (λ (x : ℕ × Direction × ℕ). Some x.0) same,
-      ap (λ (x : ℕ × Direction × ℕ). Some x.1) same,
-      ap (λ (x : ℕ × Direction × ℕ). Some x.2) same,
+      ap (λ (x : RowFields). Some x.moment) same,
+      ap (λ (x : RowFields). Some x.direction) same,
+      ap (λ (x : RowFields). Some x.size) same,
     )
 
-by_words : (words : List (List ℕ)) (line : List ℕ) (s : ℕ × Direction × ℕ) → join_with_byte 32 words ≡ line
-    → said_by_words words ≡ Some s → HasParts line s.0 s.1 s.2
+by_words : (words : List (List ℕ)) (line : List ℕ) (s : RowFields) → join_with_byte 32 words ≡ line
+    → said_by_words words ≡ Some s → HasParts line s.moment s.direction s.size
 by_words [] line s joined e = absurd cc
 by_words (a ∷ []) line s joined e = absurd cc
 by_words (a ∷ b ∷ []) line s joined e = absurd cc
@@ -104,16 +105,16 @@ by_words (a ∷ b ∷ c ∷ []) line s joined e =
       third = c;
       moment = parts.0;
       size = parts.2;
-      cut = sym joined ∙ ap (λ w. a ++ (32 ∷ (w ++ 32 ∷ c))) (direction_word b s.1 parts.1) ∙ sym (between s.1 a c);
+      cut = sym joined ∙ ap (λ w. a ++ (32 ∷ (w ++ 32 ∷ c))) (direction_word b s.direction parts.1) ∙ sym (between s.direction a c);
     }
 by_words (a ∷ b ∷ c ∷ d ∷ words) line s joined e = absurd cc
 
-pub has_parts : (line : List ℕ) (s : ℕ × Direction × ℕ) → said_of line ≡ Some s → HasParts line s.0 s.1 s.2
+pub has_parts : (line : List ℕ) (s : RowFields) → said_of line ≡ Some s → HasParts line s.moment s.direction s.size
 has_parts line s e = by_words (words_of line) line s (join_with_byte-slice_split 32 line) e
 
 -- a line says nothing where it has no such parts
 pub says_nothing : (line : List ℕ) → ((m s : ℕ) (d : Direction) → HasParts line m d s → ⊥) → None ≡ said_of line
-says_nothing line never = none_is (said_of line) (λ s e. never s.0 s.2 s.1 (has_parts line s e))
+says_nothing line never = none_is (said_of line) (λ s e. never s.moment s.size s.direction (has_parts line s e))
 
 -- a direction's text begins with no digit
 pub direction_begins : (d : Direction) (rest : List ℕ) → BeginsOtherwise (direction_text d ++ rest)
@@ -121,9 +122,9 @@ direction_begins Up rest = refl
 direction_begins Down rest = refl
 
 -- a line says what was read of it where nothing follows, and else nothing
-pub whole_line : (line rest : List ℕ) (s : ℕ × Direction × ℕ) (empty : Bool) → (word : List ℕ) × (line ≡ word ++ rest)
+pub whole_line : (line rest : List ℕ) (s : RowFields) (empty : Bool) → (word : List ℕ) × (line ≡ word ++ rest)
     × (said_of word ≡ Some s)
-    → ((z : ℕ × Direction × ℕ) → said_of line ≡ Some z → rest ≡ []) → empty ≡ (length rest == 0)
+    → ((z : RowFields) → said_of line ≡ Some z → rest ≡ []) → empty ≡ (length rest == 0)
     → then_some empty s ≡ said_of line
 whole_line line [] s empty (word, cut, e) only is = ap (λ b. then_some b s) is
     ∙ sym (ap said_of (cut ∙ append-nil word) ∙ e)
@@ -136,7 +137,7 @@ whole_line line (byte ∷ bytes) s empty read only is =
 pub said_in_front : (text first third rest rest' rest'' : List ℕ) (d : Direction) (m s : ℕ) → text ≡ first ++ rest
     → decimal_of first ≡ Some m → rest ≡ direction_text d ++ rest'
     → rest' ≡ third ++ rest'' → decimal_of third ≡ Some s → (line : List ℕ) × (text ≡ line ++ rest'')
-    × (said_of line ≡ Some (m, d, s))
+    × (said_of line ≡ Some (fields m d s))
 said_in_front text first third rest rest' rest'' d m s cut em cut' cut'' es = (
   first ++ direction_text d ++ third,
   cut
@@ -155,9 +156,9 @@ cut_first text line rest m s d p cut =
     ∙ append_assoc (p.first ++ direction_text d) p.third rest
     ∙ append_assoc p.first (direction_text d) (p.third ++ rest)
 
-pub same_said : (m s : ℕ) (d : Direction) (says : ℕ × Direction × ℕ) → m ≡ says.0 → d ≡ says.1 → s ≡ says.2
-    → (m, d, s) ≡ says
-same_said m s d (m', d', s') em ed es = rw (em, ed, es) refl
+pub same_said : (m s : ℕ) (d : Direction) (says : RowFields) → m ≡ says.moment → d ≡ says.direction → s ≡ says.size
+    → fields m d s ≡ says
+same_said m s d says em ed es = rw (em, ed, es) refl
 
 decimal_one_line : (word : List ℕ) (n : ℕ) → decimal_of word ≡ Some n → is_one_line word ≡ true
 decimal_one_line word n e = is_one_line-digits word (decimal_of-Some word n e).digits
@@ -167,16 +168,16 @@ direction_one_line Up = refl
 direction_one_line Down = refl
 
 -- what says something has no line feed
-pub said_one_line : (line : List ℕ) (s : ℕ × Direction × ℕ) → said_of line ≡ Some s → is_one_line line ≡ true
+pub said_one_line : (line : List ℕ) (s : RowFields) → said_of line ≡ Some s → is_one_line line ≡ true
 said_one_line line s e =
     let p = has_parts line s e in
     ap is_one_line p.cut
-    ∙ is_one_line-append (p.first ++ direction_text s.1) p.third
-    (is_one_line-append p.first (direction_text s.1) (decimal_one_line p.first s.0 p.moment) (direction_one_line s.1))
-    (decimal_one_line p.third s.2 p.size)
+    ∙ is_one_line-append (p.first ++ direction_text s.direction) p.third
+    (is_one_line-append p.first (direction_text s.direction) (decimal_one_line p.first s.moment p.moment) (direction_one_line s.direction))
+    (decimal_one_line p.third s.size p.size)
 
 -- where a line feed follows what is said, it ends the line
-pub line_in_front : (text rest : List ℕ) (s : ℕ × Direction × ℕ) → (word : List ℕ) × (text ≡ word ++ rest)
+pub line_in_front : (text rest : List ℕ) (s : RowFields) → (word : List ℕ) × (text ≡ word ++ rest)
     × (said_of word ≡ Some s) → 1 ≤ length rest → get_or rest 0 0 ≡ 10
     → (line : List ℕ) × (text ≡ line ++ 10 ∷ take (length rest - 1) (drop 1 rest)) × (is_one_line line ≡ true)
     × (said_of line ≡ Some s)

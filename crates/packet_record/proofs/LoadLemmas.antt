@@ -5,6 +5,7 @@ use Rattle.std.proofs.lemmas.List.{map-append}
 use Rattle.packet_record.specs.Draws.{next_draw}
 use Rattle.packet_record.specs.Loads.{load_from, drawn_direction}
 use Rattle.packet_record.specs.Orders.{AreInOrder, AreWithin, IsSchedule}
+use Rattle.packet_record.specs.Said.{fields}
 use Rattle.packet_record.specs.Schedules.{said}
 use Rattle.packet_record.specs.declared.packet.Row.{Row}
 
@@ -58,11 +59,8 @@ load_schedule moment count rows part e few low = record {
 -- one row more
 pub whole_more : (x moment packets before : ℕ) (rows : List Row) (row : Row) (all : List _) → before < packets
     → map said rows ++ load_from x moment (packets - before) ≡ all
-    → said row ≡ (
-      moment + next_draw x % 4,
-      drawn_direction (next_draw (next_draw x)),
-      40 + next_draw (next_draw (next_draw x)) % 1461,
-    )
+    → said row ≡ fields (moment + next_draw x % 4) (drawn_direction (next_draw (next_draw x)))
+    (40 + next_draw (next_draw (next_draw x)) % 1461)
     → map said (rows ++ row ∷ []) ++ load_from (next_draw (next_draw (next_draw x))) row.timed.moment
     (packets - (before + 1)) ≡ all
 whole_more x moment packets before rows row all lt whole is =
@@ -71,6 +69,6 @@ whole_more x moment packets before rows row all lt whole is =
     let after = next_draw (next_draw (next_draw x)) in
     ap (λ l. l ++ load_from after row.timed.moment n) (map-append said rows (row ∷ []))
     ∙ append_assoc (map said rows) (said row ∷ []) (load_from after row.timed.moment n)
-    ∙ ap (λ s. map said rows ++ (s ∷ load_from after s.0 n)) is
+    ∙ ap (λ s. map said rows ++ (s ∷ load_from after s.moment n)) is
     ∙ ap (λ k. map said rows ++ load_from x moment k) (sym count)
     ∙ whole

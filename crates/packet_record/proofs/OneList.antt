@@ -28,8 +28,8 @@ row_of direction moment p = record { direction = direction; timed = record { mom
 -- rows with the same number that say the same are the same
 pub same_row : (a b : Row) → a.timed.packet.id ≡ b.timed.packet.id → said a ≡ said b → a ≡ b
 same_row a b i e =
-    ap (λ s. row_of s.1 s.0 a.timed.packet) e
-    ∙ ap (λ p. row_of b.direction b.timed.moment p) (same_packet a.timed.packet b.timed.packet i (ap (λ s. s.2) e))
+    ap (λ s. row_of s.direction s.moment a.timed.packet) e
+    ∙ ap (λ p. row_of b.direction b.timed.moment p) (same_packet a.timed.packet b.timed.packet i (ap (λ s. s.size) e))
 
 one_list_from : (place low : ℕ) (lines : List (List ℕ)) (rows others : List Row) → AreRows place low lines rows
     → AreRows place low lines others → rows ≡ others

@@ -1,6 +1,7 @@
 -- A row in 12 bytes has the parts of its row.
 use Rattle.std.proofs.Common.{◌≡◌, ℕ, ◌+◌, ◌*◌, ◌/◌, ◌%◌, ◌≤◌, ap, arith, sym, ◌∙◌}
 use Rattle.std.specs.Prelude.{◌==◌, if◌then◌else◌}
+use Rattle.packet_record.specs.Said.{fields}
 use Rattle.packet_record.specs.declared.packet.Direction.{Direction}
 use Rattle.packet_record.specs.declared.packet.Direction.TheVariants.{Up, Down}
 use Rattle.packet_record.specs.declared.packet.Row.{Row}
@@ -16,8 +17,8 @@ same_timed t u m i s =
 pub same_parts : (r q : Row) → r.timed.packet.id ≡ q.timed.packet.id → r.timed.moment ≡ q.timed.moment
     → r.direction ≡ q.direction → r.timed.packet.size ≡ q.timed.packet.size → r ≡ q
 same_parts r q i m d s =
-    same_row r q i (ap (λ n. (n, r.direction, r.timed.packet.size)) m
-    ∙ ap (λ n. (q.timed.moment, n, r.timed.packet.size)) d ∙ ap (λ n. (q.timed.moment, q.direction, n)) s)
+    same_row r q i (ap (λ n. fields n r.direction r.timed.packet.size) m
+    ∙ ap (λ n. fields q.timed.moment n r.timed.packet.size) d ∙ ap (λ n. fields q.timed.moment q.direction n) s)
 
 abbrev pub packed_direction : ℕ → Direction
 packed_direction rest = if rest / 2048 % 2 == 0 then Up else Down

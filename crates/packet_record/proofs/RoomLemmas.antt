@@ -7,6 +7,7 @@ use Rattle.text_base.proofs.NumbersLemmas.{decimal_of-Some}
 use Rattle.packet_record.specs.Printing.{direction_text}
 use Rattle.packet_record.specs.Said.{said_of}
 use Rattle.packet_record.specs.Schedules.{AreRows, IsScheduleText, said}
+use Rattle.packet_record.specs.declared.line.RowFields.{RowFields}
 use Rattle.packet_record.specs.declared.packet.Direction.{Direction}
 use Rattle.packet_record.specs.declared.packet.Direction.TheVariants.{Up, Down}
 use Rattle.packet_record.specs.declared.packet.Row.{Row}
@@ -18,17 +19,17 @@ long_word Up = omega arith
 long_word Down = omega arith
 
 -- a line that says something has six bytes
-least_line : (line : List ℕ) (s : ℕ × Direction × ℕ) → said_of line ≡ Some s → 6 ≤ length line
+least_line : (line : List ℕ) (s : RowFields) → said_of line ≡ Some s → 6 ≤ length line
 least_line line s e =
     let p = has_parts line s e in
-    let first = (decimal_of-Some p.first s.0 p.moment).some in
-    let third = (decimal_of-Some p.third s.2 p.size).some in
-    let word = long_word s.1 in
+    let first = (decimal_of-Some p.first s.moment p.moment).some in
+    let third = (decimal_of-Some p.third s.size p.size).some in
+    let word = long_word s.direction in
     omega (
       arith,
       ap length p.cut,
-      length-append (p.first ++ direction_text s.1) p.third,
-      length-append p.first (direction_text s.1),
+      length-append (p.first ++ direction_text s.direction) p.third,
+      length-append p.first (direction_text s.direction),
       first,
       third,
       word,

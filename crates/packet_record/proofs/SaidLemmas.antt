@@ -5,7 +5,8 @@ use Rattle.std.specs.List.{list_all}
 use Rattle.std.specs.Option.{option_and_then}
 use Rattle.std.proofs.lemmas.Str.Parse.{IsNumeralModel, numerals_by_fold, digits_value_short}
 use Rattle.text_base.specs.Numbers.{is_digit, value_of_digits, decimal_of}
-use Rattle.packet_record.specs.Said.{said_by_words, said_of, words_of, direction_of}
+use Rattle.packet_record.specs.Said.{fields, said_by_words, said_of, words_of, direction_of}
+use Rattle.packet_record.specs.declared.line.RowFields.{RowFields}
 use Rattle.packet_record.specs.declared.packet.Direction.{Direction}
 
 abbrev pub value_on : ℕ → List ℕ → ℕ
@@ -32,18 +33,18 @@ decimal_below text n e =
     let same : value_of_digits text ≡ n = parts.2 in
     omega arith
 
-three_words : (most : ℕ) (m z : Option ℕ) (d : Option Direction) (s : ℕ × Direction × ℕ)
+three_words : (most : ℕ) (m z : Option ℕ) (d : Option Direction) (s : RowFields)
     → ((n : ℕ) → m ≡ Some n → n ≤ most)
-    → option_and_then (λ a. option_and_then (λ b. option_and_then (λ c. Some (a, b, c)) z) d) m ≡ Some s → s.0 ≤ most
+    → option_and_then (λ a. option_and_then (λ b. option_and_then (λ c. Some (fields a b c)) z) d) m ≡ Some s → s.moment ≤ most
 three_words most None z d s below e = absurd cc
 three_words most (Some m) z None s below e = absurd cc
 three_words most (Some m) None (Some d) s below e = absurd cc
 three_words most (Some m) (Some z) (Some d) s below e =
     let at_most : m ≤ most = below m refl in
-    let same : (m, d, z) ≡ s = cc in
-    subst (λ (x : ℕ × Direction × ℕ). x.0 ≤ most) same at_most
+    let same : fields m d z ≡ s = cc in
+    subst (λ (x : RowFields). x.moment ≤ most) same at_most
 
-by_words : (words : List (List ℕ)) (s : ℕ × Direction × ℕ) → said_by_words words ≡ Some s → s.0 ≤ 9999999999
+by_words : (words : List (List ℕ)) (s : RowFields) → said_by_words words ≡ Some s → s.moment ≤ 9999999999
 by_words [] s e = absurd cc
 by_words (a ∷ []) s e = absurd cc
 by_words (a ∷ b ∷ []) s e = absurd cc
@@ -51,5 +52,5 @@ by_words (a ∷ b ∷ c ∷ []) s e = three_words 9999999999 (decimal_of a) (dec
     (decimal_below a) e
 by_words (a ∷ b ∷ c ∷ d ∷ words) s e = absurd cc
 
-pub said_within : (line : List ℕ) (s : ℕ × Direction × ℕ) → said_of line ≡ Some s → s.0 ≤ 9999999999
+pub said_within : (line : List ℕ) (s : RowFields) → said_of line ≡ Some s → s.moment ≤ 9999999999
 said_within line s e = by_words (words_of line) s e

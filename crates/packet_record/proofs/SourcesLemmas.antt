@@ -5,14 +5,13 @@ use Rattle.std.proofs.Common.{arith, rules, tests}
 use Rattle.std.proofs.lemmas.List.{append-nil}
 use Rattle.packet_record.specs.Rows.{goes, entering, Rises}
 use Rattle.packet_record.specs.Sources.{source_item, sent_after, items_from, source_items}
-use Rattle.packet_record.specs.Streams.{no_items, after, after_all, AllFollow}
+use Rattle.packet_record.specs.Streams.{Stream, no_items, after, after_all, AllFollow}
 use Rattle.packet_record.specs.declared.packet.Direction.{Direction}
 use Rattle.packet_record.specs.declared.packet.Timed.{Timed}
 use Rattle.packet_record.specs.declared.packet.Row.{Row}
 use Rattle.packet_record.specs.declared.item.Item.{Item}
 use Rattle.packet_record.specs.declared.item.Item.TheVariants.{Packet, Mark}
 use Rattle.packet_record.specs.declared.item.FlowEnd.TheVariants.{Open, Ended}
-use Rattle.packet_record.specs.declared.item.Stream.{Stream}
 
 -- the item that a row gives, by its three tests
 abbrev item_by : Bool → Bool → Bool → Row → Option Item

@@ -6,7 +6,13 @@ use Rattle.packet_record.specs.declared.item.Item.{Item}
 use Rattle.packet_record.specs.declared.item.Item.TheVariants.{Packet, Mark, End, Broken}
 use Rattle.packet_record.specs.declared.item.FlowEnd.{FlowEnd}
 use Rattle.packet_record.specs.declared.item.FlowEnd.TheVariants.{Open, Ended, Broken as Cut}
-use Rattle.packet_record.specs.declared.item.Stream.{Stream}
+
+-- What a stream of items was: its packets in order, the greatest moment that any item named (0 at first), and how it
+-- ended.
+pub record Stream : Type 0 where
+  pub packets : List Timed
+  pub bound : ℕ
+  pub end : FlowEnd
 
 abbrev pub stream : List Timed → ℕ → FlowEnd → Stream
 stream packets bound end = record { packets = packets; bound = bound; end = end }

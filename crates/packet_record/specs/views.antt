@@ -3,5 +3,5 @@ pub mod Flow
 pub mod Gathered
 pub mod Gatherers
 pub mod PackedRow
+pub mod Parsers
 pub mod Readers
-pub mod TextReaders

@@ -70,7 +70,7 @@ impl Flow {
         self.reach.may_follow(item)
     }
 
-    /// Makes room for `count` more packets, or runs out of memory. It takes none where there is that room.
+    /// Makes room for `count` more packets, or runs out of memory. It takes none if there is that room.
     pub fn reserve(&mut self, count: usize) -> Result<(), OutOfMemory>
         ensures same { self.new.stream ≡ self.old.stream }
         ensures ok { OnOk result (self.new.spare ≡ max self.old.spare count) }
@@ -100,7 +100,7 @@ impl Flow {
         self.reach.add(item);
     }
 
-    /// Adds an item. Only a packet takes memory, and only where there is no spare room; else it takes one of it.
+    /// Adds an item. Only a packet takes memory, and only if there is no spare room; else it takes one of it.
     pub fn push(&mut self, item: Item) -> Result<(), OutOfMemory>
         requires { MayFollow self.old.stream item }
         ensures stream { OnOk result ((self.new.stream ≡ after self.old.stream item)

@@ -1,17 +1,18 @@
 // The rows of a schedule, gathered line by line.
 ghost use Rattle.std.specs.Prelude.{◌≡◌, ◌≢◌, ◌≤◌, ◌∷◌, ℕ, List, [], None, Some, IfSome, is_some, IfOk, IfErr, OnOk};
-ghost use Rattle.std.specs.Prelude.{MatchResult};
+ghost use Rattle.std.specs.Prelude.{MatchResult, length};
 ghost use mathlib.Core.List.{IsPrefix};
 ghost use Rattle.packet_record.specs.Orders.{IsSchedule};
 ghost use Rattle.packet_record.specs.Said.{said_of};
-ghost use Rattle.packet_record.specs.Schedules.{AreRows, first_fault};
+ghost use Rattle.packet_record.specs.Schedules.{AreRows, IsOfLineAfter, first_fault};
 
+use crate::line::RowFields;
 use crate::reading::row_of;
-use crate::{Direction, PackedRow, PackedSchedule, ScheduleError};
+use crate::{PackedRow, PackedSchedule, ScheduleError};
 use std::alloc::Global;
 use std::marker::Model;
 use text_base::OutOfMemory;
-use text_base::limits::GREATEST_MOMENT;
+use text_base::limits::{GREATEST_MOMENT, MOST_LINES};
 
 // The rows of the lines so far, the moment of the last (0 at first), and the first refusal; out of memory is one too.
 #[derive(Drop)]
@@ -42,12 +43,14 @@ impl ScheduleRows {
     pub(crate) fn rows(&self) -> &[PackedRow]
         ensures rows { result.now ≡ self.now.rows }
         ensures schedule { IsSchedule self.now.rows }
+        ensures refused { IfSome self.now.refused (IsOfLineAfter (length self.now.rows)) }
     {
         self.rows.as_slice()
     }
 
     // No rows, with room for `most` rows, or out of memory.
     pub(crate) fn with_room(alloc: Global, most: usize) -> Result<Self, OutOfMemory>
+        requires { most ≤ MOST_LINES }
         ensures { IfOk result (λ r. r ≡ none_gathered) }
     {
         Ok(ScheduleRows {
@@ -59,14 +62,15 @@ impl ScheduleRows {
 
     // Adds the row of what a line says.
     #[inline]
-    fn add(&mut self, says: Option<(u64, Direction, u64)>) -> Result<(), ScheduleError>
+    fn add(&mut self, says: Option<RowFields>) -> Result<(), ScheduleError>
         requires going { self.old.refused ≡ None }
-        requires within { IfSome says (λ s. s.0 ≤ GREATEST_MOMENT) }
+        requires within { IfSome says (λ s. s.moment ≤ GREATEST_MOMENT) }
         ensures ok { OnOk result ((all rest : List (List ℕ)) (line : List ℕ) → said_of line ≡ says
             → Awaits all (line ∷ rest) self.old → Awaits all rest self.new) }
         ensures err { IfErr result (λ e. (all rest : List (List ℕ)) (line : List ℕ) → said_of line ≡ says
             → Awaits all (line ∷ rest) self.old
             → Awaits all rest (refusing e self.new)) }
+        ensures named { IfErr result (IsOfLineAfter (length self.new.rows)) }
         ensures grows { IsPrefix self.old.rows self.new.rows }
     {
         let row = row_of(self.rows.len() as u32, self.low, says)?;
@@ -75,10 +79,10 @@ impl ScheduleRows {
         Ok(())
     }
 
-    // Takes what the next line says, or `None` where it says nothing. After a refusal the line is passed over.
+    // Takes what the next line says, or `None` if it says nothing. After a refusal the line is passed over.
     #[inline]
-    pub(crate) fn take(&mut self, says: Option<(u64, Direction, u64)>)
-        requires within { IfSome says (λ s. s.0 ≤ GREATEST_MOMENT) }
+    pub(crate) fn take(&mut self, says: Option<RowFields>)
+        requires within { IfSome says (λ s. s.moment ≤ GREATEST_MOMENT) }
         ensures left { (all rest : List (List ℕ)) (line : List ℕ) → said_of line ≡ says
             → Awaits all (line ∷ rest) self.old → Awaits all rest self.new }
         ensures grows { IsPrefix self.old.rows self.new.rows }

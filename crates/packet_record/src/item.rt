@@ -1,6 +1,5 @@
-// Items that pass between shells, and what a stream of them was.
+// Items that pass between shells, and how a stream of them ends.
 use crate::Timed;
-use std::collections::LinkedList;
 
 /// What a shell is fed and what is taken from it.
 #[derive(Clone, Copy, PartialEq, Eq)]
@@ -24,13 +23,4 @@ pub enum FlowEnd {
     Ended,
     /// Its last item is `Broken`.
     Broken,
-}
-
-/// What a stream of items was: its packets in order, the greatest moment that an item named, and how it ended.
-/// Contracts alone speak of it; no value of it is made.
-#[derive(Drop)]
-pub struct Stream {
-    pub packets: LinkedList<Timed>,
-    pub bound: u64,
-    pub end: FlowEnd,
 }

@@ -5,10 +5,22 @@ ghost use Rattle.text_base.specs.Numbers.{BeginsOtherwise};
 ghost use Rattle.packet_record.specs.Said.{said_of};
 ghost use Rattle.packet_record.specs.Printing.{direction_text};
 ghost use Rattle.packet_record.specs.declared.packet.Direction.{Direction as DirectionValue};
+ghost use Rattle.packet_record.specs.declared.line.RowFields.{RowFields as FieldsValue};
 
 use crate::Direction;
 use text_base::limits::GREATEST_MOMENT;
 use text_base::split_decimal;
+
+/// What a line says of its row, before the ranges of the numbers are checked.
+#[derive(Clone, Copy)]
+pub struct RowFields {
+    /// When the packet enters, in milliseconds.
+    pub moment: u64,
+    /// Where it goes.
+    pub direction: Direction,
+    /// Its size in bytes.
+    pub size: u64,
+}
 
 // Returns the direction between two spaces at the front of a text, and what follows.
 #[inline(always)]
@@ -26,27 +38,32 @@ fn split_direction(text: &[u8]) -> Option<(Direction, &[u8])>
 
 // Returns what is said at the front of a text, and what follows it.
 #[inline(always)]
-fn split_said(text: &[u8]) -> Option<((u64, Direction, u64), &[u8])>
+fn split_said(text: &[u8]) -> Option<(RowFields, &[u8])>
     ensures read { IfSome result (λ r. (line : List ℕ) × (text.now ≡ line ++ r.1.now) × (said_of line ≡ Some r.0)) }
-    ensures every { (line rest : List ℕ) (says : ℕ × DirectionValue × ℕ) → text.now ≡ line ++ rest
+    ensures every { (line rest : List ℕ) (says : FieldsValue) → text.now ≡ line ++ rest
         → said_of line ≡ Some says → BeginsOtherwise rest
         → MatchOption result ⊥ (λ r. (r.0 ≡ says) × (r.1.now ≡ rest)) }
 {
     let (moment, rest) = split_decimal(text)?;
     let (direction, rest) = split_direction(rest)?;
     let (size, rest) = split_decimal(rest)?;
-    Some(((moment, direction, size), rest))
+    let fields = RowFields {
+        moment,
+        direction,
+        size,
+    };
+    Some((fields, rest))
 }
 
-// Returns what the line at the front of a text says, and what follows its line feed. Returns `None` where the text has
+// Returns what the line at the front of a text says, and what follows its line feed. Returns `None` if the text has
 // no line feed, or the line says nothing.
 #[inline]
 #[tactic(auto, using(crate::proofs::LineLemmas::line_in_front, crate::proofs::SaidLemmas::said_within))]
-pub(crate) fn split_line(text: &[u8]) -> Option<((u64, Direction, u64), &[u8])>
+pub(crate) fn split_line(text: &[u8]) -> Option<(RowFields, &[u8])>
     ensures read { IfSome result (λ r. (line : List ℕ) × (text.now ≡ line ++ 10 ∷ r.1.now)
         × (is_one_line line ≡ true) × (said_of line ≡ Some r.0)) }
-    ensures within { IfSome result (λ r. r.0.0 ≤ GREATEST_MOMENT) }
-    ensures every { (line rest : List ℕ) (says : ℕ × DirectionValue × ℕ) → text.now ≡ line ++ 10 ∷ rest
+    ensures within { IfSome result (λ r. r.0.moment ≤ GREATEST_MOMENT) }
+    ensures every { (line rest : List ℕ) (says : FieldsValue) → text.now ≡ line ++ 10 ∷ rest
         → said_of line ≡ Some says
         → MatchOption result ⊥ (λ r. (r.0 ≡ says) × (r.1.now ≡ rest)) }
 {
@@ -59,9 +76,9 @@ pub(crate) fn split_line(text: &[u8]) -> Option<((u64, Direction, u64), &[u8])>
 
 // The moment, the direction and the size.
 #[tactic(auto, using(crate::proofs::SaidLemmas::said_within))]
-pub(crate) fn read_line(line: &[u8]) -> Option<(u64, Direction, u64)>
+pub(crate) fn read_line(line: &[u8]) -> Option<RowFields>
     ensures value { result ≡ said_of line.now }
-    ensures within { IfSome result (λ s. s.0 ≤ GREATEST_MOMENT) }
+    ensures within { IfSome result (λ s. s.moment ≤ GREATEST_MOMENT) }
 {
     let (said, rest) = split_said(line)?;
     rest.is_empty().then_some(said)

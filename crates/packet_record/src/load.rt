@@ -2,6 +2,7 @@
 ghost use Rattle.std.specs.Prelude.{◌≡◌, ◌≤◌, ◌<◌, ◌+◌, ◌*◌, ◌%◌, map, IfOk};
 ghost use Rattle.packet_record.specs.Draws.{next_draw};
 ghost use Rattle.packet_record.specs.Loads.{drawn_direction, load_of};
+ghost use Rattle.packet_record.specs.Said.{fields};
 ghost use Rattle.packet_record.specs.Schedules.{said};
 
 use crate::{Direction, Draws, Packet, Row, Schedule, Timed};
@@ -34,11 +35,8 @@ fn draw_row(draws: &mut Draws, before: u32, moment: u64) -> Row
     requires low { moment ≤ 3 * before }
     ensures after { draws.new ≡ next_draw (next_draw (next_draw draws.old)) }
     ensures id { result.timed.packet.id ≡ before + 1 }
-    ensures said { said result ≡ (
-      moment + next_draw draws.old % 4,
-      drawn_direction (next_draw (next_draw draws.old)),
-      40 + next_draw (next_draw (next_draw draws.old)) % 1461,
-    ) }
+    ensures said { said result ≡ fields (moment + next_draw draws.old % 4)
+        (drawn_direction (next_draw (next_draw draws.old))) (40 + next_draw (next_draw (next_draw draws.old)) % 1461) }
 {
     let moment = moment + u64::from(draws.draw() % 4);
     let direction = if draws.draw() % 4 < 2 {

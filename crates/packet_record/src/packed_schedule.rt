@@ -49,7 +49,7 @@ impl PackedSchedule {
         self.rows
     }
 
-    /// Returns the schedule with whole rows. Returns `OutOfMemory` where an allocation fails.
+    /// Returns the schedule with whole rows. Returns `OutOfMemory` if an allocation fails.
     pub fn unpack(self, alloc: Global) -> Result<Schedule, OutOfMemory>
         ensures { IfOk result (λ rows. rows ≡ self) }
     {

@@ -4,8 +4,8 @@ ghost use Rattle.packet_record.specs.Sources.{source_item};
 
 use crate::{Direction, Item, Row};
 
-/// What a row gives in a direction, where the greatest moment sent in it so far is `sent` (0 where nothing was): its
-/// packet in its own direction; in the other a mark at its moment, where that is above `sent`. A row past the horizon
+/// What a row gives in a direction, if the greatest moment sent in it so far is `sent` (0 if nothing was): its
+/// packet in its own direction; in the other a mark at its moment, if that is above `sent`. A row past the horizon
 /// gives nothing.
 pub fn source_item(direction: Direction, horizon: u64, sent: u64, row: &Row) -> Option<Item>
     ensures { result ≡ source_item direction horizon sent row.now }

@@ -115,7 +115,7 @@ module _ {C X : Type 0} (client_view : C → LinkView) (server_view : X → Link
 -- ---- statuses
 
 reaches_usage : (found : Option ProxyJob) (told : Option Files) (refusal : Refusal)
-    → Reaches told (asked found proxy_reading) (AtRefusal refusal) → refusal ≡ Words Usage
+    → Reaches told (asked found proxy_reading) (AtRefusal refusal) → refusal ≡ Words (Usage tt)
 reaches_usage None told refusal e = ap (refusal_in refusal) e
   where
     refusal_in : Refusal → Stop ProxyJob → Refusal

@@ -1,15 +1,16 @@
 -- What `mm-record` is asked for, and what it does with its port and its dialer.
-use Rattle.std.specs.Prelude.{◌≡◌, ◌⊎◌, ◌∷◌, ℕ, Bool, List, [], Option, Some, Result, Ok, Err, option_and_then}
-use Rattle.std.specs.Prelude.{if◌then◌else◌}
+use Rattle.std.specs.Prelude.{◌≡◌, ◌⊎◌, ◌∷◌, ℕ, Bool, List, [], Option, Some, None, Result, Ok, Err, option_and_then}
+use Rattle.std.specs.Prelude.{is_some, if◌then◌else◌}
 use Rattle.std.specs.Option.{option_map}
 use Rattle.mm_base.specs.Counts.{Rose}
 use Rattle.mm_base.specs.Link.{LinkView}
 use Rattle.mm_base.specs.Port.{KeepsPort}
 use Rattle.record_store.specs.declared.record.Record.{Record}
 use Rattle.replay_server.specs.declared.ends.Served.{Served}
-use Rattle.option_words.specs.Commands.{ProxyTexts, proxy_texts}
-use Rattle.option_words.specs.Givens.{◌>>=◌}
+use Rattle.option_words.specs.Commands.{table_of}
+use Rattle.option_words.specs.Givens.{givens, ◌>>=◌}
 use Rattle.option_words.specs.Numbers.{number_within, port_of}
+use Rattle.option_words.specs.declared.command.Command.TheVariants.{Proxy}
 use Rattle.command_ends.specs.Causes.{Text}
 use Rattle.command_ends.specs.Outputs.{NamedText, Output}
 use Rattle.command_ends.specs.Readings.{Reading, Done, asked}
@@ -37,23 +38,29 @@ pub record ProxyJob : Type 0 where
 abbrev pub most_of : ProxyJob → ℕ
 most_of job = if job.until_ended then most_recorded else job.connections
 
--- the numbers are within their ranges
-unfoldable pub proxy_job_with : ProxyTexts → Option ProxyJob
-proxy_job_with texts = do
-  port ← port_of texts.port
-  site_port ← port_of texts.to
-  connections ← number_within (if texts.until_ended then 1 else 0) 64 texts.connections
+-- The job of what is given of each option. The numbers are decimals within their ranges; all but `--until-ended` must be
+-- there.
+unfoldable pub proxy_from : List (Option Text) → Option ProxyJob
+proxy_from (port ∷ to ∷ connections ∷ out ∷ until_ended ∷ []) = do
+  given_port ← port
+  listened ← port_of given_port
+  given_to ← to
+  dialed ← port_of given_to
+  given_connections ← connections
+  number ← number_within (if is_some until_ended then 1 else 0) 64 given_connections
+  given_out ← out
   Some (record {
-    port = port;
-    site_port = site_port;
-    connections = connections;
-    out = texts.out;
-    until_ended = texts.until_ended;
+    port = listened;
+    site_port = dialed;
+    connections = number;
+    out = given_out;
+    until_ended = is_some until_ended;
   })
+proxy_from _ = None
 
 -- the job of the words
 unfoldable pub proxy_job_of : List Text → Option ProxyJob
-proxy_job_of words = option_and_then proxy_job_with (proxy_texts words)
+proxy_job_of words = option_and_then proxy_from (givens (table_of Proxy) words)
 
 -- the name of the store's file, if the words have a job
 abbrev pub store_named : List Text → Option Text

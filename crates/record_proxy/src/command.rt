@@ -3,7 +3,7 @@ ghost use Rattle.std.specs.Prelude.{◌≡◌, [], Ok, IfOk, IfErr, OnOk, map, s
 ghost use Rattle.mm_base.specs.Port.{KeepsPort};
 ghost use Rattle.mm_base.specs.Sink.{CountsSinkFaults};
 ghost use Rattle.command_ends.specs.Alone.{IsLeftAlone};
-ghost use Rattle.command_ends.specs.Answers.{CountsDisk, cause_in};
+ghost use Rattle.command_ends.specs.Answers.{CountsDisk, IsEnding, cause_in};
 ghost use Rattle.command_ends.specs.Ends.{Ends, outside};
 ghost use Rattle.command_ends.specs.Outputs.{holding_all};
 ghost use Rattle.command_ends.specs.Stops.{StopsWriting};
@@ -19,7 +19,7 @@ use crate::job::ProxyJob;
 use crate::pool::serve_until_ended;
 use crate::serving::serve;
 use crate::words::read_proxy;
-use command_ends::{Cause, Host, conclude};
+use command_ends::{Cause, Ending, Host, conclude};
 use mm_base::{Disk, Port, Sink};
 use record_store::Store;
 use replay_server::Served;
@@ -111,7 +111,7 @@ fn record<D: Disk, O: Sink, P: Port + Send, X: Dialer + Send, R: Threads + Wait 
 }
 
 // Does what the words say.
-pub(crate) fn answer<D: Disk, O: Sink, P: Port + Send, X: Dialer + Send, R: Threads + Wait + Sync>(
+fn answer<D: Disk, O: Sink, P: Port + Send, X: Dialer + Send, R: Threads + Wait + Sync>(
     host: &Host<'_, R>,
     words: &[String],
     disk: &mut D,
@@ -128,8 +128,8 @@ pub(crate) fn answer<D: Disk, O: Sink, P: Port + Send, X: Dialer + Send, R: Thre
     ensures out_counts { CountsSinkFaults (O.view out.old) (O.view out.new) }
 {
     match read_proxy(host.alloc, words)? {
-        Some(job) => record(host, &job, disk, out, port, dialer),
-        None => Err(Cause::usage()),
+        Ok(job) => record(host, &job, disk, out, port, dialer),
+        Err(fault) => Err(Cause::usage(fault)),
     }
 }
 
@@ -167,7 +167,35 @@ pub fn proxy_main<D: Disk, O: Sink, P: Port + Send, X: Dialer + Send, R: Threads
     ensures usage { RefusesByWords (proxy_words (map string_bytes words.now)) result }
     ensures statuses { IsProxyStatus result }
 {
+    proxy_ending(rt, alloc, words, disk, out, port, dialer).status
+}
+
+/// Does what `proxy_main` does, and returns the answer of the command line beside its exit status, so that it can be
+/// said to a person why the command line isn't done.
+pub fn proxy_ending<D: Disk, O: Sink, P: Port + Send, X: Dialer + Send, R: Threads + Wait + Sync>(
+    rt: &R,
+    alloc: Global,
+    words: &[String],
+    disk: &mut D,
+    out: &mut O,
+    port: &mut P,
+    dialer: &mut X,
+) -> Ending
+    ensures ending { IsEnding (proxy_work P.Conn.view X.Conn.view) (proxy_words (map string_bytes words.now))
+        (outside (D.view disk.old) (O.view out.old) (net (P.view port.old) (X.view dialer.old)))
+        (outside (D.view disk.new) (O.view out.new) (net (P.view port.new) (X.view dialer.new))) result }
+
+    // What `proxy_main` leaves.
+    ensures top { TopCall net_counts (proxy_work P.Conn.view X.Conn.view) (proxy_words (map string_bytes words.now))
+        (outside (D.view disk.old) (O.view out.old) (net (P.view port.old) (X.view dialer.old)))
+        (outside (D.view disk.new) (O.view out.new) (net (P.view port.new) (X.view dialer.new))) result.status }
+
+    // 2 comes by the words alone, and no other status comes but 0, 7, 8 and 9.
+    ensures usage { RefusesByWords (proxy_words (map string_bytes words.now)) result.status }
+    ensures statuses { IsProxyStatus result.status }
+{
     let host = Host { threads: rt, alloc };
     let answer = answer(&host, words, disk, out, port, dialer);
-    conclude(&answer, out)
+    let status = conclude(&answer, out);
+    Ending { answer, status }
 }

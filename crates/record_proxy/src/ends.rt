@@ -11,9 +11,9 @@ pub enum ProxyEnd {
     /// A response is due, and there is none in the server's rest, and never will be; or its input ended within it, or
     /// before it.
     BadResponse,
-    /// At a fault of the client's link.
+    /// At a fault of the client's connection.
     ClientFault,
-    /// At a fault of the server's link.
+    /// At a fault of the server's connection.
     ServerFault,
     /// More bytes are needed of a side from which 67,108,864 were taken.
     Full,

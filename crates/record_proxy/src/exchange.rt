@@ -23,7 +23,7 @@ fn either(request: bool, response: bool) -> bool
     request || response
 }
 
-/// Passes a whole request on to the server.
+// Passes a whole request on to the server.
 fn pass_request<L: Link>(
     state: &mut ProxyState,
     server: &mut L,
@@ -47,7 +47,7 @@ fn pass_request<L: Link>(
     None
 }
 
-/// Passes the next whole request on, or takes more bytes of the client.
+// Passes the next whole request on, or takes more bytes of the client.
 fn ask<A: Link, B: Link>(
     state: &mut ProxyState,
     client: &mut A,
@@ -73,7 +73,7 @@ fn ask<A: Link, B: Link>(
     }
 }
 
-/// Passes a whole response on to the client, and adds the record where it is final.
+// Passes a whole response on to the client, and adds the record where it is final.
 fn pass_response<L: Link>(
     state: &mut ProxyState,
     client: &mut L,
@@ -119,7 +119,7 @@ struct DueRequest {
     site_port: u16,
 }
 
-/// Passes the next whole response to a request on, or takes more bytes of the server.
+// Passes the next whole response to a request on, or takes more bytes of the server.
 fn answer<A: Link, B: Link>(
     state: &mut ProxyState,
     client: &mut A,

@@ -17,11 +17,10 @@ mod serving;
 mod standing;
 mod taking;
 mod tcp_dialer;
-mod telling;
 mod words;
 mod workers;
 
-pub use command::proxy_main;
+pub use command::{proxy_ending, proxy_main};
 pub use dialer::Dialer;
 pub use ends::ProxyEnd;
 pub use mem_dialer::MemDialer;
@@ -29,4 +28,3 @@ pub use ports_asked::PortsAsked;
 pub use proxy::proxy_conn;
 pub use refusing::{refuse_store, store_name};
 pub use tcp_dialer::TcpDialer;
-pub use telling::proxy_main_told;

@@ -16,24 +16,24 @@ use crate::messages::{Pair, Passed, Site};
 use crate::serving::{finish_dialed, refused};
 use crate::standing::{MOST_RECORDED, RecordingStanding};
 use crate::workers::{RecordingWorkers, work_all};
-use crossbeam_channel::{Sender, bounded};
+use crossbeam_channel::Sender;
 use mm_base::{EndError, Link, Port};
 use record_store::Store;
-use replay_server::{Crew, Said, Served};
+use replay_server::{Served, Workers};
 use std::alloc::Global;
 use std::marker::{Brand, Send, Sync};
 use std::sync::Wait;
 use std::thread::{Threads, join_mut};
 use text_base::OutOfMemory;
 
-/// The site's port, and where pairs are sent to be passed.
+// The site's port, and where pairs are sent to be passed.
 #[derive(Drop)]
 struct Door<A: Link + Send + Drop, B: Link + Send + Drop> {
     site_port: u16,
     to: Sender<Pair<A, B>>,
 }
 
-/// How a pair counts that ended so, where finishing the dialed connection answered that. None: it failed.
+// How a pair counts that ended so, where finishing the dialed connection answered that. None: it failed.
 fn counted(end: ProxyEnd, done: Result<(), EndError>) -> Result<Option<ProxyEnd>, ProxyError>
     ensures ok { IfOk result (λ counted. EndsWith end done counted) }
     ensures err { result ≢ Err ProxyError.Port }
@@ -45,7 +45,7 @@ fn counted(end: ProxyEnd, done: Result<(), EndError>) -> Result<Option<ProxyEnd>
     }
 }
 
-/// Finishes a client.
+// Finishes a client.
 fn finish_client<P: Port>(port: &mut P, client: P::Conn) -> Result<(), ProxyError>
     ensures finished { IfOk result (λ u. (P.view port.new).finished ≡ after_finish client (Ok u)
         (P.view port.old).finished) }
@@ -60,7 +60,7 @@ fn finish_client<P: Port>(port: &mut P, client: P::Conn) -> Result<(), ProxyErro
     }
 }
 
-/// Finishes a pair that came back, and takes its records.
+// Finishes a pair that came back, and takes its records.
 fn take_back<K: Site, P: Port, X: Dialer>(
     port: &mut P,
     dialer: &mut X,
@@ -90,7 +90,7 @@ fn take_back<K: Site, P: Port, X: Dialer>(
     Ok(standing.with_one_back(counted, records)?)
 }
 
-/// What came back. `OutOfMemory` comes also where nobody is left who passes.
+// Unwraps a worker's reply. `OutOfMemory` comes also if no worker is left.
 fn back<K: Site, A: Link, B: Link>(
     came: Option<Result<Passed<K, A, B>, OutOfMemory>>,
 ) -> Result<Passed<K, A, B>, ProxyError>
@@ -102,7 +102,7 @@ fn back<K: Site, A: Link, B: Link>(
     }
 }
 
-/// Takes back the pairs that came. Afterwards fewer are away than may be.
+// Takes back the pairs that came, until fewer are away than may be.
 fn clear<K: Site, P: Port, X: Dialer, R: Wait>(
     rt: &R,
     port: &mut P,
@@ -120,7 +120,7 @@ fn clear<K: Site, P: Port, X: Dialer, R: Wait>(
 {
     let mut standing = standing;
     'back: while standing.away > 0 {
-        let Some(came) = workers.crew.next_done(rt, &workers.back, standing.away) else {
+        let Some(came) = workers.pool.next_done(rt, standing.away) else {
             return Ok(standing);
         };
         standing = take_back(port, dialer, came?, standing)?;
@@ -128,7 +128,7 @@ fn clear<K: Site, P: Port, X: Dialer, R: Wait>(
     Ok(standing)
 }
 
-/// Sends a client and the connection that was dialed for it to the workers. Returns false where there are none.
+// Sends a client and the connection that was dialed for it to the workers. Returns false where there are none.
 fn send_pair<A: Link + Send + Drop, B: Link + Send + Drop, R: Wait>(
     rt: &R,
     door: &Door<A, B>,
@@ -141,8 +141,8 @@ fn send_pair<A: Link + Send + Drop, B: Link + Send + Drop, R: Wait>(
     door.to.send(rt, Pair { client, server }).is_ok()
 }
 
-/// Dials for a client that was accepted, and sends both to the workers. A client for which the dialer fails is
-/// finished.
+// Dials for a client that was accepted, and sends both to the workers. A client for which the dialer fails is
+// finished.
 fn dial_for<K: Site, P: Port, X: Dialer, R: Wait>(
     rt: &R,
     port: &mut P,
@@ -180,7 +180,7 @@ fn dial_for<K: Site, P: Port, X: Dialer, R: Wait>(
     }
 }
 
-/// Accepts clients until there are no more, and sends each to the workers.
+// Accepts clients until there are no more, and sends each to the workers.
 fn admit_all<K: Site, P: Port, X: Dialer, R: Wait>(
     rt: &R,
     port: &mut P,
@@ -214,7 +214,7 @@ fn admit_all<K: Site, P: Port, X: Dialer, R: Wait>(
     Ok(standing)
 }
 
-/// Takes back all pairs that are away.
+// Takes back all pairs that are away.
 fn take_all<K: Site, P: Port, X: Dialer, R: Wait>(
     rt: &R,
     port: &mut P,
@@ -233,13 +233,13 @@ fn take_all<K: Site, P: Port, X: Dialer, R: Wait>(
 {
     let mut standing = standing;
     'away: while standing.away > 0 {
-        let passed = back(workers.crew.wait_done(rt, &workers.back))?;
+        let passed = back(workers.pool.wait_done(rt))?;
         standing = take_back(port, dialer, passed, standing)?;
     }
     Ok(standing)
 }
 
-/// Serves the clients of a port by the workers, once one of them has begun.
+// Serves the clients of a port by the workers, once one of them has begun.
 fn serve_port<K: Site, P: Port, X: Dialer, R: Wait>(
     rt: &R,
     workers: &RecordingWorkers<K, P::Conn, X::Conn>,
@@ -256,7 +256,7 @@ fn serve_port<K: Site, P: Port, X: Dialer, R: Wait>(
     ensures keeps { KeepsPort (P.view port.old) (P.view port.new) }
     ensures cause { result ≡ Err ProxyError.Port → Rose (P.view port.old).faults (P.view port.new).faults }
 {
-    if !workers.crew.has_begun(rt) {
+    if !workers.pool.have_begun(rt) {
         return Err(ProxyError::OutOfMemory);
     }
     let standing = RecordingStanding::new(workers.alloc);
@@ -265,7 +265,7 @@ fn serve_port<K: Site, P: Port, X: Dialer, R: Wait>(
     take_all(rt, port, dialer, workers, standing)
 }
 
-/// Serves the clients of a port beside the workers.
+// Serves the clients of a port beside the workers.
 fn serve_beside<
     'a,
     K: Site + Send + Sync,
@@ -279,8 +279,7 @@ fn serve_beside<
     port: &'a mut P,
     dialer: &'a mut X,
 ) -> Result<RecordingStanding, ProxyError>
-    requires here { workers.now.site_port ≡ K.port }
-    requires there { door.site_port ≡ K.port }
+    requires { door.site_port ≡ K.port }
     ensures serving { IfOk result (λ next. IsServed K.port P.Conn.view X.Conn.view true most_recorded
         (net (P.view port.old) (X.view dialer.old)) (net (P.view port.new) (X.view dialer.new)) []
         next.records next.served) }
@@ -293,8 +292,8 @@ fn serve_beside<
     let (_, served) = join_mut(
         rt,
         &mut ||
-            requires { (workers.now.site_port ≡ K.port) × IsSync R.row }
-        { work_all::<K, P::Conn, X::Conn, R>(rt, workers) },
+            requires { IsSync R.row }
+        { work_all(rt, workers) },
         &mut || -> Result<RecordingStanding, ProxyError>
             requires { IsSync R.row × IfSome given (λ door. door.site_port ≡ K.port) }
             ensures serving { IfOk result (λ next. IsServed K.port P.Conn.view X.Conn.view true most_recorded
@@ -315,7 +314,7 @@ fn serve_beside<
     served
 }
 
-/// Serves the clients of a port, up to the job's number of them at a time.
+// Serves the clients of a port, up to the job's number of them at a time.
 fn run_pool<K: Site + Send + Sync, P: Port + Send, X: Dialer + Send, R: Threads + Wait + Sync>(
     rt: &R,
     alloc: Global,
@@ -332,26 +331,12 @@ fn run_pool<K: Site + Send + Sync, P: Port + Send, X: Dialer + Send, R: Threads 
     ensures keeps { KeepsPort (P.view port.old) (P.view port.new) }
     ensures cause { result ≡ Err ProxyError.Port → Rose (P.view port.old).faults (P.view port.new).faults }
 {
-    let most = job.connections;
-    let Ok((to, jobs)) = bounded::<Pair<P::Conn, X::Conn>, Global>(alloc, most as usize) else {
-        return Err(ProxyError::OutOfMemory);
-    };
-    // Each worker says once that it has begun, and has one pair at a time.
-    let room = 2 * most as usize;
-    let Ok((done, back)) = bounded::<
-        Said<Result<Passed<K, P::Conn, X::Conn>, OutOfMemory>>,
-        Global,
-    >(alloc, room) else {
-        return Err(ProxyError::OutOfMemory);
-    };
+    let (to, pool) = Workers::new(alloc, job.connections)?;
     let site_port = job.site_port;
-    let workers = RecordingWorkers {
+    let workers = RecordingWorkers::<K, P::Conn, X::Conn> {
         alloc,
         site_port,
-        jobs,
-        done,
-        back,
-        crew: Crew::new(most),
+        pool,
     };
     serve_beside(rt, &workers, Door { site_port, to }, port, dialer)
 }

@@ -12,7 +12,7 @@ use std::alloc::Global;
 use text_base::OutOfMemory;
 use text_base::limits::PIECE_BYTES;
 
-/// Goes on step by step, until the connection ends.
+// Goes on step by step, until the connection ends.
 fn converse<A: Link, B: Link>(
     alloc: Global,
     client: &mut A,

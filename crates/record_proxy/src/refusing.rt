@@ -4,25 +4,21 @@ ghost use Rattle.std.specs.Option.{option_map};
 ghost use Rattle.command_ends.specs.Answers.{Concludes, cause_in};
 ghost use Rattle.command_ends.specs.declared.cause.Cause.TheVariants as causes;
 ghost use Rattle.record_proxy.specs.Proxying.{store_named};
-ghost use Rattle.refusal_lines.specs.Explanations.{IsTold, explained};
-ghost use Rattle.refusal_words.specs.declared.command.Program.TheVariants.{Record};
 
 use crate::words::read_proxy;
-use command_ends::Cause;
+use command_ends::{Cause, Ending, conclude};
 use mm_base::Sink;
-use refusal_lines::{Ending, conclude_told};
-use refusal_words::Program;
-use std::alloc::Global;
-use text_base::{OutOfMemory, Text};
+use std::alloc::{AllocError, Global};
+use text_base::Text;
 
-/// The name of the file that the words after the program's name ask for by `--out`. None where they have no job.
-/// `OutOfMemory` means out of memory.
-pub fn store_name<'a>(alloc: Global, words: &'a [String]) -> Result<Option<&'a str>, OutOfMemory>
+/// Returns the name of the file that the words after the program's name ask for by `--out`, or `None` if they have no
+/// job. `AllocError` means out of memory.
+pub fn store_name<'a>(alloc: Global, words: &'a [String]) -> Result<Option<&'a str>, AllocError>
     ensures { IfOk result (λ name. option_map (λ s. s.now) name ≡ store_named (map string_bytes words.now)) }
 {
     match read_proxy(alloc, words)? {
-        Some(job) => Ok(Some(job.out)),
-        None => Ok(None),
+        Ok(job) => Ok(Some(job.out)),
+        Err(_) => Ok(None),
     }
 }
 
@@ -37,23 +33,16 @@ fn write_fault(alloc: Global, name: &str) -> Cause
 }
 
 /// Ends a command line before anything of it is done, since the store can't be written to the file of this name:
-/// `mm: write fault NAME` is printed on `out`, and `told`, which is the standard error, is told in words.
+/// `mm: write fault NAME` is printed on `out`.
 ///
-/// The status is 7, or 9 where memory is wanting; then that is the cause, or a front of its line is printed.
-pub fn refuse_store<O: Sink, T: Sink>(
-    alloc: Global,
-    words: &[String],
-    name: &str,
-    out: &mut O,
-    told: &mut T,
-) -> Ending
+/// The status is 7, or 9 if out of memory; then that is the cause, or a prefix of its line is printed.
+pub fn refuse_store<O: Sink>(alloc: Global, name: &str, out: &mut O) -> Ending
     ensures status { (result.status ≡ 7) ⊎ (result.status ≡ 9) }
     ensures cause { (cause_in result.answer ≡ Some (causes.WriteFault name.now))
         ⊎ (cause_in result.answer ≡ Some causes.OutOfMemory) }
     ensures explained { Concludes (cause_in result.answer) (O.view out.old) (O.view out.new) result.status }
-    ensures told { IsTold (explained Record (map string_bytes words.now) (cause_in result.answer))
-        (T.view told.old) (T.view told.new) result.told }
 {
     let answer = Err(write_fault(alloc, name));
-    conclude_told(Program::Record, words, answer, out, told)
+    let status = conclude(&answer, out);
+    Ending { answer, status }
 }

@@ -21,7 +21,7 @@ use std::marker::Send;
 use std::thread::{Threads, join_mut};
 use text_base::OutOfMemory;
 
-/// One end more. None: the dialer failed.
+/// Counts one more end. None: the dialer failed.
 pub(crate) fn with_end(end: Option<ProxyEnd>, n: Served) -> Served
     requires { total n < 4294967295 }
     ensures one { result ≡ plus n (counted_as end) }
@@ -37,7 +37,7 @@ pub(crate) fn with_end(end: Option<ProxyEnd>, n: Served) -> Served
     n
 }
 
-/// What a refusal of the port is to a serving.
+/// Maps an error of the port to that of a serving.
 pub(crate) fn refused(error: EndError) -> ProxyError
     ensures { result ≡ ProxyError.Port → error ≡ EndError.Failed }
 {
@@ -47,7 +47,7 @@ pub(crate) fn refused(error: EndError) -> ProxyError
     }
 }
 
-/// How a connection ended, by how the two sides did and what finishing the dialed one answered. None: that failed.
+// How a connection ended, by how the two sides did and what finishing the dialed one answered. None: that failed.
 fn ended(
     end: Result<ProxyEnd, OutOfMemory>,
     done: Result<(), EndError>,
@@ -97,7 +97,7 @@ pub(crate) fn finish_dialed<X: Dialer>(dialer: &mut X, server: X::Conn) -> Resul
     dialer.finish(server)
 }
 
-/// Passes what a client and a dialed connection say, and finishes that one. None: the dialer failed.
+// Passes what a client and a dialed connection say, and finishes that one. None: the dialer failed.
 fn join<A: Link + Send, X: Dialer, R: Threads>(
     rt: &R,
     alloc: Global,
@@ -120,7 +120,7 @@ fn join<A: Link + Send, X: Dialer, R: Threads>(
     ended(end, done)
 }
 
-/// Dials for a client, and passes what the two say. None: the dialer failed.
+// Dials for a client, and passes what the two say. None: the dialer failed.
 fn pass<A: Link + Send, X: Dialer, R: Threads>(
     rt: &R,
     alloc: Global,
@@ -141,7 +141,7 @@ fn pass<A: Link + Send, X: Dialer, R: Threads>(
     }
 }
 
-/// What a client's passage is to a serving, by how it ended and what finishing the client answered.
+// What a client's passage is to a serving, by how it ended and what finishing the client answered.
 fn served(
     end: Result<Option<ProxyEnd>, OutOfMemory>,
     done: Result<(), EndError>,
@@ -158,7 +158,7 @@ fn served(
     }
 }
 
-/// Serves a client that was accepted, and finishes it.
+// Serves a client that was accepted, and finishes it.
 fn serve_client<P: Port, X: Dialer, R: Threads>(
     rt: &R,
     alloc: Global,

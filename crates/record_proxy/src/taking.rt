@@ -16,10 +16,10 @@ use mm_base::{EndError, Link};
 use text_base::OutOfMemory;
 use text_base::limits::MOST_CONNECTION_BYTES;
 
-/// How many bytes are taken of a side at most.
+// How many bytes are taken of a side at most.
 const MOST: usize = MOST_CONNECTION_BYTES as usize;
 
-/// How a connection ends at a refusal of a link.
+/// How a proxied connection ends when one side refuses a call.
 pub fn refused(fault: ProxyEnd, error: EndError) -> Result<ProxyEnd, OutOfMemory>
     ensures { IsEndAt fault error result }
 {
@@ -29,7 +29,7 @@ pub fn refused(fault: ProxyEnd, error: EndError) -> Result<ProxyEnd, OutOfMemory
     }
 }
 
-/// How a connection ends where the client's input did.
+// How a connection ends where the client's input did.
 fn left(rest: &[u8]) -> ProxyEnd
     ensures between { rest.now ≡ [] → result ≡ ProxyEnd.Closed }
     ensures within { 0 < length rest.now → result ≡ ProxyEnd.BadRequest }
@@ -41,7 +41,7 @@ fn left(rest: &[u8]) -> ProxyEnd
     }
 }
 
-/// Takes more bytes of the client into `piece`.
+// Takes more bytes of the client into `piece`.
 fn read_client<L: Link>(
     state: &mut ProxyState,
     client: &mut L,
@@ -94,7 +94,7 @@ pub fn take_of_client<L: Link>(
     read_client(state, client, &mut buf[..room])
 }
 
-/// Takes more bytes of the server into `piece`, or learns that there are no more.
+// Takes more bytes of the server into `piece`, or learns that there are no more.
 fn read_server<L: Link>(
     state: &mut ProxyState,
     server: &mut L,

@@ -5,8 +5,7 @@ ghost use Rattle.record_proxy.specs.declared.ports_asked.PortsAsked.TheVariants.
 
 use crate::dialer::Dialer;
 use crate::ports_asked::PortsAsked;
-use end_watch::EndWatch;
-use ended_port::{EndedLink, Silence, is_shortage, rest_at_shortage};
+use ended_port::{EndWatch, EndedLink, Silence, is_shortage, rest_at_shortage};
 use mm_base::{EndError, TcpLimits};
 use std::io::{self, ErrorKind};
 use std::marker::Send;

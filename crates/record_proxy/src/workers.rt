@@ -1,23 +1,21 @@
-// The workers of a pool, each in a thread, who pass what clients and the site say.
+// The workers of a recording, each in a thread, who pass what clients and the site say.
 ghost use Rattle.std.specs.Prelude.{◌≡◌};
-ghost use Rattle.std.specs.Thread.{IsSync};
 ghost use Rattle.record_proxy.specs.Servings.{IsJoined};
 
 use crate::ends::ProxyEnd;
 use crate::messages::{Pair, Passed, Site};
 use crate::proxy::proxy_conn;
 use crate::serving::part;
-use crossbeam_channel::{Receiver, Sender};
 use mm_base::Link;
 use record_store::Store;
-use replay_server::{Crew, Said};
+use replay_server::Workers;
 use std::alloc::Global;
 use std::marker::{PhantomData, Send, Sync};
 use std::sync::Wait;
-use std::thread::{Threads, map_indices};
+use std::thread::Threads;
 use text_base::OutOfMemory;
 
-/// A pair whose exchanges are over and ended so, with these records.
+// A pair whose exchanges are over and ended so, with these records.
 fn passed_of<K: Site, A: Link + Send + Drop, B: Link + Send + Drop>(
     client: A,
     server: B,
@@ -35,7 +33,7 @@ fn passed_of<K: Site, A: Link + Send + Drop, B: Link + Send + Drop>(
     }
 }
 
-/// Passes what a client and the site say, and says to both that nothing further will be given.
+// Passes what a client and the site say, and says to both that nothing further will be given.
 fn pass_pair<K: Site, A: Link + Send + Drop, B: Link + Send + Drop, R: Threads>(
     rt: &R,
     alloc: Global,
@@ -56,33 +54,19 @@ fn pass_pair<K: Site, A: Link + Send + Drop, B: Link + Send + Drop, R: Threads>(
     }
 }
 
-/// The workers of a pool, the site's port, and the channels of their pairs: `jobs` brings them to the workers. A worker
-/// says in `done` that it has begun, and sends each pair there whose exchanges are over; both come out of `back`.
+/// The workers of a recording, who pass what clients and the site at one port say.
 #[derive(Drop)]
 pub(crate) struct RecordingWorkers<K: Site, A: Link + Send + Drop, B: Link + Send + Drop> {
     pub alloc: Global,
     pub site_port: u16,
-    pub jobs: Receiver<Pair<A, B>>,
-    pub done: Sender<Said<Result<Passed<K, A, B>, OutOfMemory>>>,
-    pub back: Receiver<Said<Result<Passed<K, A, B>, OutOfMemory>>>,
-    pub crew: Crew,
+    pub pool: Workers<Pair<A, B>, Result<Passed<K, A, B>, OutOfMemory>>,
+    pub ghost at: { site_port ≡ K.port },
 }
 
-/// Passes what pairs say, one after the other, until none is sent any more.
-fn work<K: Site, A: Link + Send + Drop, B: Link + Send + Drop, R: Threads + Wait>(
-    rt: &R,
-    workers: &RecordingWorkers<K, A, B>,
-)
-    requires { workers.now.site_port ≡ K.port }
-{
-    for _ in rt.forever() {
-        let Ok(pair) = workers.jobs.recv(rt) else {
-            return;
-        };
-        let passed = pass_pair::<K, A, B, R>(rt, workers.alloc, workers.site_port, pair);
-        let Ok(()) = workers.done.send(rt, Said::Done(passed)) else {
-            return;
-        };
+impl<K: Site, A: Link + Send + Drop, B: Link + Send + Drop> RecordingWorkers<K, A, B> {
+    // Passes what a client and the site say.
+    fn pass<R: Threads>(&self, rt: &R, pair: Pair<A, B>) -> Result<Passed<K, A, B>, OutOfMemory> {
+        pass_pair::<K, A, B, R>(rt, self.alloc, self.site_port, pair)
     }
 }
 
@@ -92,14 +76,9 @@ pub(crate) fn work_all<
     A: Link + Send + Drop,
     B: Link + Send + Drop,
     R: Threads + Wait + Sync,
->(rt: &R, workers: &RecordingWorkers<K, A, B>)
-    requires { workers.now.site_port ≡ K.port }
-{
-    let worker = |_index: usize|
-        requires { (workers.now.site_port ≡ K.port) × IsSync R.row }
-    {
-        workers.crew.begin(rt, &workers.done);
-        work::<K, A, B, R>(rt, workers);
+>(rt: &R, workers: &RecordingWorkers<K, A, B>) {
+    let pass = |pair: Pair<A, B>| -> Result<Passed<K, A, B>, OutOfMemory> {
+        workers.pass(rt, pair)
     };
-    let _ = map_indices(rt, workers.alloc, workers.crew.most() as usize, &worker);
+    workers.pool.work_all(rt, workers.alloc, &pass);
 }

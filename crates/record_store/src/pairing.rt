@@ -12,7 +12,7 @@ use crate::server::{answer_at, from_place};
 use http_frame::{Request, first_request};
 use std::alloc::Global;
 
-/// Returns the requests that the bytes are, or `BadRequest` for the first that is refused or cut off.
+// Returns the requests that the bytes are, or `BadRequest` for the first that is refused or cut off.
 fn requests_of(alloc: Global, client: &[u8]) -> Result<Vec<Request>, PairError>
     ensures ok { IfOk result (λ requests. AreRequests client.now requests.items []) }
     ensures err { IfErr result (RefusesRequests client.now) }

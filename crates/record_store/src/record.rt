@@ -5,7 +5,7 @@ ghost use Rattle.record_store.specs.declared.record.Record.{Record as RecordValu
 
 use http_frame::{Request, Response};
 use std::alloc::Global;
-use std::marker::Model;
+use std::marker::{Model, Send, Sync};
 use text_base::OutOfMemory;
 
 /// A recorded exchange.
@@ -72,4 +72,12 @@ impl Store {
     {
         self.records.as_slice()
     }
+}
+
+// Compiles only for what may be sent to other threads and shared with them.
+fn goes_to_threads<T: Send + Sync>(_value: &T) {}
+
+// Shows here, and not first in a crate that starts threads, that a store is `Send` and `Sync`.
+fn store_goes_to_threads(store: &Store) {
+    goes_to_threads(store);
 }

@@ -3,7 +3,7 @@ ghost use Rattle.std.specs.Prelude.{◌≡◌, IfOk};
 ghost use Rattle.packet_record.specs.declared.item.FlowEnd.TheVariants.{Open};
 
 use crate::nests::nest_of;
-use nest_line::Line;
+use live_relay::Line;
 use nest_spec::Nest;
 use packet_record::{Direction, Item, Packet, Timed};
 use std::alloc::Global;

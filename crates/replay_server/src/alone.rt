@@ -5,22 +5,18 @@ ghost use Rattle.replay_server.specs.inside.Pools.{InPool, IsCounted, IsStopped,
 
 use crate::messages::{Fresh, Serving};
 use crate::pool::take_back;
-use crate::server::Server;
 use crate::standing::{MOST_SERVED, ServingStanding};
-use crate::workers::serve_one;
+use crate::work::ServingWork;
 use mm_base::{Pace, Port};
-use std::alloc::Global;
 use std::sync::Wait;
 
-/// Serves the next connection of a port in this thread. Err: there is no next one, or it is refused.
+// Serves the next connection of a port in this thread. Err: there is no next one, or it is refused.
 fn serve_next<K: Serving, P: Port, Q: Pace, R: Wait>(
     rt: &R,
-    alloc: Global,
-    server: &Server<'_, Q>,
+    work: &ServingWork<'_, K, Q>,
     port: &mut P,
     standing: ServingStanding,
 ) -> Result<ServingStanding, ServingStanding>
-    requires serves { (server.now.source.store.now ≡ K.store) × (server.now.source.index.port ≡ K.site_port) }
     requires few { standing.begun < most_served }
     requires counted { IsCounted standing }
     ensures counted_ok { IfOk result IsCounted }
@@ -40,8 +36,7 @@ fn serve_next<K: Serving, P: Port, Q: Pace, R: Wait>(
                 conn,
                 ordinal: next.begun,
             };
-            let ended = serve_one::<K, P::Conn, Q, R>(rt, alloc, server, fresh);
-            Ok(take_back(port, ended, next))
+            Ok(take_back(port, work.serve(rt, fresh), next))
         }
         Ok(None) => Err(standing),
         Err(error) => Err(standing.refused(error)),
@@ -51,12 +46,9 @@ fn serve_next<K: Serving, P: Port, Q: Pace, R: Wait>(
 /// Serves the connections of a port in this thread, one after the other.
 pub(crate) fn serve_alone<K: Serving, P: Port, Q: Pace, R: Wait>(
     rt: &R,
-    alloc: Global,
-    server: &Server<'_, Q>,
+    work: &ServingWork<'_, K, Q>,
     port: &mut P,
 ) -> ServingStanding
-    requires store { server.now.source.store.now ≡ K.store }
-    requires site_port { server.now.source.index.port ≡ K.site_port }
     ensures pool { InPool K.store K.site_port P.Conn.view (P.view port.old) (P.view port.new) result }
     ensures stopped { IsStopped (P.view port.new) result }
     ensures few { result.begun ≤ most_served }
@@ -64,7 +56,7 @@ pub(crate) fn serve_alone<K: Serving, P: Port, Q: Pace, R: Wait>(
 {
     let mut standing = ServingStanding::new();
     'open: while standing.begun < MOST_SERVED {
-        match serve_next::<K, P, Q, R>(rt, alloc, server, port, standing) {
+        match serve_next(rt, work, port, standing) {
             Ok(next) => standing = next,
             Err(last) => return last,
         }

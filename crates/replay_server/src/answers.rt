@@ -3,13 +3,13 @@ ghost use Rattle.std.specs.Prelude.{◌≡◌, ◌||◌};
 ghost use Rattle.request_match.specs.Match.{BestCause};
 ghost use Rattle.replay_server.specs.Answers.{IsAnswer, not_found, bad_request};
 
-use crate::indexed_store::IndexedStore;
+use crate::server::IndexedStore;
 use http_frame::RequestHead;
 
-/// The answer where no record agrees.
+// The answer where no record agrees.
 const NOT_FOUND: &[u8] = b"HTTP/1.1 404 Not Found\r\nContent-Length: 0\r\n\r\n";
 
-/// The answer where there is no request, and never will be.
+// The answer where there is no request, and never will be.
 const BAD_REQUEST: &[u8] =
     b"HTTP/1.1 400 Bad Request\r\nContent-Length: 0\r\nConnection: close\r\n\r\n";
 
@@ -39,7 +39,7 @@ fn either(request: bool, response: bool) -> bool
     request || response
 }
 
-/// The place of the record that answers a request.
+// The place of the record that answers a request.
 fn place_for(source: &IndexedStore<'_>, head: &RequestHead) -> Option<usize>
     ensures { BestCause head.now source.now.index.port source.now.store.now result }
 {

@@ -7,7 +7,7 @@ pub enum ConnEnd {
     Closed,
     /// After the text that says that there is no request, and never will be.
     BadRequest,
-    /// At a fault of the link.
+    /// At a fault of the connection.
     LinkFault,
     /// 67,108,864 bytes were taken, and no answer closed.
     Full,

@@ -7,22 +7,31 @@ ghost use Rattle.replay_server.specs.Servings.{IsServing, ListensAt, most_served
 ghost use Rattle.replay_server.specs.inside.Pools.{InPool, IsCounted, IsStopped, MovesPool, PoolServes};
 
 use crate::alone::serve_alone;
-use crate::crew::{Crew, Said};
 use crate::ends::{ServeError, Served};
-use crate::indexed_store::IndexedStore;
 use crate::messages::{Ended, Fresh, Serving};
-use crate::plan::ServingPlan;
-use crate::server::Server;
+use crate::server::{IndexedStore, Server};
 use crate::serving::finish;
 use crate::standing::{MOST_SERVED, ServingStanding};
-use crate::workers::{ServingWorkers, work_all};
-use crossbeam_channel::{Sender, bounded};
+use crate::work::{ServingWork, work_all};
+use crate::workers::Workers;
+use crossbeam_channel::Sender;
 use mm_base::{EndError, Link, Pace, Port};
 use record_store::Store;
 use std::alloc::Global;
-use std::marker::{Brand, Send, Sync};
+use std::marker::{Brand, PhantomData, Send, Sync};
 use std::sync::Wait;
 use std::thread::{Threads, join_mut};
+
+/// What a pool is asked for.
+#[derive(Clone, Copy)]
+pub struct ServingPlan {
+    /// The number of the port at which it listens.
+    pub number: u16,
+    /// The port that requests are asked at. Where it is `None`, records of every port agree.
+    pub site_port: Option<u16>,
+    /// How many connections are served at a time, at most.
+    pub connections: u32,
+}
 
 /// Takes a connection back that was served, and finishes it.
 pub(crate) fn take_back<K: Serving, P: Port>(
@@ -49,11 +58,11 @@ pub(crate) fn take_back<K: Serving, P: Port>(
     standing.finished(end, done)
 }
 
-/// Takes back the connections that were served. Afterwards fewer are out than may be.
+// Takes back the connections that were served, until fewer are out than may be.
 fn clear<K: Serving, P: Port, R: Wait>(
     rt: &R,
     port: &mut P,
-    workers: &ServingWorkers<K, P::Conn>,
+    workers: &Workers<Fresh<P::Conn>, Ended<K, P::Conn>>,
     standing: ServingStanding,
 ) -> ServingStanding
     requires few { standing.begun ≤ most_served }
@@ -64,7 +73,7 @@ fn clear<K: Serving, P: Port, R: Wait>(
 {
     let mut standing = standing;
     'done: while standing.out > 0 {
-        let Some(ended) = workers.crew.next_done(rt, &workers.back, standing.out) else {
+        let Some(ended) = workers.next_done(rt, standing.out) else {
             return standing;
         };
         standing = take_back(port, ended, standing);
@@ -72,7 +81,7 @@ fn clear<K: Serving, P: Port, R: Wait>(
     standing
 }
 
-/// Sends a connection to the workers. Returns false where there are none.
+// Sends a connection to the workers. Returns false where there are none.
 fn send_fresh<C: Link + Send + Drop, R: Wait>(
     rt: &R,
     to: &Sender<Fresh<C>>,
@@ -84,13 +93,13 @@ fn send_fresh<C: Link + Send + Drop, R: Wait>(
     to.send(rt, Fresh { conn, ordinal }).is_ok()
 }
 
-/// Takes back those that have ended, accepts the next connection and sends it to the workers. Err: there is no
-/// next one, or it is refused.
+// Takes back those that have ended, accepts the next connection and sends it to the workers. Err: there is no
+// next one, or it is refused.
 fn admit<K: Serving, P: Port, R: Wait>(
     rt: &R,
     port: &mut P,
     to: &Sender<Fresh<P::Conn>>,
-    workers: &ServingWorkers<K, P::Conn>,
+    workers: &Workers<Fresh<P::Conn>, Ended<K, P::Conn>>,
     standing: ServingStanding,
 ) -> Result<ServingStanding, ServingStanding>
     requires few { standing.begun < most_served }
@@ -120,12 +129,12 @@ fn admit<K: Serving, P: Port, R: Wait>(
     }
 }
 
-/// Accepts connections until there are no more, and sends each to the workers.
+// Accepts connections until there are no more, and sends each to the workers.
 fn admit_all<K: Serving, P: Port, R: Wait>(
     rt: &R,
     port: &mut P,
     to: Sender<Fresh<P::Conn>>,
-    workers: &ServingWorkers<K, P::Conn>,
+    workers: &Workers<Fresh<P::Conn>, Ended<K, P::Conn>>,
 ) -> ServingStanding
     ensures pool { InPool K.store K.site_port P.Conn.view (P.view port.old) (P.view port.new) result }
     ensures stopped { IsStopped (P.view port.new) result }
@@ -142,11 +151,11 @@ fn admit_all<K: Serving, P: Port, R: Wait>(
     standing
 }
 
-/// Takes back all connections that are out.
+// Takes back all connections that are out.
 fn take_all<K: Serving, P: Port, R: Wait>(
     rt: &R,
     port: &mut P,
-    workers: &ServingWorkers<K, P::Conn>,
+    workers: &Workers<Fresh<P::Conn>, Ended<K, P::Conn>>,
     standing: ServingStanding,
 ) -> Result<Served, ServeError>
     requires stopped { IsStopped (P.view port.old) standing }
@@ -157,7 +166,7 @@ fn take_all<K: Serving, P: Port, R: Wait>(
 {
     let mut standing = standing;
     'out: while standing.out > 0 {
-        let Some(ended) = workers.crew.wait_done(rt, &workers.back) else {
+        let Some(ended) = workers.wait_done(rt) else {
             return Err(ServeError::OutOfMemory);
         };
         standing = take_back(port, ended, standing);
@@ -165,73 +174,62 @@ fn take_all<K: Serving, P: Port, R: Wait>(
     standing.ends
 }
 
-/// Accepts the connections of a port for the workers, or where none has begun serves them in this thread.
+// Accepts the connections of a port for the workers, or, if none has begun, serves them in this thread.
 fn admit_or_serve<K: Serving, P: Port, Q: Pace, R: Wait>(
     rt: &R,
-    alloc: Global,
-    server: &Server<'_, Q>,
+    work: &ServingWork<'_, K, Q>,
     port: &mut P,
     to: Sender<Fresh<P::Conn>>,
-    workers: &ServingWorkers<K, P::Conn>,
+    workers: &Workers<Fresh<P::Conn>, Ended<K, P::Conn>>,
 ) -> ServingStanding
-    requires store { server.now.source.store.now ≡ K.store }
-    requires site_port { server.now.source.index.port ≡ K.site_port }
     ensures pool { InPool K.store K.site_port P.Conn.view (P.view port.old) (P.view port.new) result }
     ensures stopped { IsStopped (P.view port.new) result }
     ensures few { result.begun ≤ most_served }
     ensures counted { IsCounted result }
 {
-    if workers.crew.has_begun(rt) {
+    if workers.have_begun(rt) {
         return admit_all(rt, port, to, workers);
     }
-    serve_alone::<K, P, Q, R>(rt, alloc, server, port)
+    serve_alone(rt, work, port)
 }
 
-/// Serves the connections of a port by the workers, or where none has begun in this thread.
+// Serves the connections of a port by the workers, or, if none has begun, in this thread.
 fn serve_port<K: Serving, P: Port, Q: Pace, R: Wait>(
     rt: &R,
-    alloc: Global,
-    server: &Server<'_, Q>,
+    work: &ServingWork<'_, K, Q>,
     port: &mut P,
     to: Sender<Fresh<P::Conn>>,
-    workers: &ServingWorkers<K, P::Conn>,
+    workers: &Workers<Fresh<P::Conn>, Ended<K, P::Conn>>,
 ) -> Result<Served, ServeError>
-    requires store { server.now.source.store.now ≡ K.store }
-    requires site_port { server.now.source.index.port ≡ K.site_port }
     ensures { PoolServes K.store K.site_port P.Conn.view (P.view port.old) (P.view port.new) result }
 {
-    let standing = admit_or_serve(rt, alloc, server, port, to, workers);
+    let standing = admit_or_serve(rt, work, port, to, workers);
     take_all(rt, port, workers, standing)
 }
 
-/// Serves the connections of a port beside the workers.
+// Serves the connections of a port beside the workers.
 fn serve_with<K: Serving + Send + Sync, P: Port + Send, Q: Pace + Sync, R: Threads + Wait + Sync>(
     rt: &R,
-    alloc: Global,
-    server: &Server<'_, Q>,
+    work: &ServingWork<'_, K, Q>,
     port: &mut P,
     to: Sender<Fresh<P::Conn>>,
-    workers: &ServingWorkers<K, P::Conn>,
+    workers: &Workers<Fresh<P::Conn>, Ended<K, P::Conn>>,
 ) -> Result<Served, ServeError>
-    requires store { server.now.source.store.now ≡ K.store }
-    requires site_port { server.now.source.index.port ≡ K.site_port }
     ensures { PoolServes K.store K.site_port P.Conn.view (P.view port.old) (P.view port.new) result }
 {
     let mut to = Some(to);
     let (_, served) = join_mut(
         rt,
         &mut ||
-            requires { (server.now.source.store.now ≡ K.store) × (server.now.source.index.port ≡ K.site_port)
-                × IsSync R.row × IsSync Q.row }
-        { work_all::<K, P::Conn, Q, R>(rt, alloc, server, workers) },
+            requires { IsSync R.row × IsSync Q.row }
+        { work_all(rt, work, workers) },
         &mut || -> Result<Served, ServeError>
-            requires { (server.now.source.store.now ≡ K.store) × (server.now.source.index.port ≡ K.site_port)
-                × IsSync R.row × IsSync Q.row }
+            requires { IsSync R.row × IsSync Q.row }
             ensures { PoolServes K.store K.site_port P.Conn.view
                 (P.view port.entry.now) (P.view port.exit.now) result }
         {
             match to.take() {
-                Some(to) => serve_port::<K, P, Q, R>(rt, alloc, server, port, to, workers),
+                Some(to) => serve_port(rt, work, port, to, workers),
                 None => Err(ServeError::OutOfMemory),
             }
         },
@@ -239,7 +237,7 @@ fn serve_with<K: Serving + Send + Sync, P: Port + Send, Q: Pace + Sync, R: Threa
     served
 }
 
-/// Serves the connections of a port, `most` of them at a time.
+// Serves the connections of a port, `most` of them at a time.
 #[tactic(auto, using(crate::proofs::PoolLemmas::pool_idle))]
 fn run_pool<K: Serving + Send + Sync, P: Port + Send, Q: Pace + Sync, R: Threads + Wait + Sync>(
     rt: &R,
@@ -252,21 +250,15 @@ fn run_pool<K: Serving + Send + Sync, P: Port + Send, Q: Pace + Sync, R: Threads
     requires site_port { server.now.source.index.port ≡ K.site_port }
     ensures { PoolServes K.store K.site_port P.Conn.view (P.view port.old) (P.view port.new) result }
 {
-    let Ok((to, jobs)) = bounded::<Fresh<P::Conn>, Global>(alloc, most as usize) else {
+    let Ok((to, workers)) = Workers::new(alloc, most) else {
         return Err(ServeError::OutOfMemory);
     };
-    // Each worker says once that it has begun, and has one connection at a time.
-    let room = 2 * most as usize;
-    let Ok((done, back)) = bounded::<Said<Ended<K, P::Conn>>, Global>(alloc, room) else {
-        return Err(ServeError::OutOfMemory);
+    let work = ServingWork::<K, Q> {
+        alloc,
+        server,
+        serving: PhantomData,
     };
-    let workers = ServingWorkers {
-        jobs,
-        done,
-        back,
-        crew: Crew::new(most),
-    };
-    serve_with::<K, P, Q, R>(rt, alloc, server, port, to, &workers)
+    serve_with(rt, &work, port, to, &workers)
 }
 
 /// Listens at the port of a plan, and serves its connections, up to `connections` of them at a time (`serve_conn`),

@@ -8,9 +8,8 @@ ghost use Rattle.replay_server.specs.Servings.{IsConnServed, IsServing, ListensA
 ghost use Rattle.replay_server.specs.inside.Tallies.{IsTally, total, refusal_of, ended, tallied};
 
 use crate::ends::{ConnEnd, ServeError, Served};
-use crate::indexed_store::IndexedStore;
 use crate::messages::Fresh;
-use crate::server::Server;
+use crate::server::{IndexedStore, Server};
 use crate::session::serve_link;
 use mm_base::{EndError, Link, Pace, Port};
 use record_store::Store;
@@ -19,7 +18,7 @@ use std::marker::{Send, Sync};
 use std::sync::Wait;
 use std::thread::{Threads, join_mut};
 
-/// What a refusal of the port in accepting or finishing is to a serving.
+// Maps an error of the port in accepting or finishing to that of a serving.
 fn refused(error: EndError) -> ServeError
     ensures { result ≡ refusal_of error }
 {
@@ -29,7 +28,7 @@ fn refused(error: EndError) -> ServeError
     }
 }
 
-/// One end more.
+// Counts one more end.
 fn with_end(end: ConnEnd, n: Served) -> Served
     requires { total n < most_served }
     ensures one { result ≡ with_end end n }
@@ -108,7 +107,7 @@ pub(crate) fn serve_fresh<C: Link, Q: Pace, R: Wait>(
     serve_link(rt, alloc, server, conn, ordinal)
 }
 
-/// Accepts up to `most` connections, and serves each beside accepting the next. They are finished in the other order.
+// Accepts up to `most` connections, and serves each beside accepting the next. They are finished in the other order.
 #[cycle(serve)]
 fn serve_from<P: Port + Send, Q: Pace + Sync, R: Threads + Wait + Sync>(
     rt: &R,
@@ -140,8 +139,8 @@ fn serve_from<P: Port + Send, Q: Pace + Sync, R: Threads + Wait + Sync>(
     tally(done, count_end(end, rest, most - 1))
 }
 
-/// Serves a connection beside accepting up to `most` further ones. Where no thread can be made, what stands first in
-/// the join runs last: the connection is served, and then the next one is accepted.
+// Serves a connection beside accepting up to `most` further ones. Where no thread can be made, what stands first in
+// the join runs last: the connection is served, and then the next one is accepted.
 #[cycle(serve)]
 fn serve_beside<P: Port + Send, Q: Pace + Sync, R: Threads + Wait + Sync>(
     rt: &R,

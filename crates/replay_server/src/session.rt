@@ -6,8 +6,7 @@ ghost use Rattle.replay_server.specs.inside.Progress.{Progress, GoesOn, to_do};
 
 use crate::answers::answer_to;
 use crate::ends::ConnEnd;
-use crate::indexed_store::IndexedStore;
-use crate::server::Server;
+use crate::server::{IndexedStore, Server};
 use crate::session_state::SessionState;
 use crate::steps::{give_answer, refuse, take_more};
 use http_frame::{FrameFault, Step};
@@ -17,11 +16,11 @@ use std::alloc::Global;
 use std::sync::Wait;
 use text_base::OutOfMemory;
 
-/// How many bytes a read asks for at most.
+// How many bytes a read asks for at most.
 const PIECE: usize = 65_536;
 
-/// Answers the next request that is there; or ends the session, where there is none and never will be; or takes more
-/// bytes.
+// Answers the next request that is there; or ends the session, where there is none and never will be; or takes more
+// bytes.
 fn step<L: Link, Q: Pace, R: Wait>(
     rt: &R,
     server: &Server<'_, Q>,
@@ -50,7 +49,7 @@ fn step<L: Link, Q: Pace, R: Wait>(
     }
 }
 
-/// Goes on step by step, until the session ends.
+// Goes on step by step, until the session ends.
 fn converse<L: Link, Q: Pace, R: Wait>(
     rt: &R,
     alloc: Global,
@@ -73,14 +72,14 @@ fn converse<L: Link, Q: Pace, R: Wait>(
     }
 }
 
-/// `count` bytes of 0.
+// `count` bytes of 0.
 fn zeros(alloc: Global, count: usize) -> Result<Vec<u8>, OutOfMemory>
     ensures { IfOk result (λ v. vec_len v ≡ count) }
 {
     Ok(vec![in alloc; 0u8; count]?)
 }
 
-/// Holds a session.
+// Holds a session.
 fn hold<L: Link, Q: Pace, R: Wait>(
     rt: &R,
     alloc: Global,
@@ -99,7 +98,7 @@ fn hold<L: Link, Q: Pace, R: Wait>(
     }
 }
 
-/// Says that the connection has ended.
+// Says that the connection has ended.
 fn leave<L: Link, Q: Pace, R: Wait>(rt: &R, link: &mut L, role: Role, pace: &Q)
     ensures { L.view link.new ≡ L.view link.old }
 {

@@ -11,16 +11,16 @@ ghost use Rattle.replay_server.specs.Sessions.{Reply, AllOpen, IsHopeless, MayGo
 
 use crate::answers::refusal;
 use crate::ends::ConnEnd;
-use crate::gathered::{flush, gather};
+use crate::giving::{flush, gather};
 use crate::session_state::SessionState;
 use mm_base::{EndError, Link, Pace, Role};
 use std::sync::Wait;
 use text_base::limits::MOST_CONNECTION_BYTES;
 
-/// How many bytes are taken at most.
+// How many bytes are taken at most.
 const MOST: usize = MOST_CONNECTION_BYTES as usize;
 
-/// How a session ends at a refusal of its link.
+// How a session ends when its connection refuses a call.
 fn refused(error: EndError) -> ConnEnd
     ensures { result ≡ end_of error }
 {
@@ -80,7 +80,7 @@ pub fn refuse<L: Link>(state: &mut SessionState, link: &mut L) -> ConnEnd
     ConnEnd::BadRequest
 }
 
-/// Takes more bytes into `piece`, where all that is due was given.
+// Takes more bytes into `piece`, where all that is due was given.
 fn read_more<L: Link>(state: &mut SessionState, link: &mut L, piece: &mut [u8]) -> Option<ConnEnd>
     requires room { 0 < length piece.old }
     requires few { state.old.taken + length piece.old ≤ most }

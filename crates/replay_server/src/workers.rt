@@ -1,85 +1,90 @@
-// The workers of a pool, each in a thread.
-ghost use Rattle.std.specs.Prelude.{◌≡◌};
+// The workers of a pool, each in a thread, and the channels to and from them.
 ghost use Rattle.std.specs.Thread.{IsSync};
 
 use crate::crew::{Crew, Said};
-use crate::messages::{Ended, Fresh, Serving};
-use crate::server::Server;
-use crate::serving::serve_fresh;
-use crossbeam_channel::{Receiver, Sender};
-use mm_base::{Link, Pace};
+use crossbeam_channel::{Receiver, Sender, bounded};
 use std::alloc::Global;
-use std::marker::{PhantomData, Send, Sync};
+use std::marker::{Send, Sync};
 use std::sync::Wait;
 use std::thread::{Threads, map_indices};
+use text_base::OutOfMemory;
 
-/// The workers of a pool, and the channels of their connections: `jobs` brings them to the workers. A worker says in
-/// `done` that it has begun, and sends each connection there that it has served; both come out of `back`.
+/// The workers of a pool, and the channels of their jobs. A worker says in `done` that it has begun, and sends what
+/// came of each job there; both come out of `back`.
 #[derive(Drop)]
-pub(crate) struct ServingWorkers<K: Serving, C: Link + Send + Drop> {
-    pub jobs: Receiver<Fresh<C>>,
-    pub done: Sender<Said<Ended<K, C>>>,
-    pub back: Receiver<Said<Ended<K, C>>>,
-    pub crew: Crew,
+pub struct Workers<J: Drop, D: Drop> {
+    jobs: Receiver<J>,
+    done: Sender<Said<D>>,
+    back: Receiver<Said<D>>,
+    crew: Crew,
 }
 
-/// Serves a connection of which nothing was taken.
-pub(crate) fn serve_one<K: Serving, C: Link + Send + Drop, Q: Pace, R: Wait>(
-    rt: &R,
-    alloc: Global,
-    server: &Server<'_, Q>,
-    fresh: Fresh<C>,
-) -> Ended<K, C>
-    requires store { server.now.source.store.now ≡ K.store }
-    requires site_port { server.now.source.index.port ≡ K.site_port }
-{
-    let Fresh { conn, ordinal } = fresh;
-    let mut conn = conn;
-    let end = serve_fresh(rt, alloc, server, &mut conn, ordinal);
-    Ended {
-        conn,
-        end,
-        serving: PhantomData,
-    }
-}
-
-/// Serves connections, one after the other, until none is sent any more.
-fn work<K: Serving, C: Link + Send + Drop, Q: Pace, R: Wait>(
-    rt: &R,
-    alloc: Global,
-    server: &Server<'_, Q>,
-    workers: &ServingWorkers<K, C>,
-)
-    requires store { server.now.source.store.now ≡ K.store }
-    requires site_port { server.now.source.index.port ≡ K.site_port }
-{
-    for _ in rt.forever() {
-        let Ok(fresh) = workers.jobs.recv(rt) else {
-            return;
+impl<J: Drop, D: Drop> Workers<J, D> {
+    /// Returns where jobs are sent, and `most` workers that take them, of which none has begun. Returns `OutOfMemory`
+    /// if an allocation fails.
+    pub fn new(alloc: Global, most: u32) -> Result<(Sender<J>, Workers<J, D>), OutOfMemory> {
+        let (to, jobs) = bounded::<J, Global>(alloc, most as usize)?;
+        // Each worker says once that it has begun, and has one job at a time.
+        let room = 2 * most as usize;
+        let (done, back) = bounded::<Said<D>, Global>(alloc, room)?;
+        let workers = Workers {
+            jobs,
+            done,
+            back,
+            crew: Crew::new(most),
         };
-        let ended = serve_one::<K, C, Q, R>(rt, alloc, server, fresh);
-        let Ok(()) = workers.done.send(rt, Said::Done(ended)) else {
-            return;
-        };
+        Ok((to, workers))
     }
-}
 
-/// Runs all workers, each in a thread. They end once no connection is sent any more.
-pub(crate) fn work_all<
-    K: Serving + Send + Sync,
-    C: Link + Send + Drop,
-    Q: Pace + Sync,
-    R: Threads + Wait + Sync,
->(rt: &R, alloc: Global, server: &Server<'_, Q>, workers: &ServingWorkers<K, C>)
-    requires store { server.now.source.store.now ≡ K.store }
-    requires site_port { server.now.source.index.port ≡ K.site_port }
-{
-    let worker = |_index: usize|
-        requires { (server.now.source.store.now ≡ K.store) × (server.now.source.index.port ≡ K.site_port)
-            × IsSync R.row × IsSync Q.row }
+    /// Waits until all workers have begun, but at most about a second. Returns whether any has begun. If no thread can
+    /// be made, none has.
+    pub fn have_begun<R: Wait>(&self, rt: &R) -> bool {
+        self.crew.has_begun(rt)
+    }
+
+    /// Returns what came of a job, or `None` if nothing has come. While the workers have as many jobs as they may, and
+    /// `out` is how many, it waits until one is done or one more worker has begun.
+    pub fn next_done<R: Wait>(&self, rt: &R, out: u32) -> Option<D> {
+        self.crew.next_done(rt, &self.back, out)
+    }
+
+    /// Waits until a job is done, and returns what came of it. `None`: no worker is left.
+    pub fn wait_done<R: Wait>(&self, rt: &R) -> Option<D> {
+        self.crew.wait_done(rt, &self.back)
+    }
+
+    // Does jobs, one after the other, until none is sent any more.
+    fn work<F: Fn(J) -> D, R: Wait>(&self, rt: &R, work: &F)
+        requires { F.IsAlwaysCallable work.now }
     {
-        workers.crew.begin(rt, &workers.done);
-        work::<K, C, Q, R>(rt, alloc, server, workers);
-    };
-    let _ = map_indices(rt, alloc, workers.crew.most() as usize, &worker);
+        self.crew.begin(rt, &self.done);
+        for _ in rt.forever() {
+            let Ok(job) = self.jobs.recv(rt) else {
+                return;
+            };
+            let done = work(job);
+            let Ok(()) = self.done.send(rt, Said::Done(done)) else {
+                return;
+            };
+        }
+    }
+}
+
+impl<J: Send + Drop, D: Send + Drop> Workers<J, D> {
+    /// Runs all workers, each in a thread, and does each job by `work`. They end once no job is sent any more.
+    pub fn work_all<F: Fn(J) -> D + Sync, R: Threads + Wait + Sync>(
+        &self,
+        rt: &R,
+        alloc: Global,
+        work: &F,
+    )
+        requires { F.IsAlwaysCallable work.now }
+    {
+        let worker = |_index: usize|
+            requires { F.IsAlwaysCallable work.now × IsSync R.row × IsSync F.row }
+        {
+            self.work(rt, work);
+        };
+        let _ = map_indices(rt, alloc, self.crew.most() as usize, &worker);
+    }
 }

@@ -18,7 +18,7 @@ pub(crate) struct HeadCopy {
 }
 
 impl HeadCopy {
-    /// Copies what must agree with this head. Returns `OutOfMemory` where an allocation fails.
+    // Copies what must agree with this head. Returns `OutOfMemory` where an allocation fails.
     fn new(alloc: Global, head: &RequestHead) -> Result<HeadCopy, OutOfMemory>
         ensures { IfOk result (λ copy. copy ≡ head_copy head.now) }
     {
@@ -42,7 +42,7 @@ impl HeadCopy {
     }
 }
 
-/// Returns a copy of what must agree with the record of entry `i`. Returns `OutOfMemory` where an allocation fails.
+// Returns a copy of what must agree with the record of entry `i`. Returns `OutOfMemory` where an allocation fails.
 fn copy_at(
     alloc: Global,
     records: &[Record],

@@ -46,12 +46,12 @@ impl<'a> Model for Index<'a> {
         × HasCopiesTo s.records.now s.entries.items (length s.entries.items) s.copies.items };
 }
 
-/// Passes entries from `start` on whose score is that of the entry before them, without a look at their records.
-///
-/// The request has its first `score` bytes, and no more, in common with the record of the entry before `start`. What
-/// shares more than these with that record has just as many in common with the request, so its score is the same; and
-/// so on from entry to entry. Returns the first entry that isn't passed, and the earliest of `place` and the places of
-/// those that are.
+// Passes entries from `start` on whose score is that of the entry before them, without a look at their records.
+//
+// The request has its first `score` bytes, and no more, in common with the record of the entry before `start`. What
+// shares more than these with that record has just as many in common with the request, so its score is the same; and
+// so on from entry to entry. Returns the first entry that isn't passed, and the earliest of `place` and the places of
+// those that are.
 fn pass_scored(
     entries: &[(u64, usize)],
     fronts: &[Option<usize>],
@@ -77,7 +77,7 @@ fn pass_scored(
     (i, first)
 }
 
-/// Does what `pass_scored` does where there is a score, and passes nothing where there is none.
+// Does what `pass_scored` does where there is a score, and passes nothing where there is none.
 fn pass_equals(
     entries: &[(u64, usize)],
     fronts: &[Option<usize>],
@@ -97,7 +97,7 @@ fn pass_equals(
     }
 }
 
-/// Returns whether entry `i` has the key, and the next one hasn't.
+// Returns whether entry `i` has the key, and the next one hasn't.
 fn is_alone(entries: &[(u64, usize)], i: usize, key: u64) -> bool
     ensures { result ≡ true → (i < length entries.now)
         × ((d : Entry) → i + 1 < length entries.now → (slice_index_or entries.now (i + 1) d).0 ≡ key → ⊥) }
@@ -108,7 +108,7 @@ fn is_alone(entries: &[(u64, usize)], i: usize, key: u64) -> bool
     i + 1 == entries.len() || entries[i + 1].0 != key
 }
 
-/// Returns the place of the best record, found by the entries with the key, the first of which is at `start`.
+// Returns the place of the best record, found by the entries with the key, the first of which is at `start`.
 fn best_from(
     entries: &[(u64, usize)],
     fronts: &[Option<usize>],
@@ -141,8 +141,8 @@ fn best_from(
     place_of(found)
 }
 
-/// Returns the place of the best record, found by the entries of the records that fit the port. Where only one entry
-/// has the request's key, no score is needed.
+// Returns the place of the best record, found by the entries of the records that fit the port. Where only one entry
+// has the request's key, no score is needed.
 fn best_of(
     entries: &[(u64, usize)],
     fronts: &[Option<usize>],

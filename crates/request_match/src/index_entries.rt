@@ -10,7 +10,7 @@ use std::alloc::Global;
 use std::cmp::Ordering;
 use text_base::OutOfMemory;
 
-/// Returns the entries of the records that fit the port, in the order of the records.
+// Returns the entries of the records that fit the port, in the order of the records.
 fn entries_of(
     alloc: Global,
     records: &[Record],
@@ -28,7 +28,7 @@ fn entries_of(
     Ok(entries)
 }
 
-/// Returns the order of the lines of the records at two places. Only the speed of an index depends on it.
+// Returns the order of the lines of the records at two places. Only the speed of an index depends on it.
 fn line_order(records: &[Record], a: usize, b: usize) -> Ordering {
     match (records.get(a), records.get(b)) {
         (Some(a), Some(b)) => {
@@ -41,8 +41,8 @@ fn line_order(records: &[Record], a: usize, b: usize) -> Ordering {
     }
 }
 
-/// Puts the entries in the order of their keys, and those of one key in the order of their lines, so that neighbours
-/// have much in common.
+// Puts the entries in the order of their keys, and those of one key in the order of their lines, so that neighbours
+// have much in common.
 fn put_in_order(records: &[Record], entries: &mut Vec<(u64, usize)>) -> Result<(), OutOfMemory>
     ensures moved { IsPermutation entries.old.items entries.new.items }
     ensures ordered { OnOk result (IsNonDecreasingBy (λ (e : Entry). e.0) entries.new.items) }
@@ -67,8 +67,8 @@ pub(crate) fn ordered_entries(
     Ok(entries)
 }
 
-/// Returns how many bytes the lines of two records have in common at their front, or `None` where one may agree with a
-/// request with which the other doesn't.
+// Returns how many bytes the lines of two records have in common at their front, or `None` where one may agree with a
+// request with which the other doesn't.
 fn shared_front(before: &Record, exchange: &Record) -> Option<usize>
     ensures { IfSome result (IsShared before.now exchange.now) }
 {
@@ -81,7 +81,7 @@ fn shared_front(before: &Record, exchange: &Record) -> Option<usize>
     ))
 }
 
-/// Returns what the record of entry `i` shares with that of the entry before it.
+// Returns what the record of entry `i` shares with that of the entry before it.
 fn front_at(records: &[Record], entries: &[(u64, usize)], i: usize) -> Option<usize>
     requires inside { i < length entries.now }
     requires places { All (λ (e : Entry). e.1 < length records.now) entries.now }

@@ -7,7 +7,7 @@ ghost use Rattle.request_match.specs.Match.{FitsPort, common};
 use crate::matching::{Asked, common_front, own_score};
 use record_store::Record;
 
-/// Returns the bytes from `start` on.
+// Returns the bytes from `start` on.
 fn tail(bytes: &[u8], start: usize) -> &[u8]
     ensures { result.now ≡ drop start bytes.now }
 {
@@ -18,8 +18,8 @@ fn tail(bytes: &[u8], start: usize) -> &[u8]
     }
 }
 
-/// Returns how many bytes `line` has in common with `asked`. It shares `front` bytes with an earlier line, which has
-/// `score` bytes in common with `asked`, so bytes that are known aren't compared again.
+// Returns how many bytes `line` has in common with `asked`. It shares `front` bytes with an earlier line, which has
+// `score` bytes in common with `asked`, so bytes that are known aren't compared again.
 fn carried(front: usize, score: usize, line: &[u8], asked: &[u8]) -> usize
     ensures { (before : List ℕ) → front ≡ common before line.now → score ≡ common before asked.now
         → result ≡ common line.now asked.now }

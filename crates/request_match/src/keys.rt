@@ -10,7 +10,7 @@ use text_base::Bytes;
 // The factor of the hash.
 const FACTOR: u64 = 1_099_511_628_211;
 
-/// Returns the hash after more bytes. They are taken eight at once, and those that are left as one number.
+// Returns the hash after more bytes. They are taken eight at once, and those that are left as one number.
 fn hash_of(hash: u64, bytes: &[u8]) -> u64
     ensures { result ≡ hash_of_bytes hash bytes.now }
 {
@@ -25,7 +25,7 @@ fn hash_of(hash: u64, bytes: &[u8]) -> u64
     whole.wrapping_mul(FACTOR).wrapping_add(last)
 }
 
-/// Returns the bytes of a value, or no bytes where there is none.
+// Returns the bytes of a value, or no bytes where there is none.
 fn value_of(value: &Option<Bytes>) -> &[u8]
     ensures { result.now ≡ unwrap_or value.now [] }
 {

@@ -17,7 +17,7 @@ pub(crate) struct Starts {
 // The fewest bits that are left out: there are a million places at most.
 const LEAST_SHIFT: u32 = 44;
 
-/// Returns how many of a key's lowest bits are left out, so that there are about as many places as entries.
+// Returns how many of a key's lowest bits are left out, so that there are about as many places as entries.
 fn shift_for(count: usize) -> u32
     ensures { result < 64 }
 {
@@ -30,7 +30,7 @@ fn shift_for(count: usize) -> u32
     shift
 }
 
-/// Returns the first place from `start` on whose entry's key has at least these highest bits, or the end.
+// Returns the first place from `start` on whose entry's key has at least these highest bits, or the end.
 fn next_start(entries: &[(u64, usize)], start: usize, shift: u32, bits: u64) -> usize
     requires { shift < 64 }
 {
@@ -55,9 +55,9 @@ impl Starts {
         Ok(Starts { places, shift })
     }
 
-    /// Returns two places with the entries of `key` between them: where the entries begin whose keys have the same
-    /// highest bits as `key`, and where those begin whose highest bits are greater. Where no such places are known it
-    /// returns 0 and the greatest number. Both are tried before they are relied on.
+    // Returns two places with the entries of `key` between them: where the entries begin whose keys have the same
+    // highest bits as `key`, and where those begin whose highest bits are greater. Where no such places are known it
+    // returns 0 and the greatest number. Both are tried before they are relied on.
     fn around(&self, key: u64) -> (usize, usize) {
         let bits = (key >> self.shift) as usize;
         match (
@@ -70,7 +70,7 @@ impl Starts {
     }
 }
 
-/// Returns whether all entries before `place` have lesser keys.
+// Returns whether all entries before `place` have lesser keys.
 fn is_past_lesser(entries: &[(u64, usize)], place: usize, key: u64) -> bool
     requires { InOrder entries.now }
     ensures { result ≡ true → (place ≤ length entries.now)
@@ -82,7 +82,7 @@ fn is_past_lesser(entries: &[(u64, usize)], place: usize, key: u64) -> bool
     place <= entries.len() && entries[place - 1].0 < key
 }
 
-/// Returns whether all entries from `place` on have keys that are no less.
+// Returns whether all entries from `place` on have keys that are no less.
 fn is_before_rest(entries: &[(u64, usize)], place: usize, key: u64) -> bool
     requires { InOrder entries.now }
     ensures { result ≡ true → (place ≤ length entries.now)
@@ -94,7 +94,7 @@ fn is_before_rest(entries: &[(u64, usize)], place: usize, key: u64) -> bool
     place < entries.len() && key <= entries[place].0
 }
 
-/// Returns the place of the first entry whose key is at least `key`. It isn't before `low`, and not past `high`.
+// Returns the place of the first entry whose key is at least `key`. It isn't before `low`, and not past `high`.
 fn first_within(entries: &[(u64, usize)], low: usize, high: usize, key: u64) -> usize
     requires ordered { InOrder entries.now }
     requires low { low ≤ length entries.now }

@@ -10,9 +10,8 @@ use Rattle.packet_record.specs.declared.item.Item.{Item}
 use Rattle.packet_record.specs.declared.item.Item.TheVariants.{Packet, Mark, End, Broken}
 use Rattle.packet_record.specs.declared.item.FlowEnd.{FlowEnd}
 use Rattle.packet_record.specs.declared.item.FlowEnd.TheVariants.{Open, Ended, Broken as Cut}
-use Rattle.packet_record.specs.declared.item.Stream.{Stream}
 use Rattle.packet_record.specs.Moments.{AreFrom, Rise}
-use Rattle.packet_record.specs.Streams.{after, after_all, AllFollow, MayFollow}
+use Rattle.packet_record.specs.Streams.{Stream, after, after_all, AllFollow, MayFollow}
 use Rattle.packet_record.proofs.MomentsLemmas.{from_bound, from_lower, rise-append, up_to-append, up_to_higher}
 use Rattle.sender_merge.specs.Inflows.{Inflow, Merging, after_add, fresh, has_ended, is_ended, new_merging}
 use Rattle.sender_merge.specs.Inflows.{sender_at, with_item}

@@ -10,9 +10,8 @@ use Rattle.packet_record.specs.declared.item.Item.{Item}
 use Rattle.packet_record.specs.declared.item.Item.TheVariants.{Packet, Mark, End, Broken}
 use Rattle.packet_record.specs.declared.item.FlowEnd.{FlowEnd}
 use Rattle.packet_record.specs.declared.item.FlowEnd.TheVariants.{Open, Ended, Broken as Cut}
-use Rattle.packet_record.specs.declared.item.Stream.{Stream}
 use Rattle.packet_record.specs.Moments.{AreUpTo}
-use Rattle.packet_record.specs.Streams.{after, IsUpTo}
+use Rattle.packet_record.specs.Streams.{Stream, after, IsUpTo}
 use Rattle.packet_record.proofs.MomentsLemmas.{up_to-append}
 use Rattle.mark_channel.specs.Ends.{End as ChannelEnd, IsSameEnd}
 use Rattle.sender_merge.specs.declared.inlet.Inlet.{Inlet}

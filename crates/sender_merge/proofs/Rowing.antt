@@ -10,7 +10,7 @@ use Rattle.packet_record.specs.declared.packet.Direction.{Direction}
 use Rattle.packet_record.specs.declared.packet.Direction.TheVariants.{Up, Down}
 use Rattle.packet_record.specs.declared.packet.Row.{Row}
 use Rattle.packet_record.specs.declared.item.FlowEnd.TheVariants.{Ended as IsOver, Broken as IsCut}
-use Rattle.packet_record.specs.declared.item.Stream.{Stream}
+use Rattle.packet_record.specs.Streams.{Stream}
 use Rattle.mark_channel.specs.declared.feeds.FeedEnd.{FeedEnd}
 use Rattle.mark_channel.specs.declared.feeds.FeedEnd.TheVariants.{Ended, OutOfMemory}
 use Rattle.mark_channel.specs.Feedings.{HasSentRows, IfFed}

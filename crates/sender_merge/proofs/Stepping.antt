@@ -12,9 +12,8 @@ use Rattle.packet_record.specs.declared.packet.Timed.{Timed}
 use Rattle.packet_record.specs.declared.item.Item.{Item}
 use Rattle.packet_record.specs.declared.item.Item.TheVariants.{Packet, Mark, End, Broken}
 use Rattle.packet_record.specs.declared.item.FlowEnd.TheVariants.{Open, Ended, Broken as Cut}
-use Rattle.packet_record.specs.declared.item.Stream.{Stream}
 use Rattle.packet_record.specs.Moments.{AreFrom, AreUpTo}
-use Rattle.packet_record.specs.Streams.{after, MayFollow, IsUpTo}
+use Rattle.packet_record.specs.Streams.{Stream, after, MayFollow, IsUpTo}
 use Rattle.packet_record.specs.Takes.{HasRoomFor, spare_after}
 use Rattle.std.proofs.Math.ListN.{length-set}
 use Rattle.sender_merge.specs.declared.step.Head.{Head}

@@ -8,11 +8,10 @@ use Rattle.std.proofs.lemmas.List.{length-map, map-set, set-get_or}
 use Rattle.packet_record.specs.declared.packet.Timed.{Timed}
 use Rattle.packet_record.specs.declared.item.Item.{Item}
 use Rattle.packet_record.specs.declared.item.Item.TheVariants.{Packet, Mark, End, Broken}
-use Rattle.packet_record.specs.declared.item.Stream.{Stream}
 use Rattle.packet_record.specs.declared.item.FlowEnd.TheVariants.{Open}
 use Rattle.packet_record.specs.declared.reach.Reach.{Reach}
 use Rattle.packet_record.specs.Reaches.{IsNext, reach_after}
-use Rattle.packet_record.specs.Streams.{after, stream, MayFollow}
+use Rattle.packet_record.specs.Streams.{Stream, after, stream, MayFollow}
 use Rattle.mark_channel.specs.Ends.{End as ChannelEnd, IsSameEnd}
 use Rattle.sender_merge.specs.declared.inlet.Inlet.{Inlet}
 use Rattle.sender_merge.specs.declared.thin_merge.ThinMerge.{ThinMerge}

@@ -5,8 +5,7 @@ use Rattle.packet_record.specs.declared.packet.Timed.{Timed}
 use Rattle.packet_record.specs.declared.item.Item.{Item}
 use Rattle.packet_record.specs.declared.item.FlowEnd.{FlowEnd}
 use Rattle.packet_record.specs.declared.item.FlowEnd.TheVariants.{Open, Ended, Broken as Cut}
-use Rattle.packet_record.specs.declared.item.Stream.{Stream}
-use Rattle.packet_record.specs.Streams.{after, no_items}
+use Rattle.packet_record.specs.Streams.{Stream, after, no_items}
 
 -- the flow of one sender as far as it was added, and how many of its packets were given
 pub record Inflow : Type 0 where

@@ -1,13 +1,12 @@
--- What holds of every merge: what was given is a front of the merge of whatever the senders may still send.
+-- What holds of every merge: what was given is a prefix of the merge, whatever the senders may still send.
 use Rattle.std.specs.Prelude.{◌≡◌, ◌≤◌, ◌+◌, ℕ, true, List, [], ◌∷◌, length, map, Some}
 use Rattle.std.specs.List.{list_all}
 use mathlib.Core.List.{IsPrefix}
 use Rattle.packet_record.specs.declared.packet.Timed.{Timed}
 use Rattle.packet_record.specs.declared.item.Item.{Item}
 use Rattle.packet_record.specs.declared.item.FlowEnd.TheVariants.{Open, Ended}
-use Rattle.packet_record.specs.declared.item.Stream.{Stream}
 use Rattle.packet_record.specs.Moments.{AreUpTo}
-use Rattle.packet_record.specs.Streams.{after_all, AllFollow, IsUpTo, MayFollow}
+use Rattle.packet_record.specs.Streams.{Stream, after_all, AllFollow, IsUpTo, MayFollow}
 use Rattle.sender_merge.specs.declared.step.MergeStep.{MergeStep}
 use Rattle.sender_merge.specs.declared.step.MergeStep.TheVariants.{Item as Gives, Need}
 use Rattle.sender_merge.specs.Inflows.{Inflow, Merging, has_ended, sender_at}
@@ -32,8 +31,8 @@ packets_with [] coming = []
 packets_with (s ∷ senders) [] = []
 packets_with (s ∷ senders) (items ∷ coming) = (after_all s.flow items).packets ∷ packets_with senders coming
 
--- Whatever the senders still send, the packets given are a front of the merge of all that they then have sent. Where
--- the end was given, all senders have ended, and the packets given are the merge.
+-- Whatever the senders still send, the packets given are a prefix of the merge of all that they then have sent. If the
+-- end was given, all senders have ended, and the packets given are the merge.
 pub record IsMergeFront (m : Merging) : Type 0 where
   pub front : (horizon : ℕ) (coming : List (List Item)) → MayFollowAll horizon m.senders coming
       → IsPrefix m.given.packets (merge (packets_with m.senders coming))
@@ -61,7 +60,7 @@ abbrev pub IfNeeds : MergeStep → (ℕ → Type 0) → Type 0
 IfNeeds (Gives x) p = Unit {0}
 IfNeeds (Need sender) p = p sender
 
--- `sender` is the least sender that hasn't ended, has no head and, where there is a candidate, doesn't clear it. It may
+-- `sender` is the least sender that hasn't ended, has no head and, if there is a candidate, doesn't clear it. It may
 -- still send.
 pub record IsNeeded (senders : List Inflow) (sender : ℕ) : Type 0 where
   pub is : needed (candidate senders) senders ≡ Some sender

@@ -14,7 +14,7 @@ use Rattle.sender_merge.specs.Inflows.{Inflow, Merging, merging, sender_at, with
 abbrev pub head : ℕ → Timed → Head
 head sender packet = record { sender = sender; packet = packet }
 
--- the earlier one of two heads, or the first where both are at one moment
+-- the earlier one of two heads, or the first if both have the same moment
 abbrev pub earlier : Option Head → Option Head → Option Head
 earlier None b = b
 earlier (Some a) None = Some a
@@ -47,12 +47,12 @@ lesser None b = b
 lesser (Some a) None = Some a
 lesser (Some a) (Some b) = if nat_lt b a then Some b else Some a
 
--- the packet's moment, or `bound` where there is no packet
+-- the packet's moment, or `bound` if there is no packet
 abbrev pub moment_or : ℕ → Option Timed → ℕ
 moment_or bound None = bound
 moment_or bound (Some t) = t.moment
 
--- the moment of a sender's head, or its bound where it has no head; none where it has ended
+-- the moment of a sender's head, or its bound if it has no head; none if it has ended
 abbrev pub bound_of : Inflow → Option ℕ
 bound_of s = if has_ended s then None else Some (moment_or s.flow.bound (head_of s))
 
@@ -61,7 +61,7 @@ abbrev pub merged_bound : List Inflow → Option ℕ
 merged_bound [] = None
 merged_bound (s ∷ senders) = lesser (bound_of s) (merged_bound senders)
 
--- whether sender `number` is needed: it hasn't ended, has no head and, where there is a candidate, doesn't clear it
+-- whether sender `number` is needed: it hasn't ended, has no head and, if there is a candidate, doesn't clear it
 abbrev pub is_needed : Option Head → ℕ → Inflow → Bool
 is_needed None number s = not (has_ended s) && is_none (head_of s)
 is_needed (Some c) number s = not (has_ended s) && is_none (head_of s) && not (clears c number s)
@@ -76,13 +76,13 @@ needed_from c number (s ∷ senders) =
 abbrev pub needed : Option Head → List Inflow → Option ℕ
 needed c senders = needed_from c 1 senders
 
--- a mark at the merged bound where that is above `given`, the bound of the flow given; else the sender that is needed
+-- a mark at the merged bound if that is above `given`, the bound of the flow given; otherwise the sender that is needed
 abbrev pub mark_or_need : Option Head → Option ℕ → List Inflow → ℕ → MergeStep
 mark_or_need c None senders given = Need (unwrap_or (needed c senders) 0)
 mark_or_need c (Some bound) senders given =
     if nat_lt given bound then Gives (Mark bound) else Need (unwrap_or (needed c senders) 0)
 
--- the candidate where all senders clear it, or the end where there is none and all senders have ended; else a mark or a
+-- the candidate if all senders clear it, or the end if there is none and all senders have ended; otherwise a mark or a
 -- need
 abbrev pub step_at : Option Head → List Inflow → ℕ → MergeStep
 step_at (Some c) senders given =
@@ -91,7 +91,7 @@ step_at (Some c) senders given =
 step_at None senders given =
     if list_all has_ended senders then Gives End else mark_or_need None (merged_bound senders) senders given
 
--- the next step of the senders, where `given` is the bound of the flow given
+-- the next step of the senders; `given` is the bound of the flow given
 abbrev pub step_of : List Inflow → ℕ → MergeStep
 step_of senders given =
     if list_any is_broken senders then Gives Broken else step_at (candidate senders) senders given

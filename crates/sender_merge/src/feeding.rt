@@ -1,10 +1,10 @@
 // The threads of a feeding: one for each sender, and one for each direction that merges what the senders send.
 //
-// Where no thread can be made, a join runs its second part in the thread that is there, and then its first. So a sender
+// If no thread can be made, a join runs its second part in the thread that is there, and then its first. So a sender
 // may begin after other senders have ended, and a merge after senders or the other merge, but no sender begins after a
 // merge.
 //
-// A merge waits for senders alone. A sender waits until all threads have begun, but not for ever. If it sees that they
+// A merge waits for senders alone. A sender waits until all threads have begun, but not forever. If it sees that they
 // have, none of them has ended before, so each has a thread of its own. If it doesn't, it breaks off, and so do all
 // senders that wait; their channels have room for that.
 ghost use Rattle.std.specs.Prelude.{◌≡◌, ◌≢◌, ◌≤◌, ◌+◌, length};
@@ -67,7 +67,7 @@ pub(crate) fn send_all<Q: Pace + Sync, R: Threads + Wait + Sync>(
     );
 }
 
-// Returns how two threads ended together: `Ended` where both did.
+// Returns how two threads ended together: `Ended` if both did.
 fn both(up: FeedEnd, down: FeedEnd) -> FeedEnd
     ensures { result ≡ both_of up down }
 {

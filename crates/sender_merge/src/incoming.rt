@@ -42,7 +42,7 @@ impl Incoming {
         }
     }
 
-    // Returns `count` senders of which nothing was added. Returns `OutOfMemory` where an allocation fails.
+    // Returns `count` senders of which nothing was added. Returns `OutOfMemory` if an allocation fails.
     pub fn new_list(alloc: Global, count: u32) -> Result<Vec<Incoming>, OutOfMemory>
         ensures { IfOk result (λ senders. senders.items ≡ replicate count fresh) }
     {

@@ -34,7 +34,7 @@ fn all_ended(senders: &[Incoming]) -> bool
     senders.iter().all(|sender| sender.has_ended())
 }
 
-// Returns the earlier one of two heads, or the first where both are at one moment.
+// Returns the earlier one of two heads, or the first if both have the same moment.
 fn earlier(first: Option<Head>, second: Option<Head>) -> Option<Head>
     ensures { result ≡ earlier_of first second }
 {
@@ -96,7 +96,7 @@ fn lesser(first: Option<u64>, second: Option<u64>) -> Option<u64>
     }
 }
 
-// Returns the moment of a sender's head, or its bound where it has no head. Returns `None` where it has ended.
+// Returns the moment of a sender's head, or its bound if it has no head. Returns `None` if it has ended.
 fn earliest(incoming: &Incoming) -> Option<u64>
     ensures { result ≡ bound_of incoming.now }
 {
@@ -120,8 +120,8 @@ fn merged_bound(senders: &[Incoming]) -> Option<u64>
     least
 }
 
-// Returns whether sender `number` is missing: it hasn't ended, has no head and, where there is a candidate, doesn't
-// clear it.
+// Returns whether sender `number` is missing: it hasn't ended, has no head and, if there is a candidate, doesn't clear
+// it.
 fn is_missing(candidate: &Option<Head>, number: u32, incoming: &Incoming) -> bool
     ensures { result ≡ is_needed candidate.now number incoming.now }
 {
@@ -149,7 +149,7 @@ fn needed(candidate: &Option<Head>, senders: &[Incoming]) -> u32
     unreachable!()
 }
 
-// Returns a mark at the merged bound where that is above `given`, the bound of the flow given. Otherwise returns the
+// Returns a mark at the merged bound if that is above `given`, the bound of the flow given. Otherwise returns the
 // sender that is needed.
 fn mark_or_need(candidate: &Option<Head>, senders: &[Incoming], given: u64) -> MergeStep
     requires few { length senders.now ≤ 16 }
@@ -164,7 +164,7 @@ fn mark_or_need(candidate: &Option<Head>, senders: &[Incoming], given: u64) -> M
     }
 }
 
-// Returns the next step of a merge, where `given` is the bound of the flow given.
+// Returns the next step of a merge. `given` is the bound of the flow given.
 pub(crate) fn next_step(candidate: &Option<Head>, senders: &[Incoming], given: u64) -> MergeStep
     requires few { length senders.now ≤ 16 }
     requires candidate { candidate.now ≡ candidate_of senders.now }
@@ -180,7 +180,7 @@ pub(crate) fn next_step(candidate: &Option<Head>, senders: &[Incoming], given: u
     }
 }
 
-// Counts the candidate as given where `item` is a packet. Returns how many packets were given: 0 or 1.
+// Counts the candidate as given if `item` is a packet. Returns how many packets were given: 0 or 1.
 pub(crate) fn pass(senders: &mut [Incoming], item: &Item, candidate: &Option<Head>) -> usize
     requires few { length senders.old ≤ 16 }
     requires candidate { candidate.now ≡ candidate_of senders.old }

@@ -17,8 +17,8 @@ use text_base::OutOfMemory;
 /// the flow given. Senders are counted from 1.
 ///
 /// The merge of flows has the packets of all, ordered by moment, then sender, then place. The packets given are a front
-/// of the merge of all that the senders send, whatever the order in which items are added. Where the end was given,
-/// they are that merge.
+/// of the merge of all that the senders send, whatever the order in which items are added. Once the end was given, they
+/// are that merge.
 #[derive(Drop)]
 pub struct MergeCore {
     senders: Vec<Incoming>,
@@ -40,7 +40,7 @@ impl Model for MergeCore {
     ghost invariant = { IsMergeCore };
 }
 
-// Returns how many packets wait with one more item. Returns `OutOfMemory` where the count would overflow.
+// Returns how many packets wait with one more item. Returns `OutOfMemory` if the count would overflow.
 fn count_with(waiting: usize, item: &Item) -> Result<usize, OutOfMemory>
     ensures ok { IfOk result (λ n. n ≡ waiting + packets_in item.now) }
     ensures err { OnErr result (IsPacket item.now) }
@@ -56,7 +56,7 @@ impl MergeCore {
     ghost use Rattle.sender_merge.specs.Laws.{AllUpTo, IfNeeds, IsMergeFront, IsNeeded, IsStepUpTo, MayFollowStep};
     ghost use Rattle.sender_merge.specs.Steps.{after_step, next_step};
 
-    /// Returns a merge of `senders` senders, 1 to 16, of which nothing was added. Returns `OutOfMemory` where an
+    /// Returns a merge of `senders` senders, 1 to 16, of which nothing was added. Returns `OutOfMemory` if an
     /// allocation fails.
     pub fn new(alloc: Global, senders: u32) -> Result<MergeCore, OutOfMemory>
         requires some { 1 ≤ senders }
@@ -122,15 +122,14 @@ impl MergeCore {
     /// - There is a candidate, and all senders clear it: it gives the candidate's packet.
     /// - There is no candidate, and all senders have ended: it gives `Item::End`.
     /// - The merged bound is above the bound of the flow given: it gives a mark at the merged bound.
-    /// - Otherwise it returns `Need`, with the least sender that hasn't ended, has no head and, where there is a
+    /// - Otherwise it returns `Need`, with the least sender that hasn't ended, has no head and, if there is a
     ///   candidate, doesn't clear it.
     ///
     /// A sender's head is its first packet that wasn't given. The candidate is the head that is least by moment, then
     /// sender.
     ///
-    /// A sender clears the candidate where it has a head, or has ended, or its bound is above the candidate's moment.
-    /// Where its bound is at that moment, it clears the candidate if its number is above that of the candidate's
-    /// sender.
+    /// A sender clears the candidate if it has a head, or has ended, or its bound is above the candidate's moment. If
+    /// its bound is at that moment, it clears the candidate if its number is above that of the candidate's sender.
     ///
     /// The merged bound is the least, over the senders that haven't ended, of the head's moment, or of the bound where
     /// there is no head.

@@ -22,7 +22,7 @@ use std::sync::Wait;
 use text_base::OutOfMemory;
 
 // Returns the place and the bound of the inlet that is further behind: `least`, the furthest open one so far, or
-// `inlet` at `place`, if it is open. Where both have one bound it is `least`.
+// `inlet` at `place`, if it is open. If both have the same bound, it is `least`.
 fn further_behind(least: Option<(usize, u64)>, place: usize, inlet: &Inlet) -> Option<(usize, u64)>
     ensures some { IfSome result (IsFurther least place inlet.now) }
     ensures none { IfNone result ((least ≡ None) × (inlet.now.from.flow.end ≢ Open)) }
@@ -36,8 +36,8 @@ fn further_behind(least: Option<(usize, u64)>, place: usize, inlet: &Inlet) -> O
     }
 }
 
-// Returns the place of the open inlet that is furthest behind: the least by bound, then sender. Returns `None` where
-// none is open.
+// Returns the place of the open inlet that is furthest behind: the least by bound, then sender. Returns `None` if none
+// is open.
 //
 // A merge that needs an item is held up by this inlet. The sender that the merge names may be further on, and waiting
 // for it could last for ever: it may wait for room in the other direction, whose merge may wait for a sender that waits
@@ -92,8 +92,8 @@ fn send_next<R: Wait>(rt: &R, core: &mut ThinMerge, to: &mut Sender) -> MergeSte
     step
 }
 
-// Sends the merge of what it receives, to its end. Returns `Ok(FeedEnd::OutOfMemory)` where a sender was broken off; it
-// has sent `Item::Broken` then. Returns `Err` where memory runs out here; what it sent is open then.
+// Sends the merge of what it receives, to its end. If a sender was broken off, it has sent `Item::Broken` and returns
+// `Ok(FeedEnd::OutOfMemory)`. If memory runs out here, it returns `Err`, and its stream is still open.
 fn merge_all<R: Wait>(
     rt: &R,
     alloc: Global,
@@ -122,7 +122,7 @@ fn merge_all<R: Wait>(
     unreachable!()
 }
 
-// Receives until nothing more comes out of any inlet: a sender whose receiver is gone would wait for ever.
+// Receives until nothing more comes out of any inlet: a sender whose receiver is gone would wait forever.
 fn receive_rest<R: Wait>(rt: &R, inlets: &mut [Inlet])
     ensures closed { AllClosed inlets.new }
     ensures same { AllSame inlets.old inlets.new }
@@ -137,7 +137,7 @@ fn receive_rest<R: Wait>(rt: &R, inlets: &mut [Inlet])
     unreachable!()
 }
 
-// Sends the merge of what it receives from 1 to 16 senders. Where a sender was broken off or memory runs out, it sends
+// Sends the merge of what it receives from 1 to 16 senders. If a sender was broken off or memory runs out, it sends
 // `Item::Broken`, receives the rest and returns `OutOfMemory`.
 pub(crate) fn merge<R: Wait>(
     rt: &R,

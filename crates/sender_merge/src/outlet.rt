@@ -68,7 +68,7 @@ impl Outlet {
         end_both(run.rt, heads);
     }
 
-    // Sends the rows as `send_schedule` does, once all senders and merges have begun. Where they can't begin, both
+    // Sends the rows as `send_schedule` does, once all senders and merges have begun. If they can't begin, both
     // directions are broken off. Counts itself among those that have begun.
     pub fn send_begun<Q: Pace, R: Wait>(
         &mut self,

@@ -56,7 +56,7 @@ fn row_before(rows: &[PackedRow], place: usize, limit: Option<u64>) -> Option<Ro
     }
 }
 
-// Returns the limit of rows that are to come before `head`, or `limit` where there is no head.
+// Returns the limit of rows that are to come before `head`, or `limit` if there is no head.
 fn limit_before(head: Option<Row>, limit: Option<u64>) -> Option<u64>
     ensures { result ≡ limit_of head limit }
 {

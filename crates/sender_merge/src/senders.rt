@@ -40,7 +40,7 @@ pub struct Senders {
     rows: Vec<Row>,
 }
 
-// Returns the schedules with packed rows. Each is let go as soon as it is packed.
+// Packs the rows of the schedules. Drops each schedule as soon as it is packed.
 fn pack_all(alloc: Global, schedules: Vec<Schedule>) -> Result<Vec<PackedSchedule>, OutOfMemory>
     ensures { IfOk result (λ packed. packed.items ≡ schedules.items) }
 {
@@ -67,7 +67,7 @@ impl Model for Senders {
 
 impl Senders {
     /// Returns senders of `schedules`, 1 to 16, with at most 1,000,000 lines in all, which `count_rows` counts. Returns
-    /// `OutOfMemory` where an allocation fails.
+    /// `OutOfMemory` if an allocation fails.
     pub fn new(alloc: Global, schedules: Vec<Schedule>) -> Result<Senders, OutOfMemory>
         requires some { 1 ≤ length schedules.items }
         requires few { length schedules.items ≤ 16 }

@@ -70,7 +70,7 @@ impl ThinMerge {
     }
 }
 
-// Forgets the candidate where `item` is a packet.
+// Forgets the candidate if `item` is a packet.
 fn forget(senders: &mut [Incoming], item: &Item, candidate: &Option<Head>)
     requires few { length senders.old ≤ 16 }
     requires candidate { candidate.now ≡ candidate_of senders.old }

@@ -8,8 +8,7 @@ use Rattle.std.proofs.lemmas.Bool.Decides.{nat_tests}
 use Rattle.std.proofs.lemmas.List.Sums.{fold-append, sum_by-append, sum_by-cons}
 use Rattle.std.proofs.lemmas.List.Elements.{All-nil, All-cons}
 use Rattle.packet_record.specs.declared.item.Item.{Item}
-use Rattle.packet_record.specs.declared.item.Stream.{Stream}
-use Rattle.packet_record.specs.Streams.{no_items, after}
+use Rattle.packet_record.specs.Streams.{Stream, no_items, after}
 use Rattle.shell_state.specs.States.{State}
 use Rattle.shell_state.specs.Steps.{after_feed, stream_after}
 use Rattle.shell_state.specs.declared.taken.Taken.{Taken}

@@ -4,8 +4,7 @@ use Rattle.std.specs.Prelude.{◌≡◌, ℕ, zero, suc, ◌+◌, ◌<◌, ◌�
 use Rattle.std.specs.Prelude.{nat_le, nat_lt, Option, Some, None, if◌then◌else◌}
 use Rattle.packet_record.specs.declared.item.Item.{Item}
 use Rattle.packet_record.specs.declared.item.FlowEnd.TheVariants.{Open}
-use Rattle.packet_record.specs.declared.item.Stream.{Stream}
-use Rattle.packet_record.specs.Streams.{no_items, after, MayFollow, IsUpTo}
+use Rattle.packet_record.specs.Streams.{Stream, no_items, after, MayFollow, IsUpTo}
 use Rattle.shell_state.specs.States.{State}
 use Rattle.shell_state.specs.Steps.{after_feed, after_take, after_break, answer_of, stream_after}
 use Rattle.shell_cell.specs.declared.view.FeedTurn.{FeedTurn}

@@ -1,4 +1,4 @@
-//! A cell: the lock around a shell's state, and the calls that each seat may make.
+// A cell: the lock around a shell's state, and the calls that each seat may make.
 ghost use Rattle.std.specs.Prelude.{◌≡◌, ℕ, [], false, IfOk};
 ghost use Rattle.packet_record.specs.Streams.{no_items};
 ghost use Rattle.shell_state.specs.declared.taken.Taken.TheVariants.{NotYet};
@@ -8,6 +8,7 @@ use crate::turns::TurnTable;
 use crate::view::{Call, DrainCall};
 use crate::{DrainSeat, FeedSeat};
 use atomic_table::Table;
+use mark_channel::bell::{Bell, Ringer};
 use packet_record::Item;
 use shell_state::{ShellState, Taken};
 use std::alloc::Global;
@@ -15,7 +16,6 @@ use std::marker::{Brand, Model};
 use std::snapshot::Snapshot;
 use std::sync::Wait;
 use text_base::OutOfMemory;
-use wake_bell::{Bell, Ringer};
 
 // After this number of feeds a waiting drain is woken.
 const BATCH: u32 = 256;
@@ -39,7 +39,7 @@ impl Model for ShellCell {
 /// Opens a cell over a state that nothing was fed to or taken from. Returns the cell with its two seats, which have
 /// spent no turn and know of no broken state.
 ///
-/// All memory of the lock is taken here. Where an allocation fails it returns `OutOfMemory`, and the state is lost.
+/// All memory of the lock is allocated here. If an allocation fails, it returns `OutOfMemory`, and the state is lost.
 pub fn open(
     alloc: Global,
     state: ShellState,
@@ -74,7 +74,7 @@ pub fn open(
     Ok((cell, feeding, taking))
 }
 
-// Returns the turn word that a seat keeps, which kept `seen`: `word`, where there was nothing to take.
+// Returns the turn word that a seat keeps, which kept `seen` before: `word` if there was nothing to take.
 fn seen_after(answer: Taken, seen: u64, word: u64) -> u64
     ensures waits { (bound : ℕ) → answer ≡ NotYet bound → result ≡ word }
 {
@@ -147,9 +147,9 @@ impl ShellCell {
     /// Waits for the turn and takes what the state has to give, which spends the turn. It burns at most `most`
     /// opportunities, at least 1.
     ///
-    /// Nothing is taken after `End` or `Broken`. A seat that has found the state broken gets `Broken`. Where an
-    /// allocation fails it returns `OutOfMemory`, and the state and the seat are as they were; that never happens once
-    /// the seat has found the state broken.
+    /// Nothing is taken after `End` or `Broken`. A seat that has found the state broken gets `Broken`. If an allocation
+    /// fails, it returns `OutOfMemory`, and the state and the seat are as they were; that never happens once the seat
+    /// has found the state broken.
     pub fn take<R: Wait>(
         &self,
         rt: &R,

@@ -1,4 +1,4 @@
-//! The rule of the table, and what its steps tell. These types are for proofs alone.
+// The rule of the table, and what its steps tell. These types are for proofs alone.
 use crate::view::View;
 use atomic_table::{Join, Play, Split, TableRule};
 use shell_state::ShellState;

@@ -1,9 +1,9 @@
-//! The two seats of a cell.
+// The two seats of a cell.
 use crate::rule::Slot;
 use crate::view::View;
 use atomic_table::Seat;
+use mark_channel::bell::Ringer;
 use std::marker::Model;
-use wake_bell::Ringer;
 
 /// The seat that feeds. Contracts see the turns that it has spent, the stream of the items that it has fed, whether it
 /// has found the state broken, the horizon and its cell. The program stores none of these.

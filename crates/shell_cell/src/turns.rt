@@ -1,4 +1,4 @@
-//! The turn of a cell: how a seat takes it, and gives it back.
+// The turn of a cell: how a seat takes it, and gives it back.
 ghost use Rattle.std.specs.Prelude.{◌≡◌, ◌+◌, ◌%◌, ◌<◌, ◌^◌, ◌⊎◌, [], None, IsTrue, IfSome, IfNone};
 ghost use Rattle.shell_cell.specs.declared.view.SeatRole.TheVariants.{Feeder, Drain};
 ghost use Rattle.shell_cell.specs.inside.Rule.{HasTaken, IsDone, IsUndone, IsAbove, number_in, with_turn, without_note};
@@ -6,10 +6,10 @@ ghost use Rattle.shell_cell.specs.inside.Rule.{HasTaken, IsDone, IsUndone, IsAbo
 use crate::rule::{Claim, GiveUp, Opening, Slot, Spend, Spending, Turns};
 use crate::view::{Call, View};
 use atomic_table::{Seat, Table};
+use mark_channel::bell::{Bell, LOOKS, pause};
 use std::alloc::Global;
 use std::sync::Wait;
 use std::sync::atomic::{AtomicU64, Ordering};
-use wake_bell::{Bell, LOOKS, pause};
 
 /// The table of a cell. Word 0 is the turn: twice the number of turns that were spent, plus 1 while a seat has the
 /// turn. Slot 0 is the state, which the seat that has the turn holds.
@@ -44,7 +44,7 @@ impl TurnTable {
     }
 
     // Waits for the turn, and takes it with the state's slot. Returns the word, which is then odd. It sleeps after
-    // `LOOKS` looks, until the turn is given back. After 2^63 - 1 turns it waits for ever.
+    // `LOOKS` looks, until the turn is given back. After 2^63 - 1 turns it waits forever.
     pub(crate) fn claim<R: Wait>(&self, rt: &R, seat: &mut Seat<Slot, View>) -> u64
         requires own { seat.old.table_id ≡ self.now.table.shared.table_id }
         requires role { (seat.old.me.0.role ≡ Feeder) ⊎ (seat.old.me.0.role ≡ Drain) }
@@ -68,7 +68,7 @@ impl TurnTable {
         unreachable!()
     }
 
-    // Takes the turn with the state's slot where it is free, and returns the word, or returns `None`.
+    // Takes the turn with the state's slot if it is free, and returns the word. Otherwise returns `None`.
     fn claim_at_once(&self, seat: &mut Seat<Slot, View>) -> Option<u64>
         requires own { seat.old.table_id ≡ self.now.table.shared.table_id }
         requires role { (seat.old.me.0.role ≡ Feeder) ⊎ (seat.old.me.0.role ≡ Drain) }
@@ -97,9 +97,9 @@ impl TurnTable {
         }
     }
 
-    // Waits until the word is neither `seen` nor `seen + 1`, which is a turn that isn't spent yet. Where it must wait
-    // it sleeps without further looks, since the feeder waits for no room, however much it feeds meanwhile. A sleep
-    // ends where the feeder has fed a batch or the last item, and else by itself, after 1 to 64 milliseconds.
+    // Waits until the word is neither `seen` nor `seen + 1`, which is a turn that isn't spent yet. If it must wait, it
+    // sleeps without further looks, since the feeder waits for no room, however much it feeds meanwhile. A sleep ends
+    // once the feeder has fed a batch or the last item, and otherwise by itself, after 1 to 64 milliseconds.
     pub(crate) fn wait_past<R: Wait>(&self, rt: &R, seen: u64) {
         for _ in rt.forever() {
             let heard = self.fed.listen();
@@ -119,11 +119,12 @@ impl TurnTable {
 
     // Sleeps while the word is `word`, until the turn is given back. It may return early.
     //
-    // No wake is lost. The count is raised before the system compares the word, and whoever gives the turn back stores
-    // the word before it reads the count. So it sees this sleeper and wakes it, or the word has changed before the
-    // sleep begins. Each sleeper lowers the count itself, once it is awake. A flag that is cleared with a wake would
-    // lose one: a turn that is taken and given up leaves the word as it was, so a wake between the mark of a sleeper
-    // and its sleep wakes nobody, the sleep begins, and whoever spends the next turn finds the flag cleared.
+    // No wake is lost. The count is raised before the system compares the word, and the thread that gives the turn back
+    // stores the word before it reads the count. So it sees this sleeper and wakes it, or the word has changed before
+    // the sleep begins. Each sleeper lowers the count itself, once it is awake. A flag that is cleared with a wake
+    // would lose one: a turn that is taken and given up leaves the word as it was, so a wake between the mark of a
+    // sleeper and its sleep wakes nobody, the sleep begins, and the thread that spends the next turn finds the flag
+    // cleared.
     fn sleep_at<R: Wait>(&self, rt: &R, word: u64) {
         self.sleepers.fetch_add(1, Ordering::SeqCst);
         self.table.shared.park(rt, 0, (word % (1 << 32)) as u32);

@@ -1,5 +1,5 @@
-//! What a seat at the table knows. Of these types, which are for proofs, the program makes values of `Call` and
-//! `DrainCall` alone.
+// What a seat at the table knows. These types are for proofs; the program makes values of `Call` and `DrainCall`
+// alone.
 use packet_record::Item;
 use shell_state::{ShellState, Taken};
 use std::collections::LinkedList;
@@ -64,9 +64,9 @@ pub struct View {
     pub role: SeatRole,
     /// The state that the cell was opened with.
     pub opening: ShellState,
-    /// The turns that the feeder spent, where the seat is the feeder's.
+    /// The turns that the feeder spent, if the seat is the feeder's.
     pub fed: LinkedList<FeedTurn>,
-    /// The turns that the drain spent, where the seat is the drain's.
+    /// The turns that the drain spent, if the seat is the drain's.
     pub drained: LinkedList<DrainTurn>,
     /// Whether the seat has found the state broken.
     pub broken: bool,

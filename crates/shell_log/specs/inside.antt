@@ -1,3 +1,3 @@
 -- What proofs and the clauses of inner functions cite, and no caller needs.
 pub mod LogParts
-pub mod LogTexts
+pub mod LogParsers

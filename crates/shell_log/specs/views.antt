@@ -1,2 +1,2 @@
 -- What `.now` of a type means, by the type's fields, and what is true of these.
-pub mod LogTexts
+pub mod LogParsers

@@ -4,13 +4,13 @@
 mod entry;
 mod line;
 mod log;
+mod parser;
 mod printing;
 mod reading;
-mod text;
 mod whole_line;
 
 pub use entry::Entry;
 pub use log::Log;
+pub use parser::LogParser;
 pub use printing::{HEADER, print_log};
 pub use reading::{LogError, read_log};
-pub use text::LogText;

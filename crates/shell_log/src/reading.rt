@@ -6,7 +6,7 @@ ghost use Rattle.shell_log.specs.Entries.{IsLog};
 ghost use Rattle.shell_log.specs.LogText.{log_text};
 ghost use Rattle.shell_log.specs.Reading.{log_fault};
 
-use crate::{Log, LogText};
+use crate::{Log, LogParser};
 use std::alloc::Global;
 use text_base::OutOfMemory;
 
@@ -38,7 +38,7 @@ impl LogError {
         }
     }
 
-    /// The line that the refusal names, or 0 where it names none.
+    /// The line that the refusal names, or 0 if it names none.
     pub fn line(self) -> u64
         ensures { result ≡ line_named self }
     {
@@ -57,7 +57,7 @@ impl From<OutOfMemory> for LogError {
     }
 }
 
-/// The log of which `text` is the text. Returns the first refusal of its lines, or `OutOfMemory` where memory runs out.
+/// The log of which `text` is the text. Returns the first refusal of its lines, or `OutOfMemory` if memory runs out.
 pub fn read_log(alloc: Global, text: &[u8]) -> Result<Log, LogError>
     ensures found { IfOk result (λ log. text.now ≡ log_text log.entries) }
     ensures every { (list : List EntryValue) → IsLog list → text.now ≡ log_text list
@@ -76,7 +76,7 @@ fn read_text(alloc: Global, text: &[u8]) -> Result<Log, LogError>
 {
     let mut log = Log::new(alloc);
     log.reserve(most_entries(text))?;
-    let mut reader = LogText::new(alloc);
+    let mut reader = LogParser::new(alloc);
     let mut rest = text;
     'entries: while let Some((entry, after)) = reader.next(rest) {
         log.reserve(1)?;

@@ -11,12 +11,12 @@ use Rattle.packet_record.specs.Streams.{stream, MayFollow, IsUpTo}
 use Rattle.packet_record.specs.Reaches.{nowhere, reach_after, IsNext}
 use Rattle.packet_record.specs.Moments.{AreFrom, AreUpTo}
 use Rattle.packet_record.proofs.MomentsLemmas.{up_to_higher}
-use Rattle.shell_core.specs.declared.spec.DirSpec.{DirSpec}
+use Rattle.shell_state.specs.declared.spec.DirSpec.{DirSpec}
 use Rattle.link_core.specs.Promises.{count_to}
-use Rattle.shell_core.specs.Shells.{IsBuilt, opportunities}
-use Rattle.shell_core.specs.CoreParts.{CorePart, new_part, with_burnt as core_burnt}
-use Rattle.shell_core.proofs.Laws.{all_at_horizon}
-use Rattle.shell_core.proofs.Counting.{count_to-grows}
+use Rattle.shell_state.specs.Shells.{IsBuilt, opportunities}
+use Rattle.shell_state.specs.CoreParts.{CorePart, new_part, with_burnt as core_burnt}
+use Rattle.shell_state.proofs.Laws.{all_at_horizon}
+use Rattle.shell_state.proofs.Counting.{count_to-grows}
 use Rattle.shell_state.specs.declared.front.Front.{Front}
 use Rattle.shell_state.specs.declared.taken.Taken.{Taken}
 use Rattle.shell_state.specs.declared.taken.Taken.TheVariants.{Item as Gives, Again, NotYet}

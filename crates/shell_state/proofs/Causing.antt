@@ -7,8 +7,8 @@ use Rattle.packet_record.specs.declared.item.Item.TheVariants.{Packet, Mark, End
 use Rattle.packet_record.specs.declared.item.FlowEnd.{FlowEnd}
 use Rattle.packet_record.specs.declared.item.FlowEnd.TheVariants.{Open, Ended, Broken as Cut}
 use Rattle.link_core.specs.Promises.{count_to}
-use Rattle.shell_core.specs.Shells.{floor}
-use Rattle.shell_core.proofs.Laws.{floor_rises}
+use Rattle.shell_state.specs.Shells.{floor}
+use Rattle.shell_state.proofs.Laws.{floor_rises}
 use Rattle.shell_state.specs.declared.taken.Taken.{Taken}
 use Rattle.shell_state.specs.declared.taken.Taken.TheVariants.{Item as Gives, Again, NotYet}
 use Rattle.shell_state.specs.States.{State, opps_of, ready, floor_of}

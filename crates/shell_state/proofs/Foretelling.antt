@@ -3,18 +3,17 @@ use Rattle.std.proofs.Common.{◌≡◌, ◌⊎◌, inl, inr, ℕ, ◌≤◌, Li
 use Rattle.std.proofs.Common.{append_assoc, arith}
 use Rattle.std.proofs.lemmas.List.{append-nil}
 use Rattle.packet_record.specs.declared.packet.Timed.{Timed}
-use Rattle.packet_record.specs.declared.item.Stream.{Stream}
 use Rattle.packet_record.specs.declared.item.Item.{Item}
 use Rattle.packet_record.specs.declared.item.Item.TheVariants.{Packet, Mark, End, Broken}
 use Rattle.packet_record.specs.declared.item.FlowEnd.TheVariants.{Open, Ended}
-use Rattle.packet_record.specs.Streams.{after, after_all, AllFollow}
+use Rattle.packet_record.specs.Streams.{Stream, after, after_all, AllFollow}
 use Rattle.packet_record.specs.Moments.{AreFrom, Rise}
 use Rattle.packet_record.proofs.MomentsLemmas.{from_lower, from-append}
 use Rattle.shell_log.specs.declared.entry.Entry.{Entry}
 use Rattle.link_core.specs.Promises.{count_to}
 use Rattle.link_core.specs.inside.Promises.{Extends}
-use Rattle.shell_core.specs.Shells.{out, lost, inside, shell_log, whole_out, whole_log}
-use Rattle.shell_core.proofs.Laws.{out_fed, out_burnt, log_fed, log_burnt}
+use Rattle.shell_state.specs.Shells.{out, lost, inside, shell_log, whole_out, whole_log}
+use Rattle.shell_state.proofs.Laws.{out_fed, out_burnt, log_fed, log_burnt}
 use Rattle.shell_state.specs.States.{State, opps_of, departures, ready, floor_of}
 use Rattle.shell_state.specs.Standing.{Stands, Foretells, ForetellsAll}
 use Rattle.shell_state.specs.Promises.{MayCome, ForetellsMore, IsFinished}

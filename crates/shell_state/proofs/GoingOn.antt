@@ -10,9 +10,9 @@ use Rattle.packet_record.specs.declared.item.FlowEnd.TheVariants.{Open, Ended, B
 use Rattle.packet_record.specs.Streams.{after, after_all, AllFollow}
 use Rattle.packet_record.specs.Moments.{AreFrom}
 use Rattle.link_core.specs.Promises.{count_to}
-use Rattle.shell_core.specs.Shells.{whole_out}
-use Rattle.shell_core.proofs.Laws.{floor_within, floor_from, floor_above}
-use Rattle.shell_core.proofs.Counting.{count_to-le}
+use Rattle.shell_state.specs.Shells.{whole_out}
+use Rattle.shell_state.proofs.Laws.{floor_within, floor_from, floor_above}
+use Rattle.shell_state.proofs.Counting.{count_to-le}
 use Rattle.shell_state.specs.declared.taken.Taken.{Taken}
 use Rattle.shell_state.specs.declared.taken.Taken.TheVariants.{Item as Gives, Again, NotYet}
 use Rattle.shell_state.specs.States.{State, opps_of, departures, ready, floor_of}

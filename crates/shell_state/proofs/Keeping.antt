@@ -4,19 +4,18 @@ use Rattle.std.proofs.Common.{◌∷◌, ◌++◌, length, drop, max, nat_le, na
 use Rattle.std.proofs.Common.{arith, rules, tests}
 use Rattle.std.proofs.Math.Seq.{drop-append_seam}
 use Rattle.packet_record.specs.declared.packet.Timed.{Timed}
-use Rattle.packet_record.specs.declared.item.Stream.{Stream}
 use Rattle.packet_record.specs.declared.item.Item.{Item}
 use Rattle.packet_record.specs.declared.item.Item.TheVariants.{Packet, Mark, End, Broken}
 use Rattle.packet_record.specs.declared.item.FlowEnd.{FlowEnd}
 use Rattle.packet_record.specs.declared.item.FlowEnd.TheVariants.{Open, Ended, Broken as Cut}
-use Rattle.packet_record.specs.Streams.{after, stream, MayFollow, IsUpTo}
+use Rattle.packet_record.specs.Streams.{Stream, after, stream, MayFollow, IsUpTo}
 use Rattle.packet_record.specs.Moments.{AreFrom, AreUpTo, Rise}
 use Rattle.packet_record.proofs.MomentsLemmas.{from_lower, up_to_higher, from-append, up_to-append, up_to_back}
 use Rattle.packet_record.proofs.MomentsLemmas.{rise-append, rise_back}
 use Rattle.trace_reader.specs.declared.opportunity.Opportunity.{Opportunity}
 use Rattle.link_core.specs.Promises.{count_to, AreCovered}
-use Rattle.shell_core.proofs.Counting.{count_to-le, count_to-grows}
-use Rattle.shell_core.proofs.Laws.{out_fed, out_burnt, out_rises, out_within, out_up_to, floor_grows, floor_within}
+use Rattle.shell_state.proofs.Counting.{count_to-le, count_to-grows}
+use Rattle.shell_state.proofs.Laws.{out_fed, out_burnt, out_rises, out_within, out_up_to, floor_grows, floor_within}
 use Rattle.shell_state.specs.declared.taken.Taken.{Taken}
 use Rattle.shell_state.specs.declared.taken.Taken.TheVariants.{Item as Gives, Again, NotYet}
 use Rattle.shell_state.specs.States.{State, opps_of, departures, ready, floor_of}

@@ -6,3 +6,8 @@ pub mod Answering
 pub mod Progress
 pub mod Causing
 pub mod GoingOn
+pub mod WholeLemmas
+pub mod Counting
+pub mod Once
+pub mod KindLaws
+pub mod Laws

@@ -7,9 +7,9 @@ use Rattle.packet_record.specs.declared.packet.Timed.{Timed}
 use Rattle.packet_record.specs.declared.item.Item.TheVariants.{Mark, End, Broken}
 use Rattle.packet_record.specs.declared.item.FlowEnd.TheVariants.{Open, Ended}
 use Rattle.packet_record.specs.Moments.{AreFrom}
-use Rattle.shell_core.specs.Shells.{whole_out}
+use Rattle.shell_state.specs.Shells.{whole_out}
 use Rattle.link_core.specs.Promises.{count_to}
-use Rattle.shell_core.proofs.Laws.{out_burnt, floor_within}
+use Rattle.shell_state.proofs.Laws.{out_burnt, floor_within}
 use Rattle.shell_state.specs.declared.taken.Taken.{Taken}
 use Rattle.shell_state.specs.declared.taken.Taken.TheVariants.{Item as Gives, Again, NotYet}
 use Rattle.shell_state.specs.States.{State, opps_of, departures, ready, floor_of}

@@ -3,5 +3,9 @@ pub mod Steps
 pub mod Standing
 pub mod Causes
 pub mod Promises
+pub mod Meaning
+pub mod Shells
+pub mod CoreParts
+pub mod Wholes
 pub mod inside
 pub mod views

@@ -4,11 +4,10 @@ use Rattle.packet_record.specs.declared.packet.Timed.{Timed}
 use Rattle.packet_record.specs.declared.item.Item.{Item}
 use Rattle.packet_record.specs.declared.item.FlowEnd.{FlowEnd}
 use Rattle.packet_record.specs.declared.item.FlowEnd.TheVariants.{Open, Ended, Broken as Cut}
-use Rattle.packet_record.specs.declared.item.Stream.{Stream}
-use Rattle.packet_record.specs.Streams.{after_all, AllFollow}
+use Rattle.packet_record.specs.Streams.{Stream, after_all, AllFollow}
 use Rattle.packet_record.specs.Moments.{AreFrom, Rise}
-use Rattle.shell_core.specs.Shells.{lost, inside, shell_log, whole_out, whole_lost, whole_inside, whole_log}
-use Rattle.shell_core.specs.Wholes.{IsLink}
+use Rattle.shell_state.specs.Shells.{lost, inside, shell_log, whole_out, whole_lost, whole_inside, whole_log}
+use Rattle.shell_state.specs.Wholes.{IsLink}
 use Rattle.shell_state.specs.declared.taken.Taken.TheVariants.{NotYet}
 use Rattle.shell_state.specs.States.{State, opps_of, floor_of}
 use Rattle.shell_state.specs.Steps.{licensed, answer_of, after_feed, after_take}

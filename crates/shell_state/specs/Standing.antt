@@ -1,14 +1,13 @@
 -- What is true of every state.
 use Rattle.std.specs.Prelude.{◌≡◌, ◌≤◌, ◌+◌, ℕ, true, List, [], ◌++◌, length}
 use Rattle.packet_record.specs.declared.packet.Timed.{Timed}
-use Rattle.packet_record.specs.declared.item.Stream.{Stream}
 use Rattle.packet_record.specs.declared.item.Item.{Item}
 use Rattle.packet_record.specs.declared.item.FlowEnd.TheVariants.{Ended, Broken as Cut}
-use Rattle.packet_record.specs.Streams.{after_all, AllFollow}
+use Rattle.packet_record.specs.Streams.{Stream, after_all, AllFollow}
 use Rattle.packet_record.specs.Moments.{AreFrom, AreUpTo, Rise}
 use Rattle.shell_log.specs.declared.entry.Entry.{Entry}
 use Rattle.link_core.specs.Promises.{AreCovered}
-use Rattle.shell_core.specs.Shells.{IsBuilt, shell_log, whole_out, whole_log}
+use Rattle.shell_state.specs.Shells.{IsBuilt, shell_log, whole_out, whole_log}
 use Rattle.shell_state.specs.States.{State, opps_of, departures, ready, floor_of}
 use Rattle.shell_state.specs.Steps.{licensed}
 

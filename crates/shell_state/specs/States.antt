@@ -1,11 +1,10 @@
 -- A shell's direction between what was fed and what was taken.
 use Rattle.std.specs.Prelude.{ℕ, Bool, false, List, drop, length}
 use Rattle.packet_record.specs.declared.packet.Timed.{Timed}
-use Rattle.packet_record.specs.declared.item.Stream.{Stream}
-use Rattle.packet_record.specs.Streams.{no_items}
+use Rattle.packet_record.specs.Streams.{Stream, no_items}
 use Rattle.trace_reader.specs.declared.opportunity.Opportunity.{Opportunity}
-use Rattle.shell_core.specs.declared.spec.DirSpec.{DirSpec}
-use Rattle.shell_core.specs.Shells.{opportunities, out, floor}
+use Rattle.shell_state.specs.declared.spec.DirSpec.{DirSpec}
+use Rattle.shell_state.specs.Shells.{opportunities, out, floor}
 
 pub record State : Type 0 where
   pub spec : DirSpec

@@ -3,3 +3,5 @@ pub mod Fed
 pub mod Fronts
 pub mod Standing
 pub mod StateInside
+pub mod CoreInside
+pub mod Lawful

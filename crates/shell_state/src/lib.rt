@@ -2,12 +2,18 @@
 #![tactic(auto)]
 
 mod front;
+mod kinds;
 mod parts;
+mod spec;
 mod state;
 mod stream;
 mod taken;
+mod threads;
+mod whole;
 
-pub use shell_core::DirSpec;
+pub use kinds::{Core, run_whole, whole_link_log};
+pub use link_core::{LinkLog, Passage};
+pub use spec::DirSpec;
 pub use state::ShellState;
 pub use stream::StreamView;
 pub use taken::Taken;

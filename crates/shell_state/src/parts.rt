@@ -5,18 +5,18 @@ ghost use Rattle.packet_record.specs.Streams.{IsUpTo};
 ghost use Rattle.packet_record.specs.Reaches.{nowhere, reach_after, IsNext};
 ghost use Rattle.packet_record.specs.Takes.{IsPacket};
 ghost use Rattle.link_core.specs.Promises.{count_to};
-ghost use Rattle.shell_core.specs.Shells.{opportunities};
-ghost use Rattle.shell_core.specs.CoreParts.{with_burnt as core_burnt, is_spent};
+ghost use Rattle.shell_state.specs.Shells.{opportunities};
+ghost use Rattle.shell_state.specs.CoreParts.{with_burnt as core_burnt, is_spent};
 ghost use Rattle.shell_state.specs.States.{ready};
 ghost use Rattle.shell_state.specs.Steps.{answer_after, burns, licensed, is_ended, breaks};
 ghost use Rattle.shell_state.specs.inside.Fronts.{no_front};
 ghost use Rattle.shell_state.specs.views.Whole.{departed_of, state_of};
 ghost use Rattle.shell_state.specs.inside.Fed.{core_fed, IsState, front_with, AnswerFollows, AnswerFits};
 
+use crate::Core;
 use crate::front::Front;
 use crate::taken::Taken;
 use packet_record::{FlowEnd, Item, Reach};
-use shell_core::Core;
 use text_base::OutOfMemory;
 
 // The packet of an item arrives at the core, and what was fed has come as far as the item.

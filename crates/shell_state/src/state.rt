@@ -3,9 +3,9 @@ ghost use Rattle.std.specs.Prelude.{◌≡◌, ◌⊎◌, ◌≤◌, ◌<◌, le
 ghost use Rattle.packet_record.specs.Streams.{MayFollow, IsUpTo};
 ghost use Rattle.packet_record.specs.declared.item.FlowEnd.TheVariants.{Open, Ended};
 ghost use Rattle.packet_record.specs.Takes.{IsPacket};
-ghost use Rattle.shell_core.specs.Shells.{IsInRange, opportunities, lost, inside, whole_out, whole_lost};
-ghost use Rattle.shell_core.specs.Shells.{shell_log, whole_inside, whole_log};
-ghost use Rattle.shell_core.specs.Wholes.{if_link};
+ghost use Rattle.shell_state.specs.Shells.{IsInRange, opportunities, lost, inside, whole_out, whole_lost};
+ghost use Rattle.shell_state.specs.Shells.{shell_log, whole_inside, whole_log};
+ghost use Rattle.shell_state.specs.Wholes.{if_link};
 ghost use Rattle.shell_state.specs.States.{new_state};
 ghost use Rattle.shell_state.specs.Steps.{after_feed, after_take, after_break, answer_of, burns};
 ghost use Rattle.shell_state.specs.Standing.{Stands, ForetellsAll};
@@ -13,14 +13,14 @@ ghost use Rattle.shell_state.specs.Causes.{HasCauses};
 ghost use Rattle.shell_state.specs.Promises.{KeepsUp, ForetellsMore, GoesOn, IsFinished};
 
 use crate::front::Front;
-use crate::parts;
 use crate::stream::StreamView;
 use crate::taken::Taken;
+use crate::{Core, DirSpec, LinkLog, Passage, parts};
 use packet_record::{Item, Reach, Timed};
-use shell_core::{Core, DirSpec, LinkLog, Passage};
 use std::alloc::Global;
 use std::marker::Model;
 use text_base::OutOfMemory;
+use text_base::limits::{HOUR, MOST_OPPORTUNITIES};
 
 /// One direction of a shell that is fed items and from which items are taken, in any order of the two.
 ///
@@ -58,8 +58,8 @@ impl ShellState {
     /// horizon too, and a link has at most 16,000,000 opportunities up to it.
     pub fn new(alloc: Global, spec: DirSpec, horizon: u64) -> Result<ShellState, OutOfMemory>
         requires range { IsInRange spec }
-        requires horizon { horizon ≤ 3600000 }
-        requires few { length (opportunities spec horizon) ≤ 16000000 }
+        requires horizon { horizon ≤ HOUR }
+        requires few { length (opportunities spec horizon) ≤ MOST_OPPORTUNITIES }
         ensures { IfOk result (λ s. s ≡ new_state spec horizon) }
     {
         let core = Core::new(alloc, spec, horizon)?;

@@ -15,7 +15,7 @@ pub struct StreamView<'a> {
 }
 
 impl<'a> Model for StreamView<'a> {
-    ghost use Rattle.packet_record.specs.declared.item.Stream.{Stream};
+    ghost use Rattle.packet_record.specs.Streams.{Stream};
 
     ghost Value = { Stream };
 

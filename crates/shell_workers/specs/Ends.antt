@@ -1,7 +1,7 @@
 -- How a worker ended.
 use Rattle.std.specs.Prelude.{◌≡◌}
 use Rattle.packet_record.specs.declared.item.FlowEnd.TheVariants.{Ended as IsOver}
-use Rattle.packet_record.specs.declared.item.Stream.{Stream}
+use Rattle.packet_record.specs.Streams.{Stream}
 use Rattle.shell_workers.specs.declared.ends.WorkEnd.{WorkEnd}
 use Rattle.shell_workers.specs.declared.ends.WorkEnd.TheVariants.{Ended, Broken, OutOfMemory}
 

@@ -15,7 +15,7 @@ use shell_state::Taken;
 use std::sync::Wait;
 
 /// Takes from the state and sends what it takes, until the end, `Item::Broken` or out of memory. Each take burns at
-/// most `most` opportunities; `most` is at least 1. Where there is nothing to take yet it waits for a feed. The pace is
+/// most `most` opportunities; `most` is at least 1. If there is nothing to take yet, it waits for a feed. The pace is
 /// asked before each take, with the count of takes from 1.
 ///
 /// Returns `Ended` after the end, and `Broken` after `Item::Broken`. Out of memory it breaks the state off, sends

@@ -14,7 +14,8 @@ pub enum WorkEnd {
 }
 
 impl WorkEnd {
-    /// Returns how two workers ended together: `Ended` where both did, else `OutOfMemory` where one did, else `Broken`.
+    /// Returns how two workers ended together: `Ended` if both did, otherwise `OutOfMemory` if one did, otherwise
+    /// `Broken`.
     pub fn worse(self, other: WorkEnd) -> WorkEnd
         ensures { result ≡ worse_of self other }
     {

@@ -17,7 +17,7 @@ use std::sync::Wait;
 /// feed, with the count of feeds from 1. A state that the drain broke off takes nothing more, but the rest is received.
 ///
 /// Returns `Ended` after the end, and `Broken` after `Item::Broken`. Out of memory it breaks the state off and returns
-/// `OutOfMemory`, once it has received the rest: a sender whose receiver is gone would wait for ever.
+/// `OutOfMemory`, once it has received the rest: a sender whose receiver is gone would wait forever.
 pub fn feeder<Q: Pace, R: Wait>(
     rt: &R,
     cell: &ShellCell,

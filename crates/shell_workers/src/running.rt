@@ -29,8 +29,8 @@ fn next_shell(up: bool, shell: u32) -> u32
 /// the first one's shell; the next has one less on the way up and one more on the way down. Each take burns at most
 /// `most` opportunities; `most` is at least 1.
 ///
-/// Returns `Ended` where every worker did, else `OutOfMemory` where one ran out of memory, else `Broken`. Each stage
-/// keeps its cell, seats and ends, and nothing more comes in or goes out of it.
+/// Returns `Ended` if every worker did, otherwise `OutOfMemory` if one ran out of memory, otherwise `Broken`. Each
+/// stage keeps its cell, seats and ends, and nothing more comes in or goes out of it.
 pub fn stages<Q: Pace + Sync, R: Threads + Wait + Sync>(
     rt: &R,
     list: &mut [Stage],

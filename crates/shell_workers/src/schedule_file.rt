@@ -4,7 +4,7 @@ ghost use Rattle.shell_workers.specs.inside.Reading.{HasReadPiece, IsReading};
 ghost use Rattle.shell_workers.specs.Reading.{ReadsFile};
 
 use mm_base::{Disk, DiskError, FilePlace, read_piece};
-use packet_record::ScheduleText;
+use packet_record::ScheduleParser;
 use text_base::PieceReader;
 
 /// A schedule's file that is read piece by piece: how far it was read, and what its text has given.
@@ -15,7 +15,7 @@ pub struct ScheduleFile<'a> {
     /// Room for a piece.
     pub piece: Vec<u8>,
     /// What its text has given.
-    pub text: ScheduleText,
+    pub text: ScheduleParser,
 }
 
 impl<'a> ScheduleFile<'a> {

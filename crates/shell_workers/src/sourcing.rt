@@ -41,7 +41,7 @@ impl Progress {
 }
 
 /// Sends what each row up to `horizon` (in milliseconds) gives, in both directions, and then the end. A row gives its
-/// packet in its own direction first. Then it gives a mark in the other one, where nothing sent there has so late a
+/// packet in its own direction first. Then it gives a mark in the other one, if nothing sent there has so late a
 /// moment. So moments never fall.
 ///
 /// The pace is asked before the items of each row, with the row's place counted from 1. It takes no memory.
@@ -98,8 +98,8 @@ pub(crate) fn send_rows<Q: Pace, R: Wait>(
 }
 
 /// Sends what the next row gives in both directions, as `source_rows` does, and returns how far the source has come
-/// then. Whoever has its rows in no list sends them so one by one, from `Progress::new()` on, and then the end by
-/// `end_both`.
+/// then. A source whose rows stand in no list sends them one by one in this way, from `Progress::new()` on, and then
+/// the end by `end_both`.
 ///
 /// The pace is asked before, with the row's place counted from 1. It takes no memory.
 pub fn source_row<Q: Pace, R: Wait>(
@@ -123,7 +123,7 @@ pub fn source_row<Q: Pace, R: Wait>(
     send_both(run.rt, row, horizon, sent, up, down)
 }
 
-/// As `source_rows`, for whoever has the two senders apart, as a `Feeds` has. It takes no memory.
+/// As `source_rows`, for a caller that has the two senders apart, as a `Feeds` has. It takes no memory.
 pub fn source<Q: Pace, R: Wait>(
     rt: &R,
     rows: &[Row],
@@ -190,8 +190,8 @@ fn send_both<R: Wait>(
     }
 }
 
-// Sends what a row gives in `direction`, where `sent` is the greatest moment sent in it before, beside `other`, which
-// sends in the other direction. Returns the greatest moment sent in it then.
+// Sends what a row gives in `direction`. `sent` is the greatest moment sent there before, and `other` sends in the other
+// direction. Returns the greatest moment sent in `direction` after it.
 fn send_row<R: Wait>(
     rt: &R,
     direction: Direction,

@@ -28,7 +28,7 @@ pub struct Stage {
     pub to: Sender,
 }
 
-/// Runs the two workers of a stage beside each other. Each counts itself among those that have begun.
+// Runs the two workers of a stage beside each other. Each counts itself among those that have begun.
 pub(crate) fn run_stage<Q: Pace + Sync, R: Threads + Wait + Sync>(
     run: &Run<'_, Q, R>,
     stage: &mut Stage,
@@ -52,7 +52,7 @@ pub(crate) fn run_stage<Q: Pace + Sync, R: Threads + Wait + Sync>(
         to,
     } = stage;
     let cell = &*cell;
-    // The drain stands first, since it goes on only once the feeder does: where no thread can be made it runs last.
+    // The drain stands first, since it goes on only once the feeder does: if no thread can be made, it runs last.
     let (drained, fed) = join_mut(
         run.rt,
         &mut || -> WorkEnd
@@ -65,15 +65,8 @@ pub(crate) fn run_stage<Q: Pace + Sync, R: Threads + Wait + Sync>(
             ensures same { IsSameEnd to.entry.now to.exit.now × IsSameSeat take.entry.now take.exit.now }
         {
             run.begun.raise();
-            drain(
-                run.rt,
-                cell,
-                take,
-                to,
-                Role::Drain { up, shell },
-                most,
-                run.pace,
-            )
+            let role = Role::Drain { up, shell };
+            drain(run.rt, cell, take, to, role, most, run.pace)
         },
         &mut || -> WorkEnd
             requires { (feed.now.cell ≡ cell.now) × (feed.now.flow ≡ no_items) × (from.now.flow ≡ no_items)
@@ -86,14 +79,8 @@ pub(crate) fn run_stage<Q: Pace + Sync, R: Threads + Wait + Sync>(
             ensures same { IsSameEnd from.entry.now from.exit.now × IsSameSeat feed.entry.now feed.exit.now }
         {
             run.begun.raise();
-            feeder(
-                run.rt,
-                cell,
-                feed,
-                from,
-                Role::Feeder { up, shell },
-                run.pace,
-            )
+            let role = Role::Feeder { up, shell };
+            feeder(run.rt, cell, feed, from, role, run.pace)
         },
     );
     fed.worse(drained)

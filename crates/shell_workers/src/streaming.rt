@@ -15,7 +15,7 @@ use crate::schedule_file::ScheduleFile;
 use crate::sourcing::{Progress, end_both, send_rows};
 use mark_channel::{Run, Sender};
 use mm_base::{Disk, DiskError, Pace};
-use packet_record::{Both, Item, ScheduleText};
+use packet_record::{Both, Item, ScheduleParser};
 use std::sync::Wait;
 
 // Breaks the stream off in both directions.
@@ -86,11 +86,11 @@ fn stream_pieces<D: Disk, Q: Pace, R: Wait>(
     Ok(sent)
 }
 
-// Sends the row of a last line without a line feed, and then the end. Breaks the stream off instead where a line is
-// refused.
+// Sends the row of a last line without a line feed, and then the end. If a line is refused, breaks the stream off
+// instead.
 fn end_stream<Q: Pace, R: Wait>(
     run: &Run<'_, Q, R>,
-    text: &mut ScheduleText,
+    text: &mut ScheduleParser,
     horizon: u64,
     sent: Progress,
     heads: &mut Both<Sender>,
@@ -118,10 +118,9 @@ fn end_stream<Q: Pace, R: Wait>(
 /// Reads a schedule in pieces, once all other workers have begun. Sends what each row gives in both directions as soon
 /// as its line is read, and then the end.
 ///
-/// Breaks the stream off in both directions where a line is refused, memory for the rows runs out, or the disk fails. A
-/// refused file is read to its end all the same, and a fault met there is returned. Returns the errors of
-/// `Disk::read_at`; and `OutOfMemory` where the other workers can't begin: it then breaks both directions off and reads
-/// nothing.
+/// Breaks the stream off in both directions if a line is refused, memory for the rows runs out, or the disk fails. A
+/// refused file is still read to its end, and a fault met there is returned. Returns the errors of `Disk::read_at`. If
+/// the other workers can't begin, it breaks both directions off, reads nothing and returns `OutOfMemory`.
 pub fn stream_source<D: Disk, Q: Pace, R: Wait>(
     run: &Run<'_, Q, R>,
     disk: &mut D,

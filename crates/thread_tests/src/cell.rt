@@ -1,4 +1,4 @@
-//! The cell in one thread and between two.
+// The cell in one thread and between two.
 ghost use Rattle.std.specs.Prelude.{◌≡◌, ◌≤◌, true, IfOk, IsOk, OnErr, OnOk};
 ghost use Rattle.packet_record.specs.declared.item.FlowEnd.TheVariants.{Open};
 ghost use Rattle.packet_record.specs.Streams.{IsUpTo, no_items};
@@ -18,7 +18,7 @@ use text_base::OutOfMemory;
 use trace_reader::read_trace;
 
 // A link with the trace 5, 5, 9 and no limit on its queue.
-#[tactic(auto, unfolding(shell_core::specs::Shells::opportunities))]
+#[tactic(auto, unfolding(shell_state::specs::Shells::opportunities))]
 fn link(rt: &impl Abort, alloc: Global) -> ShellState
     ensures { (result.fed ≡ no_items) × (result.taken ≡ no_items) × (result.horizon ≡ 20) }
 {
@@ -38,7 +38,7 @@ fn link(rt: &impl Abort, alloc: Global) -> ShellState
 }
 
 // A delay of one millisecond.
-#[tactic(auto, unfolding(shell_core::specs::Shells::opportunities))]
+#[tactic(auto, unfolding(shell_state::specs::Shells::opportunities))]
 fn delay(rt: &impl Abort, alloc: Global) -> ShellState
     ensures { (result.fed ≡ no_items) × (result.taken ≡ no_items) × (result.horizon ≡ 2000) }
 {

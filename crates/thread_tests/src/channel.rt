@@ -1,4 +1,4 @@
-//! A channel in one thread and between two, and the types that may cross threads.
+// A channel in one thread and between two, and the types that may cross threads.
 ghost use Rattle.std.specs.Prelude.{◌≡◌, ◌≤◌};
 ghost use Rattle.std.specs.Bool.{OnTrue};
 ghost use Rattle.packet_record.specs.declared.item.FlowEnd.TheVariants.{Open};

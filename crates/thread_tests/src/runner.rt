@@ -1,4 +1,4 @@
-//! Runs over threads, with paces that hold some turns until others have begun.
+// Runs over threads, with paces that hold some turns until others have begun.
 ghost use Rattle.std.specs.Prelude.{◌≡◌, ◌≤◌, length};
 ghost use Rattle.std.specs.Bool.{OnTrue};
 ghost use Rattle.nest_spec.specs.Nests.{opportunities_of};

@@ -1,4 +1,4 @@
-//! Merges of flows, and senders that feed two channels beside two threads that receive.
+// Merges of flows, and senders that feed two channels beside two threads that receive.
 ghost use Rattle.std.specs.Prelude.{◌≡◌};
 ghost use Rattle.std.specs.Thread.{IsSync};
 ghost use Rattle.packet_record.specs.declared.item.FlowEnd.TheVariants.{Open};

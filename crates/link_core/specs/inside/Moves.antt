@@ -1,6 +1,7 @@
 -- What the steps of a link want of its parts.
 use Rattle.std.specs.Prelude.{◌≡◌, ℕ, ◌+◌, ◌*◌, ◌<◌, ◌≤◌, [], ◌∷◌, length, take, drop, vec_len, vec_capacity}
 use Prim.Native.Nat.{min}
+use Rattle.text_base.specs.declared.limits.TheConstants.{GREATEST_MOMENT}
 use Rattle.packet_record.specs.declared.packet.Timed.{Timed}
 use Rattle.packet_record.specs.Moments.{AreUpTo}
 use Rattle.trace_reader.specs.Orders.{Each}
@@ -37,7 +38,7 @@ pub record UsesRoom (packets lines : ℕ) (old new : Parts) : Type 0 where
 -- the packet is the next to come, and the opportunities up to its moment are burnt, and no others
 pub record CanEnter (gone : Gone) (t : Timed) (c : Parts) : Type 0 where
   pub next : c.arrived.coming ≡ t ∷ drop 1 c.arrived.coming
-  pub short : t.moment ≤ 9999999999
+  pub short : t.moment ≤ GREATEST_MOMENT
   pub order : AreUpTo t.moment (all_come gone c)
   pub burnt : Each (λ o. o.moment ≤ t.moment) (take c.burnt (span_opps c.opportunities))
   pub later : Each (λ o. t.moment < o.moment) (drop c.burnt (span_opps c.opportunities))

@@ -5,7 +5,7 @@ use Rattle.packet_record.specs.declared.item.FlowEnd.TheVariants.{Open}
 use Rattle.packet_record.specs.declared.packet.Direction.TheVariants.{Up, Down}
 use Rattle.nest_spec.specs.Nests.{NestParts, result_of}
 use Rattle.nest_spec.specs.Once.{HaveOneFate}
-use Rattle.nest_line.specs.Lines.{up_to}
+use Rattle.live_relay.specs.Lines.{up_to}
 use Rattle.live_relay.specs.declared.outcome.RelayEnd.{RelayEnd}
 use Rattle.live_relay.specs.declared.outcome.RelayResult.{RelayResult}
 use Rattle.live_relay.specs.declared.relay_state.Relay.{Relay}

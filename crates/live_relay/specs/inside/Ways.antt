@@ -9,7 +9,7 @@ use Rattle.packet_record.specs.declared.packet.Direction.{Direction}
 use Rattle.packet_record.specs.declared.item.FlowEnd.TheVariants.{Open, Ended}
 use Rattle.packet_record.specs.Rows.{entering, goes}
 use Rattle.nest_spec.specs.Nests.{NestParts, directions_of}
-use Rattle.nest_line.specs.Lines.{IsFront, IsSettled, up_to}
+use Rattle.live_relay.specs.Lines.{IsFront, IsSettled, up_to}
 use Rattle.live_relay.specs.declared.side.Side.{Side}
 use Rattle.live_relay.specs.declared.way.Way.{Way}
 use Rattle.live_relay.specs.Due.{bytes_in}
@@ -25,7 +25,7 @@ abbrev pub item_in : Direction → ℕ → Option Row → Item
 item_in d m None = Mark m
 item_in d m (Some r) = if goes d r.direction then Packet r.timed else Mark m
 
--- a front of these was sent to a side
+-- a prefix of these was sent to a side
 pub record StopsSending (side : Side) (pieces : List (List ℕ)) (old new : Option WireTold) : Type 0 where
   pub front : List (List ℕ)
   pub some : IsFrontOf front pieces

@@ -1,9 +1,8 @@
 -- For proofs alone: what goes through an end, item by item.
 use Rattle.std.specs.Prelude.{List, [], ◌∷◌, ◌++◌}
 use Rattle.packet_record.specs.declared.item.Item.{Item}
-use Rattle.packet_record.specs.declared.item.Stream.{Stream}
-use Rattle.packet_record.specs.Streams.{no_items, after}
-use Rattle.mark_channel.specs.declared.rule.Carried.{Carried}
+use Rattle.packet_record.specs.Streams.{Stream, no_items, after}
+use Rattle.mark_channel.specs.Carried.{Carried}
 
 -- The stream `flow` and its items.
 abbrev pub carried : Stream → List Item → Carried

@@ -7,7 +7,7 @@ use lib.ListN.{get_elem?}
 use Rattle.packet_record.specs.declared.item.Item.{Item}
 use Rattle.packet_record.specs.Streams.{MayFollow, IsUpTo, AllFollow}
 use Rattle.mark_channel.specs.inside.Carrying.{nothing, carrying, carrying_all}
-use Rattle.mark_channel.specs.declared.rule.Carried.{Carried}
+use Rattle.mark_channel.specs.Carried.{Carried}
 use Rattle.mark_channel.specs.declared.rule.View.{View}
 
 -- What a pass knows, of its parts.

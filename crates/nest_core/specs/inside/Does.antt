@@ -1,7 +1,6 @@
 -- For proofs alone: whether a step changes the world.
 use Rattle.std.specs.Prelude.{ℕ, zero, suc, ◌<◌, Bool, false, ◌&&◌, IfSome, List, [], ◌∷◌, is_some}
-use Rattle.packet_record.specs.declared.item.Stream.{Stream}
-use Rattle.packet_record.specs.Streams.{MayFollow}
+use Rattle.packet_record.specs.Streams.{Stream, MayFollow}
 use Rattle.nest_core.specs.declared.station.Station.{Station}
 use Rattle.nest_core.specs.declared.actor.Actor.{Actor}
 use Rattle.nest_core.specs.declared.actor.Actor.TheVariants.{Source, Receiver, Feeder, Taker, Sender}

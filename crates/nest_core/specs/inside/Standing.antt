@@ -1,10 +1,9 @@
 -- For proofs alone: how the streams of a world fit each other.
 use Rattle.std.specs.Prelude.{◌≡◌, ◌≤◌, ℕ, false, List, [], ◌∷◌, ◌++◌, length, option_to_list}
 use Rattle.packet_record.specs.declared.item.Item.{Item}
-use Rattle.packet_record.specs.declared.item.Stream.{Stream}
 use Rattle.packet_record.specs.declared.item.FlowEnd.TheVariants.{Ended}
-use Rattle.packet_record.specs.Streams.{after_all, AllFollow}
-use Rattle.shell_core.specs.declared.spec.DirSpec.{DirSpec}
+use Rattle.packet_record.specs.Streams.{Stream, after_all, AllFollow}
+use Rattle.shell_state.specs.declared.spec.DirSpec.{DirSpec}
 use Rattle.shell_state.specs.States.{new_state}
 use Rattle.shell_state.specs.Standing.{Stands}
 use Rattle.nest_core.specs.declared.station.Station.{Station}

@@ -3,8 +3,8 @@ use Rattle.std.specs.Prelude.{List}
 use Rattle.packet_record.specs.declared.packet.Timed.{Timed}
 use Rattle.packet_record.specs.Rows.{entering}
 use Rattle.shell_log.specs.declared.entry.Entry.{Entry}
-use Rattle.shell_core.specs.declared.spec.DirSpec.{DirSpec}
-use Rattle.shell_core.specs.Shells.{whole_log}
+use Rattle.shell_state.specs.declared.spec.DirSpec.{DirSpec}
+use Rattle.shell_state.specs.Shells.{whole_log}
 use Rattle.nest_plain.specs.declared.arrivals.ArrivalSource.{ArrivalSource}
 
 -- The packets that enter.

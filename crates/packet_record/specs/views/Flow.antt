@@ -1,9 +1,8 @@
 -- How far a stream has come, item by item: a stream without its packets. A flow by its parts.
 use Rattle.std.specs.Prelude.{List}
 use Rattle.packet_record.specs.declared.packet.Timed.{Timed}
-use Rattle.packet_record.specs.declared.item.Stream.{Stream}
 use Rattle.packet_record.specs.declared.reach.Reach.{Reach}
-use Rattle.packet_record.specs.Streams.{stream}
+use Rattle.packet_record.specs.Streams.{Stream, stream}
 use Rattle.packet_record.specs.Flows.{FlowView}
 use Rattle.packet_record.specs.declared.flow.Flow.TheInside.{Inside}
 

@@ -1,7 +1,7 @@
 -- What the threads of a feeding leave behind.
 use Rattle.std.specs.Prelude.{◌≡◌, ◌⊎◌, ℕ, List, [], map}
 use Rattle.packet_record.specs.declared.item.FlowEnd.TheVariants.{Broken as IsCut}
-use Rattle.packet_record.specs.declared.item.Stream.{Stream}
+use Rattle.packet_record.specs.Streams.{Stream}
 use Rattle.packet_record.specs.declared.packet.Direction.TheVariants.{Up, Down}
 use Rattle.packet_record.specs.declared.packet.Row.{Row}
 use Rattle.mark_channel.specs.declared.feeds.FeedEnd.{FeedEnd}
@@ -10,7 +10,7 @@ use Rattle.mark_channel.specs.Feedings.{HasSentRows}
 use Rattle.sender_merge.specs.declared.outlet.Outlet.{Outlet}
 use Rattle.sender_merge.specs.Merges.{merged_row}
 
--- how two threads ended together: `Ended` where both did
+-- how two threads ended together: `Ended` if both did
 abbrev pub both : FeedEnd → FeedEnd → FeedEnd
 both Ended b = b
 both OutOfMemory b = OutOfMemory

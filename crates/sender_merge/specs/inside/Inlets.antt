@@ -2,9 +2,8 @@
 use Rattle.std.specs.Prelude.{◌≡◌, ◌≢◌, ◌⊎◌, ◌<◌, ◌≤◌, ◌+◌, ℕ, zero, suc, List, [], ◌∷◌, map, Option, Some, IfSome}
 use Rattle.packet_record.specs.declared.packet.Timed.{Timed}
 use Rattle.packet_record.specs.declared.item.FlowEnd.TheVariants.{Open, Ended as IsOver}
-use Rattle.packet_record.specs.declared.item.Stream.{Stream}
 use Rattle.packet_record.specs.Moments.{AreUpTo}
-use Rattle.packet_record.specs.Streams.{no_items}
+use Rattle.packet_record.specs.Streams.{Stream, no_items}
 use Rattle.mark_channel.specs.Ends.{IsSameEnd}
 use Rattle.sender_merge.specs.declared.inlet.Inlet.{Inlet}
 use Rattle.sender_merge.specs.Inflows.{Inflow}

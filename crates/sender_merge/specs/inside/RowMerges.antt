@@ -31,12 +31,12 @@ abbrev pub IsSoon : Option ℕ → Row → Type 0
 IsSoon None r = Unit {0}
 IsSoon (Some limit) r = r.timed.moment < limit
 
--- no row is before the limit; where there is none, there is no row
+-- no row is before the limit; if there is no limit, there is no row
 abbrev pub IsLate : Option ℕ → List Row → Type 0
 IsLate None rows = rows ≡ []
 IsLate (Some limit) rows = From row_moment limit rows
 
--- the limit of rows that are to come before `head`, or the limit that there is where there is no head
+-- the limit of rows that are to come before `head`, or `limit` if there is no head
 abbrev pub limit_before : Option Row → Option ℕ → Option ℕ
 limit_before None limit = limit
 limit_before (Some head) limit = Some head.timed.moment

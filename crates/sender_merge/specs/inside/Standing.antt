@@ -58,7 +58,7 @@ AllFrom m [] = Unit {0}
 AllFrom m (s ∷ senders) = IsFrom m s × AllFrom m senders
 
 -- The flow of each sender is sound, and nothing that waits or comes is before the bound of the flow given. The packets
--- given, and then in order what waits and comes, are the merge of all. Where the end was given, all senders have ended,
+-- given, and then in order what waits and comes, are the merge of all. If the end was given, all senders have ended,
 -- and the packets given are the merge.
 pub record Stands (m : Merging) : Type 0 where
   pub sound : AllSound m.senders

@@ -1,6 +1,6 @@
 // A dialed connection of TCP on which nobody says anything.
 use crate::links::listening;
-use end_watch::EndWatch;
+use ended_port::EndWatch;
 use mm_base::{EndError, Link, Port, TcpLimits, TcpPort};
 use record_proxy::{Dialer, TcpDialer};
 use std::time::Duration;

@@ -1,7 +1,7 @@
 // A connection over TCP.
 use super::end_of;
 use crate::links::{REQUEST, RESPONSE, link, listening};
-use end_watch::EndWatch;
+use ended_port::EndWatch;
 use mm_base::{EndError, Link, MemLink, Port};
 use record_proxy::{Dialer, ProxyEnd, TcpDialer};
 use std::alloc::Global;

@@ -7,7 +7,7 @@ use lib.ListN.{get_elem?}
 use Rattle.atomic_table.specs.Table.{State as TableState, Me, Step, rest}
 use Rattle.shell_state.specs.States.{State, new_state}
 use Rattle.shell_state.specs.Steps.{after_feed}
-use Rattle.shell_core.specs.declared.spec.DirSpec.TheVariants.{Pass}
+use Rattle.shell_state.specs.declared.spec.DirSpec.TheVariants.{Pass}
 use Rattle.shell_cell.specs.declared.view.FeedTurn.{FeedTurn}
 use Rattle.shell_cell.specs.declared.view.DrainTurn.{DrainTurn}
 use Rattle.shell_cell.specs.declared.view.Note.{Note}

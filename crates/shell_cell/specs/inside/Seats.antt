@@ -1,7 +1,6 @@
 -- For proofs alone: what a take may give.
 use Rattle.std.specs.Prelude.{ℕ}
-use Rattle.packet_record.specs.declared.item.Stream.{Stream}
-use Rattle.packet_record.specs.Streams.{MayFollow, IsUpTo}
+use Rattle.packet_record.specs.Streams.{Stream, MayFollow, IsUpTo}
 use Rattle.shell_state.specs.declared.taken.Taken.{Taken}
 use Rattle.shell_state.specs.declared.taken.Taken.TheVariants.{Item as Gives, Again, NotYet}
 

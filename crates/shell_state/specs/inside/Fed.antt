@@ -7,8 +7,8 @@ use Rattle.packet_record.specs.declared.reach.Reach.{Reach}
 use Rattle.packet_record.specs.Streams.{IsFrom}
 use Rattle.packet_record.specs.Moments.{AreUpTo}
 use Rattle.link_core.specs.Promises.{count_to}
-use Rattle.shell_core.specs.Shells.{opportunities}
-use Rattle.shell_core.specs.CoreParts.{CorePart, with_arrival}
+use Rattle.shell_state.specs.Shells.{opportunities}
+use Rattle.shell_state.specs.CoreParts.{CorePart, with_arrival}
 use Rattle.shell_state.specs.declared.front.Front.{Front}
 use Rattle.shell_state.specs.declared.taken.Taken.{Taken}
 use Rattle.shell_state.specs.declared.taken.Taken.TheVariants.{Item as Gives, Again, NotYet}

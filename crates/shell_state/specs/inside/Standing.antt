@@ -1,6 +1,6 @@
 -- Beside Standing, for proofs alone: what is true of every state.
 use Rattle.std.specs.Prelude.{◌+◌, ◌-◌, ℕ, length}
-use Rattle.shell_core.specs.Shells.{whole_out}
+use Rattle.shell_state.specs.Shells.{whole_out}
 use Rattle.shell_state.specs.States.{State, opps_of}
 
 -- what is left to be taken where nothing more is fed: each answer but the end lowers it

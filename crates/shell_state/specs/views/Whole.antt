@@ -3,8 +3,8 @@ use Rattle.std.specs.Prelude.{Bool, List, take}
 use Rattle.packet_record.specs.declared.packet.Timed.{Timed}
 use Rattle.packet_record.specs.declared.reach.Reach.{Reach}
 use Rattle.packet_record.specs.views.Flow.{stream_to}
-use Rattle.shell_core.specs.Shells.{out}
-use Rattle.shell_core.specs.CoreParts.{CorePart}
+use Rattle.shell_state.specs.Shells.{out}
+use Rattle.shell_state.specs.CoreParts.{CorePart}
 use Rattle.shell_state.specs.declared.front.Front.{Front}
 use Rattle.shell_state.specs.States.{State}
 

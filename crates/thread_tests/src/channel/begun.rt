@@ -1,4 +1,4 @@
-//! Whoever sends the first item waits for all workers.
+// Whoever sends the first item waits for all workers.
 ghost use Rattle.std.specs.Prelude.{◌≡◌};
 ghost use Rattle.std.specs.Thread.{IsSync};
 ghost use Rattle.packet_record.specs.declared.item.FlowEnd.TheVariants.{Open};

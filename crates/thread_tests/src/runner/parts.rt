@@ -1,7 +1,7 @@
 // The parts of a run, called one after another: what is in their channels fits there.
 ghost use Rattle.std.specs.Prelude.{◌≡◌, ◌≤◌, length, IfOk};
 ghost use Rattle.packet_record.specs.Streams.{no_items};
-ghost use Rattle.shell_core.specs.Shells.{IsInRange, opportunities};
+ghost use Rattle.shell_state.specs.Shells.{IsInRange, opportunities};
 ghost use Rattle.nest_spec.specs.Nests.{AllFit};
 ghost use Rattle.shell_workers.specs.Stages.{AllFresh, IsFresh};
 

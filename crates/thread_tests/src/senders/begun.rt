@@ -1,4 +1,4 @@
-//! Senders that can't all begin beside each other.
+// Senders that can't all begin beside each other.
 use super::senders_from;
 use crate::checks::check;
 use crate::ways::open_ways;

@@ -1,4 +1,4 @@
-//! What senders feed.
+// What senders feed.
 use super::{
     Call, Fed, count_packets, feed_all, feed_texts, has_numbers, senders_from, senders_of,
 };

@@ -1,4 +1,4 @@
-//! Merges of flows whose items are added when the merge needs them.
+// Merges of flows whose items are added when the merge needs them.
 use crate::checks::check;
 use crate::packets::timed;
 use packet_record::{FlowEnd, Item};

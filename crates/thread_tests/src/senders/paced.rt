@@ -1,4 +1,4 @@
-//! Senders whose threads are held back until others have come so far.
+// Senders whose threads are held back until others have come so far.
 use super::{Call, Fed, are_numbers, count_packets, feed_all, senders_from};
 use crate::checks::check;
 use crate::waiting::{is_at, reached};

@@ -1,4 +1,5 @@
 use Rattle.std.proofs.Common.{Option, Some, ap, map, string_bytes, sym, subst, ◌∙◌}
+use Rattle.std.specs.Result.{result_ok}
 use Rattle.std.specs.Option.{option_map}
 use Rattle.std.proofs.lemmas.Result.{err_from_is_err_and}
 use Rattle.command_ends.specs.Answers.{cause_in}
@@ -13,19 +14,19 @@ use Rattle.command_merge.specs.declared.job.MergeJob.{MergeJob}
 use Rattle.command_ends.proofs.AloneLemmas.{asked_alone}
 use Rattle.command_merge.proofs.merge.answer_merge.Goals as goal
 
-pub returns-in-Some-clause-ends : goal.returns-in-Some-clause-ends
-returns-in-Some-clause-ends g c = λ out.
-    ends_asked (only GivesMerge) (merge_of (map string_bytes c.args.words.now)) (merge_values c.in-Some.job)
+pub returns-in-Ok-clause-ends : goal.returns-in-Ok-clause-ends
+returns-in-Ok-clause-ends g c = λ out.
+    ends_asked (only GivesMerge) (merge_of (map string_bytes c.args.words.now)) (merge_values c.in-Ok.job)
     merge_reading
     (offline (g.D.Disk.view c.args.disk.now) out) (offline (g.D.Disk.view c.merge.new.disk) out)
-    (cause_in c.merge.result) (ap (λ (o : Option MergeJob). option_map merge_values o) (sym c.in-Some.is)
+    (cause_in c.merge.result) (ap (λ (o : Option MergeJob). option_map merge_values o) (sym (ap result_ok c.in-Ok.is))
     ∙ c.in_ok-job.ensures) (c.merge.ensures.ends out)
 
-pub returns-in-None-clause-ends : goal.returns-in-None-clause-ends
-returns-in-None-clause-ends g c = λ out.
+pub returns-in-Err-clause-ends : goal.returns-in-Err-clause-ends
+returns-in-Err-clause-ends g c = λ out.
     ends_unasked (only GivesMerge) (merge_of (map string_bytes c.args.words.now)) merge_reading
     (offline (g.D.Disk.view c.args.disk.now) out) c.usage.result
-    (ap (λ (o : Option MergeJob). option_map merge_values o) (sym c.in-None.is) ∙ c.in_ok-job.ensures) c.usage.ensures
+    (ap (λ (o : Option MergeJob). option_map merge_values o) (sym (ap result_ok c.in-Err.is)) ∙ c.in_ok-job.ensures) c.usage.ensures
 
 pub returns-in_err-job-clause-ends : goal.returns-in_err-job-clause-ends
 returns-in_err-job-clause-ends g c = λ out.
@@ -36,9 +37,9 @@ returns-in_err-job-clause-ends g c = λ out.
     (sym p.2)
     (ends_early (only GivesMerge) reading disk disk out tt (keeps_all disk)))
 
-pub returns-in-Some-clause-alone : goal.returns-in-Some-clause-alone
-returns-in-Some-clause-alone g c =
-    asked_alone (merge_of (map string_bytes c.args.words.now)) (merge_values c.in-Some.job) merge_reading
+pub returns-in-Ok-clause-alone : goal.returns-in-Ok-clause-alone
+returns-in-Ok-clause-alone g c =
+    asked_alone (merge_of (map string_bytes c.args.words.now)) (merge_values c.in-Ok.job) merge_reading
     (g.D.Disk.view c.args.disk.now) (g.D.Disk.view c.merge.new.disk)
-    (ap (λ (o : Option MergeJob). option_map merge_values o) (sym c.in-Some.is) ∙ c.in_ok-job.ensures)
+    (ap (λ (o : Option MergeJob). option_map merge_values o) (sym (ap result_ok c.in-Ok.is)) ∙ c.in_ok-job.ensures)
     c.merge.ensures.alone

@@ -1,4 +1,5 @@
 use Rattle.std.proofs.Common.{Option, Some, ap, map, string_bytes, sym, subst, ◌∙◌}
+use Rattle.std.specs.Result.{result_ok}
 use Rattle.std.specs.Option.{option_map}
 use Rattle.std.proofs.lemmas.Result.{err_from_is_err_and}
 use Rattle.command_ends.specs.Answers.{cause_in}
@@ -13,18 +14,18 @@ use Rattle.command_run.specs.declared.run_job.RunJob.{RunJob}
 use Rattle.command_ends.proofs.AloneLemmas.{asked_alone}
 use Rattle.command_run.proofs.run.answer_run.Goals as goal
 
-pub returns-in-Some-clause-ends : goal.returns-in-Some-clause-ends
-returns-in-Some-clause-ends g c = λ out.
-    ends_asked (only GivesRun) (run_of (map string_bytes c.args.words.now)) (run_values c.in-Some.job) run_reading
+pub returns-in-Ok-clause-ends : goal.returns-in-Ok-clause-ends
+returns-in-Ok-clause-ends g c = λ out.
+    ends_asked (only GivesRun) (run_of (map string_bytes c.args.words.now)) (run_values c.in-Ok.job) run_reading
     (offline (g.D.Disk.view c.args.disk.now) out) (offline (g.D.Disk.view c.run.new.disk) out)
-    (cause_in c.run.result) (ap (λ (o : Option RunJob). option_map run_values o) (sym c.in-Some.is)
+    (cause_in c.run.result) (ap (λ (o : Option RunJob). option_map run_values o) (sym (ap result_ok c.in-Ok.is))
     ∙ c.in_ok-job.ensures) (c.run.ensures.ends out)
 
-pub returns-in-None-clause-ends : goal.returns-in-None-clause-ends
-returns-in-None-clause-ends g c = λ out.
+pub returns-in-Err-clause-ends : goal.returns-in-Err-clause-ends
+returns-in-Err-clause-ends g c = λ out.
     ends_unasked (only GivesRun) (run_of (map string_bytes c.args.words.now)) run_reading
     (offline (g.D.Disk.view c.args.disk.now) out) c.usage.result
-    (ap (λ (o : Option RunJob). option_map run_values o) (sym c.in-None.is) ∙ c.in_ok-job.ensures) c.usage.ensures
+    (ap (λ (o : Option RunJob). option_map run_values o) (sym (ap result_ok c.in-Err.is)) ∙ c.in_ok-job.ensures) c.usage.ensures
 
 pub returns-in_err-job-clause-ends : goal.returns-in_err-job-clause-ends
 returns-in_err-job-clause-ends g c = λ out.
@@ -34,9 +35,9 @@ returns-in_err-job-clause-ends g c = λ out.
     rw p.1 (subst (λ (k : Cause). Ends (only GivesRun) reading (offline disk out) (offline disk out) (Some k)) (sym p.2)
     (ends_early (only GivesRun) reading disk disk out tt (keeps_all disk)))
 
-pub returns-in-Some-clause-alone : goal.returns-in-Some-clause-alone
-returns-in-Some-clause-alone g c =
-    asked_alone (run_of (map string_bytes c.args.words.now)) (run_values c.in-Some.job) run_reading
+pub returns-in-Ok-clause-alone : goal.returns-in-Ok-clause-alone
+returns-in-Ok-clause-alone g c =
+    asked_alone (run_of (map string_bytes c.args.words.now)) (run_values c.in-Ok.job) run_reading
     (g.D.Disk.view c.args.disk.now) (g.D.Disk.view c.run.new.disk)
-    (ap (λ (o : Option RunJob). option_map run_values o) (sym c.in-Some.is) ∙ c.in_ok-job.ensures)
+    (ap (λ (o : Option RunJob). option_map run_values o) (sym (ap result_ok c.in-Ok.is)) ∙ c.in_ok-job.ensures)
     c.run.ensures.alone

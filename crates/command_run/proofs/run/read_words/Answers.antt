@@ -1,48 +1,32 @@
-use Rattle.std.proofs.Common.{subst, sym}
-use Rattle.std.proofs.lemmas.Result.{err_from_is_err_and}
-use Rattle.nest_spec.specs.Words.{nest_of}
-use Rattle.command_ends.specs.Stops.{StopsReading}
-use Rattle.command_ends.specs.declared.cause.Cause.{Cause}
+use Rattle.std.proofs.Common.{◌≡◌, ◌∙◌, List, MatchResult, ap, map, subst}
+use Rattle.command_ends.specs.Causes.{Text}
+use Rattle.nest_command.specs.NestReading.{IsPlan, StopsPlan}
 use Rattle.command_ends.proofs.AloneLemmas.{no_words_accepted}
 use Rattle.command_run.proofs.FirstLemmas.{inputs_no_words}
-use Rattle.nest_command.proofs.NestLemmas.{names_there}
-use Rattle.nest_command.proofs.NestRefusals.{horizon_stop, names_stop, nest_stop, words_accepted, words_read}
-use Rattle.command_run.specs.RunReading.{run_inputs, run_reading, refused_outputs}
+use Rattle.command_run.specs.RunReading.{input_names, run_inputs}
 use Rattle.command_run.specs.inside.Values.{run_values}
+use Rattle.nest_command.proofs.NestRefusals.{plan_accepted, plan_read}
 use Rattle.command_run.proofs.run.read_words.Goals as goal
-
-pub returns-in-Err-clause-read : goal.returns-in-Err-clause-read
-returns-in-Err-clause-read c =
-    let job = run_values c.args.job.now in
-    nest_stop (nest_of job.shells) (refused_outputs job) job.horizon (run_inputs job) c.in-Err.error
-    c.nest_cause.result c.in-Err.ensures c.nest_cause.ensures
-
-pub returns-in_err-check_names-clause-read : goal.returns-in_err-check_names-clause-read
-returns-in_err-check_names-clause-read c =
-    let p = err_from_is_err_and c.from_residual.result c.from_residual.ensures.1 in
-    let job = run_values c.args.job.now in
-    λ disk. rw p.1 (subst (λ (k : Cause). StopsReading (run_reading job) disk disk k) (sym p.2)
-    (names_stop (nest_of job.shells) (refused_outputs job) job.horizon (run_inputs job) c.in-Ok.nest _
-    c.in-Ok.ensures (names_there _ _) c.in_err-check_names.ensures disk))
-
-pub returns-in_err-check_horizon-clause-read : goal.returns-in_err-check_horizon-clause-read
-returns-in_err-check_horizon-clause-read c =
-    let p = err_from_is_err_and c.from_residual-in_err-check_horizon.result
-    c.from_residual-in_err-check_horizon.ensures.1 in
-    let job = run_values c.args.job.now in
-    λ disk. rw p.1 (subst (λ (k : Cause). StopsReading (run_reading job) disk disk k) (sym p.2)
-    (horizon_stop (nest_of job.shells) (refused_outputs job) job.horizon (run_inputs job) c.in-Ok.nest _
-    c.in-Ok.ensures c.in_ok-check_names.ensures c.in_err-check_horizon.ensures.refused disk))
 
 pub returns-clause-read : goal.returns-clause-read
 returns-clause-read c =
     let job = run_values c.args.job.now in
-    words_read (nest_of job.shells) (refused_outputs job) job.horizon (run_inputs job) c.in-Ok.nest
-    c.in-Ok.ensures c.in_ok-check_names.ensures c.in_ok-check_horizon.ensures.refused
+    let same : map (λ name. name.now) c.as_slice.result.now ≡ input_names job =
+    ap (map (λ name. name.now)) c.as_slice.ensures.value ∙ c.in_ok-inputs.ensures in
+    let said : MatchResult c.read_plan.result (IsPlan job.shells (input_names job) job.out job.horizon)
+    (StopsPlan job.shells (input_names job) job.out job.horizon) =
+    subst (λ (l : List Text). MatchResult c.read_plan.result (IsPlan job.shells l job.out job.horizon)
+    (StopsPlan job.shells l job.out job.horizon)) same c.read_plan.ensures.plan in
+    plan_read job.shells (input_names job) job.out job.horizon (run_inputs job) c.read_plan.result said
 
 pub returns-clause-accepts : goal.returns-clause-accepts
 returns-clause-accepts c =
     let job = run_values c.args.job.now in
-    words_accepted (nest_of job.shells) (refused_outputs job) job.horizon (run_inputs job) c.in-Ok.nest
-    c.in-Ok.ensures c.in_ok-check_names.ensures c.in_ok-check_horizon.ensures.refused
-    (no_words_accepted _ (inputs_no_words job c.in-Ok.nest))
+    let same : map (λ name. name.now) c.as_slice.result.now ≡ input_names job =
+    ap (map (λ name. name.now)) c.as_slice.ensures.value ∙ c.in_ok-inputs.ensures in
+    let said : MatchResult c.read_plan.result (IsPlan job.shells (input_names job) job.out job.horizon)
+    (StopsPlan job.shells (input_names job) job.out job.horizon) =
+    subst (λ (l : List Text). MatchResult c.read_plan.result (IsPlan job.shells l job.out job.horizon)
+    (StopsPlan job.shells l job.out job.horizon)) same c.read_plan.ensures.plan in
+    plan_accepted job.shells (input_names job) job.out job.horizon (run_inputs job) c.read_plan.result said
+    (λ plan. no_words_accepted _ (inputs_no_words job plan))

@@ -1,5 +1,5 @@
 use Rattle.std.proofs.Common.{◌≤◌, ◌-◌, length}
-use Rattle.nest_line.specs.Lines.{up_to}
+use Rattle.live_relay.specs.Lines.{up_to}
 use Rattle.live_relay.proofs.way.due_count.Given as goal
 
 abbrev pub invariant-loop-count : goal.invariant-loop-count

@@ -4,7 +4,7 @@ use Rattle.packet_record.specs.Streams.{AllFollow}
 use Rattle.mark_channel.specs.inside.Carrying.{carried, carrying_all}
 use Rattle.mark_channel.specs.Ends.{End}
 use Rattle.mark_channel.specs.inside.Rules.{Settles, settling}
-use Rattle.mark_channel.specs.declared.rule.Carried.{Carried}
+use Rattle.mark_channel.specs.Carried.{Carried}
 use Rattle.mark_channel.specs.declared.rule.View.{View}
 use Rattle.mark_channel.proofs.Keeps.{merges}
 use Rattle.mark_channel.proofs.Streaming.{begins, items_begin, whole}

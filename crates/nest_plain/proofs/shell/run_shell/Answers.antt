@@ -1,7 +1,7 @@
 use Rattle.std.proofs.Common.{◌∙◌, Bool, List, Option, None, IsSome, ap, refl, subst, sym, if◌then◌else◌}
 use Rattle.shell_log.specs.declared.entry.Entry.{Entry}
-use Rattle.shell_core.specs.Shells.{whole_log}
-use Rattle.shell_core.specs.Wholes.{if_link}
+use Rattle.shell_state.specs.Shells.{whole_log}
+use Rattle.shell_state.specs.Wholes.{if_link}
 use Rattle.nest_plain.proofs.Naming.{logged_where_named}
 use Rattle.nest_plain.proofs.Passing.{lost_short}
 use Rattle.nest_plain.proofs.shell.run_shell.Goals as goal

@@ -7,7 +7,7 @@ use Rattle.nest_spec.specs.Marks.{Marks}
 use Rattle.nest_spec.specs.Nests.{result_of}
 use Rattle.nest_spec.specs.Once.{HaveOneFate}
 use Rattle.nest_spec.specs.declared.fate.Fate.TheVariants.{Unsent}
-use Rattle.nest_lanes.specs.Lanes.{HasRun}
+use Rattle.nest_runner.specs.Lanes.{HasRun}
 use Rattle.nest_runner.proofs.feeds.run_nest_feeds.Goals as goal
 
 pub new-requires : goal.new-requires

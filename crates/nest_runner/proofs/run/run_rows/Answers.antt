@@ -4,8 +4,8 @@ use Rattle.shell_workers.specs.declared.ends.WorkEnd.{WorkEnd}
 use Rattle.shell_workers.specs.declared.ends.WorkEnd.TheVariants.{Ended}
 use Rattle.shell_workers.specs.Ends.{IfEnded}
 use Rattle.mark_channel.specs.Boths.{ByDirection, OfBoth}
-use Rattle.nest_lanes.specs.Lanes.{HasCarried, HasRun}
-use Rattle.nest_lanes.specs.inside.Lanes.{HasEnded}
+use Rattle.nest_runner.specs.Lanes.{HasCarried, HasRun}
+use Rattle.nest_runner.specs.inside.Lanes.{HasEnded}
 use Rattle.nest_runner.specs.inside.Lanes.{lanes_of}
 use Rattle.nest_runner.proofs.BothLanes.{both_ended, both_ran}
 use Rattle.nest_runner.proofs.run.run_rows.Goals as goal

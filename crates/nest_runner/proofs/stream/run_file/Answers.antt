@@ -4,8 +4,8 @@ use Rattle.shell_workers.specs.declared.ends.WorkEnd.{WorkEnd}
 use Rattle.nest_runner.specs.declared.stream_error.StreamError.{StreamError}
 use Rattle.shell_workers.specs.Ends.{IfEnded}
 use Rattle.mark_channel.specs.Boths.{ByDirection, OfBoth}
-use Rattle.nest_lanes.specs.Lanes.{HasRun, IsDonePath}
-use Rattle.nest_lanes.specs.inside.Lanes.{HasEnded}
+use Rattle.nest_runner.specs.Lanes.{HasRun, IsDonePath}
+use Rattle.nest_runner.specs.inside.Lanes.{HasEnded}
 use Rattle.nest_runner.specs.Streaming.{HasStreamCause}
 use Rattle.shell_workers.specs.StreamParts.{AllSent, IsStreamed}
 use Rattle.nest_runner.proofs.BothLanes.{both_ended, both_ran}

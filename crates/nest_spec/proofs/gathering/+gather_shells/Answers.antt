@@ -3,8 +3,8 @@ use Rattle.std.proofs.lemmas.Grind.{common_steps}
 use Rattle.std.proofs.lemmas.Result.{on_ok_weaker}
 use Rattle.packet_record.specs.Moments.{AreUpTo}
 use Rattle.packet_record.proofs.MomentsLemmas.{up_to_higher}
-use Rattle.shell_core.specs.Shells.{opportunities}
-use Rattle.shell_core.proofs.Laws.{lost_within}
+use Rattle.shell_state.specs.Shells.{opportunities}
+use Rattle.shell_state.proofs.Laws.{lost_within}
 use Rattle.nest_spec.specs.Fates.{fated}
 use Rattle.nest_spec.specs.Links.{AreNestShells, specs_in}
 use Rattle.nest_spec.specs.Marks.{passed}

@@ -2,7 +2,7 @@ use Rattle.std.proofs.Common.{◌≡◌, ◌∙◌, ap, ap₂, sym, map, take}
 use Rattle.std.proofs.lemmas.List.{take_more, map-append}
 use Rattle.clap.specs.Words.{app_of, rule_of, with_rule}
 use Rattle.option_words.specs.inside.ClapTable.{app_for}
-use Rattle.option_words.specs.inside.Values.{opt}
+use Rattle.option_words.specs.Values.{opt}
 use Rattle.option_words.proofs.TableLemmas.{one_more_rule}
 use Rattle.option_words.proofs.table.command_for.Goals as goal
 

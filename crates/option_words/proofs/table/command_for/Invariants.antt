@@ -1,7 +1,7 @@
 use Rattle.std.proofs.Common.{◌≡◌, map, take}
 use Rattle.clap.specs.Words.{app_of}
 use Rattle.option_words.specs.inside.ClapTable.{app_for}
-use Rattle.option_words.specs.inside.Values.{opt}
+use Rattle.option_words.specs.Values.{opt}
 use Rattle.option_words.proofs.table.command_for.Given as goal
 
 abbrev pub invariant-loop-option : goal.invariant-loop-option

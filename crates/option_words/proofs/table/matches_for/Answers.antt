@@ -2,7 +2,7 @@ use Rattle.std.proofs.Common.{◌≡◌, ◌∙◌, ap, sym, map, string_bytes, 
 use Rattle.clap.specs.Words.{App, IsAmong, Kinds, app_of, fault_of, is_simple, is_simple_and_free, kind_of, matches_of}
 use Rattle.clap.specs.Kinds.{HasKind}
 use Rattle.option_words.specs.inside.ClapTable.{app_for}
-use Rattle.option_words.specs.inside.Values.{opt}
+use Rattle.option_words.specs.Values.{opt}
 use Rattle.option_words.proofs.TableLemmas.{matched, unmatched, table_simple, table_free}
 use Rattle.option_words.proofs.table.matches_for.Goals as goal
 

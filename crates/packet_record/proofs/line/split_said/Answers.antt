@@ -6,26 +6,26 @@ use Rattle.packet_record.proofs.line.split_said.Goals as goal
 pub returns-in_err-moment-clause-every : goal.returns-in_err-moment-clause-every
 returns-in_err-moment-clause-every c = λ line rest says cut e other.
     let p = has_parts line says e in
-    absurd (c.in_err-moment.ensures.every p.first (direction_text says.1 ++ (p.third ++ rest)) says.0
-    (cut_first c.args.text.now line rest says.0 says.2 says.1 p cut) p.moment
-    (direction_begins says.1 (p.third ++ rest)))
+    absurd (c.in_err-moment.ensures.every p.first (direction_text says.direction ++ (p.third ++ rest)) says.moment
+    (cut_first c.args.text.now line rest says.moment says.size says.direction p cut) p.moment
+    (direction_begins says.direction (p.third ++ rest)))
 
 pub returns-in_err-direction-clause-every : goal.returns-in_err-direction-clause-every
 returns-in_err-direction-clause-every c = λ line rest says cut e other.
     let p = has_parts line says e in
-    let a = c.in_ok-moment.ensures.every p.first (direction_text says.1 ++ (p.third ++ rest)) says.0
-    (cut_first c.args.text.now line rest says.0 says.2 says.1 p cut) p.moment
-    (direction_begins says.1 (p.third ++ rest)) in
-    absurd (c.in_err-direction.ensures.every says.1 (p.third ++ rest) a.1)
+    let a = c.in_ok-moment.ensures.every p.first (direction_text says.direction ++ (p.third ++ rest)) says.moment
+    (cut_first c.args.text.now line rest says.moment says.size says.direction p cut) p.moment
+    (direction_begins says.direction (p.third ++ rest)) in
+    absurd (c.in_err-direction.ensures.every says.direction (p.third ++ rest) a.1)
 
 pub returns-in_err-size-clause-every : goal.returns-in_err-size-clause-every
 returns-in_err-size-clause-every c = λ line rest says cut e other.
     let p = has_parts line says e in
-    let a = c.in_ok-moment.ensures.every p.first (direction_text says.1 ++ (p.third ++ rest)) says.0
-    (cut_first c.args.text.now line rest says.0 says.2 says.1 p cut) p.moment
-    (direction_begins says.1 (p.third ++ rest)) in
-    let b = c.in_ok-direction.ensures.every says.1 (p.third ++ rest) a.1 in
-    absurd (c.in_err-size.ensures.every p.third rest says.2 b.1 p.size other)
+    let a = c.in_ok-moment.ensures.every p.first (direction_text says.direction ++ (p.third ++ rest)) says.moment
+    (cut_first c.args.text.now line rest says.moment says.size says.direction p cut) p.moment
+    (direction_begins says.direction (p.third ++ rest)) in
+    let b = c.in_ok-direction.ensures.every says.direction (p.third ++ rest) a.1 in
+    absurd (c.in_err-size.ensures.every p.third rest says.size b.1 p.size other)
 
 pub returns-clause-read : goal.returns-clause-read
 returns-clause-read c =
@@ -38,9 +38,9 @@ returns-clause-read c =
 pub returns-clause-every : goal.returns-clause-every
 returns-clause-every c = λ line rest says cut e other.
     let p = has_parts line says e in
-    let a = c.in_ok-moment.ensures.every p.first (direction_text says.1 ++ (p.third ++ rest)) says.0
-    (cut_first c.args.text.now line rest says.0 says.2 says.1 p cut) p.moment
-    (direction_begins says.1 (p.third ++ rest)) in
-    let b = c.in_ok-direction.ensures.every says.1 (p.third ++ rest) a.1 in
-    let z = c.in_ok-size.ensures.every p.third rest says.2 b.1 p.size other in
+    let a = c.in_ok-moment.ensures.every p.first (direction_text says.direction ++ (p.third ++ rest)) says.moment
+    (cut_first c.args.text.now line rest says.moment says.size says.direction p cut) p.moment
+    (direction_begins says.direction (p.third ++ rest)) in
+    let b = c.in_ok-direction.ensures.every says.direction (p.third ++ rest) a.1 in
+    let z = c.in_ok-size.ensures.every p.third rest says.size b.1 p.size other in
     (same_said c.in_ok-moment.moment c.in_ok-size.size c.in_ok-direction.direction says a.0 b.0 z.0, z.1)

@@ -13,7 +13,7 @@ loop-before-preserved c =
     c.in_ok-push.ensures.items in
     let count : length c.loop-before.rows.items ≡ c.loop-before.before = c.loop-before.invariant.count in
     let moment : c.draw_row-row.result.timed.moment ≡ c.loop-before.moment + next_draw c.loop-before.draws % 4 =
-    ap (λ s. s.0) c.draw_row-row.ensures.said in
+    ap (λ s. s.moment) c.draw_row-row.ensures.said in
     let id : c.draw_row-row.result.timed.packet.id ≡ length c.loop-before.rows.items + 1 = c.draw_row-row.ensures.id
     ∙ ap (λ n. n + 1) (sym count) in
     let pushed : length (c.loop-before.rows.items ++ c.draw_row-row.result ∷ []) ≡ c.loop-before.before + 1 =

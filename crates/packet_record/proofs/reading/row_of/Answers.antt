@@ -1,9 +1,6 @@
 use Rattle.std.proofs.Common.{rules}
 use Rattle.packet_record.proofs.reading.row_of.Goals as goal
 
-pub returns-then-moment-low-clause-fault : goal.returns-then-moment-low-clause-fault
-returns-then-moment-low-clause-fault c = search rules
-
 pub returns-clause-order : goal.returns-clause-order
 returns-clause-order c = search rules
 
@@ -12,9 +9,6 @@ returns-clause-fault c = search rules
 
 pub returns-in_default-clause-fault : goal.returns-in_default-clause-fault
 returns-in_default-clause-fault c = search rules
-
-pub returns-then-size-lt1-clause-fault : goal.returns-then-size-lt1-clause-fault
-returns-then-size-lt1-clause-fault c = search rules
 
 pub returns-clause-few : goal.returns-clause-few
 returns-clause-few c = search rules

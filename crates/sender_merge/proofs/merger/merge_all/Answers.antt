@@ -1,7 +1,6 @@
 use Rattle.std.proofs.Common.{◌∙◌, ap, arith, length, sym, subst, refl, rules}
 use Rattle.packet_record.specs.declared.item.Item.{Item}
-use Rattle.packet_record.specs.declared.item.Stream.{Stream}
-use Rattle.packet_record.specs.Streams.{after}
+use Rattle.packet_record.specs.Streams.{Stream, after}
 use Rattle.sender_merge.specs.Inflows.{new_merging}
 use Rattle.sender_merge.specs.declared.step.MergeStep.{MergeStep}
 use Rattle.sender_merge.specs.Steps.{after_step}

@@ -1,6 +1,5 @@
 use Rattle.std.proofs.Common.{◌∙◌, subst, sym}
-use Rattle.packet_record.specs.declared.item.Stream.{Stream}
-use Rattle.packet_record.specs.Streams.{MayFollow}
+use Rattle.packet_record.specs.Streams.{Stream, MayFollow}
 use Rattle.sender_merge.specs.Laws.{IsStepUpTo}
 use Rattle.sender_merge.proofs.Stepping.{step_within}
 use Rattle.sender_merge.proofs.Thinning.{next-follows}

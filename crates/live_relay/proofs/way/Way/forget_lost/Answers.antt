@@ -1,5 +1,5 @@
 use Rattle.std.proofs.Common.{◌∙◌, ap, sym, subst}
-use Rattle.nest_line.specs.Lines.{LineParts, number_all}
+use Rattle.live_relay.specs.Lines.{LineParts, number_all}
 use Rattle.live_relay.specs.declared.kept.Kept.{Kept}
 use Rattle.live_relay.specs.declared.way.Way.{Way}
 use Rattle.live_relay.specs.inside.Pieces.{Keeps, has_number, kept_at}

@@ -1,5 +1,5 @@
 use Rattle.std.proofs.Common.{◌≡◌, ℕ, List}
-use Rattle.nest_line.specs.Lines.{number_all}
+use Rattle.live_relay.specs.Lines.{number_all}
 use Rattle.live_relay.specs.inside.Pieces.{Keeps, has_number, kept_at}
 use Rattle.live_relay.proofs.way.Way.forget_lost.Given as goal
 

@@ -2,7 +2,7 @@ use Rattle.std.proofs.Common.{◌∙◌, List, ap, sym, subst, map, drop, rules}
 use Rattle.std.specs.Option.{option_map}
 use Rattle.packet_record.specs.declared.packet.Timed.{Timed}
 use Rattle.packet_record.specs.Moments.{Rise}
-use Rattle.nest_line.specs.Lines.{up_to}
+use Rattle.live_relay.specs.Lines.{up_to}
 use Rattle.live_relay.specs.Due.{bytes_in}
 use Rattle.live_relay.specs.inside.Ways.{StopsSending}
 use Rattle.live_relay.specs.Wires.{sending_all}

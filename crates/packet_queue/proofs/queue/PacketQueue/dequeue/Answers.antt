@@ -3,6 +3,3 @@ use Rattle.packet_queue.proofs.queue.PacketQueue.dequeue.Goals as goal
 
 pub invariant_of-self : goal.invariant_of-self
 invariant_of-self c = search rules
-
-pub returns-in-Some-clause-packets : goal.returns-in-Some-clause-packets
-returns-in-Some-clause-packets c = search rules

@@ -8,8 +8,8 @@ use Rattle.packet_queue.proofs.queue.PacketQueue.enqueue.Goals as goal
 
 pub returns-in-DropHead-clause-few : goal.returns-in-DropHead-clause-few
 returns-in-DropHead-clause-few c =
-    let few = few_dropped c.self.inside.spec c.self.inside.waiting.items c.args.t c.self.invariant.0 in
-    let same = ap bytes (by_head c.self.inside.spec c.self.inside.waiting.items c.args.t c.in-DropHead.is).1 in
+    let few = few_dropped c.self.inside.spec c.self.inside.waiting.packets.items c.args.t c.self.invariant.0 in
+    let same = ap bytes (by_head c.self.inside.spec c.self.inside.waiting.packets.items c.args.t c.in-DropHead.is).1 in
     let seen = ap (λ (q : Queue). bytes (excess q.spec (q.packets ++ c.args.t ∷ []))) c.self.view_is in
     omega arith
 

@@ -8,11 +8,10 @@ use Rattle.packet_queue.proofs.queue.PacketQueue.push_out.Goals as goal
 pub invariant_of-self : goal.invariant_of-self
 invariant_of-self c =
     let spare_is = ap (λ (q : Queue). q.spare) c.self.view_is in
-    let pushed : c.push_back.new.self.items ≡ c.self.inside.waiting.items ++ c.args.t ∷ [] = search rules in
-    let longer : length c.push_back.new.self.items ≡ length c.self.inside.waiting.items + 1 = ap length pushed
-    ∙ length_push c.self.inside.waiting.items c.args.t in (
-      kept_fitting c.self.inside.spec c.push_back.new.self.items c.shed.new.waiting.items c.shed.ensures.waiting,
-      c.shed.ensures.size,
+    let longer : length c.append.new.self.packets.items ≡ length c.self.inside.waiting.packets.items + 1 =
+    ap length c.append.ensures.packets ∙ length_push c.self.inside.waiting.packets.items c.args.t in (
+      kept_fitting c.self.inside.spec c.append.new.self.packets.items c.shed.new.self.packets.items
+          c.shed.ensures.packets,
       grind (arith, common_steps, queue_steps),
       grind (arith, common_steps, queue_steps),
       grind (arith, common_steps, queue_steps),

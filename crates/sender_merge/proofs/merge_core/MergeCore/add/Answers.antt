@@ -1,7 +1,6 @@
 use Rattle.std.proofs.Common.{◌≡◌, ◌∙◌, ◌≤◌, ◌<◌, ◌-◌, ◌+◌, sym, ap, subst, arith, length, List, set, get_or}
 use Rattle.std.proofs.Math.ListN.{length-set}
-use Rattle.packet_record.specs.declared.item.Stream.{Stream}
-use Rattle.packet_record.specs.Streams.{MayFollow}
+use Rattle.packet_record.specs.Streams.{Stream, MayFollow}
 use Rattle.sender_merge.specs.Inflows.{Inflow, Merging, fresh, merging, sender_at, with_item}
 use Rattle.sender_merge.specs.inside.Lefts.{left_of, packets_in}
 use Rattle.sender_merge.specs.inside.Standing.{Stands}

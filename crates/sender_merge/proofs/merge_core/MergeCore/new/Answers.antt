@@ -1,6 +1,6 @@
 use Rattle.std.proofs.Common.{◌≡◌, ◌∙◌, sym, ap, subst, arith, length, List, replicate}
 use Rattle.std.proofs.lemmas.List.{length-replicate}
-use Rattle.packet_record.specs.declared.item.Stream.{Stream}
+use Rattle.packet_record.specs.Streams.{Stream}
 use Rattle.sender_merge.specs.Inflows.{Inflow, fresh, merging}
 use Rattle.sender_merge.specs.inside.Lefts.{left_of}
 use Rattle.sender_merge.specs.inside.Standing.{Stands}

@@ -1,11 +1,10 @@
 use Rattle.std.proofs.Common.{◌≡◌, ◌∙◌, ◌≤◌, ◌+◌, sym, ap, subst, arith, length, List, ℕ, rules}
 use Rattle.std.specs.Vec.{with_items}
 use Rattle.std.proofs.lemmas.List.{take_at}
-use Rattle.packet_record.specs.declared.item.Stream.{Stream}
 use Rattle.packet_record.specs.declared.item.FlowEnd.TheVariants.{Open}
 use Rattle.sender_merge.specs.declared.step.MergeStep.{MergeStep}
 use Rattle.sender_merge.specs.declared.step.MergeStep.TheVariants.{Item as Gives}
-use Rattle.packet_record.specs.Streams.{MayFollow}
+use Rattle.packet_record.specs.Streams.{Stream, MayFollow}
 use Rattle.sender_merge.specs.Inflows.{Inflow, Merging, merging}
 use Rattle.sender_merge.specs.Laws.{AllUpTo, IfNeeds, IsMergeFront, IsStepUpTo, IsNeeded}
 use Rattle.sender_merge.specs.inside.Lefts.{left_of}

@@ -2,8 +2,8 @@ use Rattle.std.proofs.Common.{◌≡◌, List, subst}
 use Rattle.std.specs.Prelude.{IfOk}
 use Rattle.packet_record.specs.declared.item.FlowEnd.TheVariants.{Ended}
 use Rattle.shell_log.specs.declared.entry.Entry.{Entry}
-use Rattle.shell_core.specs.Shells.{whole_log}
-use Rattle.shell_core.specs.Wholes.{if_link}
+use Rattle.shell_state.specs.Shells.{whole_log}
+use Rattle.shell_state.specs.Wholes.{if_link}
 use Rattle.shell_state.specs.States.{State}
 use Rattle.shell_state.proofs.Foretelling.{finished}
 use Rattle.shell_state.proofs.state.ShellState.log.Goals as goal

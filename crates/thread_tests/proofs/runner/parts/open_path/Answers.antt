@@ -2,7 +2,7 @@ use Rattle.std.proofs.Common.{◌≡◌, ◌∷◌, subst, sym, rules}
 use Rattle.std.specs.Vec.Iter.{into_iter_items}
 use Rattle.nest_spec.specs.Nests.{AllFit}
 use Rattle.shell_workers.specs.Stages.{AllFresh}
-use Rattle.nest_lanes.proofs.Chains.{AllFresh-snoc}
+use Rattle.nest_runner.proofs.Chains.{AllFresh-snoc}
 use Rattle.thread_tests.proofs.runner.parts.open_path.Goals as goal
 
 pub loop-spec-preserved : goal.loop-spec-preserved

@@ -1,5 +1,0 @@
-pub mod MakeLemmas
-pub mod Totals
-pub mod LoadLemmas
-pub mod TraceLemmas
-pub mod WordLemmas

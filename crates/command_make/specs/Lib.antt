@@ -1,5 +1,0 @@
-pub mod Made
-pub mod Summaries
-pub mod SummaryText
-pub mod Make
-pub mod inside

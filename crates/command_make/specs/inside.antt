@@ -1,2 +1,0 @@
--- What only proofs and the clauses of private functions cite.
-pub mod Values

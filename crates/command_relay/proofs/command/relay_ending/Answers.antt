@@ -1,0 +1,27 @@
+use Rattle.std.proofs.Common.{map, string_bytes}
+use Rattle.command_ends.specs.Answers.{cause_in}
+use Rattle.command_ends.proofs.TopLemmas.{refuses_by_words, top_call}
+use Rattle.command_relay.specs.Relaying.{net_counts, relay_work}
+use Rattle.command_relay.proofs.RelayLemmas.{relay_first, relay_one}
+use Rattle.command_relay.proofs.command.relay_ending.Goals as goal
+
+pub returns-clause-top : goal.returns-clause-top
+returns-clause-top g c =
+    let answered = c.answer-answer.ensures in
+    top_call relay_work _ _ _ _ (g.O.Sink.view c.answer-answer.new.out) _
+    (cause_in c.answer-answer.result) c.conclude-status.result answered.ends c.conclude-status.ensures
+    net_counts (relay_one (map string_bytes c.args.words.now)) (λ task rose. rose)
+    answered.alone answered.counts answered.out_counts answered.wire_counts
+
+pub returns-clause-usage : goal.returns-clause-usage
+returns-clause-usage g c =
+    refuses_by_words relay_work _ _ _ _ (g.O.Sink.view c.answer-answer.new.out)
+    (g.O.Sink.view c.conclude-status.new.out) (cause_in c.answer-answer.result) c.conclude-status.result c.answer-answer.ensures.ends
+    c.conclude-status.ensures (relay_first (map string_bytes c.args.words.now))
+
+pub returns-clause-ending : goal.returns-clause-ending
+returns-clause-ending g c = record {
+  ended = g.O.Sink.view c.answer-answer.new.out;
+  ends = c.answer-answer.ensures.ends;
+  concludes = c.conclude-status.ensures;
+}

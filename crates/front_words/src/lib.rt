@@ -1,0 +1,27 @@
+//! What the programs say to a person on the standard error: why a command line isn't done, with what was typed and
+//! where, or the usage or the version if the words ask for it.
+//!
+//! The line on the standard output is the answer that other programs read; what stands here is for a person, and is
+//! tested and not proved.
+#![tactic(auto)]
+
+mod asked;
+mod causes;
+mod commit;
+mod faults;
+mod lacks;
+mod nest_faults;
+mod pages;
+mod program;
+mod queue_faults;
+mod quotes;
+mod reasons;
+mod roles;
+mod rules;
+mod shells;
+mod slips;
+mod telling;
+
+pub use program::Program;
+pub use reasons::Reason;
+pub use telling::{tell, tell_reason};

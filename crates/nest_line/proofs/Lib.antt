@@ -1,4 +1,0 @@
-pub mod Growing
-pub mod Settling
-pub mod Carrying
-pub mod Lining

@@ -1,5 +1,0 @@
-use Rattle.std.proofs.Common.{length}
-use Rattle.nest_line.proofs.passing.+pass_on.Given as goal
-
-abbrev pub decreases-pass_on : goal.decreases-pass_on
-decreases-pass_on l = length l.states.now

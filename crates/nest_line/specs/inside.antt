@@ -1,3 +1,0 @@
--- What only proofs and the clauses of private functions cite.
-pub mod LineViews
-pub mod Meeting

@@ -1,3 +1,0 @@
--- What contracts see of each public type (`.now`), by its fields.
-pub mod Line
-pub mod Meeting

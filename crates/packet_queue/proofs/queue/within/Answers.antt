@@ -1,5 +1,0 @@
-use Rattle.std.proofs.Common.{rules}
-use Rattle.packet_queue.proofs.queue.within.Goals as goal
-
-pub returns-else-limit-eq0 : goal.returns-else-limit-eq0
-returns-else-limit-eq0 c = search rules

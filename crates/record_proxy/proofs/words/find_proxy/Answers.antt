@@ -1,0 +1,19 @@
+use Rattle.std.proofs.Common.{◌∙◌, ap, map, option_map, string_bytes}
+use Rattle.option_words.specs.Commands.{table_of}
+use Rattle.option_words.specs.declared.command.Command.TheVariants.{Proxy}
+use Rattle.option_words.proofs.WordLemmas.{job_of_given, no_job_of_given}
+use Rattle.record_proxy.specs.Proxying.{proxy_from, proxy_job_of}
+use Rattle.record_proxy.proofs.words.find_proxy.Goals as goal
+
+pub returns-in-Some : goal.returns-in-Some
+unfolding proxy_job_of
+returns-in-Some c =
+    job_of_given proxy_from (λ v. map (λ o. option_map (λ s. s.now) o) v.items) (table_of Proxy)
+    (map string_bytes c.args.words.now) _ c.in-Some.given _ c.in-Some.is c.in_ok-given.ensures
+    (c.proxy_job.ensures ∙ ap (λ l. proxy_from (map (λ o. option_map (λ s. s.now) o) l)) c.deref.ensures.value)
+
+pub returns-in-None : goal.returns-in-None
+unfolding proxy_job_of
+returns-in-None c =
+    no_job_of_given proxy_from (λ v. map (λ o. option_map (λ s. s.now) o) v.items) (table_of Proxy)
+    (map string_bytes c.args.words.now) _ c.in-None.is c.in_ok-given.ensures

@@ -1,3 +1,0 @@
-pub mod PieceLemmas
-pub mod ShownLemmas
-pub mod TellLemmas

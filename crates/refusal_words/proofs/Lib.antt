@@ -1,2 +1,0 @@
-pub mod UsageLemmas
-pub mod ShellLemmas

@@ -1,5 +1,0 @@
-use Rattle.std.proofs.Common.{rules}
-use Rattle.replay_server.proofs.indexed_store.IndexedStore.new.Goals as goal
-
-pub returns : goal.returns
-returns c = search rules

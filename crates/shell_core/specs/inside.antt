@@ -1,3 +1,0 @@
--- What proofs and the clauses of inner functions cite, and no caller needs.
-pub mod CoreInside
-pub mod Lawful

@@ -1,2 +1,0 @@
--- What `.now` of a type means, by the type's fields, and what is true of these.
-pub mod Core
