@@ -1,7 +1,7 @@
 -- Where a merge's words and files lead, and what stops it.
 use Rattle.std.proofs.Common.{◌≡◌, ◌∙◌, ℕ, ◌+◌, List, [], ◌∷◌, ◌++◌, Option, Some, None, Result, Ok}
 use Rattle.std.proofs.Common.{Err, map}
-use Rattle.std.proofs.Common.{ap, length, subst, sym}
+use Rattle.std.proofs.Common.{ap, length, subst, sym, Bool, true, false, is_some, option_map, refl}
 use Rattle.mm_base.specs.Disk.{DiskView, OnlyReads}
 use Rattle.mm_base.specs.Files.{Files}
 use Rattle.text_base.specs.Lines.{lines_of}
@@ -27,11 +27,12 @@ use Rattle.command_ends.proofs.EndLemmas.{finishes_only}
 use Rattle.command_ends.proofs.ReadingLemmas.{HasOneEnd, found_stop, leads_text, leads_then, leads_unless}
 use Rattle.command_ends.proofs.ReadingLemmas.{stops_at, stops_later, text_stops}
 use Rattle.nest_command.specs.Inputs.{reading_traces, schedule_refusal, trace_refusal}
-use Rattle.nest_command.specs.NestReading.{refused_count, refused_horizon, refused_outputs, with_nest}
+use Rattle.nest_command.specs.NestReading.{packet_outputs, refused_count, refused_horizon, refused_outputs, with_nest}
 use Rattle.nest_command.proofs.InputLemmas.{have_said, have_texts, leads_traces}
 use Rattle.nest_command.proofs.NestLemmas.{count_text, count_within, names_there}
 use Rattle.command_merge.specs.List.{list_refusal}
 use Rattle.command_merge.specs.inside.Loaded.{AddsSchedules, HasSenders, HasTraces, HaveSchedules}
+use Rattle.command_merge.specs.inside.Merged.{merged_in}
 use Rattle.command_merge.specs.Merge.{GivesMerge, MergeJob, MergeTask, merge_files, merge_of, nest_for}
 use Rattle.command_merge.specs.MergeReading.{merge_inputs, merge_reading, merge_words, reading_schedules}
 use Rattle.command_merge.specs.MergeReading.{refused_listed}
@@ -41,7 +42,8 @@ use Rattle.command_merge.proofs.ScheduleLemmas.{leads_schedules, schedule_texts,
 
 -- what is read and refused once the nest is known
 abbrev after_nest : MergeJob → NestPlan → Reading MergeTask
-after_nest job plan = unless (refused_outputs (job.senders ∷ []) job.out plan) (unless (refused_horizon job.horizon) (merge_inputs job plan))
+after_nest job plan = unless (refused_outputs (job.senders ∷ []) (packet_outputs job.table job.out) plan)
+    (unless (refused_horizon job.horizon) (merge_inputs job plan))
 
 -- what is read and refused once the traces were read
 abbrev pub after_traces : MergeJob → NestPlan → List (List ℕ) → Reading MergeTask
@@ -146,28 +148,45 @@ senders_found job plan list names schedules added old mid input accepted free re
           adds.have));
     }
 
+-- the files of a merge are those with the rows that were kept for its table, if there is one
+kept_files : (table : Option Text) (out : Text) (kept rows : List Row) (run : RunLists)
+    → (is_some table ≡ true → kept ≡ rows) → merge_files table out kept run ≡ merge_files table out rows run
+kept_files None out kept rows run are = refl
+kept_files (Some name) out kept rows run are = ap (λ (l : List Row). merge_files (Some name) out l run) (are refl)
+
+-- the rows of senders that were kept, if there is a name for a table
+pub kept_rows : {A : Type 0} (f : A → Text) (name : Option A) (keeps : Bool) (kept : Option (List (List Row)))
+    (senders schedules : List (List Row)) → keeps ≡ is_some name → (keeps ≡ true → kept ≡ Some senders)
+    → merge_rows senders ≡ merge_rows schedules
+    → is_some (option_map f name) ≡ true → merged_in kept ≡ merge_rows schedules
+kept_rows f None keeps kept senders schedules asked are same e = let no : false ≡ true = e in cc no
+kept_rows f (Some name) keeps kept senders schedules asked are same e = ap merged_in (are asked) ∙ same
+
 -- all was read
 pub merge_finishes : (job : MergeJob) (plan : NestPlan) (nest : NestParts) (traces : List TraceView)
-    (schedules : List (List Row)) (old mid : DiskView) (run : RunLists) → HasTraces old.files job plan traces
+    (schedules : List (List Row)) (kept : List Row) (old mid : DiskView) (run : RunLists)
+    → HasTraces old.files job plan traces
     → OnlyReads old mid → HasSenders mid.files job plan schedules → nest ≡ nest_for job plan traces
     → run ≡ result_of nest (merge_rows schedules) → HaveOneFate nest (merge_rows schedules)
-    → FinishesOnly GivesMerge (merge_inputs job plan) old.files (writes (merge_files job.out run))
-merge_finishes job plan nest traces schedules old mid run has reads now nest_is is once =
+    → (is_some job.table ≡ true → kept ≡ merge_rows schedules)
+    → FinishesOnly GivesMerge (merge_inputs job plan) old.files (writes (merge_files job.table job.out kept run))
+merge_finishes job plan nest traces schedules kept old mid run has reads now nest_is is once are =
     let senders : HasSenders old.files job plan schedules =
     subst (λ (told : Option Files). HasSenders told job plan schedules) reads.same_files now in
     let rows = merge_rows schedules in
     let same : run ≡ result_of (nest_for job plan traces) rows = is
     ∙ ap (λ (n : NestParts). result_of n rows) nest_is in
     let gives : GivesMerge (record { job = job; plan = plan; traces = has.texts; schedules = senders.texts })
-    (writes (merge_files job.out run)) = record {
+    (writes (merge_files job.table job.out kept run)) = record {
       traces = traces;
       traces_are = have_texts has.have;
       schedules = schedules;
       schedules_are = schedule_texts senders.have;
       once = subst (λ (n : NestParts). HaveOneFate n rows) nest_is once;
-      output_is = ap (λ (lists : RunLists). writes (merge_files job.out lists)) same;
+      output_is = ap writes (kept_files job.table job.out kept rows run are
+          ∙ ap (λ (lists : RunLists). merge_files job.table job.out rows lists) same);
     } in
-    finishes_only (merge_inputs job plan) GivesMerge _ old.files (writes (merge_files job.out run))
+    finishes_only (merge_inputs job plan) GivesMerge _ old.files (writes (merge_files job.table job.out kept run))
     (leads_then (senders_next old.files job plan traces has)
     (leads_then (schedules_next old.files job plan senders.list has.texts senders.input senders.accepted senders.free)
     (leads_schedules (done_with job plan has.texts) senders.have))) gives
@@ -203,7 +222,8 @@ traces_one (name ∷ names) next one = λ text.
 nest_one : (job : MergeJob) (nest : Result NestPlan NestError) → HasOneEnd (with_nest nest (after_nest job))
 nest_one job (Err error) = tt
 nest_one job (Ok plan) =
-    unless_one (refused_outputs (job.senders ∷ []) job.out plan) (unless (refused_horizon job.horizon) (merge_inputs job plan))
+    unless_one (refused_outputs (job.senders ∷ []) (packet_outputs job.table job.out) plan)
+    (unless (refused_horizon job.horizon) (merge_inputs job plan))
     (unless_one (refused_horizon job.horizon) (merge_inputs job plan)
     (traces_one plan.traces (after_traces job plan) (λ traces.
     unless_one (refused_count job.horizon plan.shells (map trace_in traces)) (sender_inputs job plan traces)

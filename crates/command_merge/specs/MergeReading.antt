@@ -10,13 +10,14 @@ use Rattle.command_ends.specs.declared.cause.Limit.TheVariants.{Packets}
 use Rattle.command_ends.specs.declared.cause.Refusal.{Refusal}
 use Rattle.command_ends.specs.declared.cause.Refusal.TheVariants.{Limit}
 use Rattle.nest_command.specs.Inputs.{reading_schedule, reading_traces}
-use Rattle.nest_command.specs.NestReading.{plan_reading, refused_count}
+use Rattle.nest_command.specs.NestReading.{packet_outputs, plan_reading, refused_count}
 use Rattle.command_merge.specs.List.{list_refusal}
 use Rattle.command_merge.specs.Merge.{MergeJob, MergeTask, merge_of}
 
--- the names of the outputs: the logs, in the order of the shells, up before down, and the fates
+-- the names of the outputs: the logs, in the order of the shells, up before down, the table, if there is one, and the
+-- fates
 abbrev pub output_names : MergeJob → NestPlan → List Text
-output_names job plan = plan.logs ++ job.out ∷ []
+output_names job plan = plan.logs ++ packet_outputs job.table job.out
 
 -- an output that has a name on a line of the list is refused
 abbrev pub refused_listed : MergeJob → NestPlan → List ℕ → Option Refusal
@@ -61,7 +62,8 @@ merge_inputs job plan =
 
 -- Words that name no nest, names that are taken and a horizon past an hour are refused before any file is read.
 abbrev pub merge_reading : MergeJob → Reading MergeTask
-merge_reading job = plan_reading job.shells (job.senders ∷ []) job.out job.horizon (merge_inputs job)
+merge_reading job =
+    plan_reading job.shells (job.senders ∷ []) (packet_outputs job.table job.out) job.horizon (merge_inputs job)
 
 -- what `merge` reads and refuses by the words after it
 abbrev pub merge_words : List Text → Reading MergeTask

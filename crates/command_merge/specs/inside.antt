@@ -1,3 +1,4 @@
 -- What proofs and the clauses of inner functions cite, and no caller needs.
 pub mod Loaded
+pub mod Merged
 pub mod Values

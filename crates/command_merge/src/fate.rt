@@ -1,8 +1,8 @@
-// The fates of a merge's packets, each printed with its sender and line.
+// The fates of a merge's packets, each printed with its sender and line, in the table too.
 ghost use Rattle.std.specs.Prelude.{◌≡◌, ◌+◌, ◌<◌, ◌≤◌, ◌++◌, IfOk, decimal, length, map};
-ghost use Rattle.command_merge.specs.FateLines.{line_of, merged_fate_line, sender_of};
+ghost use Rattle.command_merge.specs.FateLines.{line_of, merged_entry, merged_fate_line, sender_of};
 
-use nest_spec::{FateRow, PackedFate, put_fate};
+use nest_spec::{FateRow, PackedFate, TableEntry, TableFate, put_fate};
 use std::alloc::Global;
 use text_base::{LineBuffer, OutOfMemory, PrintLine};
 
@@ -24,6 +24,19 @@ impl SenderFate {
         ensures { result ≡ line_of self.now.0.id }
     {
         self.0.id.saturating_sub(1) / 16 + 1
+    }
+}
+
+impl TableFate for SenderFate {
+    ghost entry_of = { λ fate. merged_entry fate.0 };
+
+    fn table_entry(&self) -> TableEntry {
+        TableEntry {
+            packet: self.line(),
+            sender: self.sender(),
+            direction: self.0.direction,
+            fate: self.0.fate,
+        }
     }
 }
 

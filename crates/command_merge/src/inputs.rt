@@ -17,7 +17,9 @@ use crate::job::MergeJob;
 use crate::list::{ListError, read_list};
 use command_ends::{Cause, Limit, Refusal, read_input};
 use mm_base::Disk;
-use nest_command::{check_count, check_outputs, load_packed, load_traces, names_of};
+use nest_command::{
+    check_count, check_outputs, load_packed, load_traces, names_of, packet_outputs,
+};
 use nest_spec::NestWords;
 use packet_record::PackedSchedule;
 use std::alloc::Global;
@@ -86,7 +88,8 @@ fn check_listed(
         → MatchResult result (λ _. refused_listed (merge_values job.now) nest.now list ≡ None)
         (λ cause. RefusesText (refused_listed (merge_values job.now) nest.now list) cause) }
 {
-    let outputs = names_of(alloc, nest.logs(), &[job.out])?;
+    let outs = packet_outputs(alloc, job.table, job.out)?;
+    let outputs = names_of(alloc, nest.logs(), outs.as_slice())?;
     check_outputs(alloc, names, outputs.as_slice())
 }
 

@@ -9,13 +9,14 @@ use option_words::{Command, WordFault, job_or_fault, read_seed, read_split};
 use std::alloc::{AllocError, Global};
 use text_base::read_decimal;
 
-// The job of a merge: the horizon in milliseconds, the names of the list of senders and of the file of the
-// fates, the seed, and the words of the shells.
+// The job of a merge: the horizon in milliseconds, the names of the list of senders and of the files of the fates and of
+// the table, if there is one, the seed, and the words of the shells.
 #[derive(Drop)]
 pub(crate) struct MergeJob<'a> {
     pub horizon: u64,
     pub senders: &'a str,
     pub out: &'a str,
+    pub table: Option<&'a str>,
     pub seed: u64,
     pub shells: &'a [String],
 }
@@ -26,7 +27,7 @@ fn merge_job<'a>(given: &[Option<&'a str>], shells: &'a [String]) -> Option<Merg
     ensures { option_map merge_values result ≡ merge_from (map (λ o. option_map (λ s. s.now) o) given.now)
         (map string_bytes shells.now) }
 {
-    let [until, senders, out, seed] = given else {
+    let [until, senders, out, table, seed] = given else {
         return None;
     };
     let horizon = read_decimal((*until)?.as_bytes())?;
@@ -35,6 +36,7 @@ fn merge_job<'a>(given: &[Option<&'a str>], shells: &'a [String]) -> Option<Merg
         horizon,
         senders: (*senders)?,
         out: (*out)?,
+        table: *table,
         seed,
         shells,
     })

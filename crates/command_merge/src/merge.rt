@@ -1,5 +1,5 @@
 // The command `merge`: its words, its inputs, its packets, and the files that it writes.
-ghost use Rattle.std.specs.Prelude.{◌≡◌, ◌≤◌, IfErr, IfOk, OnOk, map, string_bytes};
+ghost use Rattle.std.specs.Prelude.{◌≡◌, ◌≤◌, IfErr, IfOk, OnOk, map, option_map, string_bytes};
 ghost use Rattle.mm_base.specs.Disk.{DiskView, OnlyReads};
 ghost use Rattle.mm_base.specs.Sink.{SinkView};
 ghost use Rattle.command_ends.specs.Answers.{CountsDisk, cause_in};
@@ -13,15 +13,15 @@ ghost use Rattle.command_ends.specs.inside.Stops.{ReadsOn};
 ghost use Rattle.command_ends.specs.Works.{only};
 ghost use Rattle.command_merge.specs.Merge.{GivesMerge, merge_files};
 ghost use Rattle.command_merge.specs.MergeReading.{merge_inputs, merge_reading, merge_words};
+ghost use Rattle.command_merge.specs.inside.Merged.{merged_in};
 ghost use Rattle.command_merge.specs.inside.Values.{merge_values};
 
-use crate::files::write_files;
+use crate::files::{Merged, write_files};
 use crate::inputs::{load_nest_traces, load_senders};
 use crate::job::{MergeJob, read_merge};
 use command_ends::{Cause, Host};
 use mm_base::{Disk, Pace};
-use nest_command::read_plan;
-use nest_plain::NestRun;
+use nest_command::{keep_if, packet_outputs, read_plan};
 use nest_runner::run_nest_feeds;
 use nest_spec::{NestWords, build};
 use sender_merge::Senders;
@@ -38,21 +38,29 @@ fn read_words(alloc: Global, job: &MergeJob<'_>) -> Result<NestWords, Cause>
     ensures accepts { OnOk result (AcceptsWords (merge_reading (merge_values job.now))) }
     ensures small { OnOk result (job.now.horizon ≤ 3600000) }
 {
-    read_plan(alloc, job.shells, &[job.senders], job.out, job.horizon)
+    let outs = packet_outputs(alloc, job.table, job.out)?;
+    read_plan(
+        alloc,
+        job.shells,
+        &[job.senders],
+        outs.as_slice(),
+        job.horizon,
+    )
 }
 
 // Reads the inputs of a job and returns its run. The nest and the schedules are dropped before any file is written, but
-// for the traces of links whose logs have a name.
+// for the traces of links whose logs have a name, and for the senders if a table is asked for.
 fn merge_packets<R: Threads + Wait + Sync, D: Disk, Q: Pace + Sync>(
     host: &Host<'_, R>,
     job: &MergeJob<'_>,
     words: NestWords,
     disk: &mut D,
     pace: &Q,
-) -> Result<NestRun, Cause>
+) -> Result<Merged, Cause>
     requires { job.now.horizon ≤ 3600000 }
-    ensures found { IfOk result (λ run. FinishesOnly GivesMerge (merge_inputs (merge_values job.now) words)
-        (D.view disk.old).files (writes (merge_files job.now.out.now run))) }
+    ensures found { IfOk result (λ merged. FinishesOnly GivesMerge (merge_inputs (merge_values job.now) words)
+        (D.view disk.old).files (writes (merge_files (option_map (λ s. s.now) job.now.table) job.now.out.now
+        (merged_in merged.senders) merged.run))) }
     ensures stopped { IfErr result (λ cause. StopsReading (merge_inputs (merge_values job.now) words) (D.view disk.old)
         (D.view disk.new) cause) }
     ensures only_reads { OnlyReads (D.view disk.old) (D.view disk.new) }
@@ -61,10 +69,16 @@ fn merge_packets<R: Threads + Wait + Sync, D: Disk, Q: Pace + Sync>(
     let schedules = load_senders(host.alloc, disk, job, &words)?;
     let nest = build(host.alloc, words, traces, job.seed, job.horizon)?;
     let mut senders = Senders::of_packed(host.alloc, schedules)?;
-    Ok(run_nest_feeds(host.threads, host.alloc, &nest, &mut senders, pace)?)
+    let run = run_nest_feeds(host.threads, host.alloc, &nest, &mut senders, pace)?;
+    let keeps = job.table.is_some();
+    Ok(Merged {
+        run,
+        senders: keep_if(keeps, senders),
+    })
 }
 
-// Runs the job: reads its inputs, passes its packets through the nest, and then writes its logs and its fates.
+// Runs the job: reads its inputs, passes its packets through the nest, and then writes its logs, its table and its
+// fates.
 fn merge<R: Threads + Wait + Sync, D: Disk, Q: Pace + Sync>(
     host: &Host<'_, R>,
     job: &MergeJob<'_>,
@@ -77,13 +91,14 @@ fn merge<R: Threads + Wait + Sync, D: Disk, Q: Pace + Sync>(
     ensures counts { CountsDisk (D.view disk.old) (D.view disk.new) }
 {
     let words = read_words(host.alloc, job)?;
-    let run = merge_packets(host, job, words, disk, pace)?;
-    write_files(host.alloc, disk, job.out, run)
+    let merged = merge_packets(host, job, words, disk, pace)?;
+    write_files(host.alloc, disk, job.table, job.out, merged)
 }
 
 /// Carries out the command `merge`, whose further words are `words`: passes the packets of up to 16 senders, each with
-/// a schedule and a thread of its own, through a nest of shells. Writes the logs that the shells' words name, and then
-/// the fates of the packets in the order of their merge: by moment, then sender, then line. The pace is asked before
+/// a schedule and a thread of its own, through a nest of shells. Writes the logs that the shells' words name, a table of
+/// the packets if one is asked for, and then their fates, both in the order of their merge: by moment, then sender, then
+/// line. The pace is asked before
 /// the turns of the threads. Nothing is printed, and no net is touched.
 ///
 /// The cause of an error is a refusal of words or of an input, a fault of the disk, or out of memory.

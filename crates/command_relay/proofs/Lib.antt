@@ -1,2 +1,3 @@
 pub mod RelayLemmas
 pub mod PassLemmas
+pub mod RefusingLemmas

@@ -11,7 +11,7 @@ use Rattle.live_relay.specs.Relays.{AreWithin, EndsBy, IfTold, IsRelayed, IsStop
 use Rattle.live_relay.specs.Stamped.{Turn}
 use Rattle.live_relay.specs.Wires.{WireTold, WireView}
 use Rattle.live_relay.specs.declared.outcome.RelayEnd.{RelayEnd}
-use Rattle.live_relay.specs.declared.outcome.RelayEnd.TheVariants.{Horizon, Turns}
+use Rattle.live_relay.specs.declared.outcome.RelayEnd.TheVariants.{Horizon, Turns, User}
 use Rattle.live_relay.specs.declared.outcome.RelayError.{RelayError}
 use Rattle.live_relay.specs.declared.outcome.RelayError.TheVariants as relays
 use Rattle.live_relay.specs.declared.outcome.RelayResult.{RelayResult}
@@ -37,6 +37,7 @@ relayed_from nest limit old_clock new_clock old mid new r same asked is = record
   within = is.within;
   ends = is.ends;
   latest = is.latest;
+  ended = is.ended;
   moments = is.moments;
   rises = is.rises;
   asked = subst (λ n. new.asked ≡ n + length is.turns) asked is.asked;
@@ -68,6 +69,10 @@ end_exactly Horizon limit h last turns within ends = (λ e. ends.1, λ lt. refl)
 end_exactly Turns limit h last turns within ends =
     let low = last_moment_within h turns within in
     let at = ends.1 in
+    (λ e. absurd (cc e), λ lt. absurd (omega arith))
+end_exactly User limit h last turns within ends =
+    let low = last_moment_within h turns within in
+    let at = ends.2 in
     (λ e. absurd (cc e), λ lt. absurd (omega arith))
 
 pub has_relayed : (job : RelayJob) (nest : NestParts) (old_clock new_clock : ClockView) (old mid new : WireView)

@@ -7,7 +7,8 @@ use Rattle.mm_base.specs.Disk.{DiskView, OnlyReads}
 use Rattle.mm_base.specs.Files.{Files}
 use Rattle.mm_base.specs.Sink.{SinkView}
 use Rattle.trace_reader.specs.TraceIn.{trace_in}
-use Rattle.nest_spec.specs.Nests.{NestParts}
+use Rattle.packet_record.specs.declared.packet.Row.{Row}
+use Rattle.nest_spec.specs.Nests.{NestParts, RunLists}
 use Rattle.nest_spec.specs.Words.{NestPlan, nest_of}
 use Rattle.live_relay.specs.declared.outcome.RelayResult.{RelayResult}
 use Rattle.command_ends.specs.Causes.{Text}
@@ -20,8 +21,8 @@ use Rattle.command_ends.proofs.EndLemmas.{keeps}
 use Rattle.command_ends.proofs.ReadingLemmas.{HasOneEnd, RefusesNoWords, RefusesWordsFirst, asked_first, first_one}
 use Rattle.command_ends.proofs.ReadingLemmas.{leads_then, leads_unless}
 use Rattle.command_ends.proofs.ReadingLemmas.{unless_no_words}
-use Rattle.nest_command.specs.RunFiles.{run_files}
-use Rattle.nest_command.specs.NestReading.{refused_count, refused_outputs}
+use Rattle.nest_command.specs.RunFiles.{log_file, run_files}
+use Rattle.nest_command.specs.NestReading.{packet_outputs, refused_count, refused_outputs}
 use Rattle.nest_command.proofs.InputLemmas.{have_said, have_texts, leads_traces}
 use Rattle.nest_command.proofs.NestLemmas.{count_text, count_within}
 use Rattle.nest_command.proofs.NestRefusals.{nest_first, traces_no_words}
@@ -30,6 +31,10 @@ use Rattle.command_relay.specs.Lines.{relay_line}
 use Rattle.command_relay.specs.inside.Loaded.{HasNest}
 use Rattle.command_relay.specs.Relaying.{HasRelayed, HasStopped, RelayNet, RelayTask}
 use Rattle.command_relay.specs.Relaying.{relay_inputs, relay_reading, relay_words, relay_work}
+
+-- what a relay is to do
+abbrev pub task_of : RelayJob → NestPlan → List (List ℕ) → RelayTask
+task_of job plan traces = record { job = job; plan = plan; traces = traces }
 
 -- what is to be done
 abbrev pub done_with : RelayJob → NestPlan → List (List ℕ) → Reading RelayTask
@@ -41,9 +46,14 @@ after_traces job plan traces =
     unless (refused_count job.horizon plan.shells (map trace_in traces)) (done_with job plan traces)
 
 -- a relay writes some files
-pub some_files : {A : Type 0} (front : List A) (last : A) → front ++ last ∷ [] ≡ [] → ⊥
-some_files [] last e = cc e
-some_files (x ∷ front) last e = cc e
+some_files : {A : Type 0} (front : List A) (next : A) (rest : List A) → front ++ next ∷ rest ≡ [] → ⊥
+some_files [] next rest e = cc e
+some_files (x ∷ front) next rest e = cc e
+
+pub some_run_files : (table : Option Text) (out : Text) (rows : List Row) (run : RunLists)
+    → run_files table out rows run ≡ [] → ⊥
+some_run_files None out rows run e = some_files (map log_file run.logs) _ _ e
+some_run_files (Some name) out rows run e = some_files (map log_file run.logs) _ _ e
 
 -- all is read
 all_read : (told : Option Files) (job : RelayJob) (plan : NestPlan) (nest : NestParts)
@@ -58,14 +68,14 @@ all_read told job plan nest has =
 
 module _ (job : RelayJob) (plan : NestPlan) (nest : NestParts) (told : Option Files)
     (read : Leads told (relay_reading job) (relay_inputs job plan)) (has : HasNest told job plan nest) where
-  task_reached : Reaches told (relay_reading job)
+  pub task_reached : Reaches told (relay_reading job)
       (AtTask (record { job = job; plan = plan; traces = has.texts }))
   task_reached = (leads_then read (all_read told job plan nest has)).on _ refl
 
   -- datagrams passed the nest
   pub relay_finishes : (old new : RelayNet) (r : RelayResult) → HasRelayed job nest old new r
       → Finishes relay_work (relay_reading job) told old new
-      (record { files = run_files job.out r.run; printed = relay_line r })
+      (record { files = run_files job.table job.out r.rows r.run; printed = relay_line r })
   relay_finishes old new r done = record {
     task = record { job = job; plan = plan; traces = has.texts };
     read = task_reached;
@@ -118,7 +128,8 @@ inputs_no_words job plan =
 
 pub relay_first : (words : List Text) → RefusesWordsFirst (relay_words words)
 relay_first words = asked_first (relay_of words) relay_reading (λ job.
-    nest_first (nest_of job.shells) (refused_outputs [] job.out) job.horizon (relay_inputs job) (inputs_no_words job))
+    nest_first (nest_of job.shells) (refused_outputs [] (packet_outputs job.table job.out)) job.horizon
+    (relay_inputs job) (inputs_no_words job))
 
 -- and the files lead to one end
 pub relay_one : (words : List Text) → HasOneEnd (relay_words words)

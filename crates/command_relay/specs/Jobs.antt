@@ -9,20 +9,21 @@ use Rattle.option_words.specs.declared.command.Command.TheVariants.{Relay}
 use Rattle.command_ends.specs.Causes.{Text}
 
 -- its horizon in milliseconds, the port at which it listens for the client, the server's port, how many turns it takes
--- at most, the name of the fates' file, its seed, and the words of its shells
+-- at most, the names of the files of the fates and of the table, if there is one, its seed, and the words of its shells
 pub record RelayJob : Type 0 where
   pub horizon : ℕ
   pub listen : ℕ
   pub to : ℕ
   pub turns : ℕ
   pub out : Text
+  pub table : Option Text
   pub seed : ℕ
   pub shells : List Text
 
 -- The job of what is given of each option, and of the words of the shells. The numbers are decimals within their ranges;
--- all but `--seed` must be there.
+-- all but `--table` and `--seed` must be there.
 unfoldable pub relay_from : List (Option Text) → List Text → Option RelayJob
-relay_from (until ∷ listen ∷ to ∷ turns ∷ out ∷ seed ∷ []) shells = do
+relay_from (until ∷ listen ∷ to ∷ turns ∷ out ∷ table ∷ seed ∷ []) shells = do
   given_until ← until
   horizon ← decimal_of given_until
   given_listen ← listen
@@ -39,6 +40,7 @@ relay_from (until ∷ listen ∷ to ∷ turns ∷ out ∷ seed ∷ []) shells = 
     to = server_port;
     turns = most_turns;
     out = given_out;
+    table = table;
     seed = number;
     shells = shells;
   })

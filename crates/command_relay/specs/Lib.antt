@@ -1,4 +1,5 @@
 pub mod Jobs
 pub mod Lines
 pub mod Relaying
+pub mod Outputs
 pub mod inside

@@ -20,7 +20,7 @@ use Rattle.command_ends.specs.declared.cause.Cause.{Cause}
 use Rattle.command_ends.specs.declared.cause.Cause.TheVariants.{NetFault, OutOfMemory}
 use Rattle.nest_command.specs.Inputs.{AreTraceTexts, reading_traces}
 use Rattle.nest_command.specs.RunFiles.{run_files}
-use Rattle.nest_command.specs.NestReading.{plan_reading, refused_count}
+use Rattle.nest_command.specs.NestReading.{packet_outputs, plan_reading, refused_count}
 use Rattle.command_relay.specs.Jobs.{RelayJob, relay_of}
 use Rattle.command_relay.specs.Lines.{relay_line}
 
@@ -38,7 +38,8 @@ relay_inputs job plan =
     Done (record { job = job; plan = plan; traces = traces })))
 
 abbrev pub relay_reading : RelayJob → Reading RelayTask
-relay_reading job = plan_reading job.shells [] job.out job.horizon (relay_inputs job)
+relay_reading job =
+    plan_reading job.shells [] (packet_outputs job.table job.out) job.horizon (relay_inputs job)
 
 -- the words after the program's name
 abbrev pub relay_words : List Text → Reading RelayTask
@@ -81,7 +82,10 @@ pub record GivesRelay (task : RelayTask) (old new : RelayNet) (output : Output) 
   pub traces_are : AreTraceTexts task.traces traces
   pub result : RelayResult
   pub relayed : HasRelayed task.job (nest_for task.job task.plan traces) old new result
-  pub output_is : output ≡ record { files = run_files task.job.out result.run; printed = relay_line result }
+  pub output_is : output ≡ record {
+    files = run_files task.job.table task.job.out result.rows result.run;
+    printed = relay_line result;
+  }
 
 -- One that stopped by itself, at its opening or later, has sent a front of what was due.
 pub record StopsRelay (task : RelayTask) (old new : RelayNet) (cause : Cause) : Type 0 where

@@ -9,6 +9,7 @@ ghost use Rattle.command_ends.specs.TopCalls.{RefusesByWords, TopCall};
 ghost use Rattle.command_relay.specs.Relaying.{net, net_counts, relay_reading, relay_words, relay_work};
 ghost use Rattle.command_relay.specs.inside.Values.{relay_values};
 
+use crate::files::write_relayed;
 use crate::inputs::{load_nest, read_words};
 use crate::job::RelayJob;
 use crate::line::print_relayed;
@@ -17,11 +18,10 @@ use crate::words::read_relay;
 use command_ends::{Cause, Ending, conclude};
 use live_relay::{Clock, Wire};
 use mm_base::{Disk, Sink};
-use nest_command::write_whole;
 use std::alloc::Global;
 
-// Does the job: its inputs are read, datagrams pass the nest, the logs and the fates are written, and then it is
-// printed how many passed.
+// Does the job: its inputs are read, datagrams pass the nest, the logs, the table and the fates are written, and then it
+// is printed how many passed.
 fn run<D: Disk, O: Sink, C: Clock, W: Wire>(
     alloc: Global,
     job: &RelayJob<'_>,
@@ -40,8 +40,8 @@ fn run<D: Disk, O: Sink, C: Clock, W: Wire>(
 {
     let words = read_words(alloc, job)?;
     let nest = load_nest(alloc, job, words, disk)?;
-    let relayed = relay_job(alloc, job, &nest, clock, wire)?;
-    write_whole(alloc, disk, job.out, &relayed.run)?;
+    let relayed = relay_job(alloc, job, nest, clock, wire)?;
+    write_relayed(alloc, disk, job, &relayed)?;
     print_relayed(alloc, &relayed, out)
 }
 
@@ -70,10 +70,10 @@ fn answer<D: Disk, O: Sink, C: Clock, W: Wire>(
 
 /// Does what the words after the program's name say, and returns the exit status.
 ///
-/// `--until MS --listen N --to N --turns N --out FILE [--seed N] -- SHELLS` reads the traces of the shells, opens the
-/// wire at two ports of 1 to 65,535, lets datagrams pass the nest for 1 to 1,000,000 turns or until the clock is past
-/// the horizon, writes the logs that the shells' words name and then the fates, and prints `packets N refused R end
-/// horizon`, or `end turns`. The seed is 0 where none is given.
+/// `--until MS --listen N --to N --turns N --out FILE [--table FILE] [--seed N] -- SHELLS` reads the traces of the
+/// shells, opens the wire at two ports of 1 to 65,535, lets datagrams pass the nest for 1 to 1,000,000 turns or until the
+/// clock is past the horizon, writes the logs that the shells' words name, the table of the packets if one is asked for,
+/// and then the fates, and prints `packets N refused R end horizon`, or `end turns`. The seed is 0 where none is given.
 ///
 /// 0: it is done. 2: the words have no job, or are refused. 3: a trace isn't there. 4: a trace isn't one. 5: a limit is
 /// passed. 6: a trace couldn't be read. 7: writing a file failed; or printing on `out`, and then the files are whole.

@@ -11,7 +11,7 @@ ghost use Rattle.command_relay.specs.inside.Values.{relay_values};
 use crate::job::RelayJob;
 use command_ends::Cause;
 use mm_base::Disk;
-use nest_command::{check_count, load_traces, read_plan};
+use nest_command::{check_count, load_traces, packet_outputs, read_plan};
 use nest_spec::{Nest, NestWords, build};
 use std::alloc::Global;
 
@@ -22,7 +22,8 @@ pub(crate) fn read_words(alloc: Global, job: &RelayJob<'_>) -> Result<NestWords,
     ensures accepts { OnOk result (AcceptsWords (relay_reading (relay_values job.now))) }
     ensures small { OnOk result (job.now.horizon ≤ 3600000) }
 {
-    read_plan(alloc, job.shells, &[], job.out, job.horizon)
+    let outs = packet_outputs(alloc, job.table, job.out)?;
+    read_plan(alloc, job.shells, &[], outs.as_slice(), job.horizon)
 }
 
 /// The nest of these words with its traces.

@@ -2,7 +2,7 @@
 ghost use Rattle.std.specs.Prelude.{◌≤◌};
 
 // The horizon in milliseconds, the port at which it listens for the client, the server's port, how many turns it takes
-// at most, the name of the fates' file, the seed, and the words of the shells.
+// at most, the names of the files of the fates and of the table, if there is one, the seed, and the words of the shells.
 #[derive(Drop)]
 pub(crate) struct RelayJob<'a> {
     pub horizon: u64,
@@ -10,6 +10,7 @@ pub(crate) struct RelayJob<'a> {
     pub to: u16,
     pub turns: u32,
     pub out: &'a str,
+    pub table: Option<&'a str>,
     pub seed: u64,
     pub shells: &'a [String],
     pub ghost some: { 1 ≤ turns },

@@ -3,10 +3,13 @@
 #![tactic(auto)]
 
 mod command;
+mod files;
 mod inputs;
 mod job;
 mod line;
 mod passing;
+mod refusing;
 mod words;
 
 pub use command::{relay_ending, relay_main};
+pub use refusing::{output_names, refuse_output};

@@ -17,6 +17,7 @@ fn end_words(end: RelayEnd) -> &'static [u8]
     match end {
         RelayEnd::Horizon => b" end horizon\n",
         RelayEnd::Turns => b" end turns\n",
+        RelayEnd::User => b" end horizon\n",
     }
 }
 

@@ -36,13 +36,13 @@ fn cause_of_relay(error: RelayError) -> Cause
 pub(crate) fn relay_job<C: Clock, W: Wire>(
     alloc: Global,
     job: &RelayJob<'_>,
-    nest: &Nest,
+    nest: Nest,
     clock: &mut C,
     wire: &mut W,
 ) -> Result<RelayResult, Cause>
-    ensures relayed { IfOk result (λ r. HasRelayed (relay_values job.now) nest.now
+    ensures relayed { IfOk result (λ r. HasRelayed (relay_values job.now) nest
         (net (C.view clock.old) (W.view wire.old)) (net (C.view clock.new) (W.view wire.new)) r) }
-    ensures stopped { IfErr result (λ cause. HasStopped (relay_values job.now) nest.now
+    ensures stopped { IfErr result (λ cause. HasStopped (relay_values job.now) nest
         (net (C.view clock.old) (W.view wire.old)) (net (C.view clock.new) (W.view wire.new)) cause) }
     ensures counts { CountsWireFaults (W.view wire.old) (W.view wire.new) }
 {

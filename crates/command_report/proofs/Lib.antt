@@ -4,3 +4,4 @@ pub mod Totals
 pub mod LoadLemmas
 pub mod TraceLemmas
 pub mod WordLemmas
+pub mod SeriesLemmas

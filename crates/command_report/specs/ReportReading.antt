@@ -7,7 +7,7 @@ use Rattle.command_ends.specs.Causes.{Text}
 use Rattle.command_ends.specs.Readings.{Reading, Done, asked, reading_text}
 use Rattle.command_ends.specs.declared.cause.Refusal.{Refusal}
 use Rattle.command_ends.specs.declared.cause.Refusal.TheVariants.{BadInput}
-use Rattle.command_report.specs.Report.{ReportJob, report_job_of}
+use Rattle.command_report.specs.Report.{ReportJob, ReportTask, report_job_of}
 
 -- The refusal of a log's text for its error. Out of memory is no error of a text.
 abbrev pub log_refused : Text → Option LogError → Option Refusal
@@ -19,10 +19,11 @@ log_refused name (Some error) = Some (BadInput name (number_of error) (line_name
 unfoldable pub log_refusal : Text → List ℕ → Option Refusal
 log_refusal name text = log_refused name (log_fault text)
 
--- The log is read, and its text is the task.
-abbrev pub report_reading : ReportJob → Reading (List ℕ)
-report_reading job = reading_text (log_refusal job.log) job.log (λ text. Done text)
+-- The log is read, and its text is the task, with what is to be printed of it.
+abbrev pub report_reading : ReportJob → Reading ReportTask
+report_reading job =
+    reading_text (log_refusal job.log) job.log (λ text. Done (record { form = job.form; text = text }))
 
 -- What `report` reads and refuses, by the words after it.
-abbrev pub report_words : List Text → Reading (List ℕ)
+abbrev pub report_words : List Text → Reading ReportTask
 report_words words = asked (report_job_of words) report_reading

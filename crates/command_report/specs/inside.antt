@@ -1,2 +1,3 @@
 -- What only proofs and the clauses of private functions cite.
+pub mod Forms
 pub mod Values

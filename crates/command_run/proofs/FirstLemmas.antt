@@ -10,7 +10,7 @@ use Rattle.command_run.specs.RunReading.{reading_order}
 use Rattle.command_run.specs.RunReading.{input_names, run_inputs, run_reading}
 use Rattle.command_run.specs.RunReading.{run_words}
 use Rattle.command_run.specs.Run.{RunJob, RunTask, run_of}
-use Rattle.nest_command.specs.NestReading.{refused_count, refused_outputs}
+use Rattle.nest_command.specs.NestReading.{packet_outputs, refused_count, refused_outputs}
 use Rattle.trace_reader.specs.TraceIn.{trace_in}
 use Rattle.nest_command.proofs.InputLemmas.{schedule_text}
 use Rattle.nest_command.proofs.NestLemmas.{count_text}
@@ -38,4 +38,5 @@ inputs_no_words job plan =
 
 pub run_words_first : (words : List Text) → RefusesWordsFirst (run_words words)
 run_words_first words = asked_first (run_of words) run_reading (λ job.
-    nest_first (nest_of job.shells) (refused_outputs (input_names job) job.out) job.horizon (run_inputs job) (inputs_no_words job))
+    nest_first (nest_of job.shells) (refused_outputs (input_names job) (packet_outputs job.table job.out)) job.horizon
+    (run_inputs job) (inputs_no_words job))

@@ -1,6 +1,6 @@
 -- Where a run's words and files lead, and what stops it.
 use Rattle.std.proofs.Common.{◌≡◌, ℕ, List, Option, Some, None, Result, Ok, Err, IfOk, IfErr}
-use Rattle.std.proofs.Common.{map, subst, ap, ◌∙◌}
+use Rattle.std.proofs.Common.{map, subst, ap, ◌∙◌, Bool, true, is_some, option_map, refl, sym}
 use Rattle.mm_base.specs.Disk.{DiskView, OnlyReads}
 use Rattle.mm_base.specs.Files.{Files}
 use Rattle.mm_base.proofs.Then.{OnlyReads-then}
@@ -28,7 +28,7 @@ use Rattle.command_run.specs.Run.{GivesRun, RunJob, RunTask, nest_with}
 use Rattle.nest_command.specs.NestReading.{refused_count}
 use Rattle.trace_reader.specs.TraceIn.{trace_in}
 use Rattle.nest_command.proofs.InputLemmas.{have_said, have_texts, leads_traces}
-use Rattle.command_run.specs.inside.Passed.{passed_lists}
+use Rattle.command_run.specs.inside.Passed.{passed_lists, passed_rows}
 use Rattle.command_run.specs.declared.passing.Passed.{Passed}
 use Rattle.nest_command.proofs.NestLemmas.{count_within}
 
@@ -105,13 +105,19 @@ schedule_stop job plan nest old mid late new cause read stopped =
     (text_stops_before late new (schedule_refusal job.schedule) job.schedule cause
     (done_with job plan read.has.texts) stopped)
 
+-- the files of a run are those with the rows that were kept for its table, if there is one
+kept_files : (table : Option Text) (out : Text) (kept rows : List Row) (run : RunLists)
+    → (is_some table ≡ true → kept ≡ rows) → run_files table out kept run ≡ run_files table out rows run
+kept_files None out kept rows run are = refl
+kept_files (Some name) out kept rows run are = ap (λ (l : List Row). run_files (Some name) out l run) (are refl)
+
 -- all was read
-pub run_finishes : (job : RunJob) (plan : NestPlan) (nest : NestParts) (old mid late : DiskView) (rows : List Row)
+pub run_finishes : (job : RunJob) (plan : NestPlan) (nest : NestParts) (old mid late : DiskView) (rows kept : List Row)
     (run : RunLists) → HasInputs old mid late job plan nest
     → ((text : List ℕ) × HasSchedule late.files job.schedule text rows) → run ≡ result_of nest rows
-    → HaveOneFate nest rows
-    → FinishesOnly GivesRun (run_inputs job plan) old.files (writes (run_files job.out run))
-run_finishes job plan nest old mid late rows run read schedule is once =
+    → HaveOneFate nest rows → (is_some job.table ≡ true → kept ≡ rows)
+    → FinishesOnly GivesRun (run_inputs job plan) old.files (writes (run_files job.table job.out kept run))
+run_finishes job plan nest old mid late rows kept run read schedule is once are =
     let has = read.has in
     let reads = OnlyReads-then read.first read.second in
     let text = schedule.0 in
@@ -120,29 +126,35 @@ run_finishes job plan nest old mid late rows run read schedule is once =
     let same : run ≡ result_of (nest_with job plan has.traces) rows = is
     ∙ ap (λ (n : NestParts). result_of n rows) has.nest_is in
     let gives : GivesRun (record { job = job; plan = plan; traces = has.texts; schedule = text })
-    (writes (run_files job.out run)) = record {
+    (writes (run_files job.table job.out kept run)) = record {
       traces = has.traces;
       traces_are = have_texts has.have;
       rows = rows;
       rows_are = held.rows_are;
       once = subst (λ (n : NestParts). HaveOneFate n rows) has.nest_is once;
-      output_is = ap (λ (lists : RunLists). writes (run_files job.out lists)) same;
+      output_is = ap writes (kept_files job.table job.out kept rows run are
+          ∙ ap (λ (lists : RunLists). run_files job.table job.out rows lists) same);
     } in
-    finishes_only (run_inputs job plan) GivesRun _ old.files (writes (run_files job.out run))
+    finishes_only (run_inputs job plan) GivesRun _ old.files (writes (run_files job.table job.out kept run))
     (leads_then (schedule_next job plan nest old mid late read)
     (leads_text old.files (schedule_refusal job.schedule) job.schedule (done_with job plan has.texts) text
     held.input held.accepted)) gives
 
 -- all was read, and the packets passed
-pub passed_finishes : (job : RunJob) (plan : NestPlan) (nest : NestParts) (old mid late : DiskView)
-    (result : Result Passed Cause) → HasInputs old mid late job plan nest
-    → IfOk result (λ run. HasRun late.files job.schedule nest (passed_lists run))
+pub passed_finishes : (job : RunJob) (plan : NestPlan) (nest : NestParts) (old mid late : DiskView) (keeps : Bool)
+    (result : Result Passed Cause) → HasInputs old mid late job plan nest → is_some job.table ≡ keeps
+    → IfOk result (λ run. HasRun late.files job.schedule nest keeps (passed_rows run) (passed_lists run))
     → IfOk result (λ run. FinishesOnly GivesRun (run_inputs job plan) old.files
-    (writes (run_files job.out (passed_lists run))))
-passed_finishes job plan nest old mid late (Ok run) read has =
-    run_finishes job plan nest old mid late has.rows (passed_lists run) read (has.text, has.schedule) has.result_is
-    has.once
-passed_finishes job plan nest old mid late (Err cause) read has = tt
+    (writes (run_files job.table job.out (passed_rows run) (passed_lists run))))
+passed_finishes job plan nest old mid late keeps (Ok run) read asked has =
+    run_finishes job plan nest old mid late has.rows (passed_rows run) (passed_lists run) read
+    (has.text, has.schedule) has.result_is has.once (λ e. has.kept_are (sym asked ∙ e))
+passed_finishes job plan nest old mid late keeps (Err cause) read asked has = tt
+
+-- whether there is a name, by whichever form of it
+pub some_as : {A : Type 0} (f : A → Text) (name : Option A) → is_some (option_map f name) ≡ is_some name
+some_as f None = refl
+some_as f (Some name) = refl
 
 pub passed_stops : {T : Type 0} (job : RunJob) (plan : NestPlan) (nest : NestParts) (old mid late new : DiskView)
     (result : Result T Cause) → HasInputs old mid late job plan nest

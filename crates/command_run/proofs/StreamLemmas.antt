@@ -1,5 +1,5 @@
 -- Why a streamed run gives no result.
-use Rattle.std.proofs.Common.{◌≡◌, ◌≢◌, ℕ, ◌<◌, List, Option, Some, length, refl, ap, sym, subst, ◌∙◌}
+use Rattle.std.proofs.Common.{◌≡◌, ◌≢◌, ℕ, ◌<◌, Bool, true, List, Option, Some, length, refl, ap, sym, subst, ◌∙◌}
 use Rattle.mm_base.specs.Counts.{Rose}
 use Rattle.mm_base.specs.Disk.{DiskView, FailsReading}
 use Rattle.mm_base.specs.Files.{Files, IfHeld, IsAbsent, IsThere, file}
@@ -13,7 +13,7 @@ use Rattle.packet_record.specs.declared.packet.Row.{Row}
 use Rattle.nest_spec.specs.Nests.{NestParts, RunLists, result_of}
 use Rattle.nest_spec.specs.Once.{HaveOneFate}
 use Rattle.shell_workers.specs.StreamParts.{IsText}
-use Rattle.nest_runner.specs.Streaming.{HasStreamCause, IsRefusedFor, StreamsTo}
+use Rattle.nest_runner.specs.Streaming.{HasStreamCause, IsRefusedFor, IsScheduleOf}
 use Rattle.nest_runner.specs.declared.stream_error.StreamError.TheVariants.{TooLong}
 use Rattle.command_ends.specs.Causes.{Text}
 use Rattle.command_ends.specs.Readings.{Done, unless}
@@ -73,23 +73,38 @@ text_stop name old new error cause refused says =
     (λ refusal e. (schedule_text name refused.bytes refusal e).not_absent) (says refused.bytes (λ _. refused.fault_is))
 
 -- the run of a schedule that was read while its packets passed
-pub streamed_run : (told : Option Files) (name : Text) (nest : NestParts) (run : RunLists)
-    → StreamsTo told name nest run → HasRun told name nest run
-streamed_run told name nest run to = record {
-  text = to.schedule.bytes;
-  rows = to.rows;
+pub streamed_run : (told : Option Files) (name : Text) (nest : NestParts) (rows : List Row) (run : RunLists)
+    → IsScheduleOf told name rows → run ≡ result_of nest rows → HaveOneFate nest rows
+    → HasRun told name nest true rows run
+streamed_run told name nest rows run schedule is once = record {
+  text = schedule.bytes;
+  rows = rows;
   schedule = record {
-    input = text_input told name to.schedule.bytes to.schedule.text;
-    accepted = schedule_accepted name to.schedule.bytes to.schedule.accepted;
-    rows_are = to.schedule.rows_are;
+    input = text_input told name schedule.bytes schedule.text;
+    accepted = schedule_accepted name schedule.bytes schedule.accepted;
+    rows_are = schedule.rows_are;
   };
-  result_is = to.result_is;
-  once = to.once;
+  result_is = is;
+  once = once;
+  kept_are = λ keeps. refl;
+}
+
+-- The rows of a run, which were kept, are kept as they are wanted.
+pub kept_run : (told : Option Files) (name : Text) (nest : NestParts) (rows kept : List Row) (run : RunLists)
+    (keeps : Bool) → HasRun told name nest true rows run → (keeps ≡ true → kept ≡ rows)
+    → HasRun told name nest keeps kept run
+kept_run told name nest rows kept run keeps has are = record {
+  text = has.text;
+  rows = has.rows;
+  schedule = has.schedule;
+  result_is = has.result_is;
+  once = has.once;
+  kept_are = λ e. are e ∙ has.kept_are refl;
 }
 
 -- the run of a schedule that was read before
-pub read_run : (told : Option Files) (name : Text) (nest : NestParts) (rows : List Row) (run : RunLists)
-    → ((text : List ℕ) × HasSchedule told name text rows) → run ≡ result_of nest rows → HaveOneFate nest rows
-    → HasRun told name nest run
-read_run told name nest rows run read is once =
-    record { text = read.0; rows = rows; schedule = read.1; result_is = is; once = once }
+pub read_run : (told : Option Files) (name : Text) (nest : NestParts) (rows kept : List Row) (run : RunLists)
+    (keeps : Bool) → ((text : List ℕ) × HasSchedule told name text rows) → run ≡ result_of nest rows
+    → HaveOneFate nest rows → (keeps ≡ true → kept ≡ rows) → HasRun told name nest keeps kept run
+read_run told name nest rows kept run keeps read is once are =
+    record { text = read.0; rows = rows; schedule = read.1; result_is = is; once = once; kept_are = are }

@@ -18,12 +18,13 @@ use Rattle.command_ends.specs.Outputs.{Output, writes}
 use Rattle.nest_command.specs.Inputs.{AreTraceTexts}
 use Rattle.nest_command.specs.RunFiles.{run_files}
 
--- the horizon in milliseconds, the names of the files, with that of the order if there is one, the seed, whether
--- packets pass shell by shell, and the words of the shells
+-- the horizon in milliseconds, the names of the files, with those of the table and of the order if there is one, the
+-- seed, whether packets pass shell by shell, and the words of the shells
 pub record RunJob : Type 0 where
   pub horizon : ℕ
   pub schedule : Text
   pub out : Text
+  pub table : Option Text
   pub seed : ℕ
   pub plain : Bool
   pub order : Option Text
@@ -32,7 +33,7 @@ pub record RunJob : Type 0 where
 -- The job of what is given of each option, and of the words of the shells. The numbers are decimals; `--until`,
 -- `--schedule` and `--out` must be there; `--plain` and `--order` exclude each other.
 unfoldable pub run_from : List (Option Text) → List Text → Option RunJob
-run_from (until ∷ schedule ∷ out ∷ seed ∷ plain ∷ order ∷ []) shells =
+run_from (until ∷ schedule ∷ out ∷ table ∷ seed ∷ plain ∷ order ∷ []) shells =
     if is_some plain && is_some order then None else do
       given_until ← until
       horizon ← decimal_of given_until
@@ -43,6 +44,7 @@ run_from (until ∷ schedule ∷ out ∷ seed ∷ plain ∷ order ∷ []) shells
         horizon = horizon;
         schedule = given_schedule;
         out = given_out;
+        table = table;
         seed = number;
         plain = is_some plain;
         order = order;
@@ -72,4 +74,5 @@ pub record GivesRun (task : RunTask) (output : Output) : Type 0 where
   pub rows : List Row
   pub rows_are : IsScheduleText task.schedule rows
   pub once : HaveOneFate (nest_with task.job task.plan traces) rows
-  pub output_is : output ≡ writes (run_files task.job.out (result_of (nest_with task.job task.plan traces) rows))
+  pub output_is : output
+      ≡ writes (run_files task.job.table task.job.out rows (result_of (nest_with task.job task.plan traces) rows))

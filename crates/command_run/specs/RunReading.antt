@@ -5,7 +5,7 @@ use Rattle.nest_spec.specs.Words.{NestPlan}
 use Rattle.command_ends.specs.Causes.{Text}
 use Rattle.command_ends.specs.Readings.{Reading, Done, Reads, asked, unless}
 use Rattle.nest_command.specs.Inputs.{reading_schedule, reading_traces}
-use Rattle.nest_command.specs.NestReading.{plan_reading, refused_count}
+use Rattle.nest_command.specs.NestReading.{packet_outputs, plan_reading, refused_count}
 use Rattle.command_run.specs.Run.{RunJob, RunTask, run_of}
 use Rattle.trace_reader.specs.TraceIn.{trace_in}
 
@@ -29,7 +29,8 @@ run_inputs job plan =
 
 -- Words that name no nest, names that are taken and a horizon past an hour are refused before any file is read.
 abbrev pub run_reading : RunJob → Reading RunTask
-run_reading job = plan_reading job.shells (input_names job) job.out job.horizon (run_inputs job)
+run_reading job =
+    plan_reading job.shells (input_names job) (packet_outputs job.table job.out) job.horizon (run_inputs job)
 
 -- what `run` reads and refuses by the words after it
 abbrev pub run_words : List Text → Reading RunTask

@@ -1,5 +1,5 @@
 // The command `run`: its words, its inputs, its packets, and the files that it writes.
-ghost use Rattle.std.specs.Prelude.{◌≡◌, ◌≤◌, IfErr, IfOk, OnOk, map, string_bytes};
+ghost use Rattle.std.specs.Prelude.{◌≡◌, ◌≤◌, IfErr, IfOk, OnOk, map, option_map, string_bytes};
 ghost use Rattle.mm_base.specs.Disk.{DiskView, OnlyReads};
 ghost use Rattle.mm_base.specs.Sink.{SinkView};
 ghost use Rattle.command_ends.specs.Answers.{CountsDisk, cause_in};
@@ -15,7 +15,7 @@ ghost use Rattle.command_run.specs.inside.Loaded.{HasNest};
 ghost use Rattle.nest_command.specs.RunFiles.{run_files};
 ghost use Rattle.command_run.specs.Run.{GivesRun};
 ghost use Rattle.command_run.specs.RunReading.{input_names, run_inputs, run_reading, run_words};
-ghost use Rattle.command_run.specs.inside.Passed.{passed_lists};
+ghost use Rattle.command_run.specs.inside.Passed.{passed_lists, passed_rows};
 ghost use Rattle.command_run.specs.inside.Values.{run_values};
 
 use crate::order::load_order;
@@ -24,7 +24,7 @@ use crate::run_files::write_files;
 use crate::run_job::{RunJob, read_run};
 use command_ends::{Cause, Host};
 use mm_base::{Disk, Pace};
-use nest_command::{check_count, load_traces, read_plan};
+use nest_command::{check_count, load_traces, packet_outputs, read_plan};
 use nest_spec::{Nest, NestWords, build};
 use std::alloc::Global;
 use std::marker::Sync;
@@ -53,7 +53,14 @@ fn read_words(alloc: Global, job: &RunJob<'_>) -> Result<NestWords, Cause>
     ensures small { OnOk result (job.now.horizon ≤ 3600000) }
 {
     let inputs = input_names(alloc, job)?;
-    read_plan(alloc, job.shells, inputs.as_slice(), job.out, job.horizon)
+    let outs = packet_outputs(alloc, job.table, job.out)?;
+    read_plan(
+        alloc,
+        job.shells,
+        inputs.as_slice(),
+        outs.as_slice(),
+        job.horizon,
+    )
 }
 
 // Returns the nest of `words` with its traces, which are read from their files.
@@ -75,8 +82,8 @@ fn load_nest<D: Disk>(
 }
 
 // Reads the inputs of a job and returns its run. The nest and the schedule are dropped before any file is written, but
-// for the traces of links whose logs have a name, and for the schedule where, shell by shell, the log of a first shell
-// has one.
+// for the traces of links whose logs have a name, and for the schedule if a table is asked for, or if, shell by shell,
+// the log of a first shell has a name.
 fn run_packets<R: Threads + Wait + Sync, D: Disk, Q: Pace + Sync>(
     host: &Host<'_, R>,
     job: &RunJob<'_>,
@@ -86,7 +93,8 @@ fn run_packets<R: Threads + Wait + Sync, D: Disk, Q: Pace + Sync>(
 ) -> Result<Passed, Cause>
     requires { job.now.horizon ≤ 3600000 }
     ensures found { IfOk result (λ run. FinishesOnly GivesRun (run_inputs (run_values job.now) words)
-        (D.view disk.old).files (writes (run_files job.now.out.now (passed_lists run)))) }
+        (D.view disk.old).files (writes (run_files (option_map (λ s. s.now) job.now.table) job.now.out.now
+        (passed_rows run) (passed_lists run)))) }
     ensures stopped { IfErr result (λ cause. StopsReading (run_inputs (run_values job.now) words) (D.view disk.old)
         (D.view disk.new) cause) }
     ensures only_reads { OnlyReads (D.view disk.old) (D.view disk.new) }
@@ -94,10 +102,12 @@ fn run_packets<R: Threads + Wait + Sync, D: Disk, Q: Pace + Sync>(
     let nest = load_nest(host.alloc, job, words, disk)?;
     let order = load_order(host.alloc, disk, job.order)?;
     let mode = RunMode::new(job.plain, order);
-    pass_packets(host, &nest, disk, job.schedule, mode, pace)
+    let keeps = job.table.is_some();
+    pass_packets(host, &nest, disk, job.schedule, mode, keeps, pace)
 }
 
-// Runs the job: reads its inputs, passes its packets through the nest, and then writes its logs and its fates.
+// Runs the job: reads its inputs, passes its packets through the nest, and then writes its logs, its table and its
+// fates.
 fn run<R: Threads + Wait + Sync, D: Disk, Q: Pace + Sync>(
     host: &Host<'_, R>,
     job: &RunJob<'_>,
@@ -111,11 +121,12 @@ fn run<R: Threads + Wait + Sync, D: Disk, Q: Pace + Sync>(
 {
     let words = read_words(host.alloc, job)?;
     let run = run_packets(host, job, words, disk, pace)?;
-    write_files(host.alloc, disk, job.out, run)
+    write_files(host.alloc, disk, job.table, job.out, run)
 }
 
 /// Carries out the command `run`, whose further words are `words`: passes the packets of a schedule through a nest of
-/// shells, and writes the logs that the shells' words name and then the fates of the packets. The packets pass over
+/// shells, and writes the logs that the shells' words name, a table of the packets if one is asked for, and then the
+/// fates of the packets. The packets pass over
 /// threads; with `--plain` shell by shell; with `--order` by single steps in the order that a file states. The pace is
 /// asked before the turns of the threads. Nothing is printed, and no net is touched.
 ///

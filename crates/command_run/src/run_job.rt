@@ -9,13 +9,14 @@ use option_words::{Command, WordFault, job_or_fault, read_seed, read_split};
 use std::alloc::{AllocError, Global};
 use text_base::read_decimal;
 
-// The job of a run: the horizon in milliseconds, the names of the files, with that of the order if there is
-// one, the seed, whether packets pass shell by shell (`plain`), and the words of the shells.
+// The job of a run: the horizon in milliseconds, the names of the files, with those of the table and of the order if
+// there is one, the seed, whether packets pass shell by shell (`plain`), and the words of the shells.
 #[derive(Drop)]
 pub(crate) struct RunJob<'a> {
     pub horizon: u64,
     pub schedule: &'a str,
     pub out: &'a str,
+    pub table: Option<&'a str>,
     pub seed: u64,
     pub plain: bool,
     pub order: Option<&'a str>,
@@ -29,7 +30,7 @@ fn run_job<'a>(given: &[Option<&'a str>], shells: &'a [String]) -> Option<RunJob
     ensures { option_map run_values result ≡ run_from (map (λ o. option_map (λ s. s.now) o) given.now)
         (map string_bytes shells.now) }
 {
-    let [until, schedule, out, seed, plain, order] = given else {
+    let [until, schedule, out, table, seed, plain, order] = given else {
         return None;
     };
     if plain.is_some() && order.is_some() {
@@ -41,6 +42,7 @@ fn run_job<'a>(given: &[Option<&'a str>], shells: &'a [String]) -> Option<RunJob
         horizon,
         schedule: (*schedule)?,
         out: (*out)?,
+        table: *table,
         seed,
         plain: plain.is_some(),
         order: *order,

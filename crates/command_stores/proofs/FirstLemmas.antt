@@ -1,5 +1,5 @@
 -- The words of these commands are refused before any file is read.
-use Rattle.std.proofs.Common.{List, [], ◌∷◌}
+use Rattle.std.proofs.Common.{false, List, [], ◌∷◌}
 use Rattle.command_ends.specs.Causes.{Text}
 use Rattle.command_ends.specs.Names.{refused_names}
 use Rattle.command_ends.proofs.ReadingLemmas.{RefusesWordsFirst, asked_first, unless_first}
@@ -19,7 +19,7 @@ pub record_words_first : (words : List Text) → RefusesWordsFirst (record_words
 record_words_first words = asked_first (record_job_of words) record_reading record_first
 
 match_first : (job : MatchJob) → RefusesWordsFirst (match_reading job)
-match_first job = λ store. (judges_store job.store store, λ request. (judges_request job.request request, tt))
+match_first job = λ store. (judges_store false job.store store, λ request. (judges_request job.request request, tt))
 
 pub match_words_first : (words : List Text) → RefusesWordsFirst (match_words words)
 match_words_first words = asked_first (match_job_of words) match_reading match_first
@@ -27,7 +27,7 @@ match_words_first words = asked_first (match_job_of words) match_reading match_f
 migrate_first : (job : MigrateJob) → RefusesWordsFirst (migrate_reading job)
 migrate_first job =
     unless_first (refused_names (job.store ∷ []) (job.out ∷ [])) (migrate_inputs job)
-    (λ store. (judges_store job.store store, tt))
+    (λ store. (judges_store job.cut job.store store, tt))
 
 pub migrate_words_first : (words : List Text) → RefusesWordsFirst (migrate_words words)
 migrate_words_first words = asked_first (migrate_job_of words) migrate_reading migrate_first

@@ -24,13 +24,15 @@ use mm_base::Disk;
 use option_words::{Command, WordFault, job_or_fault, read_given};
 use record_store::Store;
 use std::alloc::{AllocError, Global};
-use store_files::{load_store, write_store};
+use store_files::{load_store_as, write_store};
 
-// The job of `migrate`: the names of the files of a store in either form, and of the same store in form 2.
+// The job of `migrate`: the names of the files of a store in either form, and of the same store in form 2, and whether
+// the last record may be cut.
 #[derive(Drop)]
 pub(crate) struct MigrateJob<'a> {
     pub store: &'a str,
     pub out: &'a str,
+    pub cut: bool,
 }
 
 // Returns the job of what is given of each option.
@@ -38,12 +40,13 @@ pub(crate) struct MigrateJob<'a> {
 fn migrate_job<'a>(given: &[Option<&'a str>]) -> Option<MigrateJob<'a>>
     ensures { option_map migrate_values result ≡ migrate_from (map (λ o. option_map (λ s. s.now) o) given.now) }
 {
-    let [store, out] = given else {
+    let [store, out, cut] = given else {
         return None;
     };
     Some(MigrateJob {
         store: (*store)?,
         out: (*out)?,
+        cut: cut.is_some(),
     })
 }
 
@@ -88,7 +91,7 @@ fn load_old<D: Disk>(alloc: Global, job: &MigrateJob<'_>, disk: &mut D) -> Resul
         (D.view disk.new) cause) }
     ensures only_reads { OnlyReads (D.view disk.old) (D.view disk.new) }
 {
-    load_store(alloc, disk, job.store)
+    load_store_as(alloc, disk, job.store, job.cut)
 }
 
 // Does the job: reads the store in either form, and then writes it in form 2.
@@ -104,7 +107,8 @@ fn migrate<D: Disk>(alloc: Global, job: &MigrateJob<'_>, disk: &mut D) -> Result
 }
 
 /// Carries out the command `migrate`, whose further words are `words`: reads a store in either form, and writes it in
-/// form 2. Nothing is printed, and no net is touched.
+/// form 2. With `--cut` a last record within which the store's file ends is left out. Nothing is printed, and no net is
+/// touched.
 ///
 /// The cause of an error is a refusal of words or of the store, a fault of the disk, or out of memory.
 pub fn answer_migrate<D: Disk>(alloc: Global, words: &[String], disk: &mut D) -> Result<(), Cause>

@@ -1,15 +1,19 @@
 // What the standard error says of a cause.
-use crate::Program;
 use crate::asked::NoJob;
 use crate::nest_faults::NestFault;
 use crate::roles::FileRole;
 use crate::rules::{place_word, rule};
 use crate::shells::{option_value, shells_of};
+use crate::{Program, Reason};
 use command_ends::{Cause, Limit, Refusal, WordsRefusal};
 use std::fmt;
 use text_base::Text;
 
 const NET_FAULT: &str = "listening there, or a connection, failed (has another program the port?)";
+
+// What is done at a port that an ordinary user may not have.
+const ROOT_PORT: &str =
+    "an ordinary user may not listen there, below 1024; take a port from 1024 on";
 
 const OPPORTUNITIES: &str =
     "the links have more than 16000000 opportunities up to --until: end earlier, or take slower traces";
@@ -48,6 +52,8 @@ pub(crate) struct Explanation<'a> {
     pub program: Program,
     pub words: &'a [String],
     pub cause: &'a Cause,
+    /// Why the outside refused a call.
+    pub reason: Option<Reason<'a>>,
 }
 
 impl Explanation<'_> {
@@ -112,13 +118,28 @@ impl Explanation<'_> {
         }
     }
 
+    // Writes that the net refused a call.
+    fn write_net_fault<W: fmt::Write>(&self, f: &mut fmt::Formatter<W>) -> fmt::Result {
+        let port = listen_port(self.words);
+        match self.reason {
+            Some(reason) if reason.is_permission() => {
+                write!(f, "port {port}: {ROOT_PORT}")?;
+                match self.program {
+                    Program::Mm => write!(f, ", and --site-port {port}"),
+                    _ => Ok(()),
+                }
+            }
+            _ => write!(f, "port {port}: {NET_FAULT}"),
+        }
+    }
+
     fn write_cause<W: fmt::Write>(&self, f: &mut fmt::Formatter<W>) -> fmt::Result {
         match self.cause {
             Cause::Refused(refusal) => self.write_refusal(refusal, f),
             Cause::ReadFault(name) => write!(f, "{}: it can't be read", name.as_str()),
             Cause::WriteFault(name) => write!(f, "{}: it can't be written", name.as_str()),
             Cause::OutFault => write!(f, "writing on the standard output failed"),
-            Cause::NetFault => write!(f, "port {}: {NET_FAULT}", listen_port(self.words)),
+            Cause::NetFault => self.write_net_fault(f),
             Cause::OutOfMemory => write!(f, "out of memory"),
         }
     }

@@ -169,6 +169,7 @@ impl fmt::Display for FaultText<'_> {
                 self.write_unknown(name, f)
             }
             Fault::PlainAndOrder => write!(f, "--plain and --order exclude each other"),
+            Fault::EveryAndJson => write!(f, "--every and --json exclude each other"),
             Fault::NoConnection => { write!(f, "--until-ended needs --connections of at least 1") }
             Fault::NoShells => write!(
                 f,

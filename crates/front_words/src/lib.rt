@@ -8,10 +8,15 @@
 mod asked;
 mod causes;
 mod commit;
+mod empties;
 mod faults;
+mod hints;
+mod inputs;
 mod lacks;
 mod nest_faults;
+mod own_port;
 mod pages;
+mod places;
 mod program;
 mod queue_faults;
 mod quotes;
@@ -20,8 +25,10 @@ mod roles;
 mod rules;
 mod shells;
 mod slips;
+mod strange_words;
 mod telling;
 
+pub use own_port::warn_of_own_port;
 pub use program::Program;
 pub use reasons::Reason;
 pub use telling::{tell, tell_reason};

@@ -51,7 +51,7 @@ fn brief(command: Command) -> &'static str {
     match command {
         Command::Run => "passes the packets of a schedule through a nest of shells",
         Command::Merge => "does the same with the packets of up to 16 senders",
-        Command::Report => "prints the sums of a log",
+        Command::Report => "prints the sums of a log, or a series",
         Command::Make => "makes a load and a trace of a number, runs them and prints the sums",
         Command::Record => "makes a store of the two byte streams of a connection",
         Command::Match => "prints the number of the record that answers a request",
@@ -69,7 +69,8 @@ fn sentence(command: Command) -> &'static str {
             "Passes the packets of a schedule through a nest of shells, and writes what became of each.",
         Command::Merge =>
             "Passes the packets of up to 16 senders through one nest, and writes what became of each.",
-        Command::Report => "Prints the sums of a log: packets, bytes, what was used, and delays.",
+        Command::Report =>
+            "Prints the sums of a log, or a series of it: packets, bytes, what was used, and delays.",
         Command::Make =>
             "Makes a load and a trace of a number, runs them through a stated nest, and prints the sums.",
         Command::Record => "Makes a store of the two byte streams of one connection.",
@@ -97,8 +98,9 @@ fn examples(command: Command) -> &'static str {
   mm merge --until 30000 --senders senders --out fates --seed 1 -- mm-loss uplink 0.01
 ",
         Command::Report => "  mm report --log up.log
-  mm report --log=down.log
   mm report --log up.log | grep delay
+  mm report --log up.log --every 1000 >up.csv
+  mm report --log up.log --json
 ",
         Command::Make => "  mm make --number 1 --packets 3
   mm make --number 7 --packets 1000
@@ -114,7 +116,7 @@ fn examples(command: Command) -> &'static str {
 ",
         Command::Migrate => "  mm migrate --store old --out new
   mm migrate --store=old --out=new
-  mm migrate --out new --store old
+  mm migrate --store damaged --out mended --cut
 ",
         Command::Replay => "  mm replay --store store --port 8080 --connections 1
   mm replay --store store --port 8080 --connections 20 --site-port 80

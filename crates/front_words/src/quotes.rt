@@ -1,11 +1,12 @@
 // The line for which an input was refused.
+use crate::inputs::Inputs;
 use crate::roles::FileRole;
 use crate::rules::is_behind;
 use command_ends::{Cause, Refusal};
-use mm_base::{Disk, load};
-use std::alloc::Global;
+use std::alloc::{Alloc, Global};
 use std::fmt;
-use text_base::limits::MOST_FILE_BYTES;
+use std::fs::File;
+use std::rt::Files;
 use text_base::{Bytes, Lines};
 
 // How many bytes a line has at most that is shown.
@@ -61,11 +62,10 @@ pub(crate) struct Quote {
 impl Quote {
     /// Returns the line for which the command line of these words isn't done, if the cause names one; the file is read
     /// anew. There is none if it can't be read.
-    pub(crate) fn read<D: Disk>(
-        alloc: Global,
+    pub(crate) fn read<R: Files<File = File> + Alloc<A = Global> + Clone + Drop>(
         words: &[String],
         cause: &Cause,
-        disk: &mut D,
+        inputs: &mut Inputs<'_, R>,
     ) -> Option<Self> {
         let Cause::Refused(
             Refusal::BadInput {
@@ -83,7 +83,7 @@ impl Quote {
             return None;
         }
         Some(Quote {
-            text: load(alloc, disk, name, MOST_FILE_BYTES).ok()?,
+            text: inputs.load(name)?,
             number: *place,
             is_behind: is_behind(role, *number),
         })

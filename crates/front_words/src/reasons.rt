@@ -1,6 +1,7 @@
 // Why the outside refused a call.
 use command_ends::{Cause, Ending};
-use mm_base::{FileDisk, FileFault};
+use mm_base::FileFault;
+use piped_disk::PipedDisk;
 use std::alloc::{Alloc, Global};
 use std::fmt;
 use std::fs::File;
@@ -26,9 +27,14 @@ impl<'a> Reason<'a> {
         }
     }
 
+    /// Returns whether the system doesn't permit the call.
+    pub(crate) fn is_permission(self) -> bool {
+        matches!(self, Reason::System(13))
+    }
+
     // Returns why the last call of the files was refused, if that is known.
     fn of_disk<R: Files<File = File> + Alloc<A = Global> + Drop>(
-        disk: &'a FileDisk<R>,
+        disk: &'a PipedDisk<R>,
     ) -> Option<Self> {
         match disk.last_error()? {
             FileFault::IsInput => Some(Reason::IsInput(disk.met_input().unwrap_or(""))),
@@ -42,7 +48,7 @@ impl<'a> Reason<'a> {
     /// the number of the net's last error.
     pub fn of_ending<R: Files<File = File> + Alloc<A = Global> + Drop>(
         ending: &Ending,
-        disk: &'a FileDisk<R>,
+        disk: &'a PipedDisk<R>,
         net_error: Option<i32>,
     ) -> Option<Self> {
         match &ending.answer {

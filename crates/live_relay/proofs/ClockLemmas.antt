@@ -57,7 +57,7 @@ mem_falls_not s m never some is = subst (λ n. latest_of s.moments s.calls ≤ n
 
 -- a clock in memory that tells its answers still has told them before
 pub mem_reads : (s : MemClockState) (m n : ℕ) → m ≡ answer_at s.moments s.calls → n ≡ one_more s.calls
-    → Reads (m ∷ []) (mem_clock_view s).moments (mem_clock_view (record { moments = s.moments; calls = n })).moments
+    → Reads (m ∷ []) (mem_clock_view s).moments (mem_clock_view (record { moments = s.moments; calls = n; ends = s.ends })).moments
 mem_reads s m n is next all e = by (nat_lt n (2 ^ 64 - 1)) refl e
   where
     by : (b : Bool) → nat_lt n (2 ^ 64 - 1) ≡ b → cond b (Some (first_answers s.moments n)) None ≡ Some all

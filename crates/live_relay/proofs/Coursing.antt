@@ -1,18 +1,19 @@
 -- A relay in its course.
-use Rattle.std.proofs.Common.{◌≡◌, ◌⊎◌, inl, inr, ℕ, suc, ◌≤◌, ◌<◌, ◌+◌, List, [], ◌∷◌, ◌++◌, Option, Some}
-use Rattle.std.proofs.Common.{length, map, ap, sym, subst, ◌∙◌, refl, arith}
+use Rattle.std.proofs.Common.{◌≡◌, ◌⊎◌, true, false, inl, inr, ℕ, suc, ◌≤◌, ◌<◌, ◌+◌, List, [], ◌∷◌, ◌++◌, Option, Some}
+use Rattle.std.proofs.Common.{IfOk, OnErr, Result, length, map, ap, sym, subst, ◌∙◌, refl, arith}
 use Rattle.std.proofs.lemmas.List.{append-nil, length-append, map-append}
-use Rattle.nest_spec.specs.Nests.{NestParts}
+use Rattle.nest_spec.specs.Nests.{NestParts, result_of, until}
+use Rattle.nest_spec.specs.Once.{HaveOneFate}
 use Rattle.nest_spec.specs.Walk.{last_of}
-use Rattle.live_relay.specs.declared.outcome.RelayEnd.TheVariants.{Horizon, Turns}
+use Rattle.live_relay.specs.declared.outcome.RelayEnd.TheVariants.{Horizon, Turns, User}
 use Rattle.live_relay.specs.declared.outcome.RelayResult.{RelayResult}
 use Rattle.live_relay.specs.declared.relay_state.Relay.{Relay}
 use Rattle.live_relay.specs.declared.side.Side.TheVariants.{Client, Server}
 use Rattle.live_relay.specs.Clocks.{ClockView, Reads}
 use Rattle.live_relay.specs.Due.{due, last_moment}
 use Rattle.live_relay.specs.Relays.{AreWithin, HasAsked, HasSent, HasSentSome, IfTold, IsRelayed, IsStopped}
-use Rattle.live_relay.specs.Relays.{but_last, EndsBy, moments_read, NeverBefore, ReadsBeyond, ReadsTurns}
-use Rattle.live_relay.specs.Stamped.{Turn}
+use Rattle.live_relay.specs.Relays.{but_last, EndsBy, IsEndOf, moments_read, nest_at, NeverBefore, ReadsBeyond, ReadsTurns}
+use Rattle.live_relay.specs.Stamped.{Turn, rows_of}
 use Rattle.live_relay.specs.inside.Stamped.{turn}
 use Rattle.live_relay.specs.inside.Turns.{EndsAt, HasResult, IsCurrent, IsTurned, Stands, StopsAt, ToldBefore}
 use Rattle.live_relay.specs.Wires.{Datagram, WireTold, WireView}
@@ -182,23 +183,24 @@ course_wants nest k limit old_clock clock old_wire wire relay last c some le =
 
 pub course_ends : (nest : NestParts) (k limit : ℕ) (old_clock clock : ClockView) (old_wire wire : WireView)
     (relay : Relay) (last : ℕ) (r : RelayResult) (c : Course nest k old_clock clock old_wire wire relay last)
-    → k ≡ limit → 1 ≤ limit → HasResult nest c.turns Turns last r
+    → k ≡ limit → 1 ≤ limit → clock.ended ≡ false → HasResult nest c.turns Turns last r
     → IsRelayed nest limit old_clock clock old_wire wire r
-course_ends nest k limit old_clock clock old_wire wire relay last r c all some h =
+course_ends nest k limit old_clock clock old_wire wire relay last r c all some going h =
     let at : r.last ≡ last_moment c.turns = h.last_is ∙ c.last_is in
     record {
       turns = c.turns;
       within = c.within;
       ends = subst (λ e. EndsBy e limit nest.horizon c.turns r.last) (sym h.end_is) (c.count ∙ all, at);
       latest = h.last_is ∙ sym (c.latest (subst (λ n. 1 ≤ n) (sym all) some));
+      ended = subst (λ e. IsEndOf e clock.ended) (sym h.end_is) going;
       moments = subst (λ e. Reads (moments_read e c.turns r.last) old_clock.moments clock.moments) (sym h.end_is)
           c.moments;
       rises = c.rises;
       asked = c.asked;
       rows = h.rows;
       refused = h.refused;
-      run = h.run;
-      once = h.once;
+      run = subst (λ e. r.run ≡ result_of (nest_at e nest r.last) (rows_of c.turns)) (sym h.end_is) h.run;
+      once = subst (λ e. HaveOneFate (nest_at e nest r.last) (rows_of c.turns)) (sym h.end_is) h.once;
       received = λ start now s e. (c.goes start now s e).0;
       sent = λ start now s e. subst (λ n. HasSent nest c.turns n start.sent now.sent) (sym at)
           (c.goes start now s e).1;
@@ -218,6 +220,7 @@ course_passes nest k limit m old_clock clock clock' old_wire wire wire' relay la
       within = c.within;
       ends = subst (λ e. EndsBy e limit nest.horizon c.turns r.last) (sym h.end_is) (omega arith, omega arith);
       latest = h.last_is ∙ sym latest;
+      ended = subst (λ e. IsEndOf e clock'.ended) (sym h.end_is) tt;
       moments = subst (λ e. Reads (moments_read e c.turns r.last) old_clock.moments clock'.moments) (sym h.end_is)
           (subst (λ n. Reads (map (λ (t : Turn). t.moment) c.turns ++ n ∷ []) old_clock.moments clock'.moments)
           (sym h.last_is)
@@ -226,13 +229,42 @@ course_passes nest k limit m old_clock clock clock' old_wire wire wire' relay la
       asked = s.asked ∙ c.asked;
       rows = h.rows;
       refused = h.refused;
-      run = h.run;
-      once = h.once;
+      run = subst (λ e. r.run ≡ result_of (nest_at e nest r.last) (rows_of c.turns)) (sym h.end_is) h.run;
+      once = subst (λ e. HaveOneFate (nest_at e nest r.last) (rows_of c.turns)) (sym h.end_is) h.once;
       received = goes_through nest c.turns old_wire wire wire' _ s.told c.goes (λ start before now a b asked sent.
           (s.goes start before now a b asked sent).0);
       sent = goes_through nest c.turns old_wire wire wire' _ s.told c.goes (λ start before now a b asked sent.
           subst (λ n. HasSent nest c.turns n start.sent now.sent) (sym h.last_is)
           (s.goes start before now a b asked sent).1);
+    }
+
+-- its user had ended by the last turn
+pub course_over : (nest : NestParts) (k limit : ℕ) (old_clock clock : ClockView) (old_wire wire : WireView)
+    (relay : Relay) (last : ℕ) (r : RelayResult) (c : Course nest k old_clock clock old_wire wire relay last)
+    → 1 ≤ k → k ≤ limit → clock.ended ≡ true → HasResult (until last nest) c.turns User last r
+    → IsRelayed nest limit old_clock clock old_wire wire r
+course_over nest k limit old_clock clock old_wire wire relay last r c some le over h =
+    let at : r.last ≡ last_moment c.turns = h.last_is ∙ c.last_is in
+    let count = c.count in
+    record {
+      turns = c.turns;
+      within = c.within;
+      ends = subst (λ e. EndsBy e limit nest.horizon c.turns r.last) (sym h.end_is) (omega arith, omega arith, at);
+      latest = h.last_is ∙ sym (c.latest some);
+      ended = subst (λ e. IsEndOf e clock.ended) (sym h.end_is) over;
+      moments = subst (λ e. Reads (moments_read e c.turns r.last) old_clock.moments clock.moments) (sym h.end_is)
+          c.moments;
+      rises = c.rises;
+      asked = c.asked;
+      rows = h.rows;
+      refused = h.refused;
+      run = subst (λ e. r.run ≡ result_of (nest_at e nest r.last) (rows_of c.turns)) (sym h.end_is)
+          (subst (λ n. r.run ≡ result_of (until n nest) (rows_of c.turns)) (sym h.last_is) h.run);
+      once = subst (λ e. HaveOneFate (nest_at e nest r.last) (rows_of c.turns)) (sym h.end_is)
+          (subst (λ n. HaveOneFate (until n nest) (rows_of c.turns)) (sym h.last_is) h.once);
+      received = λ start now s e. (c.goes start now s e).0;
+      sent = λ start now s e. subst (λ n. HasSent nest c.turns n start.sent now.sent) (sym at)
+          (c.goes start now s e).1;
     }
 
 pub stands_in : (nest : NestParts) (k m : ℕ) (old_clock clock : ClockView) (old_wire wire : WireView) (relay : Relay)
@@ -295,3 +327,17 @@ course_begins nest clock wire relay current client server = record {
         },
       );
 }
+
+-- the same of two nests that are one
+pub stopped_same : {T E : Type 0} (result : Result T E) (a b : NestParts) (limit : ℕ) (old_clock clock : ClockView)
+    (old_wire wire : WireView) → a ≡ b → OnErr result (IsStopped a limit old_clock clock old_wire wire)
+    → OnErr result (IsStopped b limit old_clock clock old_wire wire)
+stopped_same result a b limit old_clock clock old_wire wire e stops =
+    subst (λ (n : NestParts). OnErr result (IsStopped n limit old_clock clock old_wire wire)) e stops
+
+pub relayed_same : {E : Type 0} (result : Result RelayResult E) (a b : NestParts) (limit : ℕ)
+    (old_clock clock : ClockView) (old_wire wire : WireView) → a ≡ b
+    → IfOk result (λ r. IsRelayed a limit old_clock clock old_wire wire r)
+    → IfOk result (λ r. IsRelayed b limit old_clock clock old_wire wire r)
+relayed_same result a b limit old_clock clock old_wire wire e done =
+    subst (λ (n : NestParts). IfOk result (λ r. IsRelayed n limit old_clock clock old_wire wire r)) e done

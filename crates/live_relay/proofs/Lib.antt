@@ -17,3 +17,4 @@ pub mod Growing
 pub mod Settling
 pub mod Carrying
 pub mod Lining
+pub mod Replaying

@@ -1,10 +1,10 @@
 -- What a relay leaves of its clock and its wire, and what it answers.
-use Rattle.std.specs.Prelude.{◌≡◌, ◌⊎◌, ℕ, ◌+◌, ◌-◌, ◌<◌, ◌≤◌, List, [], ◌∷◌, ◌++◌, Some, length, map, take, get_or}
-use Rattle.nest_spec.specs.Nests.{NestParts, result_of}
+use Rattle.std.specs.Prelude.{◌≡◌, ◌⊎◌, Bool, true, false, ℕ, ◌+◌, ◌-◌, ◌<◌, ◌≤◌, List, [], ◌∷◌, ◌++◌, Some, length, map, take, get_or}
+use Rattle.nest_spec.specs.Nests.{NestParts, result_of, until}
 use Rattle.nest_spec.specs.Once.{HaveOneFate}
 use Rattle.live_relay.specs.declared.side.Side.TheVariants.{Client, Server}
 use Rattle.live_relay.specs.declared.outcome.RelayEnd.{RelayEnd}
-use Rattle.live_relay.specs.declared.outcome.RelayEnd.TheVariants.{Horizon, Turns}
+use Rattle.live_relay.specs.declared.outcome.RelayEnd.TheVariants.{Horizon, Turns, User}
 use Rattle.live_relay.specs.declared.outcome.RelayResult.{RelayResult}
 use Rattle.live_relay.specs.declared.received.Received.{Received}
 use Rattle.live_relay.specs.Clocks.{ClockView, Reads}
@@ -70,15 +70,29 @@ pub record HasSentSome (nest : NestParts) (turns : List Turn) (m : ℕ) (old now
 abbrev pub IfTold : WireView → WireView → (WireTold → WireTold → Type 0) → Type 0
 IfTold old new P = (start now : WireTold) → old.told ≡ Some start → new.told ≡ Some now → P start now
 
--- the end is Turns where all `turns` turns were taken, and the last moment that was read is theirs; it is Horizon where
--- fewer were, and the last moment is above the horizon
+-- the nest of which a relay gives the result: where its user ended, with the last moment as its horizon
+abbrev pub nest_at : RelayEnd → NestParts → ℕ → NestParts
+nest_at Horizon nest last = nest
+nest_at Turns nest last = nest
+nest_at User nest last = until last nest
+
+-- the clock's user had ended at User, and not at Turns
+abbrev pub IsEndOf : RelayEnd → Bool → Type 0
+IsEndOf Horizon ended = Unit {0}
+IsEndOf Turns ended = ended ≡ false
+IsEndOf User ended = ended ≡ true
+
+-- the end is Turns if all `limit` turns were taken, and the last moment that was read is theirs; it is Horizon if fewer
+-- were, and the last moment is above the horizon; it is User if some were, and the last moment is theirs
 abbrev pub EndsBy : RelayEnd → ℕ → ℕ → List Turn → ℕ → Type 0
 EndsBy Turns limit h turns last = (length turns ≡ limit) × (last ≡ last_moment turns)
 EndsBy Horizon limit h turns last = (length turns < limit) × (h < last)
+EndsBy User limit h turns last = (1 ≤ length turns) × (length turns ≤ limit) × (last ≡ last_moment turns)
 
 -- the moments that were read
 abbrev pub moments_read : RelayEnd → List Turn → ℕ → List ℕ
 moments_read Turns turns last = map (λ (t : Turn). t.moment) turns
+moments_read User turns last = map (λ (t : Turn). t.moment) turns
 moments_read Horizon turns last = map (λ (t : Turn). t.moment) turns ++ last ∷ []
 
 -- The moments of these turns never fall, from this one on.
@@ -87,20 +101,22 @@ NeverBefore low [] = Unit {0}
 NeverBefore low (t ∷ turns) = (low ≤ t.moment) × NeverBefore t.moment turns
 
 -- A relay that is done, of at most `turns` turns: these were taken, each at or before the horizon and with one receive.
--- Its rows are those of the turns, and its run is the result of the nest over them.
+-- Its rows are those of the turns, and its run is the result of the nest over them, up to the horizon or to the moment
+-- at which the user had ended.
 pub record IsRelayed (nest : NestParts) (limit : ℕ) (old_clock new_clock : ClockView) (old_wire new_wire : WireView)
     (r : RelayResult) : Type 0 where
   pub turns : List Turn
   pub within : AreWithin nest.horizon turns
   pub ends : EndsBy r.end limit nest.horizon turns r.last
   pub latest : r.last ≡ new_clock.latest
+  pub ended : IsEndOf r.end new_clock.ended
   pub moments : Reads (moments_read r.end turns r.last) old_clock.moments new_clock.moments
   pub rises : NeverBefore old_clock.latest turns
   pub asked : new_wire.asked ≡ old_wire.asked + length turns
   pub rows : r.rows ≡ rows_of turns
   pub refused : r.refused ≡ refused_of turns
-  pub run : r.run ≡ result_of nest (rows_of turns)
-  pub once : HaveOneFate nest (rows_of turns)
+  pub run : r.run ≡ result_of (nest_at r.end nest r.last) (rows_of turns)
+  pub once : HaveOneFate (nest_at r.end nest r.last) (rows_of turns)
   pub received : IfTold old_wire new_wire (HasAsked nest turns)
   pub sent : IfTold old_wire new_wire (λ start now. HasSent nest turns r.last start.sent now.sent)
 

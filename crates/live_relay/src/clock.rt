@@ -5,7 +5,7 @@ ghost use Rattle.live_relay.specs.Clocks.{ClockView, Reads};
 /// A clock in whole milliseconds, whose moments never fall. A caller learns its earlier answers only where the clock
 /// tells them, as one in memory does.
 pub trait Clock {
-    /// What the clock tells, and its last answer.
+    /// What the clock tells, its last answer, and whether its user had ended.
     ghost view: { Self → ClockView };
 
     /// The moment.
@@ -13,4 +13,8 @@ pub trait Clock {
         ensures latest { (view self.new).latest ≡ result }
         ensures never_falls { (view self.old).latest ≤ result }
         ensures told { Reads (result ∷ []) (view self.old).moments (view self.new).moments };
+
+    /// Whether its user had ended at its last answer.
+    fn has_ended(&self) -> bool
+        ensures ended { result ≡ (view self.now).ended };
 }

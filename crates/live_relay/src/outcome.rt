@@ -15,12 +15,14 @@ pub enum RelayEnd {
     Horizon,
     /// All its turns were taken.
     Turns,
+    /// Its user had ended.
+    User,
 }
 
 /// What a relay has passed.
 #[derive(Drop)]
 pub struct RelayResult {
-    /// The fates and logs of its rows.
+    /// The fates and logs of its rows: up to the horizon, or where its user had ended up to the last moment.
     pub run: RunResult,
     /// The datagrams of 1 to 1,504 bytes, in the order in which they were received, each at the moment of its turn.
     pub rows: RelayRows,

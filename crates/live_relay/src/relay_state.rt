@@ -4,9 +4,10 @@ ghost use Rattle.std.specs.Option.{option_map};
 ghost use Rattle.mm_base.specs.Counts.{Rose};
 ghost use Rattle.packet_record.specs.declared.item.FlowEnd.TheVariants.{Ended, Open};
 ghost use Rattle.packet_record.specs.declared.packet.Direction.TheVariants.{Up, Down};
-ghost use Rattle.nest_spec.specs.Nests.{result_of};
+ghost use Rattle.nest_spec.specs.Nests.{result_of, until};
 ghost use Rattle.nest_spec.specs.Once.{HaveOneFate};
-ghost use Rattle.packet_record.specs.Rows.{AreApart};
+ghost use Rattle.packet_record.specs.Rows.{AreApart, Rises};
+ghost use Rattle.packet_record.specs.Orders.{AreWithin};
 ghost use Rattle.live_relay.specs.Lines.{IsSettled, up_to};
 ghost use Rattle.live_relay.specs.Due.{last_moment};
 ghost use Rattle.live_relay.specs.Stamped.{Turn};
@@ -200,6 +201,30 @@ impl Relay {
         let mut relay = self.finish(nest)?;
         relay.send_due(wire, last)?;
         Ok(relay.into_result(alloc, nest, RelayEnd::Horizon, last)?)
+    }
+
+    /// Ends where the clock's user had ended in a turn at this moment. Nothing further is sent, and what has passed is
+    /// computed anew, by the nest whose horizon is this moment.
+    pub fn end_by_user(
+        self,
+        alloc: Global,
+        nest: Nest,
+        last: u64,
+    ) -> Result<RelayResult, OutOfMemory>
+        requires stands { Stands nest last self }
+        requires within { last ≤ nest.horizon }
+        requires rises { Rises 0 self.stamps.rows.items }
+        requires enter { AreWithin last self.stamps.rows.items }
+        ensures { IfOk result (λ r. (turns : List Turn) → IsCurrent nest turns self
+            → HasResult (until last nest) turns RelayEnd.User last r) }
+    {
+        let Relay { stamps, up, down } = self;
+        drop(up);
+        drop(down);
+        let nest = nest.until(last);
+        let up = Way::over(alloc, &nest, Direction::Up, stamps.rows.as_slice())?;
+        let down = Way::over(alloc, &nest, Direction::Down, stamps.rows.as_slice())?;
+        Relay { stamps, up, down }.into_result(alloc, &nest, RelayEnd::User, last)
     }
 
     /// Ends where all turns were taken, the last at this moment.

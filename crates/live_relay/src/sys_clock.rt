@@ -23,9 +23,6 @@ const SILENCE: u64 = 1_000;
 // How long the clock waits for a datagram in a silence, in milliseconds.
 const WAIT: i32 = 5;
 
-// What the clock returns once the user has ended: it is past every horizon.
-const PAST: u64 = u64::MAX;
-
 /// The machine's monotonic clock, in whole milliseconds since it was made. It tells no answers but the last. Where the
 /// system has no time to give, it returns the last one again.
 ///
@@ -34,8 +31,7 @@ const PAST: u64 = u64::MAX;
 /// and looks for datagrams every fifth of a millisecond. After a silent second it waits five milliseconds, and the next
 /// datagram ends the wait at once.
 ///
-/// It may watch a descriptor, at which it looks once in a millisecond. From the end of that one on it returns a moment
-/// that is past every horizon.
+/// It may watch a descriptor, at which it looks once in a millisecond. The user has ended where that is at its end.
 #[derive(Drop)]
 pub struct SysClock<'a, R: Time + Drop> {
     rt: R,
@@ -45,11 +41,12 @@ pub struct SysClock<'a, R: Time + Drop> {
     latest: u64,
     moment: u64,
     active: u64,
+    ended: bool,
 }
 
 impl<'a, R: Time + Drop> SysClock<'a, R> {
     /// A clock over the runtime's, at 0 now, beside the wire of this pulse. A horizon is counted from here on. Where a
-    /// descriptor is named, its end ends the clock.
+    /// descriptor is named, its end is that of the user.
     pub fn new(rt: R, pulse: &'a Pulse, end: Option<RawFd>) -> Self
         ensures { result.latest ≡ 0 }
     {
@@ -62,18 +59,13 @@ impl<'a, R: Time + Drop> SysClock<'a, R> {
             latest: 0,
             moment: 0,
             active: 0,
+            ended: false,
         }
     }
 
-    /// The last moment that the system's clock gave, in milliseconds; 0 at first. It is the last answer, unless the
-    /// user has ended.
+    /// The last moment that the system's clock gave, in milliseconds; 0 at first. It is the last answer.
     pub fn moment(&self) -> u64 {
         self.moment
-    }
-
-    /// Whether the user has ended: whether its descriptor was seen at its end.
-    pub fn is_ended(&self) -> bool {
-        self.latest == PAST
     }
 
     // The time since it was made, where the system tells it.
@@ -135,16 +127,14 @@ impl<'a, R: Time + Drop> SysClock<'a, R> {
         let elapsed = self.elapsed_millis().unwrap_or(self.moment);
         if elapsed > self.moment {
             self.moment = elapsed;
-            if self.end.is_at_end() {
-                return PAST;
-            }
+            self.ended = self.ended || self.end.is_at_end();
         }
         self.moment
     }
 }
 
 impl<'a, R: Time + Drop> Clock for SysClock<'a, R> {
-    ghost view = { λ c. record { moments = None; latest = c.latest } };
+    ghost view = { λ c. record { moments = None; latest = c.latest; ended = c.ended } };
 
     fn now(&mut self) -> u64 {
         if self.pulse.take_moved() {
@@ -154,5 +144,9 @@ impl<'a, R: Time + Drop> Clock for SysClock<'a, R> {
         let moment = self.read();
         self.latest = self.latest.max(moment);
         self.latest
+    }
+
+    fn has_ended(&self) -> bool {
+        self.ended
     }
 }

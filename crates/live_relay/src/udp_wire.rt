@@ -4,6 +4,7 @@ ghost use Rattle.mm_base.specs.Counts.{Rose};
 ghost use Rattle.live_relay.specs.Opened.{never};
 
 use crate::ends::{Ends, Given, local};
+use crate::stamps::MOST;
 use crate::unsent::Unsent;
 use crate::{Opened, Pulse, Side, Wire};
 use libc::net::{POLLOUT, SO_RCVBUF, SOL_SOCKET, getsockopt, poll, setsockopt};
@@ -54,6 +55,8 @@ pub struct UdpWire<'a, R: Net + Eprint + Drop> {
     asked: u64,
     faults: u64,
     lost: u64,
+    longer: u64,
+    empty: u64,
     last_error: Option<i32>,
 }
 
@@ -89,6 +92,8 @@ impl<'a, R: Net + Eprint + Drop> UdpWire<'a, R> {
             asked: 0,
             faults: 0,
             lost: 0,
+            longer: 0,
+            empty: 0,
             last_error: None,
         }
     }
@@ -105,6 +110,28 @@ impl<'a, R: Net + Eprint + Drop> UdpWire<'a, R> {
         ensures { result ≡ self.now.lost }
     {
         self.lost
+    }
+
+    /// How many datagrams that it received were longer than a packet can be.
+    pub fn longer(&self) -> u64 {
+        self.longer
+    }
+
+    /// How many datagrams that it received had no bytes.
+    pub fn empty(&self) -> u64 {
+        self.empty
+    }
+
+    // Counts a datagram of this size where no packet can have it.
+    fn count_size(&mut self, size: usize)
+        ensures same { (self.new.asked ≡ self.old.asked) × (self.new.faults ≡ self.old.faults) }
+        ensures opened { self.new.opened ≡ self.old.opened }
+    {
+        if size > MOST {
+            self.longer = self.longer.saturating_add(1);
+        } else if size == 0 {
+            self.empty = self.empty.saturating_add(1);
+        }
     }
 
     /// The number of the system's error at the last call that was refused. None where none was, or not by the system.
@@ -201,8 +228,9 @@ impl<'a, R: Net + Eprint + Drop> UdpWire<'a, R> {
             return Err(io::Error::from(ErrorKind::NotConnected));
         };
         let got = ends.take(buf)?;
-        if got.is_some() {
+        if let Some((_, size)) = got {
             self.pulse.came();
+            self.count_size(size);
         }
         Ok(got)
     }

@@ -4,14 +4,16 @@ ghost use Rattle.std.specs.Prelude.{OnOk};
 ghost use Rattle.std.specs.Option.{option_map};
 ghost use Rattle.mm_base.specs.Counts.{Rose};
 ghost use Rattle.packet_record.specs.Moments.{Rise};
+ghost use Rattle.packet_record.specs.Orders.{AreWithin};
 ghost use Rattle.packet_record.specs.Packets.{number};
-ghost use Rattle.packet_record.specs.declared.item.FlowEnd.TheVariants.{Open};
+ghost use Rattle.packet_record.specs.Rows.{Rises};
+ghost use Rattle.packet_record.specs.declared.item.FlowEnd.TheVariants.{Ended, Open};
 ghost use Rattle.packet_record.specs.Streams.{no_items};
 ghost use Rattle.nest_spec.specs.Nests.{directions_of};
 ghost use Rattle.live_relay.specs.Lines.{IsSettled, number_all, up_to};
 ghost use Rattle.live_relay.specs.Due.{bytes_in};
 ghost use Rattle.live_relay.specs.inside.Pieces.{Keeps, has_number, kept_at};
-ghost use Rattle.live_relay.specs.inside.Ways.{EndsWay, GoesOn, item_in, StopsSending, waiting};
+ghost use Rattle.live_relay.specs.inside.Ways.{EndsWay, GoesOn, IsWay, item_in, StopsSending, waiting};
 ghost use Rattle.live_relay.specs.Wires.{CountsWireFaults, sending_all};
 
 use crate::kept::Kept;
@@ -114,6 +116,25 @@ impl Way {
             sent: 0,
             forgotten,
         })
+    }
+
+    /// A direction of a nest through which these rows went, and nothing further goes.
+    pub fn over(
+        alloc: Global,
+        nest: &Nest,
+        direction: Direction,
+        rows: &[Row],
+    ) -> Result<Way, OutOfMemory>
+        requires rises { Rises 0 rows.now }
+        requires within { AreWithin nest.now.horizon rows.now }
+        ensures way { IfOk result (λ way. IsWay nest.now direction rows.now way) }
+        ensures ended { IfOk result (λ way. way.line.fed.end ≡ Ended) }
+    {
+        let mut way = Way::new(alloc, nest, direction)?;
+        'rows: for row in rows {
+            way = way.feed(direction, row.timed.moment, Some(*row))?;
+        }
+        way.finish()
     }
 
     /// What holds of its line. It does nothing.

@@ -1,3 +1,4 @@
 pub mod RankLaws
 pub mod CountLaws
 pub mod SumLaws
+pub mod BinLaws

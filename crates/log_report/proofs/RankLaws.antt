@@ -247,6 +247,20 @@ ranked_long xs ls rank j perm is lt place =
         in absurd (omega arith)
     by_limit (inr le) high at_limit none = le
 
+-- the number at a rank, where all are sorted
+pub ranked_sorted : (xs ls : List ℕ) (rank : ℕ) → IsPermutation xs ls → IsSorted nat_cmp ls → 1 ≤ rank
+    → rank ≤ length ls → at_rank xs rank ≡ get_or ls (rank - 1) 0
+ranked_sorted xs ls rank perm is some within =
+    let up = ascends-std ls is in
+    let x = get_or ls (rank - 1) 0 in
+    let low = place_below ls (rank - 1) up (omega arith) in
+    let high = place_within ls (rank - 1) up (omega arith) in
+    let same : (d : ℕ) → below d ls ≡ below d xs =
+    λ d. sum_by-IsPermutation (λ (z : ℕ). cond (nat_lt z d) 1 0) xs ls perm in
+    let a = same x in
+    let b = same (x + 1) in
+    ranked xs x rank (omega arith) (omega arith)
+
 -- nothing is below 0
 pub below_none : (xs : List ℕ) → below 0 xs ≡ 0
 below_none [] = refl

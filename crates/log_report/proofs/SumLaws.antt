@@ -32,6 +32,14 @@ count_yes : (said : Entry → Option ℕ) (es : List Entry) (e : Entry) (x : ℕ
     → count_in said (es ++ e ∷ []) ≡ count_in said es + 1
 count_yes said es e x one = ap length (said_yes said es e x one) ∙ length-append (filter_map said es) (x ∷ [])
 
+pub sum_more : (said : Entry → Option ℕ) (es : List Entry) (e : Entry) (x sum : ℕ) → filter_map said (e ∷ []) ≡ x ∷ []
+    → sum ≡ sum_in said es → sum + x ≡ sum_in said (es ++ e ∷ [])
+sum_more said es e x sum one is = ap (λ (n : ℕ). n + x) is ∙ sym (sum_yes said es e x one)
+
+pub sum_same : (said : Entry → Option ℕ) (es : List Entry) (e : Entry) (sum : ℕ) → filter_map said (e ∷ []) ≡ []
+    → sum ≡ sum_in said es → sum ≡ sum_in said (es ++ e ∷ [])
+sum_same said es e total none is = is ∙ sym (ap sum (said_no said es e none))
+
 pub in_sum : (said : Entry → Option ℕ) (es : List Entry) (e : Entry) (x count bytes : ℕ)
     → filter_map said (e ∷ []) ≡ x ∷ [] → (count ≡ count_in said es) × (bytes ≡ sum_in said es)
     → (count + 1 ≡ count_in said (es ++ e ∷ [])) × (bytes + x ≡ sum_in said (es ++ e ∷ []))

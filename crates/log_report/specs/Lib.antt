@@ -1,6 +1,10 @@
 pub mod Ranks
 pub mod Reports
 pub mod ReportText
+pub mod ReportJson
+pub mod Bins
+pub mod SeriesText
+pub mod Series
 pub mod Counted
 pub mod Summed
 pub mod ReportBuilder

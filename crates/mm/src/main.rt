@@ -5,9 +5,10 @@
 use command_ends::{exit_code, read_end, read_words};
 use ended_port::{EndWatch, EndedPort};
 use front_words::{Program, Reason, tell};
-use mm_base::{FileDisk, NoPace, StdSink};
+use mm_base::{NoPace, StdSink};
 use mm_program::mm_ending;
-use request_notes::{NotedPort, Notes, Recorded, read_recorded};
+use piped_disk::PipedDisk;
+use request_notes::{NotedPort, Notes, Recorded, read_cut, read_recorded};
 use std::io::Stderr;
 use std::marker::Sync;
 use std::process::ExitCode;
@@ -25,12 +26,16 @@ const IS_LOGGED: &str = "1";
 const NAME: &str = "mm replay";
 
 // What a serving answers from, where the environment asks for a line for each request and it can be read.
-fn read_logged(rt: &HostRuntime, words: &[String]) -> Option<Recorded> {
+fn read_logged(
+    rt: &HostRuntime,
+    words: &[String],
+    disk: &mut PipedDisk<HostRuntime>,
+) -> Option<Recorded> {
     let value = env::var(rt, LOG).ok()?;
     if value.as_str() != IS_LOGGED {
         return None;
     }
-    read_recorded(rt.alloc(), words, &mut FileDisk::new(rt.clone().ok()?))
+    read_recorded(rt.alloc(), words, disk)
 }
 
 // A port of this machine, whose requests are noted where the environment asks for it.
@@ -50,30 +55,53 @@ fn new_port<'a>(
     Ok(NotedPort::new(port, notes))
 }
 
-// What the words make of the machine's files and of its port, which the end of this watch ends. An error means out of
-// memory before the top call.
+// Says on the standard error which record was left out, if one was.
+fn say_cut(
+    rt: &HostRuntime,
+    words: &[String],
+    disk: &mut PipedDisk<HostRuntime>,
+) -> io::Result<()> {
+    match read_cut(rt.alloc(), words, disk) {
+        Some(cut) => eprintln!(rt; "mm: {cut}"),
+        None => Ok(()),
+    }
+}
+
+// What the words make of the machine's files, on this disk, and of its port, which the end of this watch ends. An error
+// means out of memory before the top call.
 fn run_until<'a, T: Threads + Wait + Sync>(
     threads: &T,
     rt: &HostRuntime,
     words: &[String],
+    disk: &mut PipedDisk<HostRuntime>,
     watch: &'a EndWatch,
     recorded: &'a Option<Recorded>,
 ) -> io::Result<u8> {
     let mut out = StdSink::new(rt.stdout());
-    let mut disk = FileDisk::new(rt.clone()?);
     let mut port: LocalPort<'a> = new_port(rt, watch, recorded)?;
     let ending = mm_ending(
         threads,
         rt.alloc(),
         words,
-        &mut disk,
+        disk,
         &mut out,
         &mut port,
         &NoPace,
     );
-    let reason = Reason::of_ending(&ending, &disk, port.port().last_error());
+    let reason = Reason::of_ending(&ending, disk, port.port().last_error());
     let mut told = StdSink::new(rt.stderr());
-    tell(rt, Program::Mm, words, &ending, reason, &mut told);
+    tell(
+        rt,
+        Program::Mm,
+        words,
+        &ending,
+        reason,
+        disk.pipes(),
+        &mut told,
+    );
+    if ending.status == 0 {
+        let _ = say_cut(rt, words, disk);
+    }
     Ok(ending.status)
 }
 
@@ -82,8 +110,9 @@ fn run_until<'a, T: Threads + Wait + Sync>(
 fn run<T: Threads + Wait + Sync>(threads: &T, rt: &HostRuntime) -> io::Result<u8> {
     let words = read_words(rt)?;
     let watch = EndWatch::new(read_end(rt));
-    let recorded = read_logged(rt, &words);
-    run_until(threads, rt, &words, &watch, &recorded)
+    let mut disk = PipedDisk::new(rt)?;
+    let recorded = read_logged(rt, &words, &mut disk);
+    run_until(threads, rt, &words, &mut disk, &watch, &recorded)
 }
 
 fn main(rt: HostRuntime) -> ExitCode {

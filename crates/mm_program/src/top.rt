@@ -17,21 +17,23 @@ use std::thread::Threads;
 
 /// Does what the words after the program's name say, and returns the exit status.
 ///
-/// `run --until MS --schedule FILE --out FILE [--seed N] [--plain] [--order FILE] -- SHELLS` passes the packets of a
-/// schedule through a nest of 1 to 8 shells up to the horizon `MS` in milliseconds, and writes the logs that the
-/// shells' words name and then the fates of the packets. They pass over threads, with `--plain` shell by shell, and
-/// with `--order` by single steps in the order that the bytes of a file state, whatever they are; the same is written
-/// in each way, and both options together have no job. `merge --until MS --senders FILE --out FILE [--seed N] --
-/// SHELLS` passes the packets of up to 16 senders through one nest: each line of the file names the schedule of a
-/// sender, each sender has a thread of its own, and the fates are written with sender and line, in the order of the
-/// merge: by moment, then sender, then line. `report --log FILE` prints the report of a log, or `empty`. `make --number
-/// N --packets COUNT` prints the summary of a run of 1 to 1,000,000 packets that is made of a number, up to ten digits
-/// of it. `record --client FILE --server FILE --out FILE [--port N]` writes the store of the two byte streams of a
-/// connection. `match --store FILE --request FILE [--port N]` prints the number of the record that answers a request,
-/// or `none`. `migrate --store FILE --out FILE` writes a store in form 2. `replay --store FILE --port N --connections N
-/// [--site-port N]` serves a store's responses to 1 to 64 connections at a port of 1 to 65,535, each beside the others,
-/// asked at the site's port or else at the one that it listens at, and prints how the connections ended, as `closed C
-/// bad B broken K full F`. Nothing else has a job.
+/// `run --until MS --schedule FILE --out FILE [--table FILE] [--seed N] [--plain] [--order FILE] -- SHELLS` passes the
+/// packets of a schedule through a nest of 1 to 8 shells up to the horizon `MS` in milliseconds, and writes the logs that
+/// the shells' words name, then the table of the packets if it is asked for, and then their fates. They pass over
+/// threads, with `--plain` shell by shell, and with `--order` by single steps in the order that the bytes of a file state,
+/// whatever they are; the same is written in each way, and both options together have no job. `merge --until MS --senders
+/// FILE --out FILE [--table FILE] [--seed N] -- SHELLS` passes the packets of up to 16 senders through one nest: each
+/// line of the file names the schedule of a sender, each sender has a thread of its own, and table and fates are written
+/// with sender and line, in the order of the merge: by moment, then sender, then line. `report --log FILE [--every MS]
+/// [--json]` prints the report of a log, or `empty`; with `--json` the report as an object; with `--every` the series of
+/// the log in bins of 1 to 3,600,000 milliseconds; both together have no job. `make --number N --packets COUNT` prints
+/// the summary of a run of 1 to 1,000,000 packets that is made of a number, up to ten digits of it. `record --client FILE
+/// --server FILE --out FILE [--port N]` writes the store of the two byte streams of a connection. `match --store FILE
+/// --request FILE [--port N]` prints the number of the record that answers a request, or `none`. `migrate --store FILE
+/// --out FILE [--cut]` writes a store in form 2, with `--cut` without a last record that its end cuts. `replay --store
+/// FILE --port N --connections N [--site-port N]` serves a store's responses to 1 to 64 connections at a port of 1 to
+/// 65,535, each beside the others, asked at the site's port or else at the one that it listens at, and prints how the
+/// connections ended, as `closed C bad B broken K full F`. Nothing else has a job.
 ///
 /// 0: it is done. 2: the words have no job, the shells' words are no nest, or an output has the name of an input or of
 /// an earlier output. 3: an input isn't there. 4: an input doesn't meet its grammar. 5: a limit is passed. 6: reading

@@ -2,15 +2,15 @@
 //! and the ports that it dials, given to the top call.
 #![tactic(auto)]
 
-mod look;
 mod seen_disk;
 
-use crate::look::look_at;
 use crate::seen_disk::SeenDisk;
 use command_ends::{exit_code, read_end, read_words};
 use ended_port::{EndWatch, EndedPort};
-use front_words::{Program, Reason, tell, tell_reason};
-use mm_base::{FileDisk, StdSink};
+use front_words::{Program, Reason, tell, tell_reason, warn_of_own_port};
+use mm_base::StdSink;
+use output_look::look_at;
+use piped_disk::{PipedDisk, Pipes};
 use record_proxy::{TcpDialer, proxy_ending, refuse_store, store_name};
 use std::io;
 use std::io::Stderr;
@@ -37,8 +37,17 @@ fn refused(rt: &HostRuntime, words: &[String], name: &str) -> Option<u8> {
     }
     let ending = refuse_store(rt.alloc(), name, &mut StdSink::new(rt.stdout()));
     let reason = reason_in(&error);
+    let pipes = Pipes::new(rt.alloc());
     let mut told = StdSink::new(rt.stderr());
-    tell(rt, Program::Record, words, &ending, reason, &mut told);
+    tell(
+        rt,
+        Program::Record,
+        words,
+        &ending,
+        reason,
+        &pipes,
+        &mut told,
+    );
     Some(ending.status)
 }
 
@@ -62,7 +71,7 @@ fn say_dialed(
 fn say_written(
     rt: &HostRuntime,
     name: Option<&str>,
-    disk: &SeenDisk<FileDisk<HostRuntime>>,
+    disk: &SeenDisk<PipedDisk<HostRuntime>>,
 ) -> io::Result<()> {
     let Some(name) = name else {
         return Ok(());
@@ -89,7 +98,7 @@ fn run_until<'a, T: Threads + Wait + Sync>(
     watch: &'a EndWatch,
 ) -> io::Result<u8> {
     let mut out = StdSink::new(rt.stdout());
-    let mut disk = SeenDisk::new(FileDisk::new(rt.clone()?));
+    let mut disk = SeenDisk::new(PipedDisk::new(rt)?);
     let mut port: EndedPort<'a, HostRuntime, Stderr> = EndedPort::for_dialing(
         rt.clone()?,
         watch,
@@ -108,7 +117,15 @@ fn run_until<'a, T: Threads + Wait + Sync>(
     );
     let reason = Reason::of_ending(&ending, &disk.disk, port.last_error());
     let mut told = StdSink::new(rt.stderr());
-    tell(rt, Program::Record, words, &ending, reason, &mut told);
+    tell(
+        rt,
+        Program::Record,
+        words,
+        &ending,
+        reason,
+        disk.disk.pipes(),
+        &mut told,
+    );
     let _ = say_dialed(rt, &dialer, &mut told);
     if ending.status == 0 {
         let _ = say_written(rt, name, &disk);
@@ -122,6 +139,10 @@ fn run<T: Threads + Wait + Sync>(threads: &T, rt: &HostRuntime) -> io::Result<u8
     let name = store_name(rt.alloc(), &words).unwrap_or(None);
     if let Some(status) = name.and_then(|name| refused(rt, &words, name)) {
         return Ok(status);
+    }
+    if name.is_some() {
+        let mut told = StdSink::new(rt.stderr());
+        warn_of_own_port(rt.alloc(), Program::Record, &words, &mut told);
     }
     let watch = EndWatch::new(read_end(rt));
     run_until(threads, rt, &words, name, &watch)

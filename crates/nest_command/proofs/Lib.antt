@@ -4,3 +4,4 @@ pub mod NestLemmas
 pub mod NestRefusals
 pub mod LogFileLemmas
 pub mod OutputLemmas
+pub mod TableFileLemmas

@@ -91,38 +91,38 @@ module _ {A : Type 0} (nest : Result NestPlan NestError) (taken : NestPlan → O
       (unless_accepted (taken plan) (within_horizon plan) free
       (unless_accepted (refused_horizon horizon) (inputs plan) within accepts))
 
-module _ {A : Type 0} (shells inputs : List Text) (out : Text) (horizon : ℕ) (next : NestPlan → Reading A) where
+module _ {A : Type 0} (shells inputs outs : List Text) (horizon : ℕ) (next : NestPlan → Reading A) where
   -- what a plan that was read, or the cause that there is none, says of the reading
   pub plan_read : (result : Result NestPlan Cause)
-      → MatchResult result (IsPlan shells inputs out horizon) (StopsPlan shells inputs out horizon)
-      → (disk : DiskView) → ReadsOn (plan_reading shells inputs out horizon next) next disk disk result
+      → MatchResult result (IsPlan shells inputs outs horizon) (StopsPlan shells inputs outs horizon)
+      → (disk : DiskView) → ReadsOn (plan_reading shells inputs outs horizon next) next disk disk result
   plan_read (Ok plan) is disk =
-      words_read (nest_of shells) (refused_outputs inputs out) horizon next plan is.named is.free is.within disk
+      words_read (nest_of shells) (refused_outputs inputs outs) horizon next plan is.named is.free is.within disk
   plan_read (Err cause) (WantsMemory is) disk = ReadingWants is
   plan_read (Err cause) (NoNest error e is) disk =
-      nest_refused (nest_of shells) (refused_outputs inputs out) horizon next error cause e is disk
+      nest_refused (nest_of shells) (refused_outputs inputs outs) horizon next error cause e is disk
   plan_read (Err cause) (Taken plan e refused) disk =
-      names_stop (nest_of shells) (refused_outputs inputs out) horizon next plan cause e (names_there _ _) refused disk
+      names_stop (nest_of shells) (refused_outputs inputs outs) horizon next plan cause e (names_there _ _) refused disk
   plan_read (Err cause) (TooLong plan e free refused) disk =
-      horizon_stop (nest_of shells) (refused_outputs inputs out) horizon next plan cause e free refused disk
+      horizon_stop (nest_of shells) (refused_outputs inputs outs) horizon next plan cause e free refused disk
 
   -- the words of a plan are accepted
   pub plan_accepted : (result : Result NestPlan Cause)
-      → MatchResult result (IsPlan shells inputs out horizon) (StopsPlan shells inputs out horizon)
+      → MatchResult result (IsPlan shells inputs outs horizon) (StopsPlan shells inputs outs horizon)
       → ((plan : NestPlan) → AcceptsWords (next plan))
-      → OnOk result (AcceptsWords (plan_reading shells inputs out horizon next))
+      → OnOk result (AcceptsWords (plan_reading shells inputs outs horizon next))
   plan_accepted (Ok plan) is accepts =
-      words_accepted (nest_of shells) (refused_outputs inputs out) horizon next plan is.named is.free is.within
+      words_accepted (nest_of shells) (refused_outputs inputs outs) horizon next plan is.named is.free is.within
       (accepts plan)
   plan_accepted (Err cause) stops accepts = tt
 
 -- words that name no nest have no plan
-pub nest_stops : (shells inputs : List Text) (out : Text) (horizon : ℕ) (error : NestError) (cause : Cause)
+pub nest_stops : (shells inputs outs : List Text) (horizon : ℕ) (error : NestError) (cause : Cause)
     → (error ≢ nest_errors.OutOfMemory → nest_of shells ≡ Err error)
     → (cause ≡ OutOfMemory) ⊎ ((error ≢ nest_errors.OutOfMemory) × (cause ≡ Refused (nest_refusal error)))
-    → StopsPlan shells inputs out horizon cause
-nest_stops shells inputs out horizon error cause e (inl is) = WantsMemory is
-nest_stops shells inputs out horizon error cause e (inr p) = NoNest error (e p.0) p.1
+    → StopsPlan shells inputs outs horizon cause
+nest_stops shells inputs outs horizon error cause e (inl is) = WantsMemory is
+nest_stops shells inputs outs horizon error cause e (inr p) = NoNest error (e p.0) p.1
 
 -- reading traces refuses no words
 pub traces_no_words : {A : Type 0} (names : List Text) (next : List (List ℕ) → Reading A)

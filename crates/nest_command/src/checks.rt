@@ -1,12 +1,12 @@
 // What commands that run a nest check: its words, the names of outputs, the horizon and the traces.
 ghost use Rattle.std.specs.Prelude.{◌≡◌, ◌≢◌, ◌⊎◌, ◌≤◌, ◌∷◌, ◌++◌, [], None, IfErr, IfOk, MatchResult, OnOk, length};
-ghost use Rattle.std.specs.Prelude.{map, string_bytes};
+ghost use Rattle.std.specs.Prelude.{map, option_map, string_bytes};
 ghost use Rattle.command_ends.specs.Names.{refused_names};
 ghost use Rattle.command_ends.specs.Stops.{RefusesText};
 ghost use Rattle.command_ends.specs.declared.cause.Cause.TheVariants as causes;
 ghost use Rattle.nest_spec.specs.Nests.{opportunities_of};
 ghost use Rattle.nest_command.specs.NestReading.{IsPlan, StopsPlan, nest_refusal, refused_count, refused_horizon};
-ghost use Rattle.nest_command.specs.NestReading.{refused_outputs};
+ghost use Rattle.nest_command.specs.NestReading.{packet_outputs, refused_outputs};
 
 use command_ends::{Cause, Limit, Refusal, WordsRefusal, first_taken};
 use nest_spec::{NestError, NestWords, read_nest};
@@ -76,37 +76,55 @@ fn check_horizon(horizon: u64) -> Result<(), Cause>
     Ok(())
 }
 
+/// Returns the names of the outputs after the logs: of the table, if there is one, and of the fates. Returns
+/// `OutOfMemory` where an allocation fails.
+pub fn packet_outputs<'a>(
+    alloc: Global,
+    table: Option<&'a str>,
+    out: &'a str,
+) -> Result<Vec<&'a str>, OutOfMemory>
+    ensures { IfOk result (λ names. map (λ name. name.now) names.items
+        ≡ packet_outputs (option_map (λ s. s.now) table.entry) out.now) }
+{
+    let mut names = Vec::with_capacity(alloc, 2)?;
+    if let Some(table) = table {
+        names.push(table)?;
+    }
+    names.push(out)?;
+    Ok(names)
+}
+
 // Refuses the first output that has the name of an input, or of an output before it.
-fn check_names(alloc: Global, nest: &NestWords, inputs: &[&str], out: &str) -> Result<(), Cause>
-    ensures { MatchResult result
-        (λ _. refused_outputs (map (λ name. name.now) inputs.now) out.now nest.now ≡ None)
-        (λ cause. RefusesText (refused_outputs (map (λ name. name.now) inputs.now) out.now nest.now) cause) }
+fn check_names(alloc: Global, nest: &NestWords, inputs: &[&str], outs: &[&str]) -> Result<(), Cause>
+    ensures { let names = map (λ name. name.now) outs.now in MatchResult result
+        (λ _. refused_outputs (map (λ name. name.now) inputs.now) names nest.now ≡ None)
+        (λ cause. RefusesText (refused_outputs (map (λ name. name.now) inputs.now) names nest.now) cause) }
 {
     let inputs = names_of(alloc, nest.traces(), inputs)?;
-    let outputs = names_of(alloc, nest.logs(), &[out])?;
+    let outputs = names_of(alloc, nest.logs(), outs)?;
     check_outputs(alloc, inputs.as_slice(), outputs.as_slice())
 }
 
 /// Returns the plan of a nest, which these words of shells name. Refuses words that name no nest, then the first output
 /// that has the name of an input or of an output before it, then a horizon past an hour. The inputs are the traces and
-/// those of the names `inputs`; the outputs are the logs and then `out`.
+/// those of the names `inputs`; the outputs are the logs and then `outs`.
 pub fn read_plan(
     alloc: Global,
     shells: &[String],
     inputs: &[&str],
-    out: &str,
+    outs: &[&str],
     horizon: u64,
 ) -> Result<NestWords, Cause>
-    ensures plan { MatchResult result
-        (λ nest. IsPlan (map string_bytes shells.now) (map (λ name. name.now) inputs.now) out.now horizon nest)
-        (λ cause. StopsPlan (map string_bytes shells.now) (map (λ name. name.now) inputs.now) out.now horizon cause) }
+    ensures plan { let names = map (λ name. name.now) outs.now in MatchResult result
+        (λ nest. IsPlan (map string_bytes shells.now) (map (λ name. name.now) inputs.now) names horizon nest)
+        (λ cause. StopsPlan (map string_bytes shells.now) (map (λ name. name.now) inputs.now) names horizon cause) }
     ensures small { OnOk result (horizon ≤ 3600000) }
 {
     let nest = match read_nest(alloc, shells) {
         Ok(nest) => nest,
         Err(error) => return Err(nest_cause(error)),
     };
-    check_names(alloc, &nest, inputs, out)?;
+    check_names(alloc, &nest, inputs, outs)?;
     check_horizon(horizon)?;
     Ok(nest)
 }

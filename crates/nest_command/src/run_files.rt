@@ -1,6 +1,5 @@
-// The files that a run writes: its logs in order, and then its fates.
-ghost use Rattle.std.specs.Prelude.{◌≡◌, ◌<◌, ◌-◌, ◌++◌, ℕ, length, take, map, IfErr, OnOk, OnErr};
-ghost use Rattle.std.specs.List.{flat_map};
+// The files that a run writes: its logs in order, then the table of its packets, and then its fates.
+ghost use Rattle.std.specs.Prelude.{◌≡◌, ◌<◌, ◌-◌, ◌++◌, ℕ, length, take, map, option_map, IfErr, OnOk, OnErr};
 ghost use Rattle.mm_base.specs.Disk.{OnlyWrites, HasWriteCause};
 ghost use Rattle.mm_base.specs.Files.{holding, lengthened};
 ghost use Rattle.shell_log.specs.LogText.{lines_text, log_text};
@@ -9,15 +8,17 @@ ghost use Rattle.command_ends.specs.Outputs.{HoldsSome, holding_all, named_text}
 ghost use Rattle.command_ends.specs.Stops.{StopsAtOutput, StopsWriting};
 ghost use Rattle.nest_command.specs.RunFiles.{log_file, run_files};
 
+use crate::packet_files::write_packets;
 use crate::whole_logs::write_whole_logs;
 use command_ends::{Cause, file_written};
 use link_core::{LinkLog, LogPieces};
-use mm_base::{Disk, DiskError, append_lines, save, save_lines};
+use mm_base::{Disk, DiskError, append_lines, save};
 use nest_plain::{NestRun, RunLog, UnwrittenLog};
 use nest_spec::{Named, RunResult};
+use packet_record::{PackedRow, Row};
 use shell_log::HEADER;
 use std::alloc::Global;
-use text_base::{LineBuffer, PrintLine};
+use text_base::LineBuffer;
 
 // Appends a line to the file `name` for each entry of the piece in hand, and of those that `pieces` still makes, piece
 // by piece. Where it stops, a front of these lines was appended, but not all.
@@ -110,58 +111,45 @@ pub fn write_logs<D: Disk>(
     Ok(())
 }
 
-// Writes the file of the fates, a line for each. `F` is any form of a fate that is printed.
-fn write_fates<D: Disk, F: PrintLine>(
-    alloc: Global,
-    disk: &mut D,
-    name: &str,
-    fates: &[F],
-) -> Result<(), Cause>
-    ensures ok { OnOk result ((D.view disk.new).files ≡ holding name.now (flat_map F.line fates.now)
-        (D.view disk.old).files) }
-    ensures partly { OnErr result (HoldsSome (named_text name.now (flat_map F.line fates.now)) (D.view disk.old).files
-        (D.view disk.new).files) }
-    ensures stopped { IfErr result (λ cause. StopsAtOutput name.now (D.view disk.old) (D.view disk.new) cause) }
-    ensures only_writes { OnlyWrites (D.view disk.old) (D.view disk.new) }
-{
-    let written = save_lines(alloc, disk, name, b"", fates);
-    file_written(alloc, name, written)
-}
-
-/// Writes the files of a run whose logs are made in pieces: its logs in order, and then its fates to `out`. Where
+/// Writes the files of a run whose logs are made in pieces: its logs in order, then the table of its packets, if there
+/// is a name for it, and then its fates to `out`. `rows` are those of the run; the table alone asks for them. Where
 /// writing stops, the files before are whole, and the file that it stops at is as before or holds a front of its text.
 /// The cause is a fault of the disk or out of memory.
 pub fn write_in_pieces<D: Disk>(
     alloc: Global,
     disk: &mut D,
+    table: Option<&str>,
     out: &str,
+    rows: &[PackedRow],
     run: NestRun,
 ) -> Result<(), Cause>
-    ensures ok { OnOk result ((D.view disk.new).files ≡ holding_all (run_files out.now run) (D.view disk.old).files) }
-    ensures stopped { IfErr result (λ cause. StopsWriting (run_files out.now run) (D.view disk.old) (D.view disk.new)
-        cause) }
+    ensures ok { OnOk result ((D.view disk.new).files
+        ≡ holding_all (run_files (option_map (λ s. s.now) table.entry) out.now rows.now run) (D.view disk.old).files) }
+    ensures stopped { IfErr result (λ cause. StopsWriting
+        (run_files (option_map (λ s. s.now) table.entry) out.now rows.now run) (D.view disk.old) (D.view disk.new) cause) }
     ensures only_writes { OnlyWrites (D.view disk.old) (D.view disk.new) }
 {
     let (fates, logs) = run.into_parts();
     write_logs(alloc, disk, logs)?;
-    write_fates(alloc, disk, out, fates.as_slice())
+    write_packets(alloc, disk, table, out, rows, fates.as_slice())
 }
 
-/// Writes the files of a run whose logs are whole: its logs in order, and then its fates to `out`. Where writing stops,
-/// the files before are whole, and the file that it stops at is as before or holds a front of its text. The cause is a
-/// fault of the disk or out of memory.
+/// Writes the files of a run whose logs are whole, as `write_in_pieces` does.
 pub fn write_whole<D: Disk>(
     alloc: Global,
     disk: &mut D,
+    table: Option<&str>,
     out: &str,
+    rows: &[Row],
     run: &RunResult,
 ) -> Result<(), Cause>
     ensures ok { OnOk result ((D.view disk.new).files
-        ≡ holding_all (run_files out.now run.now) (D.view disk.old).files) }
-    ensures stopped { IfErr result (λ cause. StopsWriting (run_files out.now run.now) (D.view disk.old)
-        (D.view disk.new) cause) }
+        ≡ holding_all (run_files (option_map (λ s. s.now) table.entry) out.now rows.now run.now) (D.view disk.old).files) }
+    ensures stopped { IfErr result (λ cause. StopsWriting
+        (run_files (option_map (λ s. s.now) table.entry) out.now rows.now run.now) (D.view disk.old) (D.view disk.new)
+        cause) }
     ensures only_writes { OnlyWrites (D.view disk.old) (D.view disk.new) }
 {
     write_whole_logs(alloc, disk, run.logs())?;
-    write_fates(alloc, disk, out, run.fates())
+    write_packets(alloc, disk, table, out, rows, run.fates())
 }

@@ -9,5 +9,5 @@ mod run_log;
 mod shell;
 
 pub use nest_run::NestRun;
-pub use plain::{run_nest, run_packed, run_plain};
+pub use plain::{run_nest, run_packed, run_plain, run_shared};
 pub use run_log::{RunLog, UnwrittenLog, log_named};

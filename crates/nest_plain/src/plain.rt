@@ -55,6 +55,24 @@ fn run_direction(
 /// Runs the schedule through the nest, each shell over its whole list of arrivals and then the next. Returns the fate
 /// of each packet and the named logs, which aren't written out. A log of the first shell of a direction keeps the
 /// schedule, in which its arrivals are found again. Returns `OutOfMemory` where an allocation fails.
+pub fn run_shared(
+    alloc: Global,
+    nest: &Nest,
+    schedule: &SharedSchedule,
+) -> Result<NestRun, OutOfMemory>
+    ensures value { IfOk result (λ r. r ≡ result_of nest.now schedule.now) }
+    ensures once { OnOk result (HaveOneFate nest.now schedule.now) }
+{
+    let rows = schedule.rows();
+    let mut marking = Marking::of_packed(alloc, rows)?;
+    let room = Vec::new(alloc);
+    let (up, room) = run_direction(alloc, nest, Direction::Up, schedule, &mut marking, room)?;
+    let (down, _) = run_direction(alloc, nest, Direction::Down, schedule, &mut marking, room)?;
+    let logs = in_nest_order(alloc, up, down)?;
+    Ok(NestRun::new(marking.into_fates(), logs))
+}
+
+/// Runs the schedule through the nest as `run_shared` does, and drops it.
 pub fn run_packed(
     alloc: Global,
     nest: &Nest,
@@ -63,14 +81,7 @@ pub fn run_packed(
     ensures value { IfOk result (λ r. r ≡ result_of nest.now schedule) }
     ensures once { OnOk result (HaveOneFate nest.now schedule) }
 {
-    let schedule = schedule.share()?;
-    let rows = schedule.rows();
-    let mut marking = Marking::of_packed(alloc, rows)?;
-    let room = Vec::new(alloc);
-    let (up, room) = run_direction(alloc, nest, Direction::Up, &schedule, &mut marking, room)?;
-    let (down, _) = run_direction(alloc, nest, Direction::Down, &schedule, &mut marking, room)?;
-    let logs = in_nest_order(alloc, up, down)?;
-    Ok(NestRun::new(marking.into_fates(), logs))
+    run_shared(alloc, nest, &schedule.share()?)
 }
 
 /// Runs the schedule through the nest as `run_packed` does, over a packed copy of it.

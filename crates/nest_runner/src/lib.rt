@@ -18,5 +18,5 @@ pub mod work;
 
 pub use feeds::{run_feeds, run_nest_feeds};
 pub use run::{run_nest_threads, run_threads};
-pub use stream::{run_nest_stream, run_stream};
+pub use stream::{run_nest_stream, run_stream, run_stream_keeping};
 pub use stream_error::StreamError;

@@ -9,6 +9,8 @@ ghost use Rattle.shell_workers.specs.Ends.{IfEnded};
 ghost use Rattle.shell_workers.specs.Reading.{IsUnread, ReadsFile};
 ghost use Rattle.shell_workers.specs.Sending.{IsUnsent};
 ghost use Rattle.shell_workers.specs.StreamParts.{AllSent, IsStreamed};
+ghost use Rattle.nest_spec.specs.Nests.{result_of};
+ghost use Rattle.nest_spec.specs.Once.{HaveOneFate};
 ghost use Rattle.nest_runner.specs.Lanes.{HasRun, IsDonePath, IsFreshLane, IsFreshPath, IsSamePath, workers_in};
 ghost use Rattle.nest_runner.specs.inside.Lanes.{HasEnded, IsSameLane};
 ghost use Rattle.nest_runner.specs.inside.Lanes.{lanes_of};
@@ -53,11 +55,31 @@ pub fn run_nest_stream<D: Disk, Q: Pace + Sync, R: Threads + Wait + Sync>(
     ensures stopped { IfErr result (λ e. HasStreamCause (D.view disk.old) (D.view disk.new) name.now e) }
     ensures only_reads { OnlyReads (D.view disk.old) (D.view disk.new) }
 {
+    let (run, _) = run_stream_keeping(rt, alloc, nest, disk, name, pace)?;
+    Ok(run)
+}
+
+/// Runs the schedule in the file `name` as `run_nest_stream` does, and returns it beside the result.
+pub fn run_stream_keeping<D: Disk, Q: Pace + Sync, R: Threads + Wait + Sync>(
+    rt: &R,
+    alloc: Global,
+    nest: &Nest,
+    disk: &mut D,
+    name: &str,
+    pace: &Q,
+) -> Result<(NestRun, PackedSchedule), StreamError>
+    ensures schedule { IfOk result (λ r. IsScheduleOf (D.view disk.old).files name.now r.1) }
+    ensures value { IfOk result (λ r. r.0 ≡ result_of nest.now r.1) }
+    ensures once { IfOk result (λ r. HaveOneFate nest.now r.1) }
+    ensures stopped { IfErr result (λ e. HasStreamCause (D.view disk.old) (D.view disk.new) name.now e) }
+    ensures only_reads { OnlyReads (D.view disk.old) (D.view disk.new) }
+{
     let size = size_within(disk, name)?;
     let place = FilePlace { name, at: 0, size };
     let (schedule, lanes) = run_file(rt, alloc, nest, disk, &place, pace)?;
     let Both { up, down } = lanes;
-    Ok(gather_packed(alloc, nest, &schedule, up, down)?)
+    let run = gather_packed(alloc, nest, &schedule, up, down)?;
+    Ok((run, schedule))
 }
 
 /// Runs the schedule in the file `name` as `run_nest_stream` does, and writes the logs out.

@@ -15,3 +15,5 @@ pub mod NestLemmas
 pub mod BuildLemmas
 pub mod OrderLemmas
 pub mod Scheduled
+pub mod TableLemmas
+pub mod UntilLemmas

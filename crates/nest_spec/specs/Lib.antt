@@ -1,4 +1,5 @@
 pub mod FateTexts
+pub mod TableText
 pub mod NestFaults
 pub mod Words
 pub mod Shells

@@ -36,6 +36,10 @@ built plan traces seed horizon = record {
   horizon = horizon;
 }
 
+-- the nest with another horizon
+abbrev pub until : ℕ → NestParts → NestParts
+until horizon nest = record nest { horizon = horizon }
+
 -- How many opportunities the links of words have with `traces`, in both directions together.
 abbrev pub opportunities_of : ℕ → List (Shell LinkSide) → List Trace → ℕ
 opportunities_of h shells traces = all_opportunities h (shells_of shells traces [])

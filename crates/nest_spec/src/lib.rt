@@ -20,6 +20,7 @@ mod run_result;
 mod shell;
 mod shell_reading;
 mod shell_words;
+mod table_text;
 
 pub use error::NestError;
 pub use fate::{Fate, FateRow};
@@ -33,3 +34,4 @@ pub use packed_fate::{PackedFate, unpack_fates};
 pub use run_result::{Named, NamedLog, RunResult};
 pub use shell::{LinkDirection, Shell, ShellDirection};
 pub use shell_words::LinkSide;
+pub use table_text::{TABLE_HEADER, TABLE_LINES, TableEntry, TableFate, TableRow, put_table};

@@ -1,7 +1,7 @@
 // A nest of shells, built from its words and traces, and what its shells do in each direction.
 ghost use Rattle.std.specs.Prelude.{◌≡◌, ◌≤◌, ◌+◌, ◌++◌, length, OnOk, IfOk};
 ghost use Rattle.nest_spec.specs.Nests.{IsNest, AllFit, built, opportunities_of};
-ghost use Rattle.nest_spec.specs.Nests.{all_in_direction, directions_of, in_passing_order, shells_in};
+ghost use Rattle.nest_spec.specs.Nests.{all_in_direction, directions_of, in_passing_order, shells_in, until};
 ghost use Rattle.nest_spec.specs.Links.{AreNestShells, specs_in};
 
 use crate::build_shells::build_shells;
@@ -75,6 +75,14 @@ impl Nest {
         ensures most { result ≤ HOUR }
     {
         self.horizon
+    }
+
+    /// Returns the nest with another horizon, which isn't later. It takes no memory.
+    pub fn until(self, horizon: u64) -> Nest
+        requires { horizon ≤ self.horizon }
+        ensures { result ≡ until horizon self }
+    {
+        Nest { horizon, ..self }
     }
 
     /// Returns the shells in a direction, in passing order: up the innermost first, down the outermost first. Returns

@@ -36,15 +36,17 @@ has_shells Relay = true
 -- The options of each command. What is given of them comes in this order.
 abbrev pub table_of : Command → List Opt
 table_of Run =
-    valued (codes "until") ∷ valued (codes "schedule") ∷ valued (codes "out")
+    valued (codes "until") ∷ valued (codes "schedule") ∷ valued (codes "out") ∷ valued (codes "table")
     ∷ valued (codes "seed") ∷ flag (codes "plain") ∷ valued (codes "order") ∷ []
-table_of Merge = valued (codes "until") ∷ valued (codes "senders") ∷ valued (codes "out") ∷ valued (codes "seed") ∷ []
-table_of Report = valued (codes "log") ∷ []
+table_of Merge =
+    valued (codes "until") ∷ valued (codes "senders") ∷ valued (codes "out") ∷ valued (codes "table")
+    ∷ valued (codes "seed") ∷ []
+table_of Report = valued (codes "log") ∷ valued (codes "every") ∷ flag (codes "json") ∷ []
 table_of Make = valued (codes "number") ∷ valued (codes "packets") ∷ []
 table_of Record =
     valued (codes "client") ∷ valued (codes "server") ∷ valued (codes "out") ∷ valued (codes "port") ∷ []
 table_of Match = valued (codes "store") ∷ valued (codes "request") ∷ valued (codes "port") ∷ []
-table_of Migrate = valued (codes "store") ∷ valued (codes "out") ∷ []
+table_of Migrate = valued (codes "store") ∷ valued (codes "out") ∷ flag (codes "cut") ∷ []
 table_of Replay =
     valued (codes "store") ∷ valued (codes "port") ∷ valued (codes "connections")
     ∷ valued (codes "site-port") ∷ flag (codes "until-ended") ∷ []
@@ -53,4 +55,4 @@ table_of Proxy =
     ∷ flag (codes "until-ended") ∷ []
 table_of Relay =
     valued (codes "until") ∷ valued (codes "listen") ∷ valued (codes "to") ∷ valued (codes "turns")
-    ∷ valued (codes "out") ∷ valued (codes "seed") ∷ []
+    ∷ valued (codes "out") ∷ valued (codes "table") ∷ valued (codes "seed") ∷ []

@@ -47,6 +47,8 @@ pub enum Fault {
     },
     /// `--plain` and `--order` stand together.
     PlainAndOrder,
+    /// `--every` and `--json` stand together.
+    EveryAndJson,
     /// Connections are to be served until the user ends, and none at a time.
     NoConnection,
     /// There is no `--`, after which the shells stand.
@@ -270,6 +272,9 @@ fn later_fault(command: Command, options: &[String], words: &[String]) -> Fault 
     }
     if is_given(command, options, "--plain") && is_given(command, options, "--order") {
         return Fault::PlainAndOrder;
+    }
+    if is_given(command, options, "--every") && is_given(command, options, "--json") {
+        return Fault::EveryAndJson;
     }
     if is_given(command, options, "--until-ended") {
         return Fault::NoConnection;

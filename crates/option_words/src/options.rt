@@ -49,6 +49,9 @@ const MOST_CONNECTIONS: u64 = 64;
 
 const MILLION: u64 = 1_000_000;
 
+// The most milliseconds of a series' bin: an hour.
+const MOST_STEP: u64 = 3_600_000;
+
 const HORIZON: ValueSpec = ValueSpec::Number(NumberSpec {
     least: 0,
     most: MOST_DECIMAL,
@@ -98,7 +101,16 @@ const CLIENTS: ValueSpec = ValueSpec::Number(NumberSpec {
     want: "a number of connections, 0 to 64",
 });
 
+const STEP: ValueSpec = ValueSpec::Number(NumberSpec {
+    least: 1,
+    most: MOST_STEP,
+    word: "MS",
+    want: "a whole number of milliseconds, 1 to 3600000",
+});
+
 const SEED_HELP: &str = "the seed of losses, at most ten digits; 0 where none is given";
+
+const TABLE_HELP: &str = "where a table of the packets is written, as comma-separated values";
 
 const RUN: &[OptionSpec] = &[
     OptionSpec {
@@ -118,6 +130,12 @@ const RUN: &[OptionSpec] = &[
         value: ValueSpec::File,
         is_needed: true,
         help: "where the fates of the packets are written",
+    },
+    OptionSpec {
+        name: "table",
+        value: ValueSpec::File,
+        is_needed: false,
+        help: TABLE_HELP,
     },
     OptionSpec {
         name: "seed",
@@ -159,6 +177,12 @@ const MERGE: &[OptionSpec] = &[
         help: "where the fates are written, each with its sender and its line there",
     },
     OptionSpec {
+        name: "table",
+        value: ValueSpec::File,
+        is_needed: false,
+        help: TABLE_HELP,
+    },
+    OptionSpec {
         name: "seed",
         value: DECIMAL,
         is_needed: false,
@@ -166,12 +190,26 @@ const MERGE: &[OptionSpec] = &[
     },
 ];
 
-const REPORT: &[OptionSpec] = &[OptionSpec {
-    name: "log",
-    value: ValueSpec::File,
-    is_needed: true,
-    help: "a log that mm run wrote",
-}];
+const REPORT: &[OptionSpec] = &[
+    OptionSpec {
+        name: "log",
+        value: ValueSpec::File,
+        is_needed: true,
+        help: "a log that mm run wrote",
+    },
+    OptionSpec {
+        name: "every",
+        value: STEP,
+        is_needed: false,
+        help: "a series instead, as comma-separated values: a line for each MS milliseconds",
+    },
+    OptionSpec {
+        name: "json",
+        value: ValueSpec::Flag,
+        is_needed: false,
+        help: "the sums as a JSON object",
+    },
+];
 
 const MAKE: &[OptionSpec] = &[
     OptionSpec {
@@ -248,6 +286,12 @@ const MIGRATE: &[OptionSpec] = &[
         value: ValueSpec::File,
         is_needed: true,
         help: "where it is written",
+    },
+    OptionSpec {
+        name: "cut",
+        value: ValueSpec::Flag,
+        is_needed: false,
+        help: "leaves out the last record if the store ends within it",
     },
 ];
 
@@ -347,6 +391,12 @@ const RELAY: &[OptionSpec] = &[
         value: ValueSpec::File,
         is_needed: true,
         help: "where the fates of the packets are written",
+    },
+    OptionSpec {
+        name: "table",
+        value: ValueSpec::File,
+        is_needed: false,
+        help: TABLE_HELP,
     },
     OptionSpec {
         name: "seed",

@@ -4,6 +4,7 @@ pub mod HeaderLaws
 pub mod CutLaws
 pub mod ExchangeLaws
 pub mod StoreLaws
+pub mod CutTextLaws
 pub mod MoreLaws
 pub mod ReaderLaws
 pub mod PrintLemmas

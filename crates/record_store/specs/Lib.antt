@@ -6,6 +6,7 @@ pub mod Headers
 pub mod Cuts
 pub mod Exchanges
 pub mod StoreText
+pub mod CutText
 pub mod StoreReaders
 pub mod Pieces
 pub mod inside

@@ -1,6 +1,7 @@
 //! Stores of recorded exchanges. A record is a request, its response, and the port that it was recorded from.
 #![tactic(auto)]
 
+mod cut_reading;
 mod cutting;
 mod errors;
 mod exchange;
@@ -15,6 +16,7 @@ mod server;
 mod store_error;
 mod store_reader;
 
+pub use cut_reading::read_cut_store;
 pub use errors::PairError;
 pub use pairing::pair;
 pub use pieces::StorePieces;

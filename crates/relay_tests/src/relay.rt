@@ -16,6 +16,7 @@ mod many;
 mod passed;
 mod rests;
 mod stops;
+mod user;
 
 // What a receive returns: the side and how many bytes.
 type Answer = Option<(Side, usize)>;
@@ -51,7 +52,7 @@ fn wire_of(alloc: Global, answers: &[Answer], fails: &[u64]) -> Result<MemWire, 
 // A relay. It says nothing of what it did, so that a test has only what it looks at.
 fn relay_by<C: Clock, W: Wire>(
     alloc: Global,
-    nest: &Nest,
+    nest: Nest,
     turns: u32,
     clock: &mut C,
     wire: &mut W,
@@ -95,7 +96,7 @@ fn relayed_by(rt: &impl Abort, alloc: Global, case: &Case, wire: &mut MemWire) -
     assert!(rt; 1 <= case.turns && case.turns <= 1_000_000);
     let nest = nest_of(rt, alloc, case.nest, case.horizon);
     let mut clock = clock_of(alloc, &case.times).expect(rt, "memory");
-    relay_by(alloc, &nest, case.turns, &mut clock, wire).expect(rt, "a relay")
+    relay_by(alloc, nest, case.turns, &mut clock, wire).expect(rt, "a relay")
 }
 
 // A case's relay that is done.
@@ -162,11 +163,16 @@ fn is_used(wire: &MemWire, case: &Case) -> bool {
     are_counts(wire.received(), case.before) && sizes_are(wire, case.to_server, case.to_client)
 }
 
-// A case's relay, which comes to what the case says.
-fn passes(rt: &impl Abort, alloc: Global, case: &Case) -> Done {
-    let done = done_by(rt, alloc, case);
+// A relay has come to what a case says.
+fn is_as_said(rt: &impl Abort, alloc: Global, case: &Case, done: &Done) {
     assert!(rt; has_text(alloc, &done.relayed.run, case.text).expect(rt, "memory"));
     assert!(rt; is_end(&done.relayed, case));
     assert!(rt; is_used(&done.wire, case));
+}
+
+// A case's relay, which comes to what the case says.
+fn passes(rt: &impl Abort, alloc: Global, case: &Case) -> Done {
+    let done = done_by(rt, alloc, case);
+    is_as_said(rt, alloc, case, &done);
     done
 }

@@ -1,7 +1,9 @@
 //! What a serving says of each request on the standard error, where it is asked for: by which record it is answered, or
-//! why by none. It only watches: a port and its connections do what they do without it.
+//! why by none. It only watches: a port and its connections do what they do without it. And what `migrate --cut` says
+//! that it left out.
 #![tactic(auto)]
 
+mod cut_store;
 mod lines;
 mod link;
 mod misses;
@@ -9,6 +11,7 @@ mod notes;
 mod port;
 mod recorded;
 
+pub use cut_store::{CutStore, read_cut};
 pub use link::NotedLink;
 pub use notes::Notes;
 pub use port::NotedPort;

@@ -7,6 +7,9 @@ use text_base::{Bytes, OutOfMemory, write_decimal};
 // Who says it.
 const NAME: &[u8] = b"mm replay: ";
 
+// The status of the answer to a request without a record.
+const NOT_FOUND: u16 = 404;
+
 const HEX: [u8; 16] = *b"0123456789abcdef";
 
 // Adds bytes of a peer or of a file as a terminal may show them.
@@ -41,6 +44,14 @@ fn put_value(line: &mut Bytes, value: &Option<Bytes>) -> Result<(), OutOfMemory>
     }
 }
 
+// Adds the port of a record, and the option by which a request gets it.
+fn put_site_port(line: &mut Bytes, port: u16) -> Result<(), OutOfMemory> {
+    write_decimal(line, u64::from(port))?;
+    line.append(b": --site-port ")?;
+    write_decimal(line, u64::from(port))?;
+    line.append(b" serves it")
+}
+
 // Adds what the nearest record has in place of what no record has.
 fn put_nearest(line: &mut Bytes, nearest: &Nearest<'_>) -> Result<(), OutOfMemory> {
     let recorded = &nearest.record.request.head;
@@ -48,7 +59,7 @@ fn put_nearest(line: &mut Bytes, nearest: &Nearest<'_>) -> Result<(), OutOfMemor
     write_decimal(line, nearest.number as u64)?;
     line.append(b" has ")?;
     match nearest.miss {
-        Miss::Port => write_decimal(line, u64::from(nearest.record.port))?,
+        Miss::Port => put_site_port(line, nearest.record.port)?,
         Miss::Host => put_value(line, &recorded.host)?,
         Miss::Agent => put_value(line, &recorded.agent)?,
         Miss::Line => put_shown(line, recorded.line.as_slice())?,
@@ -85,22 +96,25 @@ fn put_miss(
     }
 }
 
-// The front of the line of a request.
-fn begin_line(alloc: Global, request: &RequestHead) -> Result<Bytes, OutOfMemory> {
+// The front of the line of a request, with the status of its answer.
+fn begin_line(alloc: Global, request: &RequestHead, status: u16) -> Result<Bytes, OutOfMemory> {
     let mut line = Bytes::new(alloc);
     line.append(NAME)?;
     put_shown(&mut line, request.line.as_slice())?;
     line.append(b": ")?;
+    write_decimal(&mut line, u64::from(status))?;
+    line.append(b": ")?;
     Ok(line)
 }
 
-// The line of a request that a record answers, by its number, counted from 1.
+// The line of a request that a record answers, by its number, counted from 1, and the status of its response.
 pub(crate) fn line_of_record(
     alloc: Global,
     request: &RequestHead,
     number: usize,
+    status: u16,
 ) -> Result<Bytes, OutOfMemory> {
-    let mut line = begin_line(alloc, request)?;
+    let mut line = begin_line(alloc, request, status)?;
     line.append(b"record ")?;
     write_decimal(&mut line, number as u64)?;
     line.append(b"\n")?;
@@ -114,7 +128,7 @@ pub(crate) fn line_of_miss(
     site: u16,
     nearest: &Option<Nearest<'_>>,
 ) -> Result<Bytes, OutOfMemory> {
-    let mut line = begin_line(alloc, request)?;
+    let mut line = begin_line(alloc, request, NOT_FOUND)?;
     match nearest {
         Some(nearest) => {
             put_miss(&mut line, request, site, nearest.miss)?;

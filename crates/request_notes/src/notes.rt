@@ -57,8 +57,9 @@ impl<'a, W: Write + Copy + Drop> Notes<'a, W> {
         let Recorded { store, site } = self.recorded;
         match self.find(request) {
             Some((number, record)) => {
-                self.write(line_of_record(self.alloc, request, number));
-                !(request.closes || record.response.head.closes)
+                let response = &record.response.head;
+                self.write(line_of_record(self.alloc, request, number, response.status));
+                !(request.closes || response.closes)
             }
             None => {
                 let nearest = find_nearest(store.records(), request, *site);

@@ -6,6 +6,6 @@ mod reading;
 mod served;
 mod writing;
 
-pub use reading::load_store;
+pub use reading::{load_store, load_store_as};
 pub use served::print_served;
 pub use writing::write_store;

@@ -1,5 +1,5 @@
 -- What the values of the code stand for.
-use Rattle.std.specs.Prelude.{map, string_bytes}
+use Rattle.std.specs.Prelude.{map, option_map, string_bytes}
 use Rattle.command_relay.specs.Jobs as jobs
 use Rattle.command_relay.specs.declared.job.RelayJob.{RelayJob}
 
@@ -10,6 +10,7 @@ relay_values job = record {
   to = job.to;
   turns = job.turns;
   out = job.out.now;
+  table = option_map (λ s. s.now) job.table;
   seed = job.seed;
   shells = map string_bytes job.shells.now;
 }

@@ -1,5 +1,5 @@
 -- What reading the inputs of a run tells about them.
-use Rattle.std.specs.Prelude.{◌≡◌, ◌≤◌, ℕ, List, Option, Some, None}
+use Rattle.std.specs.Prelude.{◌≡◌, ◌≤◌, ℕ, Bool, true, List, Option, Some, None}
 use Rattle.mm_base.specs.Disk.{DiskView}
 use Rattle.mm_base.specs.Files.{Files}
 use Rattle.packet_record.specs.declared.packet.Row.{Row}
@@ -24,13 +24,16 @@ abbrev pub StopsAtOrder : Option Text → DiskView → DiskView → Cause → Ty
 StopsAtOrder None old new cause = cause ≡ OutOfMemory
 StopsAtOrder (Some name) old new cause = StopsAtFile name old new cause
 
--- The file `name` has a schedule, and `run` is the run of its rows through the nest. Each row has one fate.
-pub record HasRun (told : Option Files) (name : Text) (nest : NestParts) (run : RunLists) : Type 0 where
+-- The file `name` has a schedule, and `run` is the run of its rows through the nest. Each row has one fate. `kept` has
+-- the rows, if they are to be kept.
+pub record HasRun (told : Option Files) (name : Text) (nest : NestParts) (keeps : Bool) (kept : List Row)
+    (run : RunLists) : Type 0 where
   pub text : List ℕ
   pub rows : List Row
   pub schedule : HasSchedule told name text rows
   pub result_is : run ≡ result_of nest rows
   pub once : HaveOneFate nest rows
+  pub kept_are : keeps ≡ true → kept ≡ rows
 
 -- The traces of a run were read, and have few enough opportunities; `nest` is the nest with them.
 pub record HasNest (told : Option Files) (job : RunJob) (plan : NestPlan) (nest : NestParts) : Type 0 where

@@ -9,6 +9,7 @@ run_values job = record {
   horizon = job.horizon;
   schedule = job.schedule.now;
   out = job.out.now;
+  table = option_map (λ s. s.now) job.table;
   seed = job.seed;
   plain = job.plain;
   order = option_map (λ s. s.now) job.order;

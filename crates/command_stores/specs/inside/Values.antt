@@ -18,7 +18,7 @@ match_values job = record { store = job.store.now; request = job.request.now; po
 
 -- the job of `migrate` as contracts see it
 abbrev pub migrate_values : MigrateJob → migrating.MigrateJob
-migrate_values job = record { store = job.store.now; out = job.out.now }
+migrate_values job = record { store = job.store.now; out = job.out.now; cut = job.cut }
 
 -- the job of `replay` as contracts see it
 abbrev pub replay_values : ReplayJob → replaying.ReplayJob

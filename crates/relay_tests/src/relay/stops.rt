@@ -25,7 +25,7 @@ struct Stop {
 fn error_of(rt: &impl Abort, alloc: Global, wire: &mut MemWire) -> Option<RelayError> {
     let nest = nest_of(rt, alloc, "mm-delay 2 mm-loss uplink 0", 20);
     let mut clock = clock_of(alloc, &Times::FourTurns).expect(rt, "memory");
-    relay_by(alloc, &nest, 10, &mut clock, wire).err()
+    relay_by(alloc, nest, 10, &mut clock, wire).err()
 }
 
 // A relay of three datagrams stops so.

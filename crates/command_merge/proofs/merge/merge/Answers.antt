@@ -7,6 +7,7 @@ use Rattle.command_ends.proofs.EndLemmas.{ends_stopped, ends_written, finishes_l
 use Rattle.command_ends.proofs.CountLemmas.{reads_none}
 use Rattle.command_ends.proofs.ReadingLemmas.{stops_later}
 use Rattle.command_merge.specs.Merge.{GivesMerge, merge_files}
+use Rattle.command_merge.specs.inside.Merged.{merged_in}
 use Rattle.command_merge.specs.MergeReading.{merge_inputs, merge_reading}
 use Rattle.command_merge.specs.inside.Values.{merge_values}
 use Rattle.command_ends.proofs.AloneLemmas.{accepted_alone}
@@ -20,9 +21,9 @@ returns-in_err-words-clause-ends g c = λ out.
     rw p.1 (subst (λ (k : Cause). Ends (only GivesMerge) reading (offline old out) (offline old out) (Some k)) (sym p.2)
     (ends_stopped (only GivesMerge) reading old old out tt _ (keeps_all old) (c.in_err-words.ensures.read old)))
 
-pub returns-in_err-run-clause-ends : goal.returns-in_err-run-clause-ends
-returns-in_err-run-clause-ends g c = λ out.
-    let p = err_from_is_err_and c.from_residual-in_err-run.result c.from_residual-in_err-run.ensures.1 in
+pub returns-in_err-merged-clause-ends : goal.returns-in_err-merged-clause-ends
+returns-in_err-merged-clause-ends g c = λ out.
+    let p = err_from_is_err_and c.from_residual-in_err-merged.result c.from_residual-in_err-merged.ensures.1 in
     let job = merge_values c.args.job.now in
     let old = g.D.Disk.view c.args.disk.now in
     let new = g.D.Disk.view c.merge_packets.new.disk in
@@ -32,7 +33,7 @@ returns-in_err-run-clause-ends g c = λ out.
     (ends_stopped (only GivesMerge) (merge_reading job) old new out tt _ (keeps c.merge_packets.ensures.only_reads)
     (stops_later (merge_reading job) (merge_inputs job c.in_ok-words.words) old old new _
     (c.in_ok-words.ensures.read old)
-    (reads_none old) c.in_err-run.ensures.stopped)))
+    (reads_none old) c.in_err-merged.ensures.stopped)))
 
 pub returns-clause-ends : goal.returns-clause-ends
 returns-clause-ends g c = λ out.
@@ -41,12 +42,12 @@ returns-clause-ends g c = λ out.
     let mid = g.D.Disk.view c.merge_packets.new.disk in
     let new = g.D.Disk.view c.write_files.new.disk in
     ends_written (only GivesMerge) (merge_reading job) old mid new out tt tt
-    (merge_files job.out c.in_ok-run.run') c.write_files.result
-    (finishes_later (c.in_ok-words.ensures.read old) c.in_ok-run.ensures.found) c.merge_packets.ensures.only_reads
+    (merge_files job.table job.out (merged_in c.in_ok-merged.merged.senders) c.in_ok-merged.merged.run) c.write_files.result
+    (finishes_later (c.in_ok-words.ensures.read old) c.in_ok-merged.ensures.found) c.merge_packets.ensures.only_reads
     c.write_files.ensures.ok c.write_files.ensures.stopped
 
-pub returns-in_err-run-clause-alone : goal.returns-in_err-run-clause-alone
-returns-in_err-run-clause-alone g c = accepted_alone (merge_reading (merge_values c.args.job.now)) _ _ c.in_ok-words.ensures.accepts
+pub returns-in_err-merged-clause-alone : goal.returns-in_err-merged-clause-alone
+returns-in_err-merged-clause-alone g c = accepted_alone (merge_reading (merge_values c.args.job.now)) _ _ c.in_ok-words.ensures.accepts
 
 pub returns-clause-alone : goal.returns-clause-alone
 returns-clause-alone g c = accepted_alone (merge_reading (merge_values c.args.job.now)) _ _ c.in_ok-words.ensures.accepts

@@ -1,4 +1,6 @@
-use Rattle.std.proofs.Common.{◌∷◌, []}
+use Rattle.std.proofs.Common.{◌≡◌, ◌∙◌, ◌∷◌, [], List, MatchResult, ap, map, subst}
+use Rattle.command_ends.specs.Causes.{Text}
+use Rattle.nest_command.specs.NestReading.{IsPlan, StopsPlan, packet_outputs}
 use Rattle.command_merge.proofs.MergeLemmas.{inputs_accepted}
 use Rattle.command_merge.specs.MergeReading.{merge_inputs}
 use Rattle.command_merge.specs.inside.Values.{merge_values}
@@ -8,10 +10,24 @@ use Rattle.command_merge.proofs.merge.read_words.Goals as goal
 pub returns-clause-read : goal.returns-clause-read
 returns-clause-read c =
     let job = merge_values c.args.job.now in
-    plan_read job.shells (job.senders ∷ []) job.out job.horizon (merge_inputs job) c.read_plan.result c.read_plan.ensures.plan
+    let outs = packet_outputs job.table job.out in
+    let same : map (λ name. name.now) c.as_slice.result.now ≡ outs =
+    ap (map (λ name. name.now)) c.as_slice.ensures.value ∙ c.in_ok-outs.ensures in
+    let said : MatchResult c.read_plan.result (IsPlan job.shells (job.senders ∷ []) outs job.horizon)
+    (StopsPlan job.shells (job.senders ∷ []) outs job.horizon) =
+    subst (λ (l : List Text). MatchResult c.read_plan.result (IsPlan job.shells (job.senders ∷ []) l job.horizon)
+    (StopsPlan job.shells (job.senders ∷ []) l job.horizon)) same c.read_plan.ensures.plan in
+    plan_read job.shells (job.senders ∷ []) outs job.horizon (merge_inputs job) c.read_plan.result said
 
 pub returns-clause-accepts : goal.returns-clause-accepts
 returns-clause-accepts c =
     let job = merge_values c.args.job.now in
-    plan_accepted job.shells (job.senders ∷ []) job.out job.horizon (merge_inputs job) c.read_plan.result c.read_plan.ensures.plan
+    let outs = packet_outputs job.table job.out in
+    let same : map (λ name. name.now) c.as_slice.result.now ≡ outs =
+    ap (map (λ name. name.now)) c.as_slice.ensures.value ∙ c.in_ok-outs.ensures in
+    let said : MatchResult c.read_plan.result (IsPlan job.shells (job.senders ∷ []) outs job.horizon)
+    (StopsPlan job.shells (job.senders ∷ []) outs job.horizon) =
+    subst (λ (l : List Text). MatchResult c.read_plan.result (IsPlan job.shells (job.senders ∷ []) l job.horizon)
+    (StopsPlan job.shells (job.senders ∷ []) l job.horizon)) same c.read_plan.ensures.plan in
+    plan_accepted job.shells (job.senders ∷ []) outs job.horizon (merge_inputs job) c.read_plan.result said
     (inputs_accepted job)

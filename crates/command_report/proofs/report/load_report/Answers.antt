@@ -16,14 +16,14 @@ returns-in_err-text-clause-stopped g c =
     let old = g.D.Disk.view c.args.disk.now in
     let new = g.D.Disk.view c.read_log_file.new.disk in
     rw p.1 (subst (λ (k : Cause). StopsReading (report_reading job) old new k) (sym p.2)
-    (stops_at job.log (λ text. unless (log_refusal job.log text) (Done text)) old new _
-    c.in_err-text.ensures.stopped))
+    (stops_at job.log (λ text. unless (log_refusal job.log text) (Done (record { form = job.form; text = text }))) old
+    new _ c.in_err-text.ensures.stopped))
 
 pub returns-clause-found : goal.returns-clause-found
-returns-clause-found g c =
+returns-clause-found g c = λ form at.
     let read = c.in_ok-text.ensures.read in
-    report_found (report_values c.args.job.now) (g.D.Disk.view c.args.disk.now).files read.0 c.report_of.result read.1
-    (c.report_of.ensures.report read.0 read.2) (c.report_of.ensures.refused read.0 read.2)
+    report_found (report_values c.args.job.now) form (g.D.Disk.view c.args.disk.now).files read.0 c.report_of.result at
+    read.1 (c.report_of.ensures.report read.0 read.2) (c.report_of.ensures.refused read.0 read.2)
 
 pub returns-clause-stopped : goal.returns-clause-stopped
 returns-clause-stopped g c =

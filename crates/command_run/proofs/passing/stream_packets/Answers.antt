@@ -8,13 +8,13 @@ use Rattle.command_run.proofs.passing.stream_packets.Goals as goal
 
 pub returns-in-Ok-clause-found : goal.returns-in-Ok-clause-found
 returns-in-Ok-clause-found g c =
-    streamed_run (g.D.Disk.view c.args.disk.now).files c.args.name.now c.args.nest.now c.in-Ok.run'
-    c.in-Ok.ensures.found
+    streamed_run (g.D.Disk.view c.args.disk.now).files c.args.name.now c.args.nest.now c.in-Ok.schedule c.in-Ok.run'
+    c.in-Ok.ensures.schedule c.in-Ok.ensures.value c.in-Ok.ensures.once
 
 pub returns-in_ok-from_text-in-Err-clause-stopped : goal.returns-in_ok-from_text-in-Err-clause-stopped
 returns-in_ok-from_text-in-Err-clause-stopped g c =
     let old = g.D.Disk.view c.args.disk.now in
-    let new = g.D.Disk.view c.run_nest_stream.new.disk in
+    let new = g.D.Disk.view c.run_stream_keeping.new.disk in
     let error = c.in-Err.error in
     let named = c.in_ok-from_text-in-Err.ensures in
     subst (λ name. StopsReading (reading_schedule name Done) old new c.stream_cause.result) named

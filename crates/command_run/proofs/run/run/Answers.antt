@@ -6,7 +6,7 @@ use Rattle.command_ends.specs.declared.cause.Cause.{Cause}
 use Rattle.command_ends.proofs.EndLemmas.{ends_stopped, ends_written, finishes_later, keeps, keeps_all}
 use Rattle.command_ends.proofs.CountLemmas.{reads_none}
 use Rattle.command_ends.proofs.ReadingLemmas.{stops_later}
-use Rattle.command_run.specs.inside.Passed.{passed_lists}
+use Rattle.command_run.specs.inside.Passed.{passed_lists, passed_rows}
 use Rattle.nest_command.specs.RunFiles.{run_files}
 use Rattle.command_run.specs.Run.{GivesRun}
 use Rattle.command_run.specs.RunReading.{run_inputs, run_reading}
@@ -41,7 +41,7 @@ returns-clause-ends g c = λ out.
     let mid = g.D.Disk.view c.run_packets.new.disk in
     let new = g.D.Disk.view c.write_files.new.disk in
     ends_written (only GivesRun) (run_reading job) old mid new out tt tt
-    (run_files job.out (passed_lists c.in_ok-run.run')) c.write_files.result
+    (run_files job.table job.out (passed_rows c.in_ok-run.run') (passed_lists c.in_ok-run.run')) c.write_files.result
     (finishes_later (c.in_ok-words.ensures.read old) c.in_ok-run.ensures.found) c.run_packets.ensures.only_reads
     c.write_files.ensures.ok c.write_files.ensures.stopped
 

@@ -1,10 +1,10 @@
-use Rattle.std.proofs.Common.{subst, sym}
+use Rattle.std.proofs.Common.{◌∙◌, subst, sym}
 use Rattle.std.proofs.lemmas.Result.{err_from_is_err_and}
 use Rattle.command_ends.specs.Stops.{StopsReading}
 use Rattle.command_ends.specs.declared.cause.Cause.{Cause}
 use Rattle.command_run.specs.RunReading.{run_inputs}
 use Rattle.command_run.specs.inside.Values.{run_values}
-use Rattle.command_run.proofs.RunLemmas.{HasInputs, order_stop, passed_finishes, passed_stops}
+use Rattle.command_run.proofs.RunLemmas.{HasInputs, order_stop, passed_finishes, passed_stops, some_as}
 use Rattle.command_run.proofs.run.run_packets.Goals as goal
 
 pub returns-in_err-order-clause-stopped : goal.returns-in_err-order-clause-stopped
@@ -46,5 +46,5 @@ returns-clause-found g c =
       order = c.in_ok-order.ensures.found;
       second = c.load_order.ensures.only_reads;
     } in
-    passed_finishes job c.args.words c.in_ok-nest.nest old mid late c.pass_packets.result read
-    c.pass_packets.ensures.found
+    passed_finishes job c.args.words c.in_ok-nest.nest old mid late c.is_some-keeps.result c.pass_packets.result read
+    (some_as (λ s. s.now) c.args.job.now.table ∙ sym c.is_some-keeps.ensures) c.pass_packets.ensures.found

@@ -7,15 +7,16 @@ use Rattle.nest_command.proofs.checks.read_plan.Goals as goal
 
 pub returns-in-Err-clause-plan : goal.returns-in-Err-clause-plan
 returns-in-Err-clause-plan c =
-    nest_stops (map string_bytes c.args.shells.now) (map (λ name. name.now) c.args.inputs.now) c.args.out.now
-    c.args.horizon c.in-Err.error c.nest_cause.result c.in-Err.ensures c.nest_cause.ensures
+    nest_stops (map string_bytes c.args.shells.now) (map (λ name. name.now) c.args.inputs.now)
+    (map (λ name. name.now) c.args.outs.now) c.args.horizon c.in-Err.error c.nest_cause.result c.in-Err.ensures c.nest_cause.ensures
 
 pub returns-in_err-check_names-clause-plan : goal.returns-in_err-check_names-clause-plan
 returns-in_err-check_names-clause-plan c =
     let p = err_from_is_err_and c.from_residual.result c.from_residual.ensures.1 in
     let shells = map string_bytes c.args.shells.now in
     let inputs = map (λ name. name.now) c.args.inputs.now in
-    rw p.1 (subst (λ (k : Cause). StopsPlan shells inputs c.args.out.now c.args.horizon k) (sym p.2)
+    let outs = map (λ name. name.now) c.args.outs.now in
+    rw p.1 (subst (λ (k : Cause). StopsPlan shells inputs outs c.args.horizon k) (sym p.2)
     (Taken c.in-Ok.nest c.in-Ok.ensures c.in_err-check_names.ensures))
 
 pub returns-in_err-check_horizon-clause-plan : goal.returns-in_err-check_horizon-clause-plan
@@ -24,5 +25,6 @@ returns-in_err-check_horizon-clause-plan c =
     c.from_residual-in_err-check_horizon.ensures.1 in
     let shells = map string_bytes c.args.shells.now in
     let inputs = map (λ name. name.now) c.args.inputs.now in
-    rw p.1 (subst (λ (k : Cause). StopsPlan shells inputs c.args.out.now c.args.horizon k) (sym p.2)
+    let outs = map (λ name. name.now) c.args.outs.now in
+    rw p.1 (subst (λ (k : Cause). StopsPlan shells inputs outs c.args.horizon k) (sym p.2)
     (TooLong c.in-Ok.nest c.in-Ok.ensures c.in_ok-check_names.ensures c.in_err-check_horizon.ensures.refused))

@@ -1,4 +1,4 @@
-use Rattle.std.proofs.Common.{subst, sym}
+use Rattle.std.proofs.Common.{false, subst, sym}
 use Rattle.std.proofs.lemmas.Result.{err_from_is_err_and}
 use Rattle.command_ends.specs.Causes.{Text}
 use Rattle.command_ends.specs.Readings.{Done}
@@ -16,7 +16,7 @@ returns-in_err-reader-clause-stopped g c =
     let old = g.D.Disk.view c.args.disk.now in
     let new = g.D.Disk.view c.read_store_file.new.disk in
     rw p.1 (subst (λ (k : Cause). StopsReading (reading_store name Done) old new k) (sym p.2)
-    (store_at_file name old new _ c.in_err-reader.ensures.stopped))
+    (store_at_file false name old new _ c.in_err-reader.ensures.stopped))
 
 pub returns-in-Ok-clause-found : goal.returns-in-Ok-clause-found
 returns-in-Ok-clause-found g c =
@@ -27,7 +27,7 @@ pub returns-in_ok-from_text-in-Err-clause-stopped : goal.returns-in_ok-from_text
 returns-in_ok-from_text-in-Err-clause-stopped g c =
     let name = c.args.name.now in
     let read = c.in_ok-reader.ensures.read in
-    store_judged name (g.D.Disk.view c.args.disk.now) (g.D.Disk.view c.read_store_file.new.disk) read.0
+    store_judged false name (g.D.Disk.view c.args.disk.now) (g.D.Disk.view c.read_store_file.new.disk) read.0
     c.store_cause.result read.1
-    (subst (λ (n : Text). RefusesBy (StoreVerdict n read.0) c.store_cause.result) c.in_ok-from_text-in-Err.ensures
-    (c.store_cause.ensures read.0 (c.in-Err.ensures.says read.0 read.2)))
+    (subst (λ (n : Text). RefusesBy (StoreVerdict false n read.0) c.store_cause.result) c.in_ok-from_text-in-Err.ensures
+    (c.store_cause.ensures false read.0 (c.in-Err.ensures.says read.0 read.2)))

@@ -1,0 +1,42 @@
+-- The outputs of a relay, and how it ends if one of them can't be written.
+use Rattle.std.specs.Prelude.{◌≡◌, ◌⊎◌, List, [], ◌++◌, Option, Some, None, Result, Ok, Err}
+use Rattle.mm_base.specs.Disk.{DiskView}
+use Rattle.nest_spec.specs.Words.{NestPlan, nest_of}
+use Rattle.nest_spec.specs.declared.error.NestError.{NestError}
+use Rattle.command_ends.specs.Causes.{Text}
+use Rattle.command_ends.specs.Readings.{AtTask, Reaches}
+use Rattle.command_ends.specs.Stops.{StopsReading}
+use Rattle.command_ends.specs.declared.cause.Cause.{Cause}
+use Rattle.command_ends.specs.declared.cause.Cause.TheVariants.{WriteFault}
+use Rattle.nest_command.specs.NestReading.{packet_outputs}
+use Rattle.command_relay.specs.Jobs.{RelayJob, relay_of}
+use Rattle.command_relay.specs.Relaying.{RelayTask, relay_words}
+
+-- the logs of the nest, then the table, if there is one, and then the fates; none if there is no nest
+abbrev pub outputs_with : Result NestPlan NestError → Option Text → Text → List Text
+outputs_with (Ok plan) table out = plan.logs ++ packet_outputs table out
+outputs_with (Err error) table out = []
+
+-- the files that a job's relay writes
+abbrev pub outputs_of : RelayJob → List Text
+outputs_of job = outputs_with (nest_of job.shells) job.table job.out
+
+abbrev pub outputs_if : Option RelayJob → List Text
+outputs_if None = []
+outputs_if (Some job) = outputs_of job
+
+-- the files that the relay of these words writes
+abbrev pub outputs_named : List Text → List Text
+outputs_named words = outputs_if (relay_of words)
+
+-- The words and the files lead to a relay.
+pub record LeadsToRelay (words : List Text) (disk : DiskView) : Type 0 where
+  pub task : RelayTask
+  pub read : Reaches disk.files (relay_words words) (AtTask task)
+
+-- Why a relay ends if the output of this name can't be written. The cause is the refusal of the words or inputs, out of
+-- memory, or else a write fault at this output.
+abbrev pub IsRefusedAt : List Text → Text → DiskView → DiskView → Option Cause → Type 0
+IsRefusedAt words name old new None = ⊥
+IsRefusedAt words name old new (Some cause) =
+    StopsReading (relay_words words) old new cause ⊎ ((cause ≡ WriteFault name) × LeadsToRelay words old)
