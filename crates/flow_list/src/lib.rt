@@ -1,0 +1,6 @@
+//! Flows.
+#![tactic(auto)]
+
+mod flow;
+
+pub use flow::{Flow, FlowKind};
