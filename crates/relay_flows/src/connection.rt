@@ -236,14 +236,11 @@ impl Connection {
         }
         let direction = direction_of(side);
         let is_ended = self.core(direction).stage() == Stage::Ended;
-        let segment = match sockets.read(self.number, side, &mut buf[..LONGEST_PIECE]) {
-            Input::Nothing => return Ok(None),
-            Input::Bytes(_) | Input::Ended if is_ended => return Ok(None),
-            Input::Bytes(count) => Segment::Piece(&buf[..count]),
-            Input::Ended => Segment::End,
-            Input::Failed => Segment::Reset,
-        };
-        Ok(Some(make(self.core_mut(direction), segment, row)?))
+        let input = sockets.read(self.number, side, &mut buf[..LONGEST_PIECE]);
+        match segment_of(input, is_ended, buf) {
+            Some(segment) => Ok(Some(make(self.core_mut(direction), segment, row)?)),
+            None => Ok(None),
+        }
     }
 
     // The opening of the way up enters as `row`.
@@ -264,6 +261,17 @@ impl Connection {
             _ => None,
         };
         earliest(limit, earliest(self.up.next_moment(), self.down.next_moment()))
+    }
+}
+
+// The segment that a read makes: after an end a reset alone.
+fn segment_of(input: Input, is_ended: bool, buf: &[u8]) -> Option<Segment<'_>> {
+    match input {
+        Input::Nothing => None,
+        Input::Failed => Some(Segment::Reset),
+        Input::Bytes(_) | Input::Ended if is_ended => None,
+        Input::Bytes(count) => Some(Segment::Piece(&buf[..count])),
+        Input::Ended => Some(Segment::End),
     }
 }
 

@@ -315,7 +315,9 @@ impl RelayState {
             Connection::new(state.alloc, flow, number, state.settings, state.delay);
         let made = connection.begin(state.path.next_row())?;
         let place = state.connections.len();
-        state.connections.push(connection)?;
+        if state.connections.push(connection).is_err() {
+            return Err(FlowsError::OutOfMemory);
+        }
         Ok(state.enter(place, Direction::Up, made.number, made.size, moment)?)
     }
 

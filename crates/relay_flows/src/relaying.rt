@@ -92,4 +92,5 @@ pub fn relay_flows<K: Wait, C: Clock, S: Sockets>(
         state = state.take(sockets, flows, moment, &mut buf)?;
         state.rest(sockets, moment, horizon);
     }
+    unreachable!()
 }
