@@ -12,6 +12,7 @@ mod path;
 mod relay_state;
 mod relaying;
 mod settings;
+mod stream_turns;
 
 pub use entry::{Entry, Origin};
 pub use outcome::{FlowsEnd, FlowsError, FlowsResult};

@@ -1,10 +1,10 @@
 // One direction of a connection.
-ghost use Rattle.std.specs.Prelude.{◌≡◌, ◌+◌, ◌<◌, ◌≤◌, ◌↔◌, length, drop, All, IsTrue};
+ghost use Rattle.std.specs.Prelude.{◌≡◌, ◌+◌, ◌<◌, ◌≤◌, ◌↔◌, ◌⊎◌, length, drop, All, IsTrue};
 ghost use Rattle.std.specs.Prelude.{IfOk, OnOk, OnErr, IfSome, IsSome, IsNone};
 ghost use mathlib.Core.List.{IsPrefix};
 ghost use Rattle.stream_core.specs.declared.segment.Status.TheVariants.{Arrived};
 ghost use Rattle.stream_core.specs.View.{kind_of, bytes_in, on_way_of, CanFollow, IsKept, IsInside, IsNoticedLast};
-ghost use Rattle.stream_core.specs.View.{first_lost, first_kept};
+ghost use Rattle.stream_core.specs.View.{first_lost, first_kept, kept_at};
 ghost use Rattle.stream_core.specs.History.{beginning, made, departed, lost, advanced, retried, gave};
 ghost use Rattle.stream_core.specs.History.{on_way, not_given, segment_at, limit_now, given};
 ghost use Rattle.stream_core.specs.Next.{IsReady, IsFirstDue, IsLeast, moments_to_come};
@@ -100,6 +100,32 @@ impl StreamCore {
         ensures { Ever self.now (λ h. IsTrue result ↔ (in_order h.segments ≡ h.segments)) }
     {
         self.inside + self.lost.len() == 0
+    }
+
+    /// Returns the direction's latest row; 0 before any.
+    pub fn row(&self) -> u32
+        ensures { result ≡ self.now.row }
+    {
+        self.row
+    }
+
+    /// Returns whether the segment of this number was made and not wholly given.
+    pub fn is_kept(&self, number: u32) -> bool
+        ensures { IsTrue result → IsKept number self.now }
+    {
+        number >= self.first && ((number - self.first) as usize) < self.kept.len()
+    }
+
+    /// Returns whether the try of the segment of this number that is inside has this row.
+    pub fn is_inside(&self, number: u32, row: u32) -> bool
+        ensures inside { IsTrue result → IsInside number self.now }
+        ensures row { IsTrue result → (kept_at self.now number).row ≡ row }
+    {
+        if !self.is_kept(number) {
+            return false;
+        }
+        let segment = &self.kept[(number - self.first) as usize];
+        segment.row == row && segment.status == Status::Inside
     }
 
     /// Returns the size of the row as which the segment of this number enters: its bytes and 44. The segment wasn't
@@ -255,6 +281,59 @@ impl StreamCore {
         }
     }
 
+    // Returns whether an answer at this moment comes after all that are to come.
+    fn is_last_answer(&self, answer: u64) -> bool
+        ensures { IsTrue result → All (λ other. other ≤ answer) self.now.answers }
+    {
+        match self.answers.back() {
+            Some(latest) => *latest <= answer,
+            None => true,
+        }
+    }
+
+    // Returns whether a notice of this row at this moment comes after all lost tries that weren't noticed.
+    fn is_last_notice(&self, moment: u64, row: u32) -> bool
+        ensures { IsTrue result → All (λ l. (l.moment < moment) ⊎ ((l.moment ≡ moment) × (l.row < row)))
+            (drop self.now.noticed self.now.lost) }
+    {
+        match self.lost.back() {
+            Some(latest) if latest.moment == moment => latest.row < row,
+            Some(latest) => latest.moment < moment,
+            None => true,
+        }
+    }
+
+    /// Takes note that the try of this row of segment `number` departed, as `note_departure` does. If that segment has
+    /// no such try inside, or the departure is told out of its order, nothing changes.
+    pub fn try_departure(&mut self, number: u32, row: u32, moment: u64) {
+        if moment < self.moment || moment > LATEST {
+            return;
+        }
+        let answer = moment + u64::from(self.settings.delay);
+        if self.is_inside(number, row) && self.is_last_answer(answer) {
+            self.note_departure(number, moment);
+        }
+    }
+
+    /// Takes note that the try of this row of segment `number` was lost, as `note_loss` does. If that segment has no
+    /// such try inside, or the loss is told out of its order, nothing changes.
+    pub fn try_loss(&mut self, number: u32, row: u32, moment: u64) {
+        if moment < self.moment || moment > LATEST {
+            return;
+        }
+        let noticed = moment + u64::from(self.settings.again);
+        if self.is_inside(number, row) && self.is_last_notice(noticed, row) {
+            self.note_loss(number, moment);
+        }
+    }
+
+    /// Takes all answers and notices up to `moment`, as `advance` does, unless it took those up to a later one.
+    pub fn advance_to(&mut self, moment: u64) {
+        if self.moment <= moment {
+            self.advance(moment);
+        }
+    }
+
     /// Returns the next moment at which an answer comes or a loss is noticed, if there is one.
     pub fn next_moment(&self) -> Option<u64>
         ensures { Ever self.now (λ h. IsLeast (moments_to_come h) result) }
@@ -300,6 +379,9 @@ impl StreamCore {
         }
     }
 }
+
+// The latest moment that a row can have, in milliseconds.
+const LATEST: u64 = 9_999_999_999;
 
 // The bytes of a segment's headers on the link: 20 of IP, 20 of TCP, and 4 of the device.
 const HEADERS: usize = 44;
