@@ -1,1 +1,2 @@
 pub mod SocketViews
+pub mod MemSockets

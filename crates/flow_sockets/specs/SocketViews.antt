@@ -1,5 +1,5 @@
 -- Sockets as their callers see them, and what their calls tell.
-use Rattle.std.specs.Prelude.{ℕ, ◌≡◌, ◌≤◌, ◌++◌, Bool, true, false, List, [], ◌∷◌, length, take, Option, Some, None}
+use Rattle.std.specs.Prelude.{ℕ, ◌≡◌, ◌≤◌, ◌++◌, Bool, true, false, List, [], ◌∷◌, take, Option, Some, None}
 use Rattle.std.specs.Prelude.{Result, Ok, Err}
 use Rattle.mm_base.specs.Counts.{CountsFaults}
 use Rattle.mm_base.specs.declared.errors.EndError.{EndError}
@@ -34,9 +34,10 @@ abbrev pub opened_after : List Flow → Result Unit EndError → Option (List Fl
 opened_after flows (Ok done) opened = Some flows
 opened_after flows (Err error) opened = opened
 
--- They did this too.
-abbrev pub doing : List SocketEvent → List SocketEvent → List SocketEvent
-doing more told = told ++ more
+-- If they still tell what they did, they told it before, and this came after.
+abbrev pub Tells : List SocketEvent → Option (List SocketEvent) → Option (List SocketEvent) → Type 0
+Tells events old new = (all : List SocketEvent) → new ≡ Some all
+    → (before : List SocketEvent) × (old ≡ Some before) × (all ≡ before ++ events)
 
 -- an accept
 abbrev pub accepting : ℕ → ℕ → Result Bool EndError → List SocketEvent
@@ -61,8 +62,8 @@ reading connection side buf inputs.Failed = events.InputFailed connection side �
 abbrev pub arriving : ℕ → Side → List ℕ → Arrival → List SocketEvent
 arriving flow side buf arrivals.Nothing = []
 arriving flow side buf arrivals.Refused = events.Refused flow side ∷ []
-arriving flow side buf (arrivals.Datagram client size gone) =
-    events.Received flow client side (take size buf) gone ∷ []
+arriving flow side buf (arrivals.Datagram client size gave_way) =
+    events.Received flow client side (take size buf) gave_way ∷ []
 
 abbrev pub receiving : ℕ → Side → List ℕ → Result Arrival EndError → List SocketEvent
 receiving flow side buf (Ok arrival) = arriving flow side buf arrival
@@ -84,4 +85,9 @@ IsInput room inputs.Failed = Unit {0}
 abbrev pub IsArrival : Arrival → Type 0
 IsArrival arrivals.Nothing = Unit {0}
 IsArrival arrivals.Refused = Unit {0}
-IsArrival (arrivals.Datagram client size gone) = (1 ≤ size) × (size ≤ 1472)
+IsArrival (arrivals.Datagram client size gave_way) = (1 ≤ size) × (size ≤ 1472)
+
+-- the flows, if their ports are open
+abbrev pub flows_if : Bool → List Flow → Option (List Flow)
+flows_if true flows = Some flows
+flows_if false flows = None

@@ -7,11 +7,19 @@ use text_base::Bytes;
 #[derive(Drop)]
 pub enum SocketEvent {
     /// A connection to a flow was accepted.
-    Accepted { flow: u32, connection: u32 },
+    Accepted {
+        flow: u32,
+        connection: u32,
+    },
     /// A dial to the server of a connection's flow began.
-    Dialed { connection: u32 },
+    Dialed {
+        connection: u32,
+    },
     /// That dial is done, or has failed.
-    DialEnded { connection: u32, is_connected: bool },
+    DialEnded {
+        connection: u32,
+        is_connected: bool,
+    },
     /// These bytes were read from a side.
     Took {
         connection: u32,
@@ -19,9 +27,15 @@ pub enum SocketEvent {
         bytes: Bytes,
     },
     /// A side's input ended.
-    InputEnded { connection: u32, side: Side },
+    InputEnded {
+        connection: u32,
+        side: Side,
+    },
     /// A side's socket failed.
-    InputFailed { connection: u32, side: Side },
+    InputFailed {
+        connection: u32,
+        side: Side,
+    },
     /// These bytes were offered to a side, which took the first `count` of them.
     Gave {
         connection: u32,
@@ -30,13 +44,24 @@ pub enum SocketEvent {
         count: usize,
     },
     /// The output towards a side was closed.
-    OutputClosed { connection: u32, side: Side },
+    OutputClosed {
+        connection: u32,
+        side: Side,
+    },
     /// A side's socket was reset.
-    WasReset { connection: u32, side: Side },
+    WasReset {
+        connection: u32,
+        side: Side,
+    },
     /// The connection was let go: its sockets are closed.
-    LetGo { connection: u32 },
+    LetGo {
+        connection: u32,
+    },
     /// A datagram of a length that no packet has came from a side of a flow.
-    Refused { flow: u32, side: Side },
+    Refused {
+        flow: u32,
+        side: Side,
+    },
     /// A datagram came from a client, or from the server for it. If it is from a client that is new, another may have
     /// given way to it.
     Received {

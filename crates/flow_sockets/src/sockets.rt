@@ -1,8 +1,7 @@
 // The sockets of flows, as their callers see them.
 ghost use Rattle.std.specs.Prelude.{◌≡◌, ◌≤◌, ◌∷◌, [], length, IfOk, IsErrOf};
-ghost use Rattle.std.specs.Option.{option_map};
 ghost use Rattle.mm_base.specs.Counts.{Rose};
-ghost use Rattle.flow_sockets.specs.SocketViews.{SocketsView, CountsSocketFaults, opened_after, doing};
+ghost use Rattle.flow_sockets.specs.SocketViews.{SocketsView, CountsSocketFaults, opened_after, Tells};
 ghost use Rattle.flow_sockets.specs.SocketViews.{accepting, dial_ending, reading, receiving, sending};
 ghost use Rattle.flow_sockets.specs.SocketViews.{IsInput, IsArrival};
 ghost use Rattle.flow_sockets.specs.declared.event.SocketEvent.TheVariants.{Dialed, Gave, OutputClosed, WasReset, LetGo};
@@ -20,7 +19,7 @@ pub const LONGEST_PIECE: usize = 1_460;
 
 /// The sockets of flows: the ports at which each listens, the connections and clients that came there, and their
 /// sockets towards the servers. A flow is known by its number, from 1, and a connection by the number that its accept
-/// gave it. A caller learns what they did only if they tell it, as those in memory do.
+/// gave it. A caller learns what they did only if they tell it, as those in memory do while they have memory.
 ///
 /// No call waits but `rest`. They count their faults. The count never falls, and if it stands at the last value of a
 /// `u64` it is taken as risen.
@@ -46,21 +45,20 @@ pub trait Sockets {
     /// Without a descriptor nothing is accepted. `Failed` is counted as a fault. After a refusal nothing was accepted.
     fn accept(&mut self, flow: u32, connection: u32) -> Result<bool, EndError>
         ensures opened { (view self.new).opened ≡ (view self.old).opened }
-        ensures told { (view self.new).told
-            ≡ option_map (doing (accepting flow connection result)) (view self.old).told }
+        ensures told { Tells (accepting flow connection result) (view self.old).told (view self.new).told }
         ensures counts { CountsSocketFaults (view self.old) (view self.new) }
         ensures failed_cause { IsErrOf result EndError.Failed → Rose (view self.old).faults (view self.new).faults };
 
     /// Begins to dial the server of a connection's flow.
     fn dial(&mut self, connection: u32)
         ensures opened { (view self.new).opened ≡ (view self.old).opened }
-        ensures told { (view self.new).told ≡ option_map (doing (Dialed connection ∷ [])) (view self.old).told }
+        ensures told { Tells (Dialed connection ∷ []) (view self.old).told (view self.new).told }
         ensures counts { CountsSocketFaults (view self.old) (view self.new) };
 
     /// Returns how far a dial has come.
     fn dialed(&mut self, connection: u32) -> DialState
         ensures opened { (view self.new).opened ≡ (view self.old).opened }
-        ensures told { (view self.new).told ≡ option_map (doing (dial_ending connection result)) (view self.old).told }
+        ensures told { Tells (dial_ending connection result) (view self.old).told (view self.new).told }
         ensures counts { CountsSocketFaults (view self.old) (view self.new) };
 
     /// Reads what is there of a side of a connection into the start of `buf`.
@@ -68,8 +66,7 @@ pub trait Sockets {
         requires { 1 ≤ length buf.old }
         ensures within { IsInput (length buf.old) result }
         ensures opened { (view self.new).opened ≡ (view self.old).opened }
-        ensures told { (view self.new).told
-            ≡ option_map (doing (reading connection side buf.new result)) (view self.old).told }
+        ensures told { Tells (reading connection side buf.new result) (view self.old).told (view self.new).told }
         ensures counts { CountsSocketFaults (view self.old) (view self.new) };
 
     /// Offers bytes to a side of a connection, and returns how many of them it took. A socket that fails takes none,
@@ -77,26 +74,25 @@ pub trait Sockets {
     fn write(&mut self, connection: u32, side: Side, piece: &[u8]) -> usize
         ensures within { result ≤ length piece.now }
         ensures opened { (view self.new).opened ≡ (view self.old).opened }
-        ensures told { (view self.new).told
-            ≡ option_map (doing (Gave connection side piece.now result ∷ [])) (view self.old).told }
+        ensures told { Tells (Gave connection side piece.now result ∷ []) (view self.old).told (view self.new).told }
         ensures counts { CountsSocketFaults (view self.old) (view self.new) };
 
     /// Closes the output towards a side of a connection.
     fn close_output(&mut self, connection: u32, side: Side)
         ensures opened { (view self.new).opened ≡ (view self.old).opened }
-        ensures told { (view self.new).told ≡ option_map (doing (OutputClosed connection side ∷ [])) (view self.old).told }
+        ensures told { Tells (OutputClosed connection side ∷ []) (view self.old).told (view self.new).told }
         ensures counts { CountsSocketFaults (view self.old) (view self.new) };
 
     /// Resets the socket of a side of a connection.
     fn reset(&mut self, connection: u32, side: Side)
         ensures opened { (view self.new).opened ≡ (view self.old).opened }
-        ensures told { (view self.new).told ≡ option_map (doing (WasReset connection side ∷ [])) (view self.old).told }
+        ensures told { Tells (WasReset connection side ∷ []) (view self.old).told (view self.new).told }
         ensures counts { CountsSocketFaults (view self.old) (view self.new) };
 
     /// Lets a connection go: its sockets are closed.
     fn let_go(&mut self, connection: u32)
         ensures opened { (view self.new).opened ≡ (view self.old).opened }
-        ensures told { (view self.new).told ≡ option_map (doing (LetGo connection ∷ [])) (view self.old).told }
+        ensures told { Tells (LetGo connection ∷ []) (view self.old).told (view self.new).told }
         ensures counts { CountsSocketFaults (view self.old) (view self.new) };
 
     /// Takes a datagram of a flow of UDP into the start of `buf`: from a client, or from the server for one of the
@@ -107,8 +103,7 @@ pub trait Sockets {
         requires { 1473 ≤ length buf.old }
         ensures within { IfOk result IsArrival }
         ensures opened { (view self.new).opened ≡ (view self.old).opened }
-        ensures told { (view self.new).told
-            ≡ option_map (doing (receiving flow side buf.new result)) (view self.old).told }
+        ensures told { Tells (receiving flow side buf.new result) (view self.old).told (view self.new).told }
         ensures counts { CountsSocketFaults (view self.old) (view self.new) }
         ensures failed_cause { IsErrOf result EndError.Failed → Rose (view self.old).faults (view self.new).faults };
 
@@ -118,8 +113,7 @@ pub trait Sockets {
     /// `Failed` is counted as a fault. After a refusal nothing was handed on.
     fn send(&mut self, flow: u32, client: u32, side: Side, piece: &[u8]) -> Result<(), EndError>
         ensures opened { (view self.new).opened ≡ (view self.old).opened }
-        ensures told { (view self.new).told
-            ≡ option_map (doing (sending flow client side piece.now result)) (view self.old).told }
+        ensures told { Tells (sending flow client side piece.now result) (view self.old).told (view self.new).told }
         ensures counts { CountsSocketFaults (view self.old) (view self.new) }
         ensures failed_cause { IsErrOf result EndError.Failed → Rose (view self.old).faults (view self.new).faults };
 }

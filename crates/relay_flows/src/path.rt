@@ -48,7 +48,7 @@ impl Model for Path {
 
     ghost view = { path_view };
 
-    ghost invariant = { IsPath };
+    ghost invariant = { λ p. IsPath (path_view p) };
 }
 
 impl Path {
