@@ -66,7 +66,7 @@ pub(crate) fn begin(
 
 // Returns the segment that a read makes: after an end a reset alone.
 fn segment_of(input: Input, stage: Stage, buf: &[u8]) -> Option<Segment<'_>>
-    requires room { 1460 ≤ length buf.now }
+    requires room { length buf.now ≡ 1460 }
     requires input { IsInput 1460 input }
     ensures { IfSome result (CanFollow stage) }
 {
@@ -79,9 +79,12 @@ fn segment_of(input: Input, stage: Stage, buf: &[u8]) -> Option<Segment<'_>>
     }
 }
 
-// Returns the size of the row of a segment that was just made.
-fn size_of(segment: Segment) -> u16 {
-    let size = segment.bytes().len().min(LONGEST_PIECE) + SEGMENT_HEADERS;
+// Returns the size of the row of a segment with this many bytes, at most 1,460.
+fn row_size(bytes: usize) -> u16
+    ensures some { 1 ≤ result }
+    ensures most { result ≤ 1504 }
+{
+    let size = bytes.min(LONGEST_PIECE) + SEGMENT_HEADERS;
     size as u16
 }
 
@@ -94,7 +97,7 @@ pub(crate) fn read<S: Sockets>(
     row: u32,
     buf: &mut [u8],
 ) -> Result<Option<Entering>, OutOfMemory>
-    requires { length buf.old ≡ 1473 }
+    requires { length buf.old ≡ 1460 }
 {
     let stage = core.stage();
     let goes_on = match stage {
@@ -104,11 +107,11 @@ pub(crate) fn read<S: Sockets>(
     if !goes_on || !may_make(core, row) {
         return Ok(None);
     }
-    let input = sockets.read(connection, side, &mut buf[..LONGEST_PIECE]);
+    let input = sockets.read(connection, side, buf);
     let Some(segment) = segment_of(input, stage, buf) else {
         return Ok(None);
     };
-    let size = size_of(segment);
+    let size = row_size(segment.bytes().len());
     let number = core.make(segment, row)?;
     Ok(Some(Entering { number, size }))
 }
@@ -119,7 +122,7 @@ pub(crate) fn retry(core: &mut StreamCore, row: u32) -> Option<Entering> {
     if !core.may_enter() || core.row() >= row || !core.is_kept(due.number) {
         return None;
     }
-    let size = core.size(due.number).min(LONGEST_PIECE + SEGMENT_HEADERS) as u16;
+    let size = row_size(core.size(due.number).saturating_sub(SEGMENT_HEADERS));
     core.retry(row);
     Some(Entering {
         number: due.number,
