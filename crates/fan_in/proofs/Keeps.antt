@@ -13,7 +13,7 @@ use Rattle.fan_in.specs.declared.message.Numbered.{Numbered}
 use Rattle.fan_in.specs.declared.rule.View.{View}
 use Rattle.fan_in.specs.Lines.{records_of}
 use Rattle.fan_in.specs.inside.Rules.{sending, opening}
-use Rattle.fan_in.specs.inside.Rules.{away_in, Fits, Kept, Sends, Gets, Settles}
+use Rattle.fan_in.specs.inside.Rules.{away_in, is_away, Fits, Kept, Sends, Gets, Settles}
 use Rattle.fan_in.proofs.Lists.{records-end, records-other, records-same, at_new}
 use Rattle.fan_in.proofs.Lists.{away-set, none_away, sends-set}
 
@@ -69,7 +69,7 @@ sends n port v x form items views _ h at =
     let other : (k : ℕ) → k ≢ v.number → records_of k all' ≡ records_of k h.all =
     λ k p. records-other k h.all x (λ e. p (sym e ∙ sym number)) in
     let away : away_in vs ≡ away_in views =
-    (let s = away-set views port v w at in let one = ap (λ b. if b then 1 else 0) may in omega arith) in
+    (let s = away-set views port v w at in let one : is_away v ≡ 1 = ap (λ b. if b then 1 else 0) may in omega arith) in
     let F : ℕ → ℕ → View → Type 0 = λ a j u. Fits all' h.owner h.keeper h.next a h.reader h.got j u in (
       w,
       record {
@@ -198,13 +198,13 @@ gets port v may x items views h at =
 -- What one pass learns that knows what the senders sent, all of whom are back, and what was received.
 pub settles : (port : ℕ) (v : View) → v.keeps ≡ true → v.gets ≡ true → v.away ≡ 0
     → Learns Kept port v (Settles v)
-settles port v keeps gets none items views h at n =
+settles port v keeps reads none items views h at n =
     let k = (h.fits port v at).keeps keeps in
-    let r = (h.fits port v at).gets gets in
+    let r = (h.fits port v at).gets reads in
     ap (records_of n) (ap (λ l. l ++ items) r.1 ∙ sym h.whole) ∙ dite (ℕ_discrete (h.owner n) h.keeper)
     (λ is. k.own n is)
     (λ other.
     let s = h.taken n other in
     let zero_away = none_away views (h.owner n) s.known s.at (sym k.away_is ∙ none) in
-    let one = ap (λ b. if b then 1 else 0) s.sends in
+    let one : is_away s.known ≡ 1 = ap (λ b. if b then 1 else 0) s.sends in
     absurd (omega arith))

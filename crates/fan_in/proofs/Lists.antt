@@ -89,7 +89,7 @@ not_end (x ∷ xs) b (suc j) e is = not_end xs b j e (omega arith)
 pub away-set : (l : List View) (i : ℕ) (v w : View) → get_elem? l i ≡ some v
     → away_in (set l i w) + is_away v ≡ away_in l + is_away w
 away-set [] i v w e = absurd (some-ne-none v (sym e))
-away-set (x ∷ xs) zero v w e = let same = ap is_away (some-injective x v e) in omega arith
+away-set (x ∷ xs) zero v w e = let same : is_away x ≡ is_away v = ap is_away (some-injective x v e) in omega arith
 away-set (x ∷ xs) (suc i) v w e = let rest = away-set xs i v w e in omega arith
 
 pub away-snoc : (l : List View) (w : View) → away_in (l ++ w ∷ []) ≡ away_in l + is_away w
@@ -98,7 +98,7 @@ away-snoc (x ∷ xs) w = let rest = away-snoc xs w in omega arith
 
 pub none_away : (l : List View) (i : ℕ) (v : View) → get_elem? l i ≡ some v → away_in l ≡ 0 → is_away v ≡ 0
 none_away [] i v e none = absurd (some-ne-none v (sym e))
-none_away (x ∷ xs) zero v e none = let same = ap is_away (some-injective x v e) in omega arith
+none_away (x ∷ xs) zero v e none = let same : is_away x ≡ is_away v = ap is_away (some-injective x v e) in omega arith
 none_away (x ∷ xs) (suc i) v e none = none_away xs i v e (omega arith)
 
 -- A sender is still where it was after another view changed, or its own to one of the same number.

@@ -10,7 +10,7 @@ use Rattle.atomic_table.proofs.Lists.{at_set, at_last, at_longer, set_else}
 use Rattle.fan_in.specs.declared.rule.Line.{Line}
 use Rattle.fan_in.specs.declared.rule.View.{View}
 use Rattle.fan_in.specs.Lines.{records_of}
-use Rattle.fan_in.specs.inside.Rules.{keeping, sending, getting, settling, spent, line_of, with_back, away_in}
+use Rattle.fan_in.specs.inside.Rules.{keeping, sending, getting, settling, spent, line_of, with_back, is_away, away_in}
 use Rattle.fan_in.specs.inside.Rules.{Fits, SendsAt, Kept}
 use Rattle.fan_in.proofs.Lists.{said-other, said-first, put_here, at_new, not_end, away-set, away-snoc, sends-set}
 use Rattle.fan_in.proofs.Keeps.{All, all_set, never}
@@ -58,7 +58,7 @@ parts port v form items views h at =
     let away : away_in (vs ++ r ∷ []) ≡ away_in views =
     (let s = away-set views port v l at in
     let t = away-snoc vs r in
-    let none = ap (λ b. if b then 1 else 0) silent in omega arith) in
+    let none : is_away v ≡ 0 = ap (λ b. if b then 1 else 0) silent in omega arith) in
     let F : ℕ → ℕ → View → Type 0 =
     λ a j u. Fits h.all h.owner h.keeper h.next a (length vs) h.got j u in
     let old : All (F (away_in views)) vs = all_set (F (away_in views)) views port l
@@ -115,7 +115,7 @@ makes port v form items views h at =
     let away : away_in (vs ++ r ∷ []) ≡ away_in views + 1 =
     (let s = away-set views port v l at in
     let t = away-snoc vs r in
-    let none = ap (λ b. if b then 1 else 0) silent in omega arith) in
+    let none : is_away v ≡ 0 = ap (λ b. if b then 1 else 0) silent in omega arith) in
     let F : ℕ → ℕ → View → Type 0 =
     λ a j u. Fits h.all owner' h.keeper (h.next + 1) a h.reader h.got j u in
     let mine_not : (n : ℕ) → owner' n ≡ h.keeper → h.owner n ≡ h.keeper =
@@ -201,8 +201,8 @@ returns port v other u form its_form items views h at two at' =
     let away : away_in (set vs other spent) ≡ away_in views - 1 =
     (let s = away-set views port v both at in
     let t = away-set vs other u spent at' in
-    let none = ap (λ b. if b then 1 else 0) silent in
-    let one = ap (λ b. if b then 1 else 0) (ap (λ (y : View). y.sends) its_form) in omega arith) in
+    let none : is_away v ≡ 0 = ap (λ b. if b then 1 else 0) silent in
+    let one : is_away u ≡ 1 = ap (λ b. if b then 1 else 0) (ap (λ (y : View). y.sends) its_form) in omega arith) in
     let F : ℕ → ℕ → View → Type 0 =
     λ a j w. Fits h.all owner' h.keeper h.next a h.reader h.got j w in
     let Now : ℕ → View → Type 0 = λ j w. j ≢ other → F (away_in views - 1) j w in
@@ -281,8 +281,8 @@ joins port v other u form its_form items views h at two at' =
     let away : away_in (set vs other spent) ≡ away_in views =
     (let s = away-set views port v both at in
     let t = away-set vs other u spent at' in
-    let none = ap (λ b. if b then 1 else 0) silent in
-    let zero_too = ap (λ b. if b then 1 else 0) mute in omega arith) in
+    let none : is_away v ≡ 0 = ap (λ b. if b then 1 else 0) silent in
+    let none_too : is_away u ≡ 0 = ap (λ b. if b then 1 else 0) mute in omega arith) in
     let F : ℕ → ℕ → View → Type 0 = λ a j w. Fits h.all h.owner h.keeper h.next a port h.got j w in
     let Now : ℕ → View → Type 0 = λ j w. j ≢ other → F (away_in views) j w in
     let now : All Now vs = all_set Now views port both

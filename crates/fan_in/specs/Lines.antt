@@ -6,13 +6,13 @@ use Rattle.fan_in.specs.declared.message.Message.TheVariants.{One, End}
 use Rattle.fan_in.specs.declared.rule.Line.{Line}
 
 -- the records of the sender of this number, in order
-pub records_of : ℕ → List Message → List Record
+abbrev pub records_of : ℕ → List Message → List Record
 records_of n [] = []
 records_of n (End ∷ ms) = records_of n ms
 records_of n (One x ∷ ms) = (if x.number == n then x.record ∷ [] else []) ++ records_of n ms
 
 -- what the lines of this number say
-pub said_by : ℕ → List Line → List Record
+abbrev pub said_by : ℕ → List Line → List Record
 said_by n [] = []
 said_by n (l ∷ ls) = (if l.number == n then l.records else []) ++ said_by n ls
 

@@ -1,6 +1,6 @@
 -- For proofs alone: the rule of the channel. Each number belongs to the pass of its sender, or to the keeper's once that
 -- is back, and before that sender is made. What the channel has been sent of a number is what its pass knows.
-use Rattle.std.specs.Prelude.{◌≡◌, ◌≢◌, ◌≤◌, ◌<◌, ◌+◌, ◌-◌, ◌++◌, ◌∷◌, ℕ, Bool, true, false, List, [], if◌then◌else◌}
+use Rattle.std.specs.Prelude.{◌≡◌, ◌≢◌, ◌≤◌, ◌+◌, ◌-◌, ◌++◌, ◌∷◌, ℕ, true, false, List, [], if◌then◌else◌}
 use mathlib.Core.Option.{some}
 use lib.ListN.{get_elem?}
 use Rattle.record_store.specs.declared.record.Record.{Record}
@@ -97,7 +97,7 @@ abbrev pub is_away : View → ℕ
 is_away v = if v.sends then 1 else 0
 
 -- how many senders are away
-pub away_in : List View → ℕ
+abbrev pub away_in : List View → ℕ
 away_in [] = 0
 away_in (v ∷ vs) = is_away v + away_in vs
 
