@@ -13,6 +13,7 @@ mod ports_asked;
 mod proxy;
 mod proxy_state;
 mod record_sink;
+mod recording;
 mod refusing;
 mod serving;
 mod standing;
