@@ -34,7 +34,7 @@ impl<'a, K: Recording, R: Wait> RecordSink for Sending<'a, K, R> {
 impl<'a, K: Recording, R: Wait> Sending<'a, K, R> {
     /// Ends the sender.
     pub(crate) fn finish(self) -> Finished
-        ensures { result ≡ self.sender }
+        ensures { result ≡ self.entry.sender }
     {
         let Sending { sender, .. } = self;
         sender.finish()
