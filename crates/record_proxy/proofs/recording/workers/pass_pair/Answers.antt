@@ -2,8 +2,8 @@ use mathlib.Core.Logic.{∥∥₁_elim, ∥∥₁_map, ∥∥₁_prop}
 use Rattle.record_proxy.proofs.RecordingLemmas.{joined_pair}
 use Rattle.record_proxy.proofs.recording.workers.pass_pair.Goals as goal
 
-pub passed_of-requires-joined-after_bounds : goal.passed_of-requires-joined-after_bounds
-passed_of-requires-joined-after_bounds g c κs within =
+pub passed_of-requires-clause-joined : goal.passed_of-requires-clause-joined
+passed_of-requires-clause-joined g c =
     ∥∥₁_elim c.args.pair.client_fresh ∥∥₁_prop
     (λ fresh.
     ∥∥₁_map c.args.pair.server_fresh
