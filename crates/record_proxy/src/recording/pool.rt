@@ -176,9 +176,9 @@ fn dial_for<K: Recording, P: Port, X: Dialer, R: Wait>(
     ensures keeps { KeepsPort (P.view port.old) (P.view port.new) }
     ensures cause { result ≡ Err ProxyError.Port → Rose (P.view port.old).faults (P.view port.new).faults }
 {
-    let (standing, sender) = standing.with_one_away()?;
     match dialer.dial(door.site_port) {
         Ok(server) => {
+            let (standing, sender) = standing.with_one_away()?;
             if send_pair::<K, P::Conn, X::Conn, R>(rt, door, client, server, sender) {
                 Ok(standing)
             } else {
@@ -187,7 +187,7 @@ fn dial_for<K: Recording, P: Port, X: Dialer, R: Wait>(
         }
         Err(EndError::Failed) => {
             finish_client(port, client)?;
-            Ok(standing.with_one_back(None, sender.finish()))
+            Ok(standing.with_one_lost()?)
         }
         Err(EndError::OutOfMemory) => Err(ProxyError::OutOfMemory),
     }

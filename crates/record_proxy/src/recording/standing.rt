@@ -27,7 +27,7 @@ pub(crate) struct RecordingStanding {
 }
 
 impl RecordingStanding {
-    ghost use Rattle.std.specs.Prelude.{◌≡◌, ◌<◌, ◌+◌, ◌-◌, ◌++◌, ◌∷◌, [], IfOk};
+    ghost use Rattle.std.specs.Prelude.{◌≡◌, ◌<◌, ◌+◌, ◌-◌, ◌++◌, ◌∷◌, [], None, IfOk};
     ghost use Rattle.replay_server.specs.Servings.{no_ends};
     ghost use Rattle.record_proxy.specs.Servings.{counted_as, most_recorded};
     ghost use Rattle.record_proxy.specs.inside.Passing.{plus};
@@ -54,7 +54,8 @@ impl RecordingStanding {
             × (next.0.keeper.channel ≡ self.keeper.channel)) }
         ensures served { IfOk result (λ next. next.0.served ≡ self.served) }
         ensures one { IfOk result (λ next. (next.0.begun ≡ self.begun + 1) × (next.0.away ≡ self.away + 1)) }
-        ensures sender { IfOk result (λ next. (next.1.sent ≡ []) × (next.1.channel ≡ self.keeper.channel)) }
+        ensures sender { IfOk result (λ next. next.1
+            ≡ record { number = self.begun; sent = []; channel = self.keeper.channel }) }
     {
         let RecordingStanding {
             keeper,
@@ -71,6 +72,19 @@ impl RecordingStanding {
             away: away + 1,
         };
         Ok((standing, sender))
+    }
+
+    /// One client more was accepted and is finished, for which the dialer failed. It has no record.
+    pub(crate) fn with_one_lost(self) -> Result<RecordingStanding, OutOfMemory>
+        requires { self.begun < most_recorded }
+        ensures back { IfOk result (λ next. next.keeper.back
+            ≡ self.keeper.back ++ record { number = self.begun; records = [] } ∷ []) }
+        ensures channel { IfOk result (λ next. next.keeper.channel ≡ self.keeper.channel) }
+        ensures served { IfOk result (λ next. next.served ≡ plus self.served (counted_as None)) }
+        ensures one { IfOk result (λ next. (next.begun ≡ self.begun + 1) × (next.away ≡ self.away)) }
+    {
+        let (standing, sender) = self.with_one_away()?;
+        Ok(standing.with_one_back(None, sender.finish()))
     }
 
     /// One that was away came back and has ended so. None: the dialer failed.
