@@ -3,9 +3,9 @@ use Rattle.record_proxy.specs.Servings.{net}
 use Rattle.record_proxy.proofs.RecordingLemmas.{recording_lost}
 use Rattle.record_proxy.proofs.recording.pool.dial_for.Goals as goal
 
-pub returns-in_ok-finish_client-in-Err-Failed-clause-moves :
-    goal.returns-in_ok-finish_client-in-Err-Failed-clause-moves
-returns-in_ok-finish_client-in-Err-Failed-clause-moves g c = λ before accepted finished keeps start pool.
+pub returns-in_ok-with_one_lost-in-Err-Failed-clause-moves :
+    goal.returns-in_ok-with_one_lost-in-Err-Failed-clause-moves
+returns-in_ok-with_one_lost-in-Err-Failed-clause-moves g c = λ before accepted finished keeps start pool.
     let dialed = c.in-Err-Failed.ensures in
     let client = c.finish_client.ensures in
     let lost = c.in_ok-with_one_lost.ensures in
