@@ -29,7 +29,7 @@ fn send_named<O: Sink>(out: &mut O, words: &[u8], name: &Text) -> Result<(), End
     send_pieces(out, &[words, name.as_str().as_bytes(), b"\n"])
 }
 
-// Writes the line of a nest's refusal, which ends with the number of the refusal inside it where it has one.
+// Writes the line of a nest's refusal, which ends with the number of the refusal inside it if it has one.
 fn send_nest<O: Sink>(
     number: u32,
     place: u64,
@@ -142,7 +142,7 @@ fn send_line<O: Sink>(cause: &Cause, out: &mut O) -> Result<(), EndError>
     }
 }
 
-// Explains a cause by its line, and returns the status: the cause's own, or 9 where the sink found no memory.
+// Explains a cause by its line, and returns the status: the cause's own, or 9 if the sink found no memory.
 fn explain<O: Sink>(cause: &Cause, out: &mut O) -> u8
     ensures { Concludes (Some cause.now) (O.view out.old) (O.view out.new) result }
 {
@@ -153,8 +153,8 @@ fn explain<O: Sink>(cause: &Cause, out: &mut O) -> u8
     }
 }
 
-/// Explains an answer on `out`, and returns the exit status: 0 where all is done, and nothing is written; else the
-/// cause's own, and its line or a front of it is written; or 9 where the sink found no memory for the line.
+/// Explains an answer on `out`, and returns the exit status: 0 if all is done, and nothing is written; else the
+/// cause's own, and its line or a prefix of it is written; or 9 if the sink found no memory for the line.
 pub fn conclude<O: Sink>(answer: &Result<(), Cause>, out: &mut O) -> u8
     ensures { Concludes (cause_in answer.now) (O.view out.old) (O.view out.new) result }
 {

@@ -60,7 +60,7 @@ pub fn input_size<D: Disk>(alloc: Global, disk: &mut D, name: &str) -> Result<u6
     }
 }
 
-/// Reads an input of this size in pieces of at most 65,536 bytes. It is read to its end, also where its text is
+/// Reads an input of this size in pieces of at most 65,536 bytes. It is read to its end, also if its text is
 /// refused before.
 pub fn read_pieces<D: Disk, P: PieceReader>(
     alloc: Global,

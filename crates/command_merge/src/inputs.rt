@@ -93,7 +93,7 @@ fn check_listed(
     check_outputs(alloc, names, outputs.as_slice())
 }
 
-// Refuses the schedule `name`, where the schedules up to it have more than 1,000,000 lines; `lines` is how many they
+// Refuses the schedule `name` if the schedules up to it have more than 1,000,000 lines; `lines` is how many they
 // have.
 fn check_total(alloc: Global, name: &str, lines: usize) -> Result<(), Cause>
     ensures refused { MatchResult result (λ _. refused_total name.now lines ≡ None)

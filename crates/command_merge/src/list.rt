@@ -37,7 +37,7 @@ impl ListError {
         }
     }
 
-    // Returns the line that the refusal names, or 0 where it names none.
+    // Returns the line that the refusal names, or 0 if it names none.
     pub fn line(self) -> u64
         ensures { result ≡ place_of self }
     {
@@ -48,7 +48,7 @@ impl ListError {
     }
 }
 
-// Returns the name on a line, or `None` where the line isn't a name.
+// Returns the name on a line, or `None` if the line isn't a name.
 fn name_on(line: &[u8]) -> Option<&str>
     ensures some { IfSome result (λ name. (name.now ≡ line.now) × (is_name line.now ≡ true)) }
     ensures none { IfNone result (is_name line.now ≡ false) }

@@ -1,3 +1,5 @@
+pub mod ScheduleLemmas
+pub mod FileLemmas
 pub mod RelayLemmas
 pub mod PassLemmas
 pub mod RefusingLemmas

@@ -1,5 +1,5 @@
 -- Where a relay's words and files lead, and what stops it.
-use Rattle.std.proofs.Common.{◌≡◌, ◌⊎◌, inl, inr, ◌∙◌, ℕ, List, [], ◌∷◌, ◌++◌, Option, Some, None}
+use Rattle.std.proofs.Common.{◌≡◌, ◌⊎◌, ◌≤◌, inl, inr, ◌∙◌, ℕ, List, [], ◌∷◌, ◌++◌, Option, Some, None}
 use Rattle.std.proofs.Common.{map}
 use Rattle.std.proofs.Common.{ap, refl, subst, sym}
 use Rattle.mm_base.specs.Counts.{Rose}
@@ -7,8 +7,10 @@ use Rattle.mm_base.specs.Disk.{DiskView, OnlyReads}
 use Rattle.mm_base.specs.Files.{Files}
 use Rattle.mm_base.specs.Sink.{SinkView}
 use Rattle.trace_reader.specs.TraceIn.{trace_in}
-use Rattle.packet_record.specs.declared.packet.Row.{Row}
-use Rattle.nest_spec.specs.Nests.{NestParts, RunLists}
+use Rattle.packet_record.specs.Printing.{schedule_text}
+use Rattle.packet_record.proofs.PrintingLemmas.{printed}
+use Rattle.nest_spec.specs.Nests.{NestParts}
+use Rattle.nest_spec.specs.TableText.{run_entry, table_text}
 use Rattle.nest_spec.specs.Words.{NestPlan, nest_of}
 use Rattle.live_relay.specs.declared.outcome.RelayResult.{RelayResult}
 use Rattle.command_ends.specs.Causes.{Text}
@@ -21,8 +23,8 @@ use Rattle.command_ends.proofs.EndLemmas.{keeps}
 use Rattle.command_ends.proofs.ReadingLemmas.{HasOneEnd, RefusesNoWords, RefusesWordsFirst, asked_first, first_one}
 use Rattle.command_ends.proofs.ReadingLemmas.{leads_then, leads_unless}
 use Rattle.command_ends.proofs.ReadingLemmas.{unless_no_words}
-use Rattle.nest_command.specs.RunFiles.{log_file, run_files}
-use Rattle.nest_command.specs.NestReading.{packet_outputs, refused_count, refused_outputs}
+use Rattle.nest_command.specs.RunFiles.{file_if, log_file}
+use Rattle.nest_command.specs.NestReading.{refused_count, refused_outputs}
 use Rattle.nest_command.proofs.InputLemmas.{have_said, have_texts, leads_traces}
 use Rattle.nest_command.proofs.NestLemmas.{count_text, count_within}
 use Rattle.nest_command.proofs.NestRefusals.{nest_first, traces_no_words}
@@ -30,7 +32,9 @@ use Rattle.command_relay.specs.Jobs.{RelayJob, relay_of}
 use Rattle.command_relay.specs.Lines.{relay_line}
 use Rattle.command_relay.specs.inside.Loaded.{HasNest}
 use Rattle.command_relay.specs.Relaying.{HasRelayed, HasStopped, RelayNet, RelayTask}
-use Rattle.command_relay.specs.Relaying.{relay_inputs, relay_reading, relay_words, relay_work}
+use Rattle.command_relay.specs.Relaying.{packet_names, relay_files, relay_inputs, relay_reading, relay_words}
+use Rattle.command_relay.specs.Relaying.{nest_for, relay_work}
+use Rattle.command_relay.proofs.ScheduleLemmas.{relayed_schedule}
 
 -- what a relay is to do
 abbrev pub task_of : RelayJob → NestPlan → List (List ℕ) → RelayTask
@@ -50,10 +54,10 @@ some_files : {A : Type 0} (front : List A) (next : A) (rest : List A) → front 
 some_files [] next rest e = cc e
 some_files (x ∷ front) next rest e = cc e
 
-pub some_run_files : (table : Option Text) (out : Text) (rows : List Row) (run : RunLists)
-    → run_files table out rows run ≡ [] → ⊥
-some_run_files None out rows run e = some_files (map log_file run.logs) _ _ e
-some_run_files (Some name) out rows run e = some_files (map log_file run.logs) _ _ e
+pub some_relay_files : (job : RelayJob) (r : RelayResult) → relay_files job r ≡ [] → ⊥
+some_relay_files job r e =
+    some_files (map log_file r.run.logs ++ file_if job.table (table_text run_entry r.rows r.run.fates)
+    ++ file_if job.schedule_out (schedule_text r.rows)) _ _ e
 
 -- all is read
 all_read : (told : Option Files) (job : RelayJob) (plan : NestPlan) (nest : NestParts)
@@ -73,20 +77,26 @@ module _ (job : RelayJob) (plan : NestPlan) (nest : NestParts) (told : Option Fi
   task_reached = (leads_then read (all_read told job plan nest has)).on _ refl
 
   -- datagrams passed the nest
-  pub relay_finishes : (old new : RelayNet) (r : RelayResult) → HasRelayed job nest old new r
+  pub relay_finishes : (old new : RelayNet) (r : RelayResult) → job.turns ≤ 1000000 → job.horizon ≤ 3600000
+      → HasRelayed job nest old new r
       → Finishes relay_work (relay_reading job) told old new
-      (record { files = run_files job.table job.out r.rows r.run; printed = relay_line r })
-  relay_finishes old new r done = record {
-    task = record { job = job; plan = plan; traces = has.texts };
-    read = task_reached;
-    gives = record {
-      traces = has.traces;
-      traces_are = have_texts has.have;
-      result = r;
-      relayed = subst (λ (n : NestParts). HasRelayed job n old new r) has.nest_is done;
-      output_is = refl;
-    };
-  }
+      (record { files = relay_files job r; printed = relay_line r })
+  relay_finishes old new r few small done =
+      let relayed : HasRelayed job (nest_for job plan has.traces) old new r =
+      subst (λ (n : NestParts). HasRelayed job n old new r) has.nest_is done in
+      record {
+        task = record { job = job; plan = plan; traces = has.texts };
+        read = task_reached;
+        gives = record {
+          traces = has.traces;
+          traces_are = have_texts has.have;
+          result = r;
+          relayed = relayed;
+          output_is = refl;
+          reads_back = printed r.rows (relayed_schedule (nest_for job plan has.traces) job.turns old.clock new.clock
+              old.wire new.wire r few small relayed.relayed);
+        };
+      }
 
 module _ (job : RelayJob) (plan : NestPlan) (nest : NestParts) (disk mid : DiskView) (out : SinkView)
     (old new : RelayNet) where
@@ -128,7 +138,7 @@ inputs_no_words job plan =
 
 pub relay_first : (words : List Text) → RefusesWordsFirst (relay_words words)
 relay_first words = asked_first (relay_of words) relay_reading (λ job.
-    nest_first (nest_of job.shells) (refused_outputs [] (packet_outputs job.table job.out)) job.horizon
+    nest_first (nest_of job.shells) (refused_outputs [] (packet_names job)) job.horizon
     (relay_inputs job) (inputs_no_words job))
 
 -- and the files lead to one end

@@ -9,7 +9,8 @@ use Rattle.option_words.specs.declared.command.Command.TheVariants.{Relay}
 use Rattle.command_ends.specs.Causes.{Text}
 
 -- its horizon in milliseconds, the port at which it listens for the client, the server's port, how many turns it takes
--- at most, the names of the files of the fates and of the table, if there is one, its seed, and the words of its shells
+-- at most, the names of the files of the fates, and of the table and the schedule, if they are asked for, its seed, and
+-- the words of its shells
 pub record RelayJob : Type 0 where
   pub horizon : ℕ
   pub listen : ℕ
@@ -17,13 +18,14 @@ pub record RelayJob : Type 0 where
   pub turns : ℕ
   pub out : Text
   pub table : Option Text
+  pub schedule_out : Option Text
   pub seed : ℕ
   pub shells : List Text
 
 -- The job of what is given of each option, and of the words of the shells. The numbers are decimals within their ranges;
--- all but `--table` and `--seed` must be there.
+-- all but `--table`, `--schedule-out` and `--seed` must be there.
 unfoldable pub relay_from : List (Option Text) → List Text → Option RelayJob
-relay_from (until ∷ listen ∷ to ∷ turns ∷ out ∷ table ∷ seed ∷ []) shells = do
+relay_from (until ∷ listen ∷ to ∷ turns ∷ out ∷ table ∷ schedule_out ∷ seed ∷ []) shells = do
   given_until ← until
   horizon ← decimal_of given_until
   given_listen ← listen
@@ -41,6 +43,7 @@ relay_from (until ∷ listen ∷ to ∷ turns ∷ out ∷ table ∷ seed ∷ [])
     turns = most_turns;
     out = given_out;
     table = table;
+    schedule_out = schedule_out;
     seed = number;
     shells = shells;
   })

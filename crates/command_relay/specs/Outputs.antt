@@ -8,18 +8,17 @@ use Rattle.command_ends.specs.Readings.{AtTask, Reaches}
 use Rattle.command_ends.specs.Stops.{StopsReading}
 use Rattle.command_ends.specs.declared.cause.Cause.{Cause}
 use Rattle.command_ends.specs.declared.cause.Cause.TheVariants.{WriteFault}
-use Rattle.nest_command.specs.NestReading.{packet_outputs}
 use Rattle.command_relay.specs.Jobs.{RelayJob, relay_of}
-use Rattle.command_relay.specs.Relaying.{RelayTask, relay_words}
+use Rattle.command_relay.specs.Relaying.{RelayTask, packet_names, relay_words}
 
--- the logs of the nest, then the table, if there is one, and then the fates; none if there is no nest
-abbrev pub outputs_with : Result NestPlan NestError → Option Text → Text → List Text
-outputs_with (Ok plan) table out = plan.logs ++ packet_outputs table out
-outputs_with (Err error) table out = []
+-- the logs of the nest, and then the outputs after them; none if there is no nest
+abbrev pub outputs_with : Result NestPlan NestError → List Text → List Text
+outputs_with (Ok plan) others = plan.logs ++ others
+outputs_with (Err error) others = []
 
 -- the files that a job's relay writes
 abbrev pub outputs_of : RelayJob → List Text
-outputs_of job = outputs_with (nest_of job.shells) job.table job.out
+outputs_of job = outputs_with (nest_of job.shells) (packet_names job)
 
 abbrev pub outputs_if : Option RelayJob → List Text
 outputs_if None = []

@@ -1,9 +1,14 @@
 -- What a relay reads and refuses, in order, and what it does with its clock and its wire.
-use Rattle.std.specs.Prelude.{◌≡◌, ◌⊎◌, ◌↔◌, ◌<◌, ℕ, List, [], Option, map}
+use Rattle.std.specs.Prelude.{◌≡◌, ◌⊎◌, ◌↔◌, ◌<◌, ℕ, List, [], ◌∷◌, ◌++◌, map, option_to_list}
+use Rattle.std.specs.List.{flat_map}
 use Rattle.mm_base.specs.Counts.{Rose}
+use Rattle.packet_record.specs.Printing.{schedule_text}
+use Rattle.packet_record.specs.Schedules.{IsScheduleText}
 use Rattle.trace_reader.specs.TraceIn.{trace_in}
 use Rattle.trace_reader.specs.Traces.{TraceView}
+use Rattle.nest_spec.specs.FateTexts.{fate_line}
 use Rattle.nest_spec.specs.Nests.{NestParts, built}
+use Rattle.nest_spec.specs.TableText.{run_entry, table_text}
 use Rattle.nest_spec.specs.Words.{NestPlan}
 use Rattle.live_relay.specs.Clocks.{ClockView}
 use Rattle.live_relay.specs.Opened.{opened_at, refused_at}
@@ -12,15 +17,15 @@ use Rattle.live_relay.specs.Wires.{CountsWireFaults, WireView}
 use Rattle.live_relay.specs.declared.outcome.RelayEnd.TheVariants.{Horizon}
 use Rattle.live_relay.specs.declared.outcome.RelayResult.{RelayResult}
 use Rattle.command_ends.specs.Causes.{Text}
-use Rattle.command_ends.specs.Outputs.{Output}
+use Rattle.command_ends.specs.Outputs.{NamedText, Output, named_text}
 use Rattle.command_ends.specs.Readings.{Reading, Done, asked, unless}
 use Rattle.command_ends.specs.TopCalls.{NetCounts}
 use Rattle.command_ends.specs.Works.{Work}
 use Rattle.command_ends.specs.declared.cause.Cause.{Cause}
 use Rattle.command_ends.specs.declared.cause.Cause.TheVariants.{NetFault, OutOfMemory}
 use Rattle.nest_command.specs.Inputs.{AreTraceTexts, reading_traces}
-use Rattle.nest_command.specs.RunFiles.{run_files}
-use Rattle.nest_command.specs.NestReading.{packet_outputs, plan_reading, refused_count}
+use Rattle.nest_command.specs.RunFiles.{file_if, log_file}
+use Rattle.nest_command.specs.NestReading.{plan_reading, refused_count}
 use Rattle.command_relay.specs.Jobs.{RelayJob, relay_of}
 use Rattle.command_relay.specs.Lines.{relay_line}
 
@@ -37,9 +42,12 @@ relay_inputs job plan =
     unless (refused_count job.horizon plan.shells (map trace_in traces)) (
     Done (record { job = job; plan = plan; traces = traces })))
 
+-- the names of the outputs after the logs: of the table and of the schedule, if they are asked for, and of the fates
+abbrev pub packet_names : RelayJob → List Text
+packet_names job = option_to_list job.table ++ option_to_list job.schedule_out ++ job.out ∷ []
+
 abbrev pub relay_reading : RelayJob → Reading RelayTask
-relay_reading job =
-    plan_reading job.shells [] (packet_outputs job.table job.out) job.horizon (relay_inputs job)
+relay_reading job = plan_reading job.shells [] (packet_names job) job.horizon (relay_inputs job)
 
 -- the words after the program's name
 abbrev pub relay_words : List Text → Reading RelayTask
@@ -76,16 +84,25 @@ pub record HasStopped (job : RelayJob) (nest : NestParts) (old new : RelayNet) (
   pub stopped : IsStopped nest job.turns old.clock new.clock old.wire new.wire
   pub why : ((cause ≡ NetFault) × Rose old.wire.faults new.wire.faults) ⊎ (cause ≡ OutOfMemory)
 
--- A relay that is done gives the files of its result and its line.
+-- the files of a relay: of each log that has a name, in the order of the shells, up before down; then of the table and
+-- of the schedule of its rows, if they are asked for; and then of the fates
+abbrev pub relay_files : RelayJob → RelayResult → List NamedText
+relay_files job r =
+    map log_file r.run.logs ++ file_if job.table (table_text run_entry r.rows r.run.fates)
+    ++ file_if job.schedule_out (schedule_text r.rows) ++ named_text job.out (flat_map fate_line r.run.fates) ∷ []
+
+-- A relay that is done gives the files of its result and its line. The schedule's text reads back as the rows of the
+-- result.
 pub record GivesRelay (task : RelayTask) (old new : RelayNet) (output : Output) : Type 0 where
   pub traces : List TraceView
   pub traces_are : AreTraceTexts task.traces traces
   pub result : RelayResult
   pub relayed : HasRelayed task.job (nest_for task.job task.plan traces) old new result
   pub output_is : output ≡ record {
-    files = run_files task.job.table task.job.out result.rows result.run;
+    files = relay_files task.job result;
     printed = relay_line result;
   }
+  pub reads_back : IsScheduleText (schedule_text result.rows) result.rows
 
 -- One that stopped by itself, at its opening or later, has sent a front of what was due.
 pub record StopsRelay (task : RelayTask) (old new : RelayNet) (cause : Cause) : Type 0 where

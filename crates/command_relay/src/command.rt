@@ -20,8 +20,8 @@ use live_relay::{Clock, Wire};
 use mm_base::{Disk, Sink};
 use std::alloc::Global;
 
-// Does the job: its inputs are read, datagrams pass the nest, the logs, the table and the fates are written, and then it
-// is printed how many passed.
+// Does the job: its inputs are read, datagrams pass the nest, the logs, the table, the schedule and the fates are
+// written, and then it is printed how many passed.
 fn run<D: Disk, O: Sink, C: Clock, W: Wire>(
     alloc: Global,
     job: &RelayJob<'_>,
@@ -70,10 +70,11 @@ fn answer<D: Disk, O: Sink, C: Clock, W: Wire>(
 
 /// Does what the words after the program's name say, and returns the exit status.
 ///
-/// `--until MS --listen N --to N --turns N --out FILE [--table FILE] [--seed N] -- SHELLS` reads the traces of the
-/// shells, opens the wire at two ports of 1 to 65,535, lets datagrams pass the nest for 1 to 1,000,000 turns or until the
-/// clock is past the horizon, writes the logs that the shells' words name, the table of the packets if one is asked for,
-/// and then the fates, and prints `packets N refused R end horizon`, or `end turns`. The seed is 0 where none is given.
+/// `--until MS --listen N --to N --turns N --out FILE [--table FILE] [--schedule-out FILE] [--seed N] -- SHELLS` reads
+/// the traces of the shells, opens the wire at two ports of 1 to 65,535, lets datagrams pass the nest for 1 to 1,000,000
+/// turns or until the clock is past the horizon, writes the logs that the shells' words name, the table of the packets
+/// and their schedule if they are asked for, and then the fates, and prints `packets N refused R end horizon`, or
+/// `end turns`. The seed is 0 if none is given. The schedule reads back as the rows of the packets.
 ///
 /// 0: it is done. 2: the words have no job, or are refused. 3: a trace isn't there. 4: a trace isn't one. 5: a limit is
 /// passed. 6: a trace couldn't be read. 7: writing a file failed; or printing on `out`, and then the files are whole.

@@ -9,20 +9,21 @@ ghost use Rattle.command_relay.specs.Relaying.{relay_inputs, relay_reading};
 ghost use Rattle.command_relay.specs.inside.Values.{relay_values};
 
 use crate::job::RelayJob;
+use crate::outputs::packet_names;
 use command_ends::Cause;
 use mm_base::Disk;
-use nest_command::{check_count, load_traces, packet_outputs, read_plan};
+use nest_command::{check_count, load_traces, read_plan};
 use nest_spec::{Nest, NestWords, build};
 use std::alloc::Global;
 
-/// The nest of a relay's words, where these refuse nothing.
+/// The nest of a relay's words, if these refuse nothing.
 pub(crate) fn read_words(alloc: Global, job: &RelayJob<'_>) -> Result<NestWords, Cause>
     ensures read { (disk : DiskView) → ReadsOn (relay_reading (relay_values job.now))
         (relay_inputs (relay_values job.now)) disk disk result }
     ensures accepts { OnOk result (AcceptsWords (relay_reading (relay_values job.now))) }
     ensures small { OnOk result (job.now.horizon ≤ 3600000) }
 {
-    let outs = packet_outputs(alloc, job.table, job.out)?;
+    let outs = packet_names(alloc, job)?;
     read_plan(alloc, job.shells, &[], outs.as_slice(), job.horizon)
 }
 

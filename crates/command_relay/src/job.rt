@@ -2,7 +2,8 @@
 ghost use Rattle.std.specs.Prelude.{◌≤◌};
 
 // The horizon in milliseconds, the port at which it listens for the client, the server's port, how many turns it takes
-// at most, the names of the files of the fates and of the table, if there is one, the seed, and the words of the shells.
+// at most, the names of the files of the fates, and of the table and the schedule, if they are asked for, the seed, and
+// the words of the shells.
 #[derive(Drop)]
 pub(crate) struct RelayJob<'a> {
     pub horizon: u64,
@@ -11,6 +12,7 @@ pub(crate) struct RelayJob<'a> {
     pub turns: u32,
     pub out: &'a str,
     pub table: Option<&'a str>,
+    pub schedule_out: Option<&'a str>,
     pub seed: u64,
     pub shells: &'a [String],
     pub ghost some: { 1 ≤ turns },

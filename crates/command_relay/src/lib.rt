@@ -7,6 +7,7 @@ mod files;
 mod inputs;
 mod job;
 mod line;
+mod outputs;
 mod passing;
 mod refusing;
 mod words;

@@ -8,10 +8,10 @@ ghost use Rattle.command_relay.specs.inside.Values.{relay_values};
 
 use crate::inputs::{load_nest, read_words};
 use crate::job::RelayJob;
+use crate::outputs::packet_names;
 use crate::words::read_relay;
 use command_ends::{Cause, Ending, conclude};
 use mm_base::{Disk, Sink};
-use nest_command::packet_outputs;
 use nest_spec::{NestError, read_nest};
 use std::alloc::Global;
 use text_base::{OutOfMemory, Text};
@@ -36,7 +36,7 @@ fn outputs_in(alloc: Global, job: &RelayJob<'_>) -> Result<Vec<Text>, OutOfMemor
 {
     match read_nest(alloc, job.shells) {
         Ok(nest) => {
-            let packets = packet_outputs(alloc, job.table, job.out)?;
+            let packets = packet_names(alloc, job)?;
             with_others(alloc, nest.logs(), packets.as_slice())
         }
         Err(NestError::OutOfMemory) => Err(OutOfMemory),
@@ -45,7 +45,8 @@ fn outputs_in(alloc: Global, job: &RelayJob<'_>) -> Result<Vec<Text>, OutOfMemor
 }
 
 /// Returns the names of the files that a relay with these words, those after the program's name, writes: the logs, the
-/// table if there is one, and then the fates. There are none if the words have no job, or its shells are no nest.
+/// table and the schedule if they are asked for, and then the fates. There are none if the words have no job, or its
+/// shells are no nest.
 pub fn output_names(alloc: Global, words: &[String]) -> Result<Vec<Text>, OutOfMemory>
     ensures { IfOk result (λ names. names.items ≡ outputs_named (map string_bytes words.now)) }
 {

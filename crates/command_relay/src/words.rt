@@ -17,7 +17,7 @@ fn relay_job<'a>(given: &[Option<&'a str>], shells: &'a [String]) -> Option<Rela
     ensures { option_map relay_values result ≡ relay_from (map (λ o. option_map (λ s. s.now) o) given.now)
         (map string_bytes shells.now) }
 {
-    let [until, listen, to, turns, out, table, seed] = given else {
+    let [until, listen, to, turns, out, table, schedule_out, seed] = given else {
         return None;
     };
     let horizon = read_decimal((*until)?.as_bytes())?;
@@ -32,6 +32,7 @@ fn relay_job<'a>(given: &[Option<&'a str>], shells: &'a [String]) -> Option<Rela
         turns: turns as u32,
         out: (*out)?,
         table: *table,
+        schedule_out: *schedule_out,
         seed,
         shells,
     })

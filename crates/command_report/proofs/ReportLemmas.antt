@@ -60,7 +60,7 @@ pub log_of_text : (name : Text) (text : List ℕ) (refusal : Refusal) → log_re
 unfolding log_refusal
 log_of_text name text refusal e = log_status name (log_fault text) refusal e
 
--- what is printed of a log that was read
+-- the text that is printed for a log that was read
 pub log_found : (job : ReportJob) (told : Option Files) (text : List ℕ) (entries : List Entry)
     → IsInput told job.log text → log_refusal job.log text ≡ None → IsLog entries → text ≡ log_text entries
     → FinishesOnly GivesReport (report_reading job) told (prints (printed_of job.form entries))

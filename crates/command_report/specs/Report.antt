@@ -19,7 +19,7 @@ use Rattle.command_report.specs.declared.report_form.ReportForm.TheVariants.{Sum
 use Rattle.command_report.specs.declared.report_form.SumsForm.{SumsForm}
 use Rattle.command_report.specs.declared.report_form.SumsForm.TheVariants.{Lines, Json}
 
--- The name of the log's file, and what is printed of the log.
+-- The name of the log's file, and the form in which the log is printed.
 pub record ReportJob : Type 0 where
   pub log : Text
   pub form : ReportForm
@@ -49,12 +49,12 @@ abbrev pub sums_text : SumsForm → Option figures.Report → List ℕ
 sums_text Lines report = report_text report
 sums_text Json report = report_json report
 
--- What is printed of a log with these entries.
+-- The text that is printed for a log with these entries.
 abbrev pub printed_of : ReportForm → List Entry → List ℕ
 printed_of (Sums form) entries = sums_text form (report_of entries)
 printed_of (Series every) entries = series_text every entries
 
--- A log's text, and what is to be printed of it.
+-- A log's text, and the form in which it is to be printed.
 pub record ReportTask : Type 0 where
   pub form : ReportForm
   pub text : List ℕ

@@ -19,7 +19,7 @@ log_refused name (Some error) = Some (BadInput name (number_of error) (line_name
 unfoldable pub log_refusal : Text → List ℕ → Option Refusal
 log_refusal name text = log_refused name (log_fault text)
 
--- The log is read, and its text is the task, with what is to be printed of it.
+-- The log is read, and its text is the task, with the form in which it is to be printed.
 abbrev pub report_reading : ReportJob → Reading ReportTask
 report_reading job =
     reading_text (log_refusal job.log) job.log (λ text. Done (record { form = job.form; text = text }))

@@ -53,7 +53,7 @@ fn read_log_file<D: Disk>(alloc: Global, disk: &mut D, name: &str) -> Result<Rep
     Ok(text)
 }
 
-// Returns the report of the log whose text was read, or `None` where the log has no entry. A refusal names the file
+// Returns the report of the log whose text was read, or `None` if the log has no entry. A refusal names the file
 // `name`.
 fn report_of(alloc: Global, name: &str, text: ReportBuilder) -> Result<Option<Report>, Cause>
     ensures report { (bytes : List ℕ) → HasRead bytes text → IfOk result (λ report. IsReport bytes report) }
@@ -67,7 +67,7 @@ fn report_of(alloc: Global, name: &str, text: ReportBuilder) -> Result<Option<Re
     }
 }
 
-// Reads the log of a job and returns its report, or `None` where the log has no entry.
+// Reads the log of a job and returns its report, or `None` if the log has no entry.
 fn load_report<D: Disk>(
     alloc: Global,
     disk: &mut D,
@@ -84,7 +84,7 @@ fn load_report<D: Disk>(
     report_of(alloc, job.log, text)
 }
 
-// Returns the text of the sums of a log, which are none where the log has no entry.
+// Returns the text of the sums of a log, which are none if the log has no entry.
 fn text_of(alloc: Global, form: SumsForm, report: &Option<Report>) -> Result<Bytes, OutOfMemory>
     ensures { IfOk result (λ text. text ≡ sums_text form report.now) }
 {

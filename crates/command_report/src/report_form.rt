@@ -8,15 +8,15 @@ pub(crate) enum SumsForm {
     Json,
 }
 
-// What is printed of a log.
+// The form in which a log is printed.
 #[derive(Clone, Copy)]
 pub(crate) enum ReportForm {
     Sums(SumsForm),
-    // The series, in bins of so many milliseconds.
+    // The series, in bins of this many milliseconds.
     Series(u64),
 }
 
-// The job of a report: the name of the log's file, and what is printed of the log.
+// The job of a report: the name of the log's file, and the form in which it is printed.
 #[derive(Drop)]
 pub(crate) struct ReportJob<'a> {
     pub log: &'a str,

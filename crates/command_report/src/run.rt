@@ -16,7 +16,7 @@ use text_base::{Bytes, OutOfMemory};
 // The generator's load for `number` goes through `mm-delay 20` and `mm-link T T`, where `T` is the generator's trace
 // for `number`. The link's queues are `droptail` with `packets=50` for the uplink and `drophead` with `bytes=60000`
 // for the downlink. `number` is the seed, and the horizon is a second after the last packet's moment. Returns
-// `OutOfMemory` where an allocation fails.
+// `OutOfMemory` if an allocation fails.
 #[tactic(auto, using(crate::proofs::LoadLemmas::last_within))]
 pub(crate) fn make_summary(alloc: Global, number: u64, packets: u32) -> Result<Bytes, OutOfMemory>
     requires some { 1 ≤ packets }

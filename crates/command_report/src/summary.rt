@@ -76,7 +76,7 @@ pub(crate) fn sum_departed(rows: &[Row], fates: &[FateRow]) -> u64
     bytes
 }
 
-// Returns the size of a packet in bytes where it departed, else 0.
+// Returns the size of a packet in bytes if it departed, else 0.
 fn bytes_of(row: &Row, fate: Fate) -> u64
     ensures value { result ≡ bytes_of row.now fate }
     ensures most { result ≤ 65535 }
@@ -88,7 +88,7 @@ fn bytes_of(row: &Row, fate: Fate) -> u64
     }
 }
 
-// Returns the greatest moment of a departure, or `None` where no packet departed.
+// Returns the greatest moment of a departure, or `None` if no packet departed.
 #[tactic(auto, using(crate::proofs::Totals::last_more, crate::proofs::Totals::last_end))]
 pub(crate) fn last_departure(fates: &[FateRow]) -> Option<u64>
     ensures { result ≡ greatest (departures fates.now) }

@@ -8,7 +8,7 @@ use mm_base::Disk;
 use std::alloc::Global;
 use text_base::Bytes;
 
-// Returns the bytes of the order in the file `name`, or `None` where there is no name.
+// Returns the bytes of the order in the file `name`, or `None` if there is no name.
 pub(crate) fn load_order<D: Disk>(
     alloc: Global,
     disk: &mut D,

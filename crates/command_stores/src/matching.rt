@@ -83,7 +83,7 @@ fn number_at(store: &Store, place: usize) -> u64
     place as u64 + 1
 }
 
-// Returns the number of the best record for `request`, counted from 1, or `None` where no record agrees with it.
+// Returns the number of the best record for `request`, counted from 1, or `None` if no record agrees with it.
 fn best_number(store: &Store, request: &RequestHead, port: Option<u16>) -> Option<u64>
     ensures { HasNumber request.now port store.now result }
 {

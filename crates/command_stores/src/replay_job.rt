@@ -1,8 +1,8 @@
 // What `replay` is asked for.
 ghost use Rattle.std.specs.Prelude.{◌≤◌};
 
-// The name of a store's file, the port to listen at, how many connections are served, or where it is served until ended
-// how many at a time, and the port that requests are asked at.
+// The name of a store's file, the port to listen at, how many connections are served, or whether it is served until
+// ended and how many at a time, and the port that requests are asked at.
 #[derive(Drop)]
 pub(crate) struct ReplayJob<'a> {
     pub store: &'a str,

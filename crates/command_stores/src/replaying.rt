@@ -114,7 +114,7 @@ fn replay<R: Threads + Wait + Sync, D: Disk, O: Sink, P: Port + Send, Q: Pace + 
 
 /// Does what the words after `replay` say: reads a store, listens at a port, serves its connections side by side, or
 /// with `--until-ended` some at a time until the port has no more, and prints how they ended, as
-/// `closed C bad B broken K full F`. No file is written. `NetFault` comes where the port can't be listened at, or a
+/// `closed C bad B broken K full F`. No file is written. `NetFault` comes if the port can't be listened at, or a
 /// connection can't be accepted or finished.
 pub fn answer_replay<R: Threads + Wait + Sync, D: Disk, O: Sink, P: Port + Send, Q: Pace + Sync>(
     host: &Host<'_, R>,

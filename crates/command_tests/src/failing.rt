@@ -15,7 +15,7 @@ type Files = &'static [(&'static str, &'static str)];
 // Which call of the disk fails, the status and the line, and what files hold then.
 type Failing = (u64, u8, &'static str, Files);
 
-// A command line, the files that are there, and what is left where calls fail.
+// A command line, the files that are there, and what is left if calls fail.
 struct Job {
     words: &'static str,
     files: Files,

@@ -1,4 +1,4 @@
-// What each command does where memory is ample, and lines of which `out` takes a front.
+// What each command does if memory is ample, and lines of which `out` takes a prefix.
 use crate::case::{Case, pass};
 use crate::exchange::{CLIENT, OLD, SERVER, STORE};
 use std::alloc::Global;
@@ -101,7 +101,7 @@ const TOO_LONG: &str = "run --until 9 --schedule x --out f -- mm-delay 20";
 
 const NO_RATE: &str = "run --until 9 --schedule s --out f -- mm-loss uplink 2";
 
-// The front of the line that is printed where each call of `out` fails. The first line is written in seven pieces.
+// The prefix of the line that is printed if each call of `out` fails. The first line is written in seven pieces.
 static FRONTS: [Row; 10] = [
     (TOO_LONG, 1, 4, "", ABSENT),
     (TOO_LONG, 2, 4, "mm: bad input ", ABSENT),

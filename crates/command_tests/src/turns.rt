@@ -43,7 +43,7 @@ impl Pace for Asked {
     }
 }
 
-// The turns that a command line asks for, at a port with a link that asks once. None where it isn't done.
+// The turns that a command line asks for, at a port with a link that asks once. None if it isn't done.
 fn turns_of<R: Threads + Wait + Sync>(
     rt: &R,
     alloc: Global,

@@ -11,7 +11,7 @@ use text_base::Text;
 
 const NET_FAULT: &str = "listening there, or a connection, failed (has another program the port?)";
 
-// What is done at a port that an ordinary user may not have.
+// The advice at a port that an ordinary user may not use.
 const ROOT_PORT: &str =
     "an ordinary user may not listen there, below 1024; take a port from 1024 on";
 

@@ -14,7 +14,8 @@ pub(crate) const COMMANDS: &[Command] = &[
     Command::Replay,
 ];
 
-// At which column the meaning of an option begins, without the two spaces before the option.
+// At which column the meaning of an option begins, without the two spaces before the option; two spaces behind an
+// option that reaches it.
 const MEANING: usize = 17;
 
 // The lines of the shells in the usage of `mm`.
@@ -201,7 +202,8 @@ impl fmt::Display for OptionLine<'_> {
     fn fmt<W: fmt::Write>(&self, f: &mut fmt::Formatter<W>) -> fmt::Result {
         let typed = Typed(self.0);
         write!(f, "  {typed}")?;
-        for _ in typed.width()..MEANING {
+        let gap = MEANING.saturating_sub(typed.width()).max(2);
+        for _ in 0..gap {
             write!(f, " ")?;
         }
         writeln!(f, "{}", self.0.help)

@@ -1,4 +1,4 @@
-// What stands under a name that is no file which can be read.
+// What stands under a name that isn't a file that can be read.
 use std::fmt;
 use std::fs::{self, Metadata};
 use std::os::unix::fs::FileTypeExt;
@@ -29,7 +29,7 @@ impl Kind {
     }
 }
 
-/// What stands under a name that is no file which can be read.
+/// What stands under a name that isn't a file that can be read.
 #[derive(Drop)]
 pub(crate) struct Place<'a> {
     name: &'a str,

@@ -33,7 +33,7 @@ impl fmt::Display for StrangeWord {
     fn fmt<W: fmt::Write>(&self, f: &mut fmt::Formatter<W>) -> fmt::Result {
         writeln!(
             f,
-            "{}: word {} is no text in UTF-8",
+            "{}: word {} isn't valid UTF-8",
             self.program, self.number
         )
     }

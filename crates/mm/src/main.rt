@@ -19,13 +19,13 @@ use std::{env, io};
 // The variable of the environment that asks for a line for each request.
 const LOG: &str = "MM_LOG";
 
-// Its value where it does.
+// Its value if it does.
 const IS_LOGGED: &str = "1";
 
 // Who says that it listens.
 const NAME: &str = "mm replay";
 
-// What a serving answers from, where the environment asks for a line for each request and it can be read.
+// What a serving answers from, if the environment asks for a line for each request and it can be read.
 fn read_logged(
     rt: &HostRuntime,
     words: &[String],
@@ -38,7 +38,7 @@ fn read_logged(
     read_recorded(rt.alloc(), words, disk)
 }
 
-// A port of this machine, whose requests are noted where the environment asks for it.
+// A port of this machine, whose requests are noted if the environment asks for it.
 type LocalPort<'a> = NotedPort<'a, HostRuntime, Stderr>;
 
 // The port, which the end of this watch ends.

@@ -42,7 +42,7 @@ use std::thread::Threads;
 ///
 /// `port` is where connections come in, and `pace` is asked before each turn of a thread. Of each connection that the
 /// port finished in this call it is said, at every status, that it is a session: each whole request that was taken was
-/// answered by the best of the agreeing records of the store's text, or by Not Found where none agrees.
+/// answered by the best of the agreeing records of the store's text, or by Not Found if none agrees.
 pub fn mm_main<R: Threads + Wait + Sync, D: Disk + Send, O: Sink, P: Port + Send, Q: Pace + Sync>(
     rt: &R,
     alloc: Global,

@@ -62,7 +62,7 @@ fn refused(rt: &HostRuntime, words: &[String], names: &[Text]) -> io::Result<Opt
     Ok(Some(ending.status))
 }
 
-// How many datagrams the system dropped at a port; 0 where it doesn't tell.
+// How many datagrams the system dropped at a port; 0 if it doesn't tell.
 fn drops_of(rt: &HostRuntime, port: Option<u16>) -> u64 {
     let Some(port) = port else {
         return 0;
@@ -98,20 +98,29 @@ fn say_how_far(
             "mm-relay: its turns ran out at {moment} ms; what was due up to then has left, and later fates and lines of logs are computed"
         );
     }
-    eprintln!(rt;
-        "mm-relay: what was due up to {moment} ms has left; later fates and lines of logs are computed"
-    )
+    eprintln!(rt; "mm-relay: what was due up to {moment} ms has left")
+}
+
+// Returns the words of what became of this many datagrams.
+fn datagrams_were(count: u64) -> &'static str {
+    if count == 1 {
+        "datagram was"
+    } else {
+        "datagrams were"
+    }
 }
 
 // Says on the standard error how many datagrams were refused, and why.
 fn say_refused(rt: &HostRuntime, wire: &UdpWire<'_, HostRuntime>) -> io::Result<()> {
     let longer = wire.longer();
     if longer > 0 {
-        eprintln!(rt; "mm-relay: {longer} datagrams were longer than 1,504 bytes")?;
+        let were = datagrams_were(longer);
+        eprintln!(rt; "mm-relay: {longer} {were} longer than 1,504 bytes")?;
     }
     let empty = wire.empty();
     if empty > 0 {
-        eprintln!(rt; "mm-relay: {empty} datagrams were empty")?;
+        let were = datagrams_were(empty);
+        eprintln!(rt; "mm-relay: {empty} {were} empty")?;
     }
     Ok(())
 }
@@ -126,13 +135,14 @@ fn say_lost(rt: &HostRuntime, wire: &UdpWire<'_, HostRuntime>) -> io::Result<()>
     }
     let lost = wire.lost();
     if lost > 0 {
-        eprintln!(rt; "mm-relay: {lost} datagrams were lost as they were sent")?;
+        let were = datagrams_were(lost);
+        eprintln!(rt; "mm-relay: {lost} {were} lost as they were sent")?;
     }
     Ok(())
 }
 
 // Says on the standard error what became of the datagrams of a relay that ended with this status. How far it came is
-// said where it is done. Where nobody can be told, nobody is.
+// said if it is done. If nobody can be told, nobody is.
 fn report(
     rt: &HostRuntime,
     words: &[String],

@@ -31,7 +31,7 @@ fn nest_cause(error: NestError) -> Cause
     }
 }
 
-/// Returns the names in `first`, and then those in `others`. Returns `OutOfMemory` where an allocation fails.
+/// Returns the names in `first`, and then those in `others`. Returns `OutOfMemory` if an allocation fails.
 pub fn names_of<'a>(
     alloc: Global,
     first: &'a [Text],
@@ -50,7 +50,7 @@ pub fn names_of<'a>(
     Ok(names)
 }
 
-/// Refuses the first output that has the name of an input, or of an output before it. Returns `OutOfMemory` where
+/// Refuses the first output that has the name of an input, or of an output before it. Returns `OutOfMemory` if
 /// memory for the refusal runs out.
 pub fn check_outputs(alloc: Global, inputs: &[&str], outputs: &[&str]) -> Result<(), Cause>
     ensures { MatchResult result
@@ -77,7 +77,7 @@ fn check_horizon(horizon: u64) -> Result<(), Cause>
 }
 
 /// Returns the names of the outputs after the logs: of the table, if there is one, and of the fates. Returns
-/// `OutOfMemory` where an allocation fails.
+/// `OutOfMemory` if an allocation fails.
 pub fn packet_outputs<'a>(
     alloc: Global,
     table: Option<&'a str>,

@@ -14,7 +14,7 @@ use nest_spec::{TABLE_HEADER, TABLE_LINES, TableFate, TableRow, put_table};
 use std::alloc::Global;
 use text_base::{LineBuffer, PrintLine};
 
-// Appends a line to the file `name` for each row and its fate, some 1,024 lines at once. Where it stops, a front of
+// Appends a line to the file `name` for each row and its fate, some 1,024 lines at once. If it stops, a prefix of
 // these lines was appended, but not all.
 fn append_table<D: Disk, P: TableRow, F: TableFate>(
     disk: &mut D,
@@ -44,7 +44,7 @@ fn append_table<D: Disk, P: TableRow, F: TableFate>(
     Ok(())
 }
 
-// Makes the file `name` hold the text of a table. Where it stops, the file is as before, or holds a front of the text,
+// Makes the file `name` hold the text of a table. If it stops, the file is as before, or holds a prefix of the text,
 // but not all.
 fn save_table<D: Disk, P: TableRow, F: TableFate>(
     alloc: Global,
@@ -66,7 +66,7 @@ fn save_table<D: Disk, P: TableRow, F: TableFate>(
 }
 
 // Writes the file of a table.
-fn write_table<D: Disk, P: TableRow, F: TableFate>(
+fn write_table_file<D: Disk, P: TableRow, F: TableFate>(
     alloc: Global,
     disk: &mut D,
     name: &str,
@@ -84,8 +84,9 @@ fn write_table<D: Disk, P: TableRow, F: TableFate>(
     file_written(alloc, name, written)
 }
 
-// Writes the file of a table, if there is a name for it.
-fn write_asked<D: Disk, P: TableRow, F: TableFate>(
+/// Writes the file of a table, if there is a name for it. If writing stops, the file is as before or holds a prefix of
+/// its text. The cause is a fault of the disk or out of memory.
+pub fn write_table<D: Disk, P: TableRow, F: TableFate>(
     alloc: Global,
     disk: &mut D,
     name: Option<&str>,
@@ -99,13 +100,14 @@ fn write_asked<D: Disk, P: TableRow, F: TableFate>(
     ensures only_writes { OnlyWrites (D.view disk.old) (D.view disk.new) }
 {
     match name {
-        Some(name) => write_table(alloc, disk, name, rows, fates),
+        Some(name) => write_table_file(alloc, disk, name, rows, fates),
         None => Ok(()),
     }
 }
 
-// Writes the file of the fates, a line for each. `F` is any form of a fate that is printed.
-fn write_fates<D: Disk, F: PrintLine>(
+/// Writes the file of the fates, a line for each. `F` is any form of a fate that is printed. If writing stops, the file
+/// is as before or holds a prefix of its text. The cause is a fault of the disk or out of memory.
+pub fn write_fates<D: Disk, F: PrintLine>(
     alloc: Global,
     disk: &mut D,
     name: &str,
@@ -122,8 +124,8 @@ fn write_fates<D: Disk, F: PrintLine>(
     file_written(alloc, name, written)
 }
 
-/// Writes the files of packets: their table, if there is a name for it, and then their fates to `out`. Where writing
-/// stops, the file before is whole, and the file that it stops at is as before or holds a front of its text. The cause
+/// Writes the files of packets: their table, if there is a name for it, and then their fates to `out`. If writing
+/// stops, the file before is whole, and the file that it stops at is as before or holds a prefix of its text. The cause
 /// is a fault of the disk or out of memory.
 pub fn write_packets<D: Disk, P: TableRow, F: PrintLine + TableFate>(
     alloc: Global,
@@ -139,6 +141,6 @@ pub fn write_packets<D: Disk, P: TableRow, F: PrintLine + TableFate>(
         fates.now in IfErr result (λ cause. StopsWriting files (D.view disk.old) (D.view disk.new) cause) }
     ensures only_writes { OnlyWrites (D.view disk.old) (D.view disk.new) }
 {
-    write_asked(alloc, disk, table, rows, fates)?;
+    write_table(alloc, disk, table, rows, fates)?;
     write_fates(alloc, disk, out, fates)
 }

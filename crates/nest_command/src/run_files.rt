@@ -21,7 +21,7 @@ use std::alloc::Global;
 use text_base::LineBuffer;
 
 // Appends a line to the file `name` for each entry of the piece in hand, and of those that `pieces` still makes, piece
-// by piece. Where it stops, a front of these lines was appended, but not all.
+// by piece. If it stops, a prefix of these lines was appended, but not all.
 fn append_pieces<D: Disk>(
     disk: &mut D,
     name: &str,
@@ -44,7 +44,7 @@ fn append_pieces<D: Disk>(
 }
 
 // Makes the file `name` hold a log's text: its header, and then a line for each entry, written piece by piece as the
-// log is made. Where it stops, the file is as before, or holds a front of the text, but not all. The first piece is
+// log is made. If it stops, the file is as before, or holds a prefix of the text, but not all. The first piece is
 // made before the file is, so that a want of memory for it leaves the file as before; later ones go on in its room.
 fn save_pieces<D: Disk>(
     disk: &mut D,
@@ -91,8 +91,8 @@ fn write_log<D: Disk>(alloc: Global, disk: &mut D, log: UnwrittenLog) -> Result<
     file_written(alloc, name.as_str(), written)
 }
 
-/// Writes the files of `logs` in order, and drops each log once its file is written. Where writing stops, the files
-/// before are whole, and the file that it stops at is as before or holds a front of its text. The cause is a fault of
+/// Writes the files of `logs` in order, and drops each log once its file is written. If writing stops, the files
+/// before are whole, and the file that it stops at is as before or holds a prefix of its text. The cause is a fault of
 /// the disk or out of memory.
 pub fn write_logs<D: Disk>(
     alloc: Global,
@@ -112,8 +112,8 @@ pub fn write_logs<D: Disk>(
 }
 
 /// Writes the files of a run whose logs are made in pieces: its logs in order, then the table of its packets, if there
-/// is a name for it, and then its fates to `out`. `rows` are those of the run; the table alone asks for them. Where
-/// writing stops, the files before are whole, and the file that it stops at is as before or holds a front of its text.
+/// is a name for it, and then its fates to `out`. `rows` are those of the run; the table alone asks for them. If
+/// writing stops, the files before are whole, and the file that it stops at is as before or holds a prefix of its text.
 /// The cause is a fault of the disk or out of memory.
 pub fn write_in_pieces<D: Disk>(
     alloc: Global,

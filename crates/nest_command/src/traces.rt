@@ -59,7 +59,7 @@ fn trace_of(alloc: Global, name: &str, text: &[u8]) -> Result<Trace, Cause>
     }
 }
 
-// Returns the trace of a text, which shares the list of `before` where that was read from an equal text. A refusal
+// Returns the trace of a text, which shares the list of `before` if that was read from an equal text. A refusal
 // names the file `name`.
 fn shared_trace(
     alloc: Global,
@@ -80,7 +80,7 @@ fn shared_trace(
     }
 }
 
-// Returns the trace in the file `name`, with name and text. It shares the list of `before` where that has the same
+// Returns the trace in the file `name`, with name and text. It shares the list of `before` if that has the same
 // text.
 fn load_trace<'a, D: Disk>(
     alloc: Global,
@@ -102,7 +102,7 @@ fn load_trace<'a, D: Disk>(
 }
 
 /// Returns the traces in the files `names`, each of which is read before the next. Two equal names in turn share one
-/// list where both readings gave the same text. The cause of what can't be read is its refusal, a fault of the disk, or
+/// list if both readings gave the same text. The cause of what can't be read is its refusal, a fault of the disk, or
 /// out of memory.
 pub fn load_traces<D: Disk>(
     alloc: Global,

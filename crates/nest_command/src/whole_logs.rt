@@ -14,8 +14,8 @@ use nest_spec::NamedLog;
 use shell_log::{HEADER, Log};
 use std::alloc::Global;
 
-// Makes the file `name` hold a log's text: its header, and then a line for each entry. Where it stops, the file is as
-// before, or holds a front of the text, but not all.
+// Makes the file `name` hold a log's text: its header, and then a line for each entry. If it stops, the file is as
+// before, or holds a prefix of the text, but not all.
 fn save_whole_log<D: Disk>(
     alloc: Global,
     disk: &mut D,
@@ -46,8 +46,9 @@ fn write_whole_log<D: Disk>(alloc: Global, disk: &mut D, log: &NamedLog) -> Resu
     file_written(alloc, name, written)
 }
 
-// Writes the files of `logs` in order.
-pub(crate) fn write_whole_logs<D: Disk>(
+/// Writes the files of `logs` in order. If writing stops, the files before are whole, and the file that it stops at is
+/// as before or holds a prefix of its text. The cause is a fault of the disk or out of memory.
+pub fn write_whole_logs<D: Disk>(
     alloc: Global,
     disk: &mut D,
     logs: &[NamedLog],

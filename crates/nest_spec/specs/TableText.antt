@@ -23,11 +23,12 @@ direction_cell Up = codes ",up,"
 direction_cell Down = codes ",down,"
 
 -- The last four cells of a packet that was sent at `sent`, behind a comma: its fate; the shell that dropped it or has
--- it inside; and the moment at which it departed, with its delay since it was sent.
+-- it inside; the moment at which it departed or was dropped; and for one that departed, its delay since it was sent.
 abbrev pub fate_cells : ℕ → Fate → List ℕ
 fate_cells sent (fates.Departed moment) =
     codes ",departed,," ++ decimal moment ++ codes "," ++ decimal (moment - sent) ++ codes "\n"
-fate_cells sent (fates.Dropped shell moment) = codes ",dropped," ++ decimal shell ++ codes ",,\n"
+fate_cells sent (fates.Dropped shell moment) =
+    codes ",dropped," ++ decimal shell ++ codes "," ++ decimal moment ++ codes ",\n"
 fate_cells sent (fates.Inside shell) = codes ",inside," ++ decimal shell ++ codes ",,\n"
 fate_cells sent fates.Unsent = codes ",unsent,,,\n"
 

@@ -171,8 +171,10 @@ fn put_fate_cells(out: &mut LineBuffer, sent: u64, fate: Fate)
             out.put_decimal(moment);
             out.put(b",departed,,");
         }
-        Fate::Dropped { shell, .. } => {
-            out.put(b",,\n");
+        Fate::Dropped { shell, moment } => {
+            out.put(b",\n");
+            out.put_decimal(moment);
+            out.put_byte(b',');
             out.put_decimal(u64::from(shell));
             out.put(b",dropped,");
         }

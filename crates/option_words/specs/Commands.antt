@@ -55,4 +55,4 @@ table_of Proxy =
     ∷ flag (codes "until-ended") ∷ []
 table_of Relay =
     valued (codes "until") ∷ valued (codes "listen") ∷ valued (codes "to") ∷ valued (codes "turns")
-    ∷ valued (codes "out") ∷ valued (codes "table") ∷ valued (codes "seed") ∷ []
+    ∷ valued (codes "out") ∷ valued (codes "table") ∷ valued (codes "schedule-out") ∷ valued (codes "seed") ∷ []

@@ -4,7 +4,7 @@ ghost use Rattle.option_words.specs.Numbers.{number_within, port_of, seed_of};
 
 use text_base::read_decimal;
 
-/// The number that a value stands for, a decimal from the least to the most. `None` where it is no decimal, or one
+/// The number that a value stands for, a decimal from the least to the most. `None` if it is no decimal, or one
 /// that isn't within these.
 #[tactic(auto, unfolding(crate::specs::Numbers::number_within))]
 pub fn read_within(text: &str, least: u64, most: u64) -> Option<u64>
@@ -18,7 +18,7 @@ pub fn read_within(text: &str, least: u64, most: u64) -> Option<u64>
     None
 }
 
-/// The port that a value stands for, from 1 to 65,535. `None` where it stands for none.
+/// The port that a value stands for, from 1 to 65,535. `None` if it stands for none.
 pub fn read_port(text: &str) -> Option<u16>
     ensures { result ≡ port_of text.now }
 {
@@ -28,7 +28,7 @@ pub fn read_port(text: &str) -> Option<u16>
     }
 }
 
-/// The seed that a value stands for, a decimal, and 0 where no value is given. `None` where it is no decimal.
+/// The seed that a value stands for, a decimal, and 0 if no value is given. `None` if it is no decimal.
 pub fn read_seed(text: Option<&str>) -> Option<u64>
     ensures { result ≡ seed_of (option_map (λ s. s.now) text.entry) }
 {

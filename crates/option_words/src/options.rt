@@ -399,6 +399,12 @@ const RELAY: &[OptionSpec] = &[
         help: TABLE_HELP,
     },
     OptionSpec {
+        name: "schedule-out",
+        value: ValueSpec::File,
+        is_needed: false,
+        help: "where the packets are written as a schedule, which mm run --schedule reads",
+    },
+    OptionSpec {
         name: "seed",
         value: DECIMAL,
         is_needed: false,

@@ -43,7 +43,7 @@ fn command_for<'a>(alloc: Global, table: &[OptionSpec]) -> Result<Command<'a>, A
     Ok(command)
 }
 
-// What clap makes of the words, or none where they spell no uses of these options.
+// What clap makes of the words, or none if they spell no uses of these options.
 pub(crate) fn matches_for<'a>(
     alloc: Global,
     table: &[OptionSpec],

@@ -141,10 +141,18 @@ const LINKED: Case = Case {
     ..DELAYED
 };
 
-// The two, a datagram that is too long, and all turns where the clock stands.
-static DONE: [Case; 4] = [
+// What passed a delay is written as a schedule too.
+const SCHEDULED: Case = Case {
+    words: "--until 20 --listen 7 --to 9 --turns 10 --out f --schedule-out s -- mm-delay 5",
+    files: &[("f", "1 up departed 6\n"), ("s", "1 up 100\n")],
+    ..DELAYED
+};
+
+// The three, a datagram that is too long, and all turns where the clock stands.
+static DONE: [Case; 5] = [
     DELAYED,
     LINKED,
+    SCHEDULED,
     Case {
         sizes: &[1_505],
         printed: "packets 0 refused 1 end horizon\n",
@@ -226,7 +234,7 @@ const FAILED: Used = Used {
     sent: 0,
 };
 
-static FAULTS: [Case; 8] = [
+static FAULTS: [Case; 9] = [
     Case {
         fails: (1, 0, 0),
         status: 6,
@@ -238,6 +246,14 @@ static FAULTS: [Case; 8] = [
         status: 7,
         printed: "mm: write fault u\n",
         ..FAILING
+    },
+    Case {
+        fails: (1, 0, 0),
+        status: 7,
+        printed: "mm: write fault s\n",
+        files: &[("f", ABSENT), ("s", ABSENT)],
+        used: None,
+        ..SCHEDULED
     },
     Case {
         fails: (0, 1, 0),

@@ -1,4 +1,4 @@
-//! What a serving says of each request on the standard error, where it is asked for: by which record it is answered, or
+//! What a serving says of each request on the standard error, if it is asked for: by which record it is answered, or
 //! why by none. It only watches: a port and its connections do what they do without it. And what `migrate --cut` says
 //! that it left out.
 #![tactic(auto)]

@@ -96,7 +96,7 @@ fn put_miss(
     }
 }
 
-// The front of the line of a request, with the status of its answer.
+// The prefix of the line of a request, with the status of its answer.
 fn begin_line(alloc: Global, request: &RequestHead, status: u16) -> Result<Bytes, OutOfMemory> {
     let mut line = Bytes::new(alloc);
     line.append(NAME)?;

@@ -14,7 +14,7 @@ pub struct NotedLink<'a, L: Link + Drop, W: Write + Copy + Drop> {
 }
 
 impl<'a, L: Link + Drop, W: Write + Copy + Drop> NotedLink<'a, L, W> {
-    /// The link with its notes, where there are any.
+    /// The link with its notes, if there are any.
     pub fn new(link: L, notes: &Option<Notes<'a, W>>) -> Self
         ensures { result.link ≡ link }
     {
@@ -32,7 +32,7 @@ impl<'a, L: Link + Drop, W: Write + Copy + Drop> NotedLink<'a, L, W> {
         self.link
     }
 
-    // Hears what was read, where it is noted.
+    // Hears what was read, if it is noted.
     fn hear(&mut self, piece: &[u8])
         ensures { self.new.link ≡ self.old.link }
     {

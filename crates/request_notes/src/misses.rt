@@ -51,7 +51,7 @@ fn is_nearer(miss: Miss, nearest: &Option<Nearest<'_>>) -> bool {
     }
 }
 
-// The nearest of the records, of which none agrees. None where there are no records.
+// The nearest of the records, of which none agrees. None if there are no records.
 pub(crate) fn find_nearest<'a>(
     records: &'a [Record],
     request: &RequestHead,

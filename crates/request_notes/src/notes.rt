@@ -87,7 +87,7 @@ impl<'a, W: Write + Copy + Drop> Hearer<'a, W> {
     }
 
     /// Notes each request that ends in this piece of what the connection says. Whether it goes on hearing: it doesn't
-    /// after a request whose answer closes, after what is no request, and where memory is wanting.
+    /// after a request whose answer closes, after what is no request, and if memory is wanting.
     pub fn hear(&mut self, piece: &[u8]) -> bool {
         if self.frames.feed(piece).is_err() {
             return false;

@@ -27,7 +27,7 @@ impl<
     R: Net<Stream = TcpStream, Listener = TcpListener> + Clock + Send + Copy + Drop,
     W: Write + Send + Copy + Drop,
 > NotedPort<'a, R, W> {
-    /// The port with its notes, or without any where there are none.
+    /// The port with its notes, or without any if there are none.
     pub fn new(port: EndedPort<'a, R, W>, notes: Option<Notes<'a, W>>) -> Self
         ensures { result.port ≡ port.entry }
     {

@@ -11,6 +11,7 @@ relay_values job = record {
   turns = job.turns;
   out = job.out.now;
   table = option_map (λ s. s.now) job.table;
+  schedule_out = option_map (λ s. s.now) job.schedule_out;
   seed = job.seed;
   shells = map string_bytes job.shells.now;
 }

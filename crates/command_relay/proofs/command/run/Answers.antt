@@ -4,18 +4,17 @@ use Rattle.command_ends.specs.Outputs.{Output, holding_all}
 use Rattle.command_ends.proofs.CountLemmas.{reads_none}
 use Rattle.command_ends.proofs.EndLemmas.{ends_handed, ends_unwritten, ends_whole, handed_stopped, keeps, keeps_all}
 use Rattle.command_ends.proofs.ReadingLemmas.{stops_later}
-use Rattle.nest_command.specs.RunFiles.{run_files}
 use Rattle.live_relay.specs.declared.outcome.RelayResult.{RelayResult}
 use Rattle.command_relay.specs.Jobs.{RelayJob}
 use Rattle.command_relay.specs.Lines.{relay_line}
-use Rattle.command_relay.specs.Relaying.{net, relay_inputs, relay_reading, relay_work}
+use Rattle.command_relay.specs.Relaying.{net, relay_files, relay_inputs, relay_reading, relay_work}
 use Rattle.command_relay.specs.inside.Values.{relay_values}
-use Rattle.command_relay.proofs.RelayLemmas.{ends_relaying, relay_finishes, some_run_files}
+use Rattle.command_relay.proofs.RelayLemmas.{ends_relaying, relay_finishes, some_relay_files}
 use Rattle.command_ends.proofs.AloneLemmas.{accepted_alone}
 use Rattle.command_relay.proofs.command.run.Goals as goal
 
 abbrev output_of : RelayJob → RelayResult → Output
-output_of job r = record { files = run_files job.table job.out r.rows r.run; printed = relay_line r }
+output_of job r = record { files = relay_files job r; printed = relay_line r }
 
 pub returns-in_err-words-clause-ends : goal.returns-in_err-words-clause-ends
 returns-in_err-words-clause-ends g c =
@@ -59,7 +58,8 @@ returns-in_err-write_relayed-clause-ends g c =
     c.from_residual-in_err-write_relayed.result c.from_residual-in_err-write_relayed.ensures.1
     (ends_unwritten relay_work (relay_reading job) disk mid new out before after (output_of job r) _
     (relay_finishes job c.in_ok-words.words c.in_ok-nest.nest disk.files (c.in_ok-words.ensures.read disk)
-    c.in_ok-nest.ensures.found before after r c.in_ok-relayed.ensures.relayed)
+    c.in_ok-nest.ensures.found before after r c.args.job.now.few c.in_ok-words.ensures.small
+    c.in_ok-relayed.ensures.relayed)
     c.load_nest.ensures.only_reads c.in_err-write_relayed.ensures.stopped)
 
 pub returns-clause-ends : goal.returns-clause-ends
@@ -73,10 +73,11 @@ returns-clause-ends g c =
     ends_whole relay_work (relay_reading job) (outside disk (g.O.Sink.view c.args.out.now) before)
     (outside new (g.O.Sink.view c.print_relayed.new.out) after) (output_of job r) c.print_relayed.result
     (relay_finishes job c.in_ok-words.words c.in_ok-nest.nest disk.files (c.in_ok-words.ensures.read disk)
-    c.in_ok-nest.ensures.found before after r c.in_ok-relayed.ensures.relayed)
+    c.in_ok-nest.ensures.found before after r c.args.job.now.few c.in_ok-words.ensures.small
+    c.in_ok-relayed.ensures.relayed)
     (c.in_ok-write_relayed.ensures.ok
-    ∙ ap (holding_all (run_files job.table job.out r.rows r.run)) c.load_nest.ensures.only_reads.same_files)
-    (λ none. absurd (some_run_files job.table job.out r.rows r.run none)) c.print_relayed.ensures.ok c.print_relayed.ensures.stopped
+    ∙ ap (holding_all (relay_files job r)) c.load_nest.ensures.only_reads.same_files)
+    (λ none. absurd (some_relay_files job r none)) c.print_relayed.ensures.ok c.print_relayed.ensures.stopped
 
 pub returns-in_err-nest-clause-alone : goal.returns-in_err-nest-clause-alone
 returns-in_err-nest-clause-alone g c =

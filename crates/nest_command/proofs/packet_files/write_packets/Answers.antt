@@ -11,7 +11,7 @@ returns-clause-ok g c =
     let name = option_map (λ s. s.now) c.args.table in
     let text = table_by g.P.TableRow.row_of g.F.TableFate.entry_of c.args.rows.now c.args.fates.now in
     let last = named_text c.args.out.now (flat_map g.F.PrintLine.line c.args.fates.now) in
-    rest_written c.write_fates.result (file_if name text) (last ∷ []) _ _ _ c.in_ok-write_asked.ensures.ok
+    rest_written c.write_fates.result (file_if name text) (last ∷ []) _ _ _ c.in_ok-write_table.ensures.ok
     (file_written c.write_fates.result last _ _ c.write_fates.ensures.ok)
 
 pub returns-clause-stopped : goal.returns-clause-stopped
@@ -19,6 +19,6 @@ returns-clause-stopped g c =
     let name = option_map (λ s. s.now) c.args.table in
     let text = table_by g.P.TableRow.row_of g.F.TableFate.entry_of c.args.rows.now c.args.fates.now in
     let last = named_text c.args.out.now (flat_map g.F.PrintLine.line c.args.fates.now) in
-    rest_stops c.write_fates.result (file_if name text) (last ∷ []) _ _ _ c.in_ok-write_asked.ensures.ok
-    c.write_asked.ensures.only_writes
+    rest_stops c.write_fates.result (file_if name text) (last ∷ []) _ _ _ c.in_ok-write_table.ensures.ok
+    c.write_table.ensures.only_writes
     (file_stops c.write_fates.result last _ _ c.write_fates.ensures.partly c.write_fates.ensures.stopped)
