@@ -47,7 +47,7 @@ fn is_drained<W: Write + Send + Drop>(
 }
 
 // Returns what a port said that gave a connection while a pipe was open, where somebody wrote too, and that was drained
-// at its end. None where it didn't.
+// at its end. None if it didn't.
 fn ends_with_its_pipe(rt: &HostRuntime) -> io::Result<Option<String>> {
     let (reader, mut writer) = pipe(rt)?;
     let (said, notes) = pipe(rt)?;
@@ -95,7 +95,7 @@ fn ended_watch(rt: &HostRuntime) -> io::Result<(io::PipeReader, EndWatch)> {
     Ok((reader, watch))
 }
 
-// Returns what a read of a silent peer is at the end, where it comes after the time of the limit. What the peer said
+// Returns what a read of a silent peer is at the end, if it comes after the time of the limit. What the peer said
 // before is read first.
 fn silent(rt: &HostRuntime, silence: Silence) -> io::Result<Option<Result<usize, EndError>>> {
     let (_reader, watch) = ended_watch(rt)?;

@@ -13,7 +13,7 @@ fn packet_at(moment: u64) -> Timed {
     }
 }
 
-// Adds an item where it may follow. Returns whether it may.
+// Adds an item if it may follow. Returns whether it may.
 fn takes(flow: &mut Flow, item: Item) -> Result<bool, OutOfMemory> {
     if !flow.may_follow(&item) {
         return Ok(false);

@@ -1,5 +1,5 @@
-//! Tests of files, output and connections, of schedules, traces, logs and reports, and of losses, through the public
-//! calls of the crates below. They are a crate of their own, so that each crate below is proved once, without tests.
+//! Tests of files, output and connections, of schedules, traces, logs and reports, of losses and of lists of flows,
+//! through the public calls of the crates below. They are a crate of their own, so that each crate below is proved once, without tests.
 //! Texts that a command reads are tested by the cases of `checks/case`.
 #![tactic(auto)]
 
@@ -11,6 +11,8 @@ mod ended;
 mod faults;
 #[cfg(test)]
 mod flow;
+#[cfg(test)]
+mod flows;
 #[cfg(test)]
 mod halting;
 #[cfg(test)]

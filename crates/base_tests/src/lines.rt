@@ -111,7 +111,7 @@ fn saves(
     saved == said && holds(disk, "f", held)
 }
 
-// Returns whether the numbers are saved, and then, where a call fails, a front of their text.
+// Returns whether the numbers are saved, and then, where a call fails, a prefix of their text.
 fn are_saved(alloc: Global, items: &[Number], text: &[u8]) -> Result<bool, OutOfMemory> {
     let mut disk = disk_with(alloc, "f", b"before", &[8])?;
     let (front, _) = text.split_at(text.len().min(43010));
@@ -152,13 +152,13 @@ fn has_size(disk: &MemDisk, name: &str, size: usize) -> bool {
     }
 }
 
-// Returns whether no file is made where no numbers are to be added.
+// Returns whether no file is made if no numbers are to be added.
 fn adds_none(disk: &mut MemDisk, lines: &mut LineBuffer) -> bool {
     let is_right = adds(disk, "g", lines, &[], Ok(()));
     is_right && disk.file("g").is_none()
 }
 
-// Returns whether no numbers are added, then all to the file `f`, and then, where a call fails, a front of them to `g`.
+// Returns whether no numbers are added, then all to the file `f`, and then, where a call fails, a prefix of them to `g`.
 fn are_added(disk: &mut MemDisk, lines: &mut LineBuffer, items: &[Number], text: &[u8]) -> bool {
     adds_none(disk, lines)
         && adds(disk, "f", lines, items, Ok(()))

@@ -9,7 +9,7 @@ const NAME: &str = "test";
 
 /// What has a number at which it listens.
 pub trait Numbered {
-    /// The number at which it listens. None where it doesn't.
+    /// The number at which it listens. None if it doesn't.
     fn number_of(&self) -> Option<u16>;
 }
 

@@ -122,7 +122,7 @@ module _ {A N : Type 0} (work : A → Work N) (reading : Reading A) where
   ends_written old mid new out net after files (Err cause) finishes reads ok stopped =
       ends_unwritten old mid new out net after (writes files) cause finishes reads stopped
 
-  -- the files of an output are whole, and its text is printed, or a front of it
+  -- the files of an output are whole, and its text is printed, or a prefix of it
   pub ends_whole : {T : Type 0} (old new : Outside N) (output : Output) (result : Result T Cause)
       → Finishes work reading old.disk.files old.net new.net output
       → new.disk.files ≡ holding_all output.files old.disk.files

@@ -430,7 +430,7 @@ file_later name old mid new cause reads (FileRefused refusal is given holds e co
 file_later name old mid new cause reads (FileFault is fails) = FileFault is (FailsReading-later reads fails)
 file_later name old mid new cause reads (FileWants is) = FileWants is
 
--- what is refused where no more is read
+-- what is refused if no more is read
 pub found_stop : {A : Type 0} (found : Option Refusal) (next : Reading A) (old new : DiskView) (cause : Cause)
     → ((refusal : Refusal) → found ≡ Some refusal → status_of_refusal refusal ≢ 3)
     → RefusesText found cause → StopsReading (unless found next) old new cause
@@ -463,7 +463,7 @@ bad_input name number place refusal e =
     let same : BadInput name number place ≡ refusal = cc e in
     subst (λ (r : Refusal). IsOfText r) same (record { not_words = λ h. omega arith; not_absent = λ h. omega arith })
 
--- past a text that is accepted where it is judged
+-- past a text that is accepted if it is judged
 pub leads_judged_text : {A : Type 0} (told : Option Files) (Says : List ℕ → Option Refusal → Type 0) (name : Text)
     (next : List ℕ → Reading A) (text : List ℕ) → IsInput told name text → Says text None
     → Leads told (reading_judged Says name next) (next text)

@@ -25,7 +25,7 @@ pieces_at f xs i d lt =
     ap (flat_map f) (sym (take-append-drop i xs)) ∙ flat_map-append f (take i xs) (drop i xs)
     ∙ ap (λ l. flat_map f (take i xs) ++ flat_map f l) (drop_more xs i d lt)
 
--- a front of one piece
+-- a prefix of one piece
 pub front_of : (before piece after : List ℕ) (n : ℕ) → n < length piece
     → take (length before + n) (before ++ (piece ++ after)) ≡ before ++ take n piece
 front_of before piece after n lt = take-append-add before (piece ++ after) n

@@ -13,7 +13,7 @@ use Rattle.command_ends.specs.declared.cause.Cause.{Cause}
 use Rattle.command_ends.specs.declared.cause.Cause.TheVariants.{OutOfMemory}
 use Rattle.command_ends.specs.declared.ending.Ending.{Ending}
 
--- The line was written, or a front of it where a fault of the sink was counted.
+-- The line was written, or a prefix of it where a fault of the sink was counted.
 pub record Writes (line : List ℕ) (old new : SinkView) : Type 0 where
   pub count : ℕ
   pub front : new.written ≡ sending (take count line) old.written
@@ -35,7 +35,7 @@ pub record Answers {A N : Type 0} (work : A → Work N) (reading : Reading A) (o
   pub explains : Explains answer ended new.out
   pub more : ended.faults ≤ new.out.faults
 
--- The command ended for a cause, and a front of its line was written: not all of it where the cause isn't want of
+-- The command ended for a cause, and a prefix of its line was written: not all of it where the cause isn't want of
 -- memory. The faults of `out` never fell meanwhile.
 pub record StopsShort {A N : Type 0} (work : A → Work N) (reading : Reading A) (old new : Outside N) : Type 0
   where
@@ -47,7 +47,7 @@ pub record StopsShort {A N : Type 0} (work : A → Work N) (reading : Reading A)
     pub cut : cause ≢ OutOfMemory → count < length (line_of cause)
     pub more : ended.faults ≤ new.out.faults
 
--- No fault was counted: in reading, in writing, in printing where the task prints, and of the net where it serves.
+-- No fault was counted: in reading, in writing, in printing where the task prints, and of the net if it serves.
 pub record IsFaultless {A N : Type 0} (work : A → Work N) (task : A) (old new : Outside N) : Type 0 where
   pub read : ¬ Rose old.disk.read_faults new.disk.read_faults
   pub write : ¬ Rose old.disk.write_faults new.disk.write_faults
@@ -60,7 +60,7 @@ abbrev pub cause_in : {T : Type 0} → Result T Cause → Option Cause
 cause_in (Ok value) = None
 cause_in (Err cause) = Some cause
 
--- What explaining an answer makes of it: its status and its line, or 9 where the sink found no memory for the line.
+-- What explaining an answer makes of it: its status and its line, or 9 if the sink found no memory for the line.
 pub record Concludes (answer : Option Cause) (old new : SinkView) (status : ℕ) : Type 0 where
   pub status_is : (status ≡ status_by answer) ⊎ (status ≡ 9)
   pub explains : status ≢ 9 → Explains answer old new
@@ -76,7 +76,7 @@ pub record IsEnding {A N : Type 0} (work : A → Work N) (reading : Reading A) (
   pub ends : Ends work reading old (outside new.disk ended new.net) (cause_in ending.answer)
   pub concludes : Concludes (cause_in ending.answer) ended new.out ending.status
 
--- A disk's counts never fall, and where it never fails it goes on so, and no fault is counted.
+-- A disk's counts never fall, and if it never fails it goes on so, and no fault is counted.
 pub record CountsDisk (old new : DiskView) : Type 0 where
   pub asks : old.reads ≤ new.reads
   pub reads : old.read_faults ≤ new.read_faults

@@ -29,7 +29,7 @@ status_of OutFault = 7
 status_of NetFault = 8
 status_of OutOfMemory = 9
 
--- the status is 0 where there is no cause
+-- the status is 0 if there is no cause
 abbrev pub status_by : Option Cause → ℕ
 status_by None = 0
 status_by (Some cause) = status_of cause

@@ -64,7 +64,7 @@ pub record HasReadFault {A N : Type 0} (reading : Reading A) (old new : Outside 
   pub fails : FailsReading name old.disk new.disk
   pub unchanged : IsUnchanged old new
 
--- Writing stopped at the file of this name: those before are whole, it is as before or has a front of its text, later
+-- Writing stopped at the file of this name: those before are whole, it is as before or has a prefix of its text, later
 -- ones are as before.
 pub record IsPartlyWritten {A N : Type 0} (work : A → Work N) (reading : Reading A) (old new : Outside N)
     (name : Text) : Type 0 where
@@ -78,7 +78,7 @@ pub record HasWriteFault {A N : Type 0} (work : A → Work N) (reading : Reading
   pub partly : IsPartlyWritten work reading old new name
   pub rose : Rose old.disk.write_faults new.disk.write_faults
 
--- Each file has its text, no other file is changed, and a front of the text was printed, and not all of it. Where the
+-- Each file has its text, no other file is changed, and a prefix of the text was printed, and not all of it. Where the
 -- output has no files no fault of writing is counted.
 pub record IsPartlyPrinted {A N : Type 0} (work : A → Work N) (reading : Reading A) (old new : Outside N) : Type 0
   where

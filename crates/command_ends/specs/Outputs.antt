@@ -29,12 +29,12 @@ abbrev pub holding_all : List NamedText → Option Files → Option Files
 holding_all [] told = told
 holding_all (entry ∷ entries) told = holding_all entries (holding entry.name entry.text told)
 
--- the file is as before, or has a front of its text: none of it, or not all
+-- the file is as before, or has a prefix of its text: none of it, or not all
 abbrev pub HoldsSome : NamedText → Option Files → Option Files → Type 0
 HoldsSome entry before after = (after ≡ before)
     ⊎ ((n : ℕ) × (n ≤ length entry.text - 1) × (after ≡ holding entry.name (take n entry.text) before))
 
--- The first of the entries are whole, the next is as before or a front of it, and later ones are as before.
+-- The first of the entries are whole, the next is as before or a prefix of it, and later ones are as before.
 pub record HoldsFirst (entries : List NamedText) (before after : Option Files) (name : Text) : Type 0 where
   pub whole : List NamedText
   pub next : NamedText

@@ -46,7 +46,7 @@ reading_text grammar name next = Reads name (λ text. unless (grammar text) (nex
 abbrev pub reading_judged : {A : Type 0} → (List ℕ → Option Refusal → Type 0) → Text → (List ℕ → Reading A) → Reading A
 reading_judged Says name next = Reads name (λ text. Judges (Says text) (next text))
 
--- The bytes of an input, where the file of this name holds these bytes, or isn't there. An input has at most
+-- The bytes of an input, if the file of this name holds these bytes, or isn't there. An input has at most
 -- 67,108,864 bytes.
 unfoldable pub input_of : Text → Option (List ℕ) → Result (List ℕ) Refusal
 input_of name None = Err (Absent name)
@@ -59,7 +59,7 @@ refused_first (Refuses refusal) = Some refusal
 refused_first (Reads name next) = None
 refused_first (Judges Says next) = None
 
--- where the disk tells its files, the one of this name holds these bytes, or isn't there
+-- if the disk tells its files, the one of this name holds these bytes, or isn't there
 abbrev pub Holds : Option Files → Text → Option (List ℕ) → Type 0
 Holds told name given = (m : Files) → told ≡ Some m → file m name ≡ given
 

@@ -63,7 +63,7 @@ pub record StopsWriting (entries : List NamedText) (old new : DiskView) (cause :
   pub holds : HoldsFirst entries old.files new.files name
   pub refused : StopsAtOutput name old new cause
 
--- a front of this text was printed, and not all of it
+-- a prefix of this text was printed, and not all of it
 pub record StopsPrinting (text : List ℕ) (old new : SinkView) (cause : Cause) : Type 0 where
   pub count : ℕ
   pub short : count < length text

@@ -18,7 +18,7 @@ use Rattle.command_ends.specs.declared.cause.WordsRefusal.{WordsRefusal}
 pub record NetCounts (N : Type 0) : Type 1 where
   -- how many of its calls have failed
   pub faults : N → ℕ
-  -- What every call of it keeps: the faults never fall, and where it never fails they stand still. A port that has no
+  -- What every call of it keeps: the faults never fall, and if it never fails they stand still. A port that has no
   -- more connections has none later.
   pub keeps : N → N → Type 0
 
@@ -30,7 +30,7 @@ pub record TopCall {A N : Type 0} (net : NetCounts N) (work : A → Work N) (rea
   pub done : status ≡ 0 → IsDone work reading old new
   -- Each status but 9 has its cause, what it leaves of the files and of the net, and its line.
   pub answered : status ≢ 9 → Answers work reading old new status
-  -- 9: the command ended for a cause, and a front of its line was written.
+  -- 9: the command ended for a cause, and a prefix of its line was written.
   pub stopped : status ≡ 9 → StopsShort work reading old new
   -- 2: the words are refused, or a name on a list that they name.
   pub words : status ≡ 2 → (w : WordsRefusal) × Reaches old.disk.files reading (AtRefusal (Words w))
@@ -56,7 +56,7 @@ pub record TopCall {A N : Type 0} (net : NetCounts N) (work : A → Work N) (rea
       → Reaches (Some m) reading (AtRefusal refusal) → ¬ Rose old.disk.read_faults new.disk.read_faults
       → (status ≡ status_of_refusal refusal) ⊎ (status ≡ 9)
   -- Files that are told and lead to a task give 0 or 9, unless a fault is counted: of the disk, of `out` where the task
-  -- prints, of the net where it serves.
+  -- prints, of the net if it serves.
   pub complete : (m : Files) (task : A) → old.disk.files ≡ Some m → Reaches (Some m) reading (AtTask task)
       → IsFaultless work task old new → (status ≡ 0) ⊎ (status ≡ 9)
   -- No count falls, and the faults of a disk, an `out` or a net that never fails stand still. Of the net it is said by

@@ -31,7 +31,7 @@ number_of (BadName line) = 2
 number_of TooMany = 3
 number_of OutOfMemory = 0
 
--- the line that a refusal names, or 0 where it names none
+-- the line that a refusal names, or 0 if it names none
 abbrev pub place_of : ListError → ℕ
 place_of Empty = 0
 place_of (BadName line) = line

@@ -104,7 +104,7 @@ pub record GivesRelay (task : RelayTask) (old new : RelayNet) (output : Output) 
   }
   pub reads_back : IsScheduleText (schedule_text result.rows) result.rows
 
--- One that stopped by itself, at its opening or later, has sent a front of what was due.
+-- One that stopped by itself, at its opening or later, has sent a prefix of what was due.
 pub record StopsRelay (task : RelayTask) (old new : RelayNet) (cause : Cause) : Type 0 where
   pub traces : List TraceView
   pub traces_are : AreTraceTexts task.traces traces

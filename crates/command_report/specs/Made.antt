@@ -31,12 +31,12 @@ pub record IsMadeTrace (number : ℕ) (trace : TraceView) : Type 0 where
   pub moments : map (λ o. o.moment) trace.opportunities ≡ made_moments number
   pub trace_is : IsTrace trace
 
--- The moment of a row in milliseconds, or 0 where there is no row.
+-- The moment of a row in milliseconds, or 0 if there is no row.
 abbrev pub moment_at : Option Row → ℕ
 moment_at None = 0
 moment_at (Some row) = row.timed.moment
 
--- The moment of the last row, or 0 where there is none.
+-- The moment of the last row, or 0 if there is none.
 abbrev pub last_moment : List Row → ℕ
 last_moment rows = moment_at (slice_get rows (length rows - 1))
 

@@ -24,8 +24,8 @@ pub record ReportJob : Type 0 where
   pub log : Text
   pub form : ReportForm
 
--- What is printed by what is given of `--every` and `--json`, which exclude each other: the series in bins of 1 to
--- 3,600,000 milliseconds, or the sums as an object or in lines.
+-- The form that `--every` or `--json` asks for, which exclude each other: the series in bins of 1 to 3,600,000
+-- milliseconds, or the sums as an object or in lines.
 unfoldable pub form_from : Option Text → Option Text → Option ReportForm
 form_from (Some every) (Some json) = None
 form_from (Some every) None = option_map Series (number_within 1 3600000 every)

@@ -50,7 +50,7 @@ departed_at fates.Unsent = None
 abbrev pub departures : List FateRow → List ℕ
 departures rows = filter_map (λ (r : FateRow). departed_at r.fate) rows
 
--- The size of a row's packet in bytes where it departed, else 0.
+-- The size of a row's packet in bytes if it departed, else 0.
 abbrev pub bytes_of : Row → Fate → ℕ
 bytes_of row fate = if is_departed fate then row.timed.packet.size else 0
 

@@ -10,7 +10,7 @@ use crate::report_form::{ReportForm, ReportJob, SumsForm};
 use option_words::{Command, WordFault, job_or_fault, read_given, read_within};
 use std::alloc::{AllocError, Global};
 
-// Returns what is printed by what is given of `--every` and `--json`, which exclude each other.
+// Returns the form of the report that `--every` or `--json` asks for; they exclude each other.
 #[tactic(auto, unfolding(crate::specs::Report::form_from))]
 fn read_form(every: Option<&str>, json: Option<&str>) -> Option<ReportForm>
     ensures form { result ≡ form_from (option_map (λ s. s.now) every.entry) (option_map (λ s. s.now) json.entry) }

@@ -39,7 +39,7 @@ pub record MatchTask : Type 0 where
   pub store : List ℕ
   pub request : List ℕ
 
--- the number of the best record, counted from 1, or none where no record agrees
+-- the number of the best record, counted from 1, or none if no record agrees
 abbrev pub HasNumber : RequestHead → Option ℕ → List Record → Option ℕ → Type 0
 HasNumber head port records None = BestCause head port records None
 HasNumber head port records (Some number) =

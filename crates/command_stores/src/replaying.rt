@@ -14,9 +14,9 @@ ghost use Rattle.command_stores.specs.inside.Values.{replay_values};
 use crate::replay_job::ReplayJob;
 use crate::replay_words::read_replay;
 use command_ends::{Cause, Host};
-use mm_base::{Disk, Pace, Port, Sink};
+use mm_base::{Disk, Port, Sink};
 use record_store::Store;
-use replay_server::{ServeError, Served, ServingPlan, serve, serve_pool};
+use replay_server::{MissWatch, ServeError, Served, ServingPlan, serve, serve_pool};
 use std::marker::{Send, Sync};
 use std::sync::Wait;
 use std::thread::Threads;
@@ -33,7 +33,7 @@ fn cause_of(error: ServeError) -> Cause
 }
 
 // Serves as many connections as the job says, or that many at a time until it is ended.
-fn serve_some<R: Threads + Wait + Sync, P: Port + Send, Q: Pace + Sync>(
+fn serve_some<R: Threads + Wait + Sync, P: Port + Send, Q: MissWatch + Sync>(
     host: &Host<'_, R>,
     job: &ReplayJob<'_>,
     store: &Store,
@@ -71,7 +71,7 @@ fn serve_some<R: Threads + Wait + Sync, P: Port + Send, Q: Pace + Sync>(
 }
 
 // Serves the connections of a job from its store.
-fn serve_job<R: Threads + Wait + Sync, P: Port + Send, Q: Pace + Sync>(
+fn serve_job<R: Threads + Wait + Sync, P: Port + Send, Q: MissWatch + Sync>(
     host: &Host<'_, R>,
     job: &ReplayJob<'_>,
     store: &Store,
@@ -92,7 +92,7 @@ fn serve_job<R: Threads + Wait + Sync, P: Port + Send, Q: Pace + Sync>(
 }
 
 // Does the job: its store is read, connections are served, and then it is printed how they ended.
-fn replay<R: Threads + Wait + Sync, D: Disk, O: Sink, P: Port + Send, Q: Pace + Sync>(
+fn replay<R: Threads + Wait + Sync, D: Disk, O: Sink, P: Port + Send, Q: MissWatch + Sync>(
     host: &Host<'_, R>,
     job: &ReplayJob<'_>,
     disk: &mut D,
@@ -116,7 +116,13 @@ fn replay<R: Threads + Wait + Sync, D: Disk, O: Sink, P: Port + Send, Q: Pace + 
 /// with `--until-ended` some at a time until the port has no more, and prints how they ended, as
 /// `closed C bad B broken K full F`. No file is written. `NetFault` comes if the port can't be listened at, or a
 /// connection can't be accepted or finished.
-pub fn answer_replay<R: Threads + Wait + Sync, D: Disk, O: Sink, P: Port + Send, Q: Pace + Sync>(
+pub fn answer_replay<
+    R: Threads + Wait + Sync,
+    D: Disk,
+    O: Sink,
+    P: Port + Send,
+    Q: MissWatch + Sync,
+>(
     host: &Host<'_, R>,
     words: &[String],
     disk: &mut D,

@@ -1,6 +1,7 @@
 // A command line over files in memory, and what it is to leave.
-use mm_base::{MemPort, NoPace, Pace};
+use mm_base::{MemPort, NoPace};
 use mm_program::mm_main;
+use replay_server::MissWatch;
 use std::alloc::Global;
 use std::marker::Sync;
 use std::process::Abort;
@@ -33,7 +34,7 @@ pub(crate) fn is_left(case: &Case<'_>, status: u8, outside: &TestOutside) -> boo
 
 // The status of a command line at this port, by this pace. No test needs what the contract of `mm_main` says of that,
 // and so this has none.
-pub(crate) fn status_by<R: Threads + Wait + Sync, Q: Pace + Sync>(
+pub(crate) fn status_by<R: Threads + Wait + Sync, Q: MissWatch + Sync>(
     rt: &R,
     alloc: Global,
     words: &[String],

@@ -3,6 +3,7 @@ use crate::case::{Case, outside_of, status_by};
 use crate::exchange::OLD;
 use crate::serving::port_of_one;
 use mm_base::{Pace, Role};
+use replay_server::MissWatch;
 use std::alloc::Global;
 use std::marker::Sync;
 use std::sync::Wait;
@@ -41,6 +42,10 @@ impl Pace for Asked {
     fn turn<R: Wait>(&self, _rt: &R, role: Role, _count: u64) {
         self.counter(role).fetch_add(1, Ordering::SeqCst);
     }
+}
+
+impl MissWatch for Asked {
+    fn missed(&self) {}
 }
 
 // The turns that a command line asks for, at a port with a link that asks once. None if it isn't done.

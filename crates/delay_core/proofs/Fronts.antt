@@ -1,4 +1,4 @@
--- Where the moments rise, what a delay lets out is a front of the arrivals.
+-- Where the moments rise, what a delay lets out is a prefix of the arrivals.
 use Rattle.std.proofs.Common.{◌≡◌, ℕ, zero, suc, ◌+◌, ◌≤◌, ◌<◌, Bool, true, false, cond, not, List, [], ◌∷◌, ◌++◌}
 use Rattle.std.proofs.Common.{length, get_or, set, take, drop, map, filter, nat_le, ap, sym, ◌∙◌, refl, append_assoc}
 use Rattle.std.proofs.Common.{arith}

@@ -45,7 +45,7 @@ pub struct EndedLink<'a, K: Clock + Copy + Drop> {
 }
 
 impl<'a, K: Clock + Copy + Drop> EndedLink<'a, K> {
-    /// A link over this stream, without a fault so far. An error where the limits can't be set.
+    /// A link over this stream, without a fault so far. An error if the limits can't be set.
     pub fn new(
         clock: K,
         stream: TcpStream,

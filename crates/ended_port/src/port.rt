@@ -95,7 +95,7 @@ impl<
         port
     }
 
-    /// The number of the port at which it listens. None where it doesn't. After `listen(0)` it is one that was free.
+    /// The number of the port at which it listens. None if it doesn't. After `listen(0)` it is one that was free.
     pub fn number(&self) -> Option<u16> {
         let address = self.listener.as_ref()?.local_addr().ok()?;
         Some(address.port())
@@ -137,7 +137,7 @@ impl<
         EndError::Failed
     }
 
-    // The next connection, where it can still be counted. None: the watch is at its end.
+    // The next connection, if it can still be counted. None: the watch is at its end.
     fn next_link(&self) -> io::Result<Option<EndedLink<'a, R>>>
         ensures ok { IfOk result (λ next. IfSome next
             (λ link. (link.faults ≡ 0) × (self.now.accepted < 2 ^ 64 - 1))) }

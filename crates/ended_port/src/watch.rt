@@ -9,7 +9,7 @@ use std::sync::atomic::{AtomicBool, Ordering};
 const NONE: RawFd = -1;
 
 // For how many milliseconds the descriptor isn't waited for after a look that found something to read there, so that
-// one where there is always something, as `/dev/zero`, keeps no processor.
+// one if there is always something, as `/dev/zero`, keeps no processor.
 const REST: i32 = 100;
 
 /// What a descriptor is waited for.
@@ -40,7 +40,7 @@ pub fn wait_for(descriptor: RawFd, wanted: Wanted, milliseconds: i32) -> bool {
     poll(&mut asked, milliseconds) > 0
 }
 
-/// A descriptor whose end is looked for, where there is one. Several threads may look. One that isn't there, or that
+/// A descriptor whose end is looked for, if there is one. Several threads may look. One that isn't there, or that
 /// can't be read, never ends.
 #[derive(Drop)]
 pub struct EndWatch {

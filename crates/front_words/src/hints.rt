@@ -96,7 +96,7 @@ pub(crate) struct Hint<'a> {
 struct Refused<'a> {
     name: &'a str,
     role: FileRole,
-    /// Whether it is refused for its first line, as a whole.
+    /// Whether its first line is refused, and so the file as a whole.
     is_head: bool,
 }
 

@@ -110,7 +110,7 @@ finding_of len more = waits
 finding_of len bad = fails BadChunk
 finding_of len too_long = fails BodyTooLong
 
--- ---- where no head within the limits is there
+-- ---- if no head within the limits is there
 
 pub data HeadState : Type 0 where
   awaiting hopeless all_bytes all_lines : HeadState

@@ -162,7 +162,7 @@ no_value_feed xs all = has_none is_value_byte 10 xs refl all
 line_plain : (name t : List ℕ) → AllPass is_token_byte name → AllPass is_value_byte t → has 10 (name ++ 58 ∷ t) ≡ false
 line_plain name t p q = has-append_no 10 name (58 ∷ t) (no_token_feed name p) (no_value_feed t q)
 
--- ---- a front of a section
+-- ---- a prefix of a section
 
 pub record Cut (s : Section) (front : List ℕ) : Type 0 where
   pub bytes_in : length front + (lacking (last_line front)).0 ≤ length (print_tree s)
@@ -446,7 +446,7 @@ cut_section (f ∷ fs) e n are small =
 
 -- ---- what reading trailers says
 
--- bytes without a section at their front that begin one are a front of it
+-- bytes without a section at their front that begin one are a prefix of it
 front_of_section : (bytes extra : List ℕ) (s : Section) (after : List ℕ) → HasNoSection bytes
     → Reads print_tree IsSection (bytes ++ extra) s after
     → (length bytes < length (print_tree s)) × (bytes ≡ take (length bytes) (print_tree s))

@@ -24,7 +24,7 @@ fn drop_front(bytes: &mut Vec<u8>, count: usize)
     bytes.truncate(left);
 }
 
-// Returns where the bytes begin, `start` or 0. Removes the front where it is at least half of the bytes.
+// Returns where the bytes begin, `start` or 0. Removes the front if it is at least half of the bytes.
 fn without_front(bytes: &mut Vec<u8>, start: usize) -> usize
     requires { start ≤ vec_len bytes.old }
     ensures within { result ≤ length bytes.new.items }

@@ -1,4 +1,4 @@
-// What readers of messages return where there is no message.
+// What readers of messages return if there is no message.
 
 /// Why the bytes at the front are no message, and none can come. From then on each call of the reader returns the same
 /// error.

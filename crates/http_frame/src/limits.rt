@@ -11,7 +11,7 @@ pub(crate) const MOST_BYTES: usize = 65536;
 /// The most line feeds of a head.
 pub(crate) const MOST_LINES: usize = 102;
 
-/// Returns the first 65,536 bytes, or all where there are fewer.
+/// Returns the first 65,536 bytes, or all if there are fewer.
 pub(crate) fn front_of(bytes: &[u8]) -> &[u8]
     ensures { result.now ≡ take 65536 bytes.now }
 {

@@ -37,7 +37,7 @@ pub struct RequestFrames {
     failed: Option<FrameError>,
 }
 
-/// No request is a front of another. It does nothing; its contract is the statement.
+/// No request is a prefix of another. It does nothing; its contract is the statement.
 pub fn requests_are_prefix_free()
     ensures { (a b x y : List ℕ) (h k : Head) → IsRequest a h → IsRequest b k → a ++ x ≡ b ++ y → (a ≡ b) × (h ≡ k) }
 {}

@@ -36,7 +36,7 @@ pub struct ResponseFrames {
     failed: Option<FrameError>,
 }
 
-/// A stream begins with at most one response, where it is known whether the request was HEAD. It does nothing; its
+/// A stream begins with at most one response, if it is known whether the request was HEAD. It does nothing; its
 /// contract is the statement.
 pub fn responses_are_found_once()
     ensures { (to_head ended : Bool) (a b x y : List ℕ) (h k : Answer) (p : IsResponse to_head a h)

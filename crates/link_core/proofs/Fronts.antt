@@ -1,4 +1,4 @@
--- The entries in hand, where a front of the log was let go.
+-- The entries in hand, where a prefix of the log was let go.
 use Rattle.std.proofs.Common.{◌≡◌, ℕ, ◌≤◌, ◌++◌, Bool, List, [], ◌∷◌, Option, Some, slice_get, take}
 use Rattle.packet_record.specs.declared.packet.Timed.{Timed}
 use Rattle.packet_record.specs.Moments.{AreUpTo}

@@ -1,4 +1,4 @@
--- Each opportunity and each arrival is an entry of the log: where there are more of them, there is more of the log.
+-- Each opportunity and each arrival is an entry of the log: if there are more of them, there is more of the log.
 use Rattle.std.proofs.Common.{◌≡◌, ℕ, suc, ◌+◌, ◌-◌, ◌<◌, ◌≤◌, ◌++◌, ◌==◌, List, [], ◌∷◌, length, map, filter, take}
 use Rattle.std.proofs.Common.{nat_le, nat_lt, arith, refl, ap, ◌∙◌, inl, inr}
 use Rattle.std.proofs.lemmas.Bool.{cases_lt, cond_both, le-leb, lt-leb, lt-ltb, le-ltb}

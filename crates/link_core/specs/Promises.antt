@@ -14,6 +14,6 @@ abbrev pub AreCovered : List Opportunity → ℕ → List Timed → Type 0
 AreCovered opps b [] = Unit {0}
 AreCovered opps b (t ∷ ts) = (count_to opps t.moment ≤ b) × AreCovered opps b ts
 
--- the moment of the next opportunity where b are burnt, or the one after the horizon where there is none
+-- the moment of the next opportunity where b are burnt, or the one after the horizon if there is none
 abbrev pub floor_of : List Opportunity → ℕ → ℕ → ℕ
 floor_of opps horizon b = unwrap_or (option_map (λ (o : Opportunity). o.moment) (slice_get opps b)) (horizon + 1)

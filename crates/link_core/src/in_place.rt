@@ -64,7 +64,7 @@ impl Parts {
         Ok(())
     }
 
-    // Burns the first `last` opportunities, where no packet is to arrive, and puts what departs in the places of what
+    // Burns the first `last` opportunities, if no packet is to arrive, and puts what departs in the places of what
     // arrived, or runs out of memory.
     fn play_rest(&mut self, last: u32, places: &mut Places) -> Result<(), OutOfMemory>
         ghost gone: { Gone }

@@ -104,7 +104,7 @@ impl Opportunities {
         self.lap.opportunity(trace, j)
     }
 
-    /// Opportunity number `j`, counted from 0. Returns `None` where there are no more than `j`.
+    /// Opportunity number `j`, counted from 0. Returns `None` if there are no more than `j`.
     pub fn at(&self, j: u32) -> Option<Opportunity>
         ensures at { result ≡ slice_get (span_opps self.now) j }
         ensures within { IfSome result (λ o. o.moment ≤ HOUR) }
@@ -116,7 +116,7 @@ impl Opportunities {
         self.trace.opportunity(u64::from(j), self.once)
     }
 
-    /// Opportunity number `j`, counted from 0, where there is one at `moment` or earlier. It takes no search.
+    /// Opportunity number `j`, counted from 0, if there is one at `moment` or earlier. It takes no search.
     #[inline(always)]
     pub fn due(&mut self, j: u32, moment: u64) -> Option<Opportunity>
         ensures due { MatchOption result (length (up_to moment (span_opps self.old)) ≤ j)

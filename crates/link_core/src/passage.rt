@@ -12,6 +12,6 @@ pub struct Passage {
     /// The numbers of the packets that neither departed nor were dropped, in order; in a link the one in transit is the
     /// first.
     pub held: Vec<u32>,
-    /// The log of a link, not written out. `None` for the other kinds of shells, and where no log was asked for.
+    /// The log of a link, not written out. `None` for the other kinds of shells, and if no log was asked for.
     pub log: Option<LinkLog>,
 }

@@ -47,7 +47,7 @@ impl LogPieces {
     }
 
     /// Goes on to the next piece, which isn't empty. False: there is no more, and no piece in hand. Out of memory,
-    /// which comes only where there is more, the piece in hand is what was made so far, and the next one goes on from
+    /// which comes only if there is more, the piece in hand is what was made so far, and the next one goes on from
     /// there.
     pub fn next(&mut self) -> Result<bool, OutOfMemory>
         ensures same { self.old.rest ≡ self.new.piece ++ self.new.rest }

@@ -111,7 +111,7 @@ impl Parts {
         steps - 1
     }
 
-    // Goes on by at most `steps` steps, and returns how many were not taken. These are all exactly where there is none
+    // Goes on by at most `steps` steps, and returns how many were not taken. These are all exactly if there is none
     // to take: all arrivals are in, and the first `last` opportunities are burnt.
     #[inline(always)]
     fn step(&mut self, last: u32, steps: usize) -> usize
@@ -153,7 +153,7 @@ impl Parts {
         Ok(())
     }
 
-    /// Goes on by some steps. Returns false exactly where it is at the end: all arrivals are in, and the first `last`
+    /// Goes on by some steps. Returns false exactly if it is at the end: all arrivals are in, and the first `last`
     /// opportunities are burnt.
     pub fn run(&mut self, last: u32) -> Result<bool, OutOfMemory>
         ghost gone: { Gone }

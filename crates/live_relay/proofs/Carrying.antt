@@ -138,7 +138,7 @@ ends_not f (Gives Broken) g never e = cc e
 ends_not f (Again n) g never e = cc g
 ends_not f (NotYet m) g never e = never m refl
 
--- where no more may be taken before more is fed, the state waits
+-- if no more may be taken before more is fed, the state waits
 pub take_waits : (s s' : State) (a : Taken) (n : ℕ) → a ≡ answer_of s n → s' ≡ after_take s n → HasCauses s n a s'
     → goes_on a ≡ false → s'.taken.end ≡ Open → Waits s'
 take_waits s s' a n is e causes g going = by a refl
@@ -249,7 +249,7 @@ pub specs-cons : (h : ℕ) (whole : Stream) (old new : State) (olds news : List 
 specs-cons h whole old new olds news p e =
     ap (λ (c : DirSpec). c ∷ specs_of news) p.spec ∙ ap (λ (l : List DirSpec). old.spec ∷ l) e
 
--- what has left the last shell doesn't hang on what came to the first, where there is one
+-- what has left the last shell doesn't hang on what came to the first, if there is one
 pub last_any : (a b : List Timed) (states : List State) → 1 ≤ length states → last_taken a states ≡ last_taken b states
 last_any a b [] some = absurd (omega arith)
 last_any a b (s ∷ states) some = refl

@@ -72,7 +72,7 @@ up_to_take m (t ∷ ts) rises = by (nat_le t.moment m) refl (up_to_take m ts ris
         let is = all_later m t ts late rises in
         is ∙ ap (λ (l : List Timed). take (length l) (t ∷ ts)) (sym is)
 
--- a packet at a place is among them where it is up to the moment
+-- a packet at a place is among them if it is up to the moment
 pub counts_in : (m : ℕ) (ts : List Timed) (k : ℕ) (d : Timed) → Rise ts → k < length ts → (get_or ts k d).moment ≤ m
     → k < length (up_to m ts)
 counts_in m [] k d rises lt le = absurd (omega arith)

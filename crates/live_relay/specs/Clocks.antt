@@ -2,7 +2,7 @@
 use Rattle.std.specs.Prelude.{◌≡◌, ℕ, Bool, List, ◌++◌, Option, Some}
 
 pub record ClockView : Type 0 where
-  -- its answers so far, where the clock tells them
+  -- its answers so far, if the clock tells them
   pub moments : Option (List ℕ)
   -- its last answer, 0 at first
   pub latest : ℕ

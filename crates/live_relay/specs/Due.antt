@@ -32,6 +32,6 @@ bytes_in pieces t = get_or pieces (t.packet.id - 1) []
 abbrev pub due : NestParts → List Turn → Side → ℕ → List (List ℕ)
 due nest turns side m = map (bytes_in (pieces_of (stamps_of turns))) (up_to m (departures nest turns (towards side)))
 
--- the moment of the last of these turns, 0 where there is none
+-- the moment of the last of these turns, 0 if there is none
 abbrev pub last_moment : List Turn → ℕ
 last_moment turns = last_of 0 (map (λ (t : Turn). t.moment) turns)

@@ -17,7 +17,7 @@ pub record MemWireState : Type 0 where
   pub calls : ℕ
   pub faults : ℕ
 
--- It tells all, and never fails where no call is to fail.
+-- It tells all, and never fails if no call is to fail.
 abbrev pub mem_wire_view : MemWireState → WireView
 mem_wire_view w = record {
   opened = w.opened;
@@ -39,7 +39,7 @@ pub record IsWireCall {T : Type 0} (old new : MemWireState) (result : Result T E
   pub fault : IsErrOf result Failed → new.faults ≡ one_more old.faults
   pub no_fault : ¬ (IsErrOf result Failed) → new.faults ≡ old.faults
 
--- the next answer, where there is one
+-- the next answer, if there is one
 abbrev pub next_answer : List (Option Datagram) → Option Datagram
 next_answer [] = None
 next_answer (answer ∷ answers) = answer

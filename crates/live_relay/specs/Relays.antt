@@ -66,7 +66,7 @@ pub record HasSentSome (nest : NestParts) (turns : List Turn) (m : ℕ) (old now
       × IsFrontOf (due nest turns Server (last_moment turns)) to_server)
       ⊎ IsFrontOf (due nest turns Server m) to_server)
 
--- where the wire tells what was sent and received, at the beginning and now
+-- if the wire tells what was sent and received, at the beginning and now
 abbrev pub IfTold : WireView → WireView → (WireTold → WireTold → Type 0) → Type 0
 IfTold old new P = (start now : WireTold) → old.told ≡ Some start → new.told ≡ Some now → P start now
 

@@ -24,7 +24,7 @@ pub record WireTold : Type 0 where
 pub record WireView : Type 0 where
   -- at which ports it was asked to open
   pub opened : Opened
-  -- what was sent and received, where the wire tells it
+  -- what was sent and received, if the wire tells it
   pub told : Option WireTold
   -- how many receives were not refused
   pub asked : ℕ

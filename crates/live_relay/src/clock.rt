@@ -2,7 +2,7 @@
 ghost use Rattle.std.specs.Prelude.{◌≡◌, ◌≤◌, ◌∷◌, []};
 ghost use Rattle.live_relay.specs.Clocks.{ClockView, Reads};
 
-/// A clock in whole milliseconds, whose moments never fall. A caller learns its earlier answers only where the clock
+/// A clock in whole milliseconds, whose moments never fall. A caller learns its earlier answers only if the clock
 /// tells them, as one in memory does.
 pub trait Clock {
     /// What the clock tells, its last answer, and whether its user had ended.

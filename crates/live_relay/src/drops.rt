@@ -15,7 +15,7 @@ fn port_in(address: &str) -> Option<u16> {
     u16::from_str_radix(port, 16).ok()
 }
 
-// The drops in the line of the socket at this port of 127.0.0.1; None where the line is another socket's.
+// The drops in the line of the socket at this port of 127.0.0.1; None if the line is another socket's.
 fn drops_in(line: &str, port: u16) -> Option<u64> {
     let address = line.split_ascii_whitespace().nth(ADDRESS)?;
     if port_in(address)? != port {
@@ -25,7 +25,7 @@ fn drops_in(line: &str, port: u16) -> Option<u64> {
 }
 
 /// How many datagrams the system dropped at the UDP socket of a port of 127.0.0.1 since it was opened, for want of
-/// room, by the text of `/proc/net/udp`. None where the text doesn't say.
+/// room, by the text of `/proc/net/udp`. None if the text doesn't say.
 pub fn drops_at(text: &str, port: u16) -> Option<u64> {
     text.lines().find_map(|line| drops_in(line, port))
 }

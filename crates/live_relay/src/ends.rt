@@ -72,7 +72,7 @@ impl Ends {
         Side::Client
     }
 
-    /// The next datagram, where one is there.
+    /// The next datagram, if one is there.
     pub fn take(&mut self, buf: &mut [u8]) -> io::Result<Option<(Side, usize)>>
         ensures { IfOk result (λ got. IfSome got (λ r. r.1 ≤ length buf.old)) }
     {

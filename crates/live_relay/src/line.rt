@@ -20,7 +20,7 @@ use text_base::OutOfMemory;
 /// One direction of a nest. It is fed items, and lets each pass all shells as far as it can before the next.
 ///
 /// Contracts see what its shells do, the horizon, the stream that was fed, what each shell has dropped, and the packets
-/// that have departed from the last shell. Some of these may have moments after the stream's bound, where no packet
+/// that have departed from the last shell. Some of these may have moments after the stream's bound, if no packet
 /// that may still come can change them.
 #[derive(Drop)]
 pub struct Line {
@@ -100,7 +100,7 @@ impl Line {
     }
 }
 
-// Returns the packets that were taken from the last shell, or `packets` where there is no shell.
+// Returns the packets that were taken from the last shell, or `packets` if there is no shell.
 fn last_departed<'a>(states: &'a [ShellState], packets: &'a [Timed]) -> &'a [Timed]
     ensures { result.now ≡ last_taken packets.now states.now }
 {

@@ -88,7 +88,7 @@ impl MemWire {
         self.received.as_slice()
     }
 
-    // Counts a call, and a fault where it is to fail.
+    // Counts a call, and a fault if it is to fail.
     fn call(&mut self) -> Result<(), EndError>
         ensures call { IsWireCall self.old self.new result }
         ensures answers { self.new.answers ≡ self.old.answers }

@@ -203,7 +203,7 @@ impl Relay {
         Ok(relay.into_result(alloc, nest, RelayEnd::Horizon, last)?)
     }
 
-    /// Ends where the clock's user had ended in a turn at this moment. Nothing further is sent, and what has passed is
+    /// Ends if the clock's user had ended in a turn at this moment. Nothing further is sent, and what has passed is
     /// computed anew, by the nest whose horizon is this moment.
     pub fn end_by_user(
         self,

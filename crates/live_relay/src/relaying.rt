@@ -21,7 +21,7 @@ const ROOM: usize = MOST + 1;
 /// moments up to this one, and wasn't sent yet, is sent, up before down. Where the clock's user has ended, that turn is
 /// the last, and its moment is the horizon of the result: what is still on its way is inside.
 ///
-/// `WireFault` comes only where a fault of the wire was counted, and `OutOfMemory` means out of memory. After either
+/// `WireFault` comes only if a fault of the wire was counted, and `OutOfMemory` means out of memory. After either
 /// what was sent is a prefix of what is due for the datagrams received so far, and what was received isn't given back.
 pub fn relay<C: Clock, W: Wire>(
     alloc: Global,

@@ -68,17 +68,17 @@ impl<'a, R: Time + Drop> SysClock<'a, R> {
         self.moment
     }
 
-    // The time since it was made, where the system tells it.
+    // The time since it was made, if the system tells it.
     fn elapsed(&self) -> Option<Duration> {
         self.start.as_ref()?.elapsed(&self.rt).ok()
     }
 
-    // The whole milliseconds since it was made, where the system tells them.
+    // The whole milliseconds since it was made, if the system tells them.
     fn elapsed_millis(&self) -> Option<u64> {
         u64::try_from(self.elapsed()?.as_millis()).ok()
     }
 
-    // How many microseconds are left until the millisecond after the last moment. None where it has begun, or where the
+    // How many microseconds are left until the millisecond after the last moment. None if it has begun, or where the
     // system doesn't tell the time.
     fn micros_left(&self) -> Option<u64> {
         let elapsed = u64::try_from(self.elapsed()?.as_micros()).ok()?;

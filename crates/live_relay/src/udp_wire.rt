@@ -31,15 +31,15 @@ const WAIT: i32 = 10;
 /// so a client may come again from another port. Two clients at once are as one: a datagram doesn't say to which of
 /// them its answer belongs, and each answer goes to the one that was heard last.
 ///
-/// A receive doesn't wait: where no datagram is there it returns `None`. The clock of the same pulse rests in its
+/// A receive doesn't wait: if no datagram is there it returns `None`. The clock of the same pulse rests in its
 /// place. A send that finds no room doesn't wait either: the datagram is kept, with those after it, and each receive
 /// tries again to send what is kept, to the client that is known by then.
 ///
 /// A datagram is lost, and counted, where the system says that nobody listens where it was sent, that it isn't
-/// permitted, or that it has no buffer for it; where no client is known to which it could go; and where too many are
+/// permitted, or that it has no buffer for it; if no client is known to which it could go; and if too many are
 /// kept already. An interruption is passed over.
 ///
-/// Where it was opened it says so on the standard error, and where the system grants less room for datagrams that come
+/// Once it is open it says so on the standard error, and if the system grants less room for datagrams that come
 /// than it was asked for, how much that is.
 ///
 /// Out of memory is no fault. Every other error is counted as one: a port that can't be had; a receive or a send
@@ -98,7 +98,7 @@ impl<'a, R: Net + Eprint + Drop> UdpWire<'a, R> {
         }
     }
 
-    /// The number of the port at which it listens. None where it isn't open. After `open(0, ..)` it is one that was
+    /// The number of the port at which it listens. None if it isn't open. After `open(0, ..)` it is one that was
     /// free.
     pub fn number(&self) -> Option<u16> {
         let address = self.ends.as_ref()?.socket.local_addr().ok()?;
@@ -122,7 +122,7 @@ impl<'a, R: Net + Eprint + Drop> UdpWire<'a, R> {
         self.empty
     }
 
-    // Counts a datagram of this size where no packet can have it.
+    // Counts a datagram of this size if no packet can have it.
     fn count_size(&mut self, size: usize)
         ensures same { (self.new.asked ≡ self.old.asked) × (self.new.faults ≡ self.old.faults) }
         ensures opened { self.new.opened ≡ self.old.opened }
@@ -162,7 +162,7 @@ impl<'a, R: Net + Eprint + Drop> UdpWire<'a, R> {
         ));
     }
 
-    // Says on the standard error how much room there is for datagrams that come, where it is less than was asked for.
+    // Says on the standard error how much room there is for datagrams that come, if it is less than was asked for.
     fn say_room(&self, room: u32) {
         if room < ROOM {
             let _ = self.rt.eprintln(format_args!(
@@ -235,7 +235,7 @@ impl<'a, R: Net + Eprint + Drop> UdpWire<'a, R> {
         Ok(got)
     }
 
-    // Sends a datagram, or keeps it where there is no room, or counts it as lost.
+    // Sends a datagram, or keeps it if there is no room, or counts it as lost.
     fn send_or_keep(&mut self, side: Side, piece: &[u8]) -> io::Result<()>
         ensures same { (self.new.asked ≡ self.old.asked) × (self.new.faults ≡ self.old.faults) }
         ensures opened { self.new.opened ≡ self.old.opened }

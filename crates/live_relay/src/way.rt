@@ -33,7 +33,7 @@ pub(crate) struct Way {
     pub forgotten: Vec<usize>,
 }
 
-// What a direction is fed at a moment: the row's packet, where it goes there, or a mark.
+// What a direction is fed at a moment: the row's packet, if it goes there, or a mark.
 fn item_at(direction: Direction, moment: u64, row: Option<Row>) -> Item
     ensures { result ≡ item_in direction moment row }
 {
@@ -144,7 +144,7 @@ impl Way {
         self.line.departed();
     }
 
-    /// Feeds what goes this way at this moment, which is the row where there is one.
+    /// Feeds what goes this way at this moment, which is the row if there is one.
     pub fn feed(
         self,
         direction: Direction,

@@ -9,8 +9,8 @@ use crate::Side;
 use mm_base::EndError;
 
 /// A place where datagrams come from two sides, and from which they are sent to them. A caller learns which were sent
-/// and received only where the wire tells them, as one in memory does. It counts its faults. The count never falls, and
-/// where it stands at the last value of a `u64` it is taken as risen.
+/// and received only if the wire tells them, as one in memory does. It counts its faults. The count never falls, and
+/// if it stands at the last value of a `u64` it is taken as risen.
 pub trait Wire {
     /// What the wire tells, and what it counts.
     ghost view: { Self → WireView };
@@ -27,7 +27,7 @@ pub trait Wire {
         ensures failed_cause { IsErrOf result EndError.Failed → Rose (view self.old).faults (view self.new).faults };
 
     /// Takes a datagram into the start of `buf`, cut at its length, and returns the side that it comes from and how
-    /// many bytes it has there. `None` comes only where no datagram came in this call.
+    /// many bytes it has there. `None` comes only if no datagram came in this call.
     ///
     /// `Failed` is counted as a fault. After a refusal nothing was received.
     fn receive(&mut self, buf: &mut [u8]) -> Result<Option<(Side, usize)>, EndError>

@@ -31,7 +31,7 @@ bin_over every from es = record {
   delays = delays_of (filter_map delay_of es);
 }
 
--- So many bins of a log, from the one of this number on.
+-- This many bins of a log, from the one with this number on.
 abbrev pub bins_from : ℕ → ℕ → ℕ → List Entry → List Bin
 bins_from every number zero es = []
 bins_from every number (suc more) es =

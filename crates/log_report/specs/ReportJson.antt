@@ -46,7 +46,7 @@ empty_object =
     ++ codes "  \"dropped\": {\"packets\": 0, \"bytes\": 0},\n"
     ++ codes "  \"used\": null,\n  \"delay\": null\n}\n"
 
--- What is printed of a log, which may have no entry.
+-- What a report prints of a log, which may have no entry.
 abbrev pub report_json : Option Report → List ℕ
 report_json None = empty_object
 report_json (Some r) = report_object r

@@ -33,7 +33,7 @@ report_lines r =
     ++ used_line r.used
     ++ delay_line r.delays
 
--- What is printed of a log, which may have no entry.
+-- What a report prints of a log, which may have no entry.
 abbrev pub report_text : Option Report → List ℕ
 report_text None = codes "empty" ++ 10 ∷ []
 report_text (Some r) = report_lines r

@@ -58,7 +58,7 @@ count_in said es = length (filter_map said es)
 abbrev pub sum_in : (Entry → Option ℕ) → List Entry → ℕ
 sum_in said es = sum (filter_map said es)
 
--- The moment of the first entry, or 0 where there is none.
+-- The moment of the first entry, or 0 if there is none.
 abbrev pub first_moment : List Entry → ℕ
 first_moment [] = 0
 first_moment (e ∷ es) = moment_of e
@@ -81,7 +81,7 @@ report_over es = record {
   delays = delays_of (filter_map delay_of es);
 }
 
--- The report of a log, or none where it has no entry.
+-- The report of a log, or none if it has no entry.
 abbrev pub report_of : List Entry → Option Report
 report_of [] = None
 report_of (e ∷ es) = Some (report_over (e ∷ es))

@@ -55,7 +55,7 @@ impl RateError {
 /// Reads a rate: `I`, `I.F` or `.F`, where I is 1 to 10 digits and F is 1 to 9, as the manual page of mm-loss takes it
 /// (a number from 0 to 1). The billionths are exact. It takes no memory.
 ///
-/// Returns `BadRate` exactly where the text has another form, and `AboveOne` exactly where it has this form and stands
+/// Returns `BadRate` exactly if the text has another form, and `AboveOne` exactly if it has this form and stands
 /// for more than 1.
 pub fn read_rate(text: &str) -> Result<Rate, RateError>
     ensures { MatchResult result (λ rate. rate_of text.now ≡ Ok rate.billionths)

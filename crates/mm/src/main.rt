@@ -2,10 +2,13 @@
 //! machine, given to the top call.
 #![tactic(auto)]
 
+mod misses;
+
 use command_ends::{exit_code, read_end, read_words};
 use ended_port::{EndWatch, EndedPort};
 use front_words::{Program, Reason, tell};
-use mm_base::{NoPace, StdSink};
+use misses::MissCount;
+use mm_base::StdSink;
 use mm_program::mm_ending;
 use piped_disk::PipedDisk;
 use request_notes::{NotedPort, Notes, Recorded, read_cut, read_recorded};
@@ -67,6 +70,20 @@ fn say_cut(
     }
 }
 
+// Says on the standard error how many requests had no record, if any had none.
+fn say_misses(rt: &HostRuntime, count: u64, is_logged: bool) -> io::Result<()> {
+    if count == 0 {
+        return Ok(());
+    }
+    let requests = if count == 1 { "request" } else { "requests" };
+    let advice = if is_logged {
+        ""
+    } else {
+        ": MM_LOG=1 names them"
+    };
+    eprintln!(rt; "{NAME}: {count} {requests} had no record{advice}")
+}
+
 // What the words make of the machine's files, on this disk, and of its port, which the end of this watch ends. An error
 // means out of memory before the top call.
 fn run_until<'a, T: Threads + Wait + Sync>(
@@ -79,6 +96,7 @@ fn run_until<'a, T: Threads + Wait + Sync>(
 ) -> io::Result<u8> {
     let mut out = StdSink::new(rt.stdout());
     let mut port: LocalPort<'a> = new_port(rt, watch, recorded)?;
+    let misses = MissCount::new();
     let ending = mm_ending(
         threads,
         rt.alloc(),
@@ -86,7 +104,7 @@ fn run_until<'a, T: Threads + Wait + Sync>(
         disk,
         &mut out,
         &mut port,
-        &NoPace,
+        &misses,
     );
     let reason = Reason::of_ending(&ending, disk, port.port().last_error());
     let mut told = StdSink::new(rt.stderr());
@@ -101,6 +119,7 @@ fn run_until<'a, T: Threads + Wait + Sync>(
     );
     if ending.status == 0 {
         let _ = say_cut(rt, words, disk);
+        let _ = say_misses(rt, misses.count(), recorded.is_some());
     }
     Ok(ending.status)
 }

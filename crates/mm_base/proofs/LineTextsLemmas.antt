@@ -23,7 +23,7 @@ text_split f front bytes items left piece others so_far all made =
     ∙ sym (append_assoc front (flat_map f piece) (flat_map f others))
     ∙ ap (λ l. (front ++ l) ++ flat_map f others) (sym made)
 
--- a front of the text is added to the file, and not all of it
+-- a prefix of the text is added to the file, and not all of it
 pub adds_front : (told after : Option Files) (name whole front piece rest : List ℕ) (n : ℕ)
     → whole ≡ (front ++ piece) ++ rest → n < length piece → after ≡ lengthened name (front ++ take n piece) told
     → (k : ℕ) × (k < length whole) × (after ≡ lengthened name (take k whole) told)
@@ -36,7 +36,7 @@ adds_front told after name whole front piece rest n is short adds =
     ∙ take-append-add front piece n in
     (length front + n, omega arith, adds ∙ ap (λ l. lengthened name l told) (sym same))
 
--- the file is as before, or has a front of a first part of the text
+-- the file is as before, or has a prefix of a first part of the text
 pub first_held : (told after : Option Files) (name first rest : List ℕ)
     → (after ≡ told) ⊎ ((n : ℕ) × (n ≤ length first - 1) × (after ≡ holding name (take n first) told))
     → (after ≡ told) ⊎ ((n : ℕ) × (n ≤ length (first ++ rest) - 1)

@@ -17,7 +17,7 @@ module _ {R : Type 0} (has_read : List ℕ → R → Type 0) (told : Option File
     goes_on = λ text has. subst (λ (t : List ℕ). has_read t read) (sym (append-nil text)) has;
   }
 
-  -- a front of `at` bytes and a piece of `n` bytes behind it make a front of `at + n` bytes
+  -- a prefix of `at` bytes and a piece of `n` bytes behind it make a prefix of `at + n` bytes
   pub more_read : (at n : ℕ) (old mid new : R) → FrontIsRead has_read told name at old mid
       → PieceIsRead has_read told name at n mid new
       → FrontIsRead has_read told name (at + n) old new
@@ -31,7 +31,7 @@ module _ {R : Type 0} (has_read : List ℕ → R → Type 0) (told : Option File
         (piece.goes_on (text ++ front.bytes) (front.goes_on text has));
   }
 
-  -- where the file ends before `size`, what was read is its front of `size` bytes
+  -- if the file ends before `size`, what was read is its front of `size` bytes
   pub all_read : (at size : ℕ) (old new : R) → FrontIsRead has_read told name at old new → at ≤ size
       → IfHeld told name (λ whole. length whole ≤ at)
       → FrontIsRead has_read told name size old new

@@ -16,7 +16,7 @@ pub record LinkBytes : Type 0 where
   pub reads : List ReadStart
 
 pub record LinkView : Type 0 where
-  -- the bytes, where the link tells them
+  -- the bytes, if the link tells them
   pub told : Option LinkBytes
   -- how many calls have failed
   pub faults : ℕ

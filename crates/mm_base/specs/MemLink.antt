@@ -13,7 +13,7 @@ pub record MemLinkState : Type 0 where
   pub calls : ℕ
   pub faults : ℕ
 
--- It tells its bytes, and never fails where no call is to fail.
+-- It tells its bytes, and never fails if no call is to fail.
 abbrev pub mem_link_view : MemLinkState → LinkView
 mem_link_view link = record { told = Some link.bytes; faults = link.faults; never_fails = length link.fails == 0 }
 

@@ -18,7 +18,7 @@ pub record MemPortState : Type 0 where
   pub calls : ℕ
   pub faults : ℕ
 
--- It tells its finished links, is drained where no link is left, and never fails where no call is to fail.
+-- It tells its finished links, is drained if no link is left, and never fails if no call is to fail.
 abbrev pub mem_port_view : MemPortState → PortView MemLinkState
 mem_port_view port = record {
   listened = port.listened;

@@ -4,7 +4,7 @@ use Rattle.std.specs.Option.{option_map}
 use Rattle.mm_base.specs.Counts.{CountsFaults}
 
 pub record SinkView : Type 0 where
-  -- what was written, where the sink tells it
+  -- what was written, if the sink tells it
   pub written : Option (List ℕ)
   -- how many calls have failed
   pub faults : ℕ

@@ -1,4 +1,4 @@
-// Calls of the system, which are made again where a signal interrupted them.
+// Calls of the system, which are made again if a signal interrupted them.
 ghost use Rattle.std.specs.Prelude.{◌≡◌, ◌≤◌, ◌<◌, length, take, IfOk, OnErr};
 ghost use Rattle.std.specs.Io.KnownBytes.{Appends, Consumes, IsAtEnd, Keeps};
 
@@ -33,7 +33,7 @@ pub fn read_once<R: Read>(reader: &mut R, buf: &mut [u8]) -> io::Result<usize>
     Err(io::Error::from(ErrorKind::Interrupted))
 }
 
-/// Writes bytes of the front of a piece, and returns how many: at least one, where the piece isn't empty. A writer that
+/// Writes bytes of the front of a piece, and returns how many: at least one, if the piece isn't empty. A writer that
 /// takes nothing of it is an error.
 pub fn write_once<W: Write>(writer: &mut W, piece: &[u8]) -> io::Result<usize>
     ensures within { IfOk result (λ n. n ≤ length piece.now) }

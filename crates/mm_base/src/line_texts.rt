@@ -10,11 +10,11 @@ use std::alloc::Global;
 use text_base::{LineBuffer, PrintLine, put_lines, split_lines};
 
 /// Adds a line for each item at the end of a file. A file that isn't there counts as an empty one, and no file is
-/// changed where there is no item. Other files stay as they were. The lines are made in the buffer, some 2048 at once;
+/// changed if there is no item. Other files stay as they were. The lines are made in the buffer, some 2048 at once;
 /// what it held is lost. It takes no memory of its own.
 ///
-/// `Failed` comes only where a fault of writing was counted, and `Absent` never. After a refusal the files are as
-/// before, or a front of the text was added: none of it, or not all.
+/// `Failed` comes only if a fault of writing was counted, and `Absent` never. After a refusal the files are as
+/// before, or a prefix of the text was added: none of it, or not all.
 pub fn append_lines<D: Disk, T: PrintLine>(
     disk: &mut D,
     name: &str,
@@ -41,8 +41,8 @@ pub fn append_lines<D: Disk, T: PrintLine>(
 /// Makes the file hold the text of a first line and of a line for each item. Other files stay as they were. It takes
 /// memory for 2048 lines of the text alone.
 ///
-/// `Failed` comes only where a fault of writing was counted, and `Absent` never. After a refusal the file is as
-/// before, or it holds a front of the text: none, or not all.
+/// `Failed` comes only if a fault of writing was counted, and `Absent` never. After a refusal the file is as
+/// before, or it holds a prefix of the text: none, or not all.
 pub fn save_lines<D: Disk, T: PrintLine>(
     alloc: Global,
     disk: &mut D,

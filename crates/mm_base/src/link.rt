@@ -6,8 +6,8 @@ ghost use Rattle.mm_base.specs.Link.{LinkView, CountsLinkFaults, after_read, aft
 
 use crate::EndError;
 
-/// A connection that gives bytes and takes bytes. A caller learns which only where the link tells them, as one in
-/// memory does. It counts its faults. The count never falls, and where it stands at the last value of a `u64` it is
+/// A connection that gives bytes and takes bytes. A caller learns which only if the link tells them, as one in
+/// memory does. It counts its faults. The count never falls, and if it stands at the last value of a `u64` it is
 /// taken as risen.
 pub trait Link {
     /// What the link tells, and its count of faults.
@@ -39,7 +39,7 @@ pub trait Link {
 
     /// Says that nothing further will be given, so that the peer learns of the end at once, and that nothing further
     /// is wanted: a link that tells nothing may let go what still comes, and the call may wait for that. It changes
-    /// nothing that the link tells, and isn't counted where it fails.
+    /// nothing that the link tells, and isn't counted if it fails.
     fn close_output(&mut self)
         ensures { view self.new ≡ view self.old };
 }

@@ -15,7 +15,7 @@ use std::collections::VecDeque;
 use std::marker::Model;
 
 /// A port in memory, which gives links in memory in their order. It tells its finished links, counts its calls from 1,
-/// and fails exactly those that its list names. It is drained where no link is left.
+/// and fails exactly those that its list names. It is drained if no link is left.
 #[derive(Drop)]
 pub struct MemPort {
     listened: Listened,
@@ -85,7 +85,7 @@ impl MemPort {
         self.finished.as_slice()
     }
 
-    // Counts a call, and a fault where it is to fail.
+    // Counts a call, and a fault if it is to fail.
     fn call(&mut self) -> Result<(), EndError>
         ensures call { IsPortCall self.old self.new result }
         ensures listened { self.new.listened ≡ self.old.listened }

@@ -21,7 +21,7 @@ pub fn piece_buffer(alloc: Global, size: u64) -> Result<Vec<u8>, OutOfMemory>
 }
 
 /// Reads the next piece of a file, from `place.at` on, into the front of `piece`, and returns how many bytes it has.
-/// Bytes of the file from `place.size` on don't count. Returns 0 only where the file ends at `place.at` or before. Each
+/// Bytes of the file from `place.size` on don't count. Returns 0 only if the file ends at `place.at` or before. Each
 /// error is that of `Disk::read_at`.
 pub fn read_piece<D: Disk>(
     disk: &mut D,

@@ -34,8 +34,8 @@ pub(crate) fn size_up_to<D: Disk>(disk: &mut D, name: &str, most: u64) -> Result
 
 /// Returns the size of a file in bytes, at most 67,108,864. No byte of it is read.
 ///
-/// Returns `TooLong` with the size where the disk says that the file is larger. Returns `Absent` where the disk has no
-/// such file, and `Failed` where the disk failed; the disk counts each. Returns `OutOfMemory` where the disk runs out
+/// Returns `TooLong` with the size if the disk says that the file is larger. Returns `Absent` if the disk has no
+/// such file, and `Failed` if the disk failed; the disk counts each. Returns `OutOfMemory` if the disk runs out
 /// of memory.
 pub fn size_within<D: Disk>(disk: &mut D, name: &str) -> Result<u64, LoadError>
     ensures size { IfOk result (λ size. HasSize (D.view disk.old).files name.now size) }

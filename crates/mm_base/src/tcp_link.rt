@@ -19,7 +19,7 @@ const LAST_PIECE: usize = 16_384;
 
 /// A connection over TCP. It tells no content. Each error other than out of memory is counted as a fault: a peer that
 /// resets the connection, one that takes nothing within the limit while there is something to be given, and one that
-/// says nothing within the limit, where there is one.
+/// says nothing within the limit, if there is one.
 ///
 /// Closing its output hears the peer out, until it has ended its side, for at most 67,108,864 bytes and the limit of
 /// leaving: what it still says is let go, since a socket that is closed with bytes unread takes back what the peer
@@ -58,7 +58,7 @@ fn give(stream: &mut TcpStream, piece: &[u8]) -> io::Result<usize>
     Err(io::Error::from(ErrorKind::WouldBlock))
 }
 
-// Hears the next piece of a peer within what is left of a limit. None where it has ended, failed, or is over.
+// Hears the next piece of a peer within what is left of a limit. None if it has ended, failed, or is over.
 fn hear<K: Clock>(
     clock: &K,
     stream: &mut TcpStream,
@@ -91,7 +91,7 @@ fn hear_out<K: Clock>(clock: &K, stream: &mut TcpStream, limit: Duration) {
 }
 
 impl<K: Clock + Drop> TcpLink<K> {
-    /// A link over this stream, without a fault so far. What is given is sent at once. An error where the limits can't
+    /// A link over this stream, without a fault so far. What is given is sent at once. An error if the limits can't
     /// be set.
     pub fn new(clock: K, stream: TcpStream, limits: TcpLimits) -> io::Result<Self>
         ensures { IfOk result (λ link. link.faults ≡ 0) }

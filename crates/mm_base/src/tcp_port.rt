@@ -50,7 +50,7 @@ impl<R: Net<Stream = TcpStream, Listener = TcpListener> + Clock + Copy + Drop> T
         }
     }
 
-    /// The number of the port at which it listens. None where it doesn't. After `listen(0)` it is one that was free.
+    /// The number of the port at which it listens. None if it doesn't. After `listen(0)` it is one that was free.
     pub fn number(&self) -> Option<u16> {
         let address = self.listener.as_ref()?.local_addr().ok()?;
         Some(address.port())
@@ -76,7 +76,7 @@ impl<R: Net<Stream = TcpStream, Listener = TcpListener> + Clock + Copy + Drop> T
         EndError::Failed
     }
 
-    // The next connection, where it can still be counted.
+    // The next connection, if it can still be counted.
     fn next_link(&self) -> io::Result<TcpLink<R>>
         ensures ok { IfOk result (λ link. link.faults ≡ 0) }
         ensures room { OnOk result (self.now.accepted < 2 ^ 64 - 1) }
@@ -84,7 +84,7 @@ impl<R: Net<Stream = TcpStream, Listener = TcpListener> + Clock + Copy + Drop> T
         TcpLink::new(self.rt, self.next_stream()?, self.limits)
     }
 
-    // The next stream, where it can still be counted.
+    // The next stream, if it can still be counted.
     fn next_stream(&self) -> io::Result<TcpStream>
         ensures { OnOk result (self.now.accepted < 2 ^ 64 - 1) }
     {

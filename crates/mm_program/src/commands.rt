@@ -17,8 +17,9 @@ use command_merge::answer_merge;
 use command_report::{answer_make, answer_report};
 use command_run::answer_run;
 use command_stores::{answer_match, answer_migrate, answer_record, answer_replay};
-use mm_base::{Disk, Pace, Port, Sink};
+use mm_base::{Disk, Port, Sink};
 use option_words::{Command, Fault, WordFault};
+use replay_server::MissWatch;
 use std::marker::{Send, Sync};
 use std::sync::Wait;
 use std::thread::Threads;
@@ -31,7 +32,7 @@ fn no_command() -> Cause
 }
 
 // Does what the words after the name of a command say.
-fn answer_command<R: Threads + Wait + Sync, D: Disk, O: Sink, P: Port + Send, Q: Pace + Sync>(
+fn answer_command<R: Threads + Wait + Sync, D: Disk, O: Sink, P: Port + Send, Q: MissWatch + Sync>(
     host: &Host<'_, R>,
     command: Command,
     words: &[String],
@@ -64,7 +65,13 @@ fn answer_command<R: Threads + Wait + Sync, D: Disk, O: Sink, P: Port + Send, Q:
 }
 
 // Does what the words say.
-pub(crate) fn answer<R: Threads + Wait + Sync, D: Disk, O: Sink, P: Port + Send, Q: Pace + Sync>(
+pub(crate) fn answer<
+    R: Threads + Wait + Sync,
+    D: Disk,
+    O: Sink,
+    P: Port + Send,
+    Q: MissWatch + Sync,
+>(
     host: &Host<'_, R>,
     words: &[String],
     disk: &mut D,

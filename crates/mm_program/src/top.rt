@@ -9,7 +9,8 @@ ghost use Rattle.mm_program.specs.Tasks.{port_counts, work};
 
 use crate::commands::answer;
 use command_ends::{Ending, Host, conclude};
-use mm_base::{Disk, Pace, Port, Sink};
+use mm_base::{Disk, Port, Sink};
+use replay_server::MissWatch;
 use std::alloc::Global;
 use std::marker::{Send, Sync};
 use std::sync::Wait;
@@ -43,15 +44,13 @@ use std::thread::Threads;
 /// `port` is where connections come in, and `pace` is asked before each turn of a thread. Of each connection that the
 /// port finished in this call it is said, at every status, that it is a session: each whole request that was taken was
 /// answered by the best of the agreeing records of the store's text, or by Not Found if none agrees.
-pub fn mm_main<R: Threads + Wait + Sync, D: Disk + Send, O: Sink, P: Port + Send, Q: Pace + Sync>(
-    rt: &R,
-    alloc: Global,
-    words: &[String],
-    disk: &mut D,
-    out: &mut O,
-    port: &mut P,
-    pace: &Q,
-) -> u8
+pub fn mm_main<
+    R: Threads + Wait + Sync,
+    D: Disk + Send,
+    O: Sink,
+    P: Port + Send,
+    Q: MissWatch + Sync,
+>(rt: &R, alloc: Global, words: &[String], disk: &mut D, out: &mut O, port: &mut P, pace: &Q) -> u8
     ensures top { TopCall port_counts (work P.Conn.view) (reading_of (map string_bytes words.now))
         (outside (D.view disk.old) (O.view out.old) (P.view port.old))
         (outside (D.view disk.new) (O.view out.new) (P.view port.new)) result }
@@ -70,7 +69,13 @@ pub fn mm_main<R: Threads + Wait + Sync, D: Disk + Send, O: Sink, P: Port + Send
 
 /// Does what `mm_main` does, and returns the answer of the command line beside its exit status, so that it can be said
 /// to a person why the command line isn't done.
-pub fn mm_ending<R: Threads + Wait + Sync, D: Disk + Send, O: Sink, P: Port + Send, Q: Pace + Sync>(
+pub fn mm_ending<
+    R: Threads + Wait + Sync,
+    D: Disk + Send,
+    O: Sink,
+    P: Port + Send,
+    Q: MissWatch + Sync,
+>(
     rt: &R,
     alloc: Global,
     words: &[String],

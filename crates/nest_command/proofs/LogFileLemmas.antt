@@ -1,4 +1,4 @@
--- The text of a log, a front of which is written.
+-- The text of a log, a prefix of which is written.
 use Rattle.std.proofs.Common.{◌≡◌, ◌⊎◌, inr, ℕ, ◌<◌, ◌≤◌, ◌-◌, ◌++◌, Bool, true, false, IsTrue, List, [], ◌∷◌}
 use Rattle.std.proofs.Common.{◌+◌, Option, length, take, ap, subst, sym, ◌∙◌, arith, length-append}
 use Rattle.std.proofs.Math.Seq.{take-append-add}
@@ -8,7 +8,7 @@ use Rattle.mm_base.proofs.LineTextsLemmas.{text_split}
 use Rattle.shell_log.specs.declared.entry.Entry.{Entry}
 use Rattle.shell_log.specs.LogText.{header, line_of, lines_text, log_text}
 
--- the file is as before, or has a front of the text, but not all
+-- the file is as before, or has a prefix of the text, but not all
 abbrev pub HasFront : Option Files → Option Files → List ℕ → List ℕ → Type 0
 HasFront told after name whole = (after ≡ told)
     ⊎ ((n : ℕ) × (n ≤ length whole - 1) × (after ≡ holding name (take n whole) told))
@@ -21,7 +21,7 @@ lines_some (e ∷ entries) some = omega (
   length-append (line_of e) (10 ∷ []),
 )
 
--- a front of the entries' lines is written behind the header
+-- a prefix of the entries' lines is written behind the header
 pub text_cut : (told before after : Option Files) (name : List ℕ) (rest entries : List Entry) (n : ℕ)
     → rest ≡ entries → n < length (lines_text rest) → before ≡ holding name (header ++ 10 ∷ []) told
     → after ≡ lengthened name (take n (lines_text rest)) before → HasFront told after name (log_text entries)

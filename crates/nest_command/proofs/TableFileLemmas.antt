@@ -1,4 +1,4 @@
--- The text of a table, a front of which is written.
+-- The text of a table, a prefix of which is written.
 use Rattle.std.specs.Prelude.{◌==◌}
 use Rattle.std.proofs.Common.{true, rules, ◌≡◌, ◌∙◌, ℕ, ◌++◌, List, ap, drop, length, sym, take}
 use Rattle.std.proofs.lemmas.List.{append_assoc, append-nil, nil_from_length}

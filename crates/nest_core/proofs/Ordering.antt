@@ -89,7 +89,7 @@ keep_on u v w k l = record {
   numbers = l.numbers ∙ k.numbers;
 }
 
--- where no number changes anything, both are quiet
+-- if no number changes anything, both are quiet
 pub all_quiet : (w : WorldPair) → ((m : ℕ) → m < numbers_of w → numbered_step w m ≡ w) → AreQuiet w
 all_quiet w same = (
   λ m lt. ap (λ (u : WorldPair). u.up) (sym (step_up w m lt) ∙ same m (omega arith)),

@@ -20,7 +20,7 @@ use Rattle.nest_core.specs.Worlds.{WorldParts}
 use Rattle.nest_core.specs.WorldSteps.{actors_of, step_of}
 
 -- The stream that was received from the first channel: what the first shell was fed and what its feeder holds, or what
--- was collected where there is no shell.
+-- was collected if there is no shell.
 abbrev pub passed_first : List Station → Stream → Stream
 passed_first [] collected = collected
 passed_first (s ∷ stations) collected = after_all s.state.fed (option_to_list s.feeder)
@@ -55,13 +55,13 @@ pub record IsFrontUntil (bound : ℕ) (front all : List Timed) : Type 0 where
   pub is : all ≡ front ++ others
   pub later : AreFrom bound others
 
--- The state is sound, and the log of its shell so far is a front of `whole`.
+-- The state is sound, and the log of its shell so far is a prefix of `whole`.
 pub record IsUnderWay (s : State) (whole : List Entry) : Type 0 where
   pub stands : Stands s
   pub entries : List Entry
   pub log : whole ≡ shell_log s.spec s.horizon s.burnt s.fed.packets ++ entries
 
--- Each state is sound, and the log of each shell so far is a front of its whole log.
+-- Each state is sound, and the log of each shell so far is a prefix of its whole log.
 abbrev pub AreUnderWay : List State → List (List Entry) → Type 0
 AreUnderWay [] [] = Unit {0}
 AreUnderWay [] (log ∷ logs) = ⊥
@@ -70,9 +70,9 @@ AreUnderWay (s ∷ states) (log ∷ logs) = IsUnderWay s log × AreUnderWay stat
 
 -- What is true of every world.
 pub record Keeps (w : WorldParts) : Type 0 where
-  -- Each state is sound, and its log is a front of the log of what arrives at its shell in the chain.
+  -- Each state is sound, and its log is a prefix of the log of what arrives at its shell in the chain.
   pub shells : AreUnderWay (states_of w) (chain_logs w.horizon (specs_of w) (arrivals_of w))
-  -- What was collected is a front of what departs from the last shell, and no other packet is before its bound.
+  -- What was collected is a prefix of what departs from the last shell, and no other packet is before its bound.
   pub collected : IsFrontUntil w.line.collected.bound w.line.collected.packets (departed_of w)
 
 -- Only a step of the source would change the world.

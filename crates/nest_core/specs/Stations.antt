@@ -28,7 +28,7 @@ new_station spec horizon capacity = station None (new_state spec horizon) None (
 abbrev pub receives : Option Item → Station → Bool
 receives first s = not (is_some s.feeder) && is_some first
 
--- The station after its feeder's step to receive: it takes `first`, but where it holds an item it keeps that.
+-- The station after its feeder's step to receive: it takes `first`, but if it holds an item it keeps that.
 abbrev pub after_receiving : Option Item → Station → Station
 after_receiving first s = station (if is_some s.feeder then s.feeder else first) s.state s.drain s.channel
 
@@ -47,7 +47,7 @@ given (Gives item) = Some item
 given (Again burnt) = None
 given (NotYet bound) = None
 
--- The station after its drain's step to take: it takes where it holds nothing and what was taken is open.
+-- The station after its drain's step to take: it takes if it holds nothing and what was taken is open.
 abbrev pub taking : Option Item → FlowEnd → Station → Station
 taking (Some item) end s = s
 taking None Open s = station s.feeder (after_take s.state most) (given (answer_of s.state most)) s.channel

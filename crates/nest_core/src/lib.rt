@@ -2,7 +2,7 @@
 //!
 //! A `World` is one direction of a nest: a source, a station for each shell, and bounded channels of items between
 //! them. At a station a feeder feeds the shell and a drain takes from it. Whatever the order of its steps, what a world
-//! has collected is a front of what departs from the shells when each runs over its whole list, and further steps can
+//! has collected is a prefix of what departs from the shells when each runs over its whole list, and further steps can
 //! always complete it.
 #![tactic(auto)]
 

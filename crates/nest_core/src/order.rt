@@ -106,7 +106,7 @@ impl<'a> Worlds<'a> {
         Ok(worlds)
     }
 
-    /// Returns whether both worlds are finished, which is so exactly where no step would change one of them.
+    /// Returns whether both worlds are finished, which is so exactly if no step would change one of them.
     pub fn finished(&self) -> bool
         ensures is { IsTrue result ↔ AreFinished self.now }
         ensures quiet { IsTrue result ↔ AreQuiet self.now }

@@ -57,7 +57,7 @@ impl Station {
         })
     }
 
-    // The feeder receives from the channel before the shell, where it holds nothing. Returns whether it did.
+    // The feeder receives from the channel before the shell, if it holds nothing. Returns whether it did.
     pub(crate) fn receive(&mut self, channel: &mut Channel) -> bool
         ensures after { self.new ≡ after_receiving (first_of channel.old.items) self.old }
         ensures channel { channel.new ≡ left_by (receives (first_of channel.old.items) self.old) channel.old }
@@ -85,7 +85,7 @@ impl Station {
         Ok(true)
     }
 
-    // The drain takes, where it holds nothing and neither `End` nor `Broken` was taken. Returns whether that changed
+    // The drain takes, if it holds nothing and neither `End` nor `Broken` was taken. Returns whether that changed
     // anything.
     pub(crate) fn take(&mut self) -> Result<bool, OutOfMemory>
         ensures ok { OnOk result (self.new ≡ taken_station self.old) }

@@ -23,7 +23,7 @@ use text_base::OutOfMemory;
 /// channels between them, and what a collector received behind the last.
 ///
 /// A step is an action of one actor: the source sends, a feeder receives or feeds, a drain takes or sends, or the
-/// collector receives. Whatever steps were taken, in any order, what was collected is a front of what departs from the
+/// collector receives. Whatever steps were taken, in any order, what was collected is a prefix of what departs from the
 /// shells when each runs over its whole list. Contracts see the items that the source has still to send, the channels
 /// as lists, what feeders and drains hold, the shells' states, and the collected stream.
 #[derive(Drop)]
@@ -198,7 +198,7 @@ impl<'a> World<'a> {
         self.stations[shell].send()
     }
 
-    /// Returns what was collected. Its packets are a front of all that departs from the last shell in the chain, and no
+    /// Returns what was collected. Its packets are a prefix of all that departs from the last shell in the chain, and no
     /// other packet of that list is before its bound. In a world that only a step of the source would change, no other
     /// is before the bound of what the source has sent.
     pub fn collected(&self) -> &Flow
@@ -211,7 +211,7 @@ impl<'a> World<'a> {
         &self.collected
     }
 
-    /// Returns whether the collector has received the end, which is so exactly where no step would change the world.
+    /// Returns whether the collector has received the end, which is so exactly if no step would change the world.
     /// Then all that departs from the last shell is collected, and every log is whole.
     pub fn finished(&self) -> bool
         ensures is { IsTrue result ↔ IsFinished self.now }
@@ -229,8 +229,8 @@ impl<'a> World<'a> {
         self.finished()
     }
 
-    /// What is true of every world: each state is sound, each shell's log so far is a front of its whole log over what
-    /// arrives at it in the chain, and what was collected is a front of what departs from the last shell. It does
+    /// What is true of every world: each state is sound, each shell's log so far is a prefix of its whole log over what
+    /// arrives at it in the chain, and what was collected is a prefix of what departs from the last shell. It does
     /// nothing; a call makes the fact known.
     pub fn stands(&self)
         ensures { Keeps self.now }

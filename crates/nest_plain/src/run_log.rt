@@ -70,7 +70,7 @@ impl RunLog {
 /// A log that isn't written out, and the name of its file.
 pub type UnwrittenLog = Named<RunLog>;
 
-/// Names the log of a link, which keeps its arrivals, where there is a name. There must be a log then.
+/// Names the log of a link, which keeps its arrivals, if there is a name. There must be a log then.
 pub fn log_named(name: Option<Text>, log: Option<LinkLog>) -> Option<UnwrittenLog>
     requires { IsSome name → IsSome log }
     ensures { (entries : List EntryValue) → (IsSome name → log ≡ Some entries)

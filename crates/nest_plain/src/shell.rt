@@ -65,7 +65,7 @@ fn run_shell(
     Ok((departed, log_named(name, log)))
 }
 
-// Names the log of a link at which `arrivals` arrive, where there is a name, or runs out of memory.
+// Names the log of a link at which `arrivals` arrive, if there is a name, or runs out of memory.
 fn first_log(
     alloc: Global,
     name: Option<Text>,
@@ -85,7 +85,7 @@ fn first_log(
     Ok(Some(Named { name, log }))
 }
 
-// Runs the first shell of a direction as `run_shell` does. Its log, where it has a name, keeps no arrivals.
+// Runs the first shell of a direction as `run_shell` does. Its log, if it has a name, keeps no arrivals.
 fn run_first(
     alloc: Global,
     marking: &mut Marking<'_>,
@@ -123,7 +123,7 @@ fn run_first(
     Ok((departed, log))
 }
 
-// Runs each shell over what departed from the one before it. Adds the log of each to `logs`, or `None` where it has no
+// Runs each shell over what departed from the one before it. Adds the log of each to `logs`, or `None` if it has no
 // name. Returns an empty list, with the room of what departed from the last shell.
 pub(crate) fn run_shells(
     marking: &mut Marking<'_>,

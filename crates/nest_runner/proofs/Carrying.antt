@@ -9,7 +9,7 @@ use Rattle.nest_spec.specs.Passed.{HavePassed}
 abbrev pub does : List State → List DirSpec
 does states = map (λ (s : State). s.spec) states
 
--- what was taken from the last state, or what arrived where there is none
+-- what was taken from the last state, or what arrived if there is none
 abbrev pub passed_on : List Timed → List State → List Timed
 passed_on arrived [] = arrived
 passed_on arrived (s ∷ states) = passed_on s.taken.packets states

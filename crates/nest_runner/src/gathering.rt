@@ -33,7 +33,7 @@ use std::vec::IntoIter;
 use text_base::OutOfMemory;
 
 // Gives up the state of one shell, and marks the packets that are lost or inside there. Returns what departed, and the
-// shell's log where it has a name.
+// shell's log if it has a name.
 fn gather_shell(
     marking: &mut Marking<'_>,
     shell: ShellDirection,
@@ -69,7 +69,7 @@ fn gather_shell(
 }
 
 // Gives up the states of a shell and of those behind it. Marks the packets that are lost or inside there, and those
-// that departed from the last shell. Adds the log of each shell to `logs`, or `None` where it has no name.
+// that departed from the last shell. Adds the log of each shell to `logs`, or `None` if it has no name.
 fn gather_shells(
     marking: &mut Marking<'_>,
     logs: &mut Vec<Option<UnwrittenLog>>,

@@ -38,8 +38,8 @@ use std::thread::{Threads, join_mut};
 /// many bytes were read or a read has none. What a row gives is sent as soon as its line is read. The logs aren't
 /// written out. No file is changed.
 ///
-/// Returns `TooLong` exactly where the disk says that the file has more than 67,108,864 bytes. Returns `Absent` where
-/// the disk has no such file, and `Failed` where the disk failed; the disk counts each. Returns `Schedule` with the
+/// Returns `TooLong` exactly if the disk says that the file has more than 67,108,864 bytes. Returns `Absent` where
+/// the disk has no such file, and `Failed` if the disk failed; the disk counts each. Returns `Schedule` with the
 /// first refusal of the bytes. They are read to their end before, and a fault met there is returned instead. Returns
 /// `OutOfMemory` where memory runs out in any thread. A refusal of the schedule comes before out of memory in another
 /// thread.

@@ -15,7 +15,7 @@ use Rattle.nest_spec.specs.Words.{Text, NestPlan}
 use Rattle.nest_spec.specs.Nests.{built, opportunities_of, IsNest}
 use Rattle.nest_spec.proofs.ShellLemmas.{built_range, built_long, unnamed}
 
--- a side that takes the next trace, and the next name where it is logged
+-- a side that takes the next trace, and the next name if it is logged
 pub record Takes (words : LinkSide) (traces traces' : List Trace) (names names' : List Text) (side : LinkDirection) : Type 0
   where
     pub trace : traces ≡ side.trace ∷ traces'

@@ -253,7 +253,7 @@ module _ (p : Packet) (h : ℕ) (s : ShellDirection) (shells : List ShellDirecti
       let stands = once_stands p out (omega arith) (omega arith) in
       record { is = lift fate later.is; only = λ other end. later.only other (lower other stands (omega arith) end) }
 
-  -- no end is further on, where it doesn't depart
+  -- no end is further on, if it doesn't depart
   nothing_later : (fate : Fate) → number (is_id p.id) out ≡ 0 → IsEnd p out steps fate → ⊥
   unfolding out steps
   nothing_later fate none end = let le = fewer p out in no_end p h shells out fate built.1 (omega arith) end

@@ -82,7 +82,7 @@ first_false : (a b : Bool) → a ≡ false → (a && b) ≡ false
 first_false true b e = absurd (cc e)
 first_false false b e = refl
 
--- a row's packet, and its number, enter once where the row is sent in the direction, and not else
+-- a row's packet, and its number, enter once if the row is sent in the direction, and not else
 pub record Enters (d : Direction) (h : ℕ) (rows : List Row) (row : Row) : Type 0 where
   pub of_id : number (is_id row.timed.packet.id) (entering d h rows) ≡ cond (is_sent d h row) 1 0
   pub of_packet : number (is_packet row.timed.packet) (entering d h rows) ≡ cond (is_sent d h row) 1 0

@@ -166,7 +166,7 @@ unnamed h (Link once up down ∷ words) (t ∷ u ∷ traces) names names' = let 
     unnamed h words traces (drop (log_in down) (drop (log_in up) names))
     (drop (log_in down) (drop (log_in up) names')) in omega arith
 
--- a shell in a direction is in its range, has few opportunities, is one of eight, and logs only where it is a link
+-- a shell in a direction is in its range, has few opportunities, is one of eight, and logs only if it is a link
 pub record IsFit (h : ℕ) (s : ShellDirection) : Type 0 where
   pub range : IsInRange s.spec
   pub few : length (opportunities s.spec h) ≤ 16000000

@@ -15,7 +15,7 @@ nameless c = record { number = 0; spec = c; log = None }
 abbrev pub walk_through : ℕ → List DirSpec → List Timed → List Step
 walk_through h specs arrivals = walk h (map nameless specs) arrivals
 
--- What departs from the last shell, or `arrivals` where there is no shell.
+-- What departs from the last shell, or `arrivals` if there is no shell.
 abbrev pub last_departed : ℕ → List DirSpec → List Timed → List Timed
 last_departed h specs arrivals = last_list arrivals (walk_through h specs arrivals)
 

@@ -23,7 +23,7 @@ ended_at id s = option_map_or (λ (t : Timed). fates.Dropped s.number t.moment) 
 abbrev pub departed_at : ℕ → List Timed → Fate
 departed_at id departed = option_map_or (λ (t : Timed). fates.Departed t.moment) (find_id id departed) fates.Unsent
 
--- The fate of the packet `id`, which enters. The first shell that it doesn't depart from decides; where there is none,
+-- The fate of the packet `id`, which enters. The first shell that it doesn't depart from decides; if there is none,
 -- it has departed.
 abbrev pub fate_in : ℕ → List Timed → List Step → Fate
 fate_in id entering steps =

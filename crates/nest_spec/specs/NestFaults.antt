@@ -21,7 +21,7 @@ number_of (Rate shell fault) = 9
 number_of (BadDirection shell) = 10
 number_of OutOfMemory = 0
 
--- The word or the shell that a refusal names, counted from 1, or 0 where it names none.
+-- The word or the shell that a refusal names, counted from 1, or 0 if it names none.
 abbrev pub place_of : NestError → ℕ
 place_of NoShell = 0
 place_of (UnknownShell word) = word

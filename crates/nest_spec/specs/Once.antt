@@ -51,7 +51,7 @@ abbrev pub ends_in : ℕ → List Timed → List Step → ℕ
 ends_in id entering [] = number_in id entering
 ends_in id entering (s ∷ steps) = number_in id s.lost + number_in id s.inside + ends_in id s.departed steps
 
--- How many ends a row has: one where it is unsent, and one for each time that its number is in a list at which packets
+-- How many ends a row has: one if it is unsent, and one for each time that its number is in a list at which packets
 -- of either direction end.
 abbrev pub ends_of : NestParts → List Row → Row → ℕ
 ends_of nest rows row =

@@ -38,7 +38,7 @@ logs_in (Delay ms) = 0
 logs_in (Loss d rate) = 0
 logs_in (Link once up down) = log_in up + log_in down
 
--- One direction of a link, with its trace. Its log, where it has one, has the first of `names` as its name.
+-- One direction of a link, with its trace. Its log, if it has one, has the first of `names` as its name.
 abbrev pub side_with : LinkSide → Trace → List Text → LinkDirection
 side_with side trace names =
     record { trace = trace; queue = side.queue; log = if side.logged then slice_get names 0 else None }

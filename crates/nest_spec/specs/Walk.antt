@@ -44,7 +44,7 @@ abbrev pub last_of : {A : Type 0} → A → List A → A
 last_of first [] = first
 last_of first (x ∷ more) = last_of x more
 
--- What departed from the last shell, or what enters where there is no shell.
+-- What departed from the last shell, or what enters if there is no shell.
 abbrev pub last_list : List Timed → List Step → List Timed
 last_list entering steps = last_of entering (map (λ (s : Step). s.departed) steps)
 
@@ -57,7 +57,7 @@ pub record NamedEntries : Type 0 where
 abbrev pub named_entries : Text → List Entry → NamedEntries
 named_entries name entries = record { name = name; entries = entries }
 
--- The log of a step, where it has a name.
+-- The log of a step, if it has a name.
 abbrev pub named_log : Step → Option NamedEntries
 named_log s = option_map (λ name. named_entries name s.log) s.name
 

@@ -320,13 +320,13 @@ next_shell plan = length plan.shells + 1
 abbrev pub past_last : ℕ → Text → NestError
 past_last place word = if is_shell word then errors.TooManyShells else errors.UnknownShell place
 
--- Where the next shell must begin: after a shell one word `--` is passed over. None where no word is left.
+-- Where the next shell must begin: after a shell one word `--` is passed over. None if no word is left.
 abbrev pub passed_over : ℕ → List Text → Option (ℕ × List Text)
 passed_over place [] = None
 passed_over place (word ∷ words) = if bytes_eq word (codes "--") then Some (next place, words)
     else Some (place, word ∷ words)
 
--- The plan where no word is left, else what `more` reads of the words that are.
+-- The plan if no word is left, else what `more` reads of the words that are.
 abbrev pub followed : NestPlan → Option (ℕ × List Text) → (ℕ → List Text → Result NestPlan NestError)
     → Result NestPlan NestError
 followed plan None more = Ok plan

@@ -56,7 +56,7 @@ impl NestError {
         }
     }
 
-    /// Returns the word or the shell that the refusal names, or 0 where it names none.
+    /// Returns the word or the shell that the refusal names, or 0 if it names none.
     pub fn place(self) -> u32
         ensures { result ≡ place_of self }
     {

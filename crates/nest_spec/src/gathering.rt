@@ -30,7 +30,7 @@ use text_base::limits::HOUR;
 use text_base::{OutOfMemory, Text};
 
 // Marks the fates of packets that arrived at `shells` and passed them, and adds the log of each shell to `logs`, or
-// `None` where it has no name.
+// `None` if it has no name.
 fn gather_shells(
     marking: &mut Marking<'_>,
     logs: &mut Vec<Option<NamedLog>>,
@@ -70,7 +70,7 @@ fn gather_shells(
     )
 }
 
-// Returns the log of a link, written out, where it has a name.
+// Returns the log of a link, written out, if it has a name.
 fn named_log(
     alloc: Global,
     name: &Option<Text>,

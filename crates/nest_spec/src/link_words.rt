@@ -154,7 +154,7 @@ fn name_and_value(word: &str) -> (&str, Option<&str>)
     }
 }
 
-// Returns the option of a name, or `None` where no option that takes a value has it.
+// Returns the option of a name, or `None` if no option that takes a value has it.
 fn option_named(name: &str) -> Option<LinkOption>
     ensures { result ≡ option_named name.now }
 {

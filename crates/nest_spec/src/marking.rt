@@ -121,7 +121,7 @@ impl<'a> Marking<'a> {
     }
 }
 
-// Gives the row of the number `id` a fate. Nothing happens where no row has that number.
+// Gives the row of the number `id` a fate. Nothing happens if no row has that number.
 #[inline(always)]
 fn put(places: &Places, rows: MarkedRows<'_>, id: u32, fate: Fate, list: &mut Vec<PackedFate>)
     requires short { CanBePacked fate }

@@ -162,7 +162,7 @@ fn add_shell(alloc: Global, draft: &mut Draft, read: &ShellRead) -> Result<(), O
     push_names(alloc, &mut draft.logs, read.up_log, read.down_log)
 }
 
-// Passes over one word `--` after a shell. Returns the words from there on, or `None` where no word is left.
+// Passes over one word `--` after a shell. Returns the words from there on, or `None` if no word is left.
 fn pass_over<'a>(place: u32, words: &'a [String]) -> Option<(u32, &'a [String])>
     ensures { option_map place_and_words result ≡ passed_over place (map string_bytes words.now) }
 {
@@ -186,7 +186,7 @@ fn past_last(place: u32, word: &str) -> NestError
 }
 
 // Reads shells from the word `place` on, where a shell must begin. There may be `left` more, and `missing` is the
-// refusal where no word is left.
+// refusal if no word is left.
 #[tactic(auto, unfolding(crate::specs::Words::shells_from))]
 fn read_shells(
     alloc: Global,

@@ -30,7 +30,7 @@ const ONE_SHELL: u32 = 33_554_432;
 #[derive(Drop)]
 pub struct PackedFate {
     id: u32,
-    // `ONE_SHELL` times the fate's shell, plus eight times its moment (each 0 where it has none), plus 4 for down, plus
+    // `ONE_SHELL` times the fate's shell, plus eight times its moment (each 0 if it has none), plus 4 for down, plus
     // the kind of the fate.
     number: u32,
 }
@@ -46,7 +46,7 @@ impl Model for PackedFate {
 }
 
 impl PackedFate {
-    // Packs a row whose fate has a shell of at most 8 and a moment of at most 3,600,000, where it has them.
+    // Packs a row whose fate has a shell of at most 8 and a moment of at most 3,600,000, if it has them.
     #[inline(always)]
     pub(crate) fn new(row: FateRow) -> Self
         requires { CanBePacked row.fate }

@@ -140,7 +140,7 @@ pub(crate) fn shell_of(
     }
 }
 
-// Returns one direction of a link. It takes the next trace, and the next name where it is logged.
+// Returns one direction of a link. It takes the next trace, and the next name if it is logged.
 fn side_of(
     words: LinkSide,
     traces: &mut IntoIter<Trace>,

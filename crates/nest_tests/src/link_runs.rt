@@ -96,7 +96,7 @@ pub fn run_singly(rt: &impl Abort, alloc: Global, trial: &Trial) -> LinkCore {
     link
 }
 
-// Returns what becomes of the packets where the link runs over their whole list, with the log where `logged`.
+// Returns what becomes of the packets if the link runs over their whole list, with the log where `logged`.
 pub fn run_over(rt: &impl Abort, alloc: Global, trial: &Trial, logged: bool) -> Passage {
     assert!(rt; trial.fits());
     let trace = trial.trace.copy().expect(rt, "memory");

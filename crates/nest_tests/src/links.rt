@@ -47,7 +47,7 @@ fn over_all(rt: &impl Abort, alloc: Global, link: Link) -> Passage {
     run_over(rt, alloc, &trial_of(rt, alloc, link), true)
 }
 
-// Returns what becomes of the packets over the whole list, where no log is asked for.
+// Returns what becomes of the packets over the whole list, if no log is asked for.
 fn over_all_unlogged(rt: &impl Abort, alloc: Global, link: Link) -> Passage {
     run_over(rt, alloc, &trial_of(rt, alloc, link), false)
 }

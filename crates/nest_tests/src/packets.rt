@@ -26,7 +26,7 @@ pub fn many_packets(rt: &impl Abort, alloc: Global) -> Vec<Timed> {
     packets
 }
 
-// Returns the packets. The test ends where one is before the one before it, or after the horizon.
+// Returns the packets. The test ends if one is before the one before it, or after the horizon.
 #[tactic(auto, using(link_core::proofs::FeedLemmas::up_to_push, link_core::proofs::FeedLemmas::up_to_later, link_core::proofs::FeedLemmas::rise_push))]
 pub fn in_order(rt: &impl Abort, alloc: Global, horizon: u64, packets: &[Timed]) -> Vec<Timed>
     ensures rises { Rise result.items }

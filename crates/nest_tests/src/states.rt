@@ -43,7 +43,7 @@ fn is_over(end: FlowEnd) -> bool
     }
 }
 
-// Feeds an item. Returns false where it may not follow what was fed, or is after the horizon; the state is then as it
+// Feeds an item. Returns false if it may not follow what was fed, or is after the horizon; the state is then as it
 // was.
 fn feed(state: &mut ShellState, horizon: u64, item: Item) -> Result<bool, OutOfMemory>
     requires { state.old.horizon ≡ horizon }

@@ -72,7 +72,7 @@ default_row n = record {
   reading = reading.AsWritten;
 }
 
--- the row that a flag gets where it isn't used
+-- the row that a flag gets if it isn't used
 abbrev pub extra : Bool → Text → Text → Option Row
 extra true name n = None
 extra false name n = if bytes_eq name n then Some (default_row name) else None

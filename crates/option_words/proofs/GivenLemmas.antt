@@ -58,7 +58,7 @@ default_none (o ∷ t) n e =
     ap (λ x. or_some x (default_in t n)) (extra_none o.takes_value o.name n (flip n o.name parts.0))
     ∙ default_none t n parts.1
 
--- and has a default exactly where it is a flag
+-- and has a default exactly if it is a flag
 default_at : (t : List Opt) (k : ℕ) (d : Opt) → differ t ≡ true → k < length t
     → default_in t (get_or t k d).name ≡ cond (get_or t k d).takes_value None (Some (default_row (get_or t k d).name))
 default_at [] k d e lt = absurd (let h : k < 0 = lt in omega arith)

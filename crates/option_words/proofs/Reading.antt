@@ -14,7 +14,7 @@ use Rattle.option_words.proofs.Rules.{opt_of}
 use Rattle.option_words.proofs.Machine.{Mode, clean, holds, wants, State, add, settle, to_clean, after_name}
 use Rattle.option_words.proofs.Machine.{option_step, plain_step, run, is_plain_or_option}
 
--- the uses so far and those that follow, where no option stands twice
+-- the uses so far and those that follow, if no option stands twice
 abbrev pub after : List Use → Option (List Use) → Option (List Use)
 after us = option_and_then (λ vs. if all_new us vs then Some (us ++ vs) else None)
 

@@ -97,7 +97,7 @@ over_bytes q (t ∷ ts) e p b =
           ]
     ]
 
--- the same, where it may have one packet too many
+-- the same, if it may have one packet too many
 over_one : (q : QueueSpec) (ts : List Timed) (e : ℕ) → is_within q.packets (length ts - 1) ≡ true
     → is_within q.bytes (bytes ts - e) ≡ true → bytes (excess q ts) ≤ e + 1504
 over_one q [] e p b = omega arith

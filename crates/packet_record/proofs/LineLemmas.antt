@@ -112,7 +112,7 @@ by_words (a ∷ b ∷ c ∷ d ∷ words) line s joined e = absurd cc
 pub has_parts : (line : List ℕ) (s : RowFields) → said_of line ≡ Some s → HasParts line s.moment s.direction s.size
 has_parts line s e = by_words (words_of line) line s (join_with_byte-slice_split 32 line) e
 
--- a line says nothing where it has no such parts
+-- a line says nothing if it has no such parts
 pub says_nothing : (line : List ℕ) → ((m s : ℕ) (d : Direction) → HasParts line m d s → ⊥) → None ≡ said_of line
 says_nothing line never = none_is (said_of line) (λ s e. never s.moment s.size s.direction (has_parts line s e))
 

@@ -64,7 +64,7 @@ module _ {X : Type 0} where
   added_of (GivenUp added) = added
   added_of (Joined server added end) = added
 
-  -- the dialed connection, where it was finished
+  -- the dialed connection, if it was finished
   abbrev pub servers_of : Dialed X → List X
   servers_of NotDialed = []
   servers_of (GivenUp added) = []
@@ -81,7 +81,7 @@ module _ {X : Type 0} where
   end_of (GivenUp added) = None
   end_of (Joined server added end) = Some end
 
-  -- where it failed
+  -- if it failed
   abbrev pub lost_of : Dialed X → ℕ
   lost_of NotDialed = 1
   lost_of (GivenUp added) = 1

@@ -73,7 +73,7 @@ fn ask<A: Link, B: Link>(
     }
 }
 
-// Passes a whole response on to the client, and adds the record where it is final.
+// Passes a whole response on to the client, and adds the record if it is final.
 fn pass_response<L: Link>(
     state: &mut ProxyState,
     client: &mut L,
@@ -162,7 +162,7 @@ fn answer<A: Link, B: Link>(
     }
 }
 
-/// Passes the next message on that is due; or ends the connection, where there is none and never will be; or takes more
+/// Passes the next message on that is due; or ends the connection, if there is none and never will be; or takes more
 /// bytes.
 pub fn step<A: Link, B: Link>(
     state: &mut ProxyState,

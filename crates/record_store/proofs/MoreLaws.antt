@@ -98,7 +98,7 @@ line_more form place bytes more r (Some n) settled at is =
     ∙ ap (λ (l : List ℕ). cut_by_header place (bytes ++ more) (n + 1) (header_of form place l)) line
     ∙ header_more place bytes more (n + 1) (header_of form place (take n bytes)) r settled is
 
--- the parts, or a refusal of them, where the text doesn't just end too soon
+-- the parts, or a refusal of them, if the text doesn't just end too soon
 pub cut_more : (form : StoreForm) (place : ℕ) (bytes more : List ℕ) (r : Result Cut StoreError) → is_settled r ≡ true
     → cut_of form place bytes ≡ r → cut_of form place (bytes ++ more) ≡ r
 cut_more form place bytes more r settled is =

@@ -102,7 +102,7 @@ pub is_then : (to_head : Bool) (bytes : List ℕ) (m : Response) (after : List �
 is_then to_head bytes m after b e = subst (IsThen to_head bytes m) (sym e)
     (record { is = b.is; split = b.split; stops = b.stops })
 
--- what the bytes have for one request, where there is no answer, is why there are no pairs
+-- what the bytes have for one request, if there is no answer, is why there are no pairs
 pub pairs_lack : (client server : List ℕ) (port n : ℕ) (m : Request) (left : List ℕ) (e : PairError)
     → Reaches client server port n m left → AnswerSays n m.head.head_only left (Err e)
     → Pairs client server port (Err e)

@@ -29,7 +29,7 @@ infixl 10 ◌>>=◌
 abbrev pub ◌>>=◌ : {A B : Type 0} → Option A → (A → Option B) → Option B
 o >>= f = option_and_then f o
 
--- The number, where it is at most `most`.
+-- The number, if it is at most `most`.
 abbrev pub if_at_most : ℕ → ℕ → Option ℕ
 if_at_most most n = if nat_le n most then Some n else None
 

@@ -14,7 +14,7 @@ number_of (stores.BadMessage number) = 4
 number_of (stores.BadScheme place) = 5
 number_of stores.OutOfMemory = 0
 
--- The place or the number of the record that a refusal names, or 0 where it names none.
+-- The place or the number of the record that a refusal names, or 0 if it names none.
 abbrev pub place_named : StoreError → ℕ
 place_named stores.BadMagic = 0
 place_named (stores.BadHeader place) = place
@@ -31,7 +31,7 @@ pair_number (pairs.Unanswered n) = 3
 pair_number pairs.ExtraResponse = 4
 pair_number pairs.OutOfMemory = 0
 
--- The number of the request that a refusal names, or 0 where it names none.
+-- The number of the request that a refusal names, or 0 if it names none.
 abbrev pub request_named : PairError → ℕ
 request_named (pairs.BadRequest n) = n
 request_named (pairs.BadResponse n) = n

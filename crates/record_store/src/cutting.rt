@@ -8,7 +8,7 @@ use crate::header::{Header, StoreForm, read_header};
 use crate::store_error::StoreError;
 
 /// A record's port, and where its parts are, counted in bytes from the record's place: where the request begins, where
-/// the response begins, and where it ends. A line feed follows there.
+/// the response begins, and if it ends. A line feed follows there.
 #[derive(Clone, Copy, PartialEq, Eq)]
 pub struct Cut {
     pub port: u16,

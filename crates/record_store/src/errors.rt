@@ -36,7 +36,7 @@ impl PairError {
         }
     }
 
-    /// Returns the number of the request that the error names, or 0 where it names none.
+    /// Returns the number of the request that the error names, or 0 if it names none.
     pub fn request(self) -> u64
         ensures { result ≡ request_named self }
     {

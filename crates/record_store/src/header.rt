@@ -25,7 +25,7 @@ pub struct Header {
     pub response: usize,
 }
 
-/// Returns what the line at `place` says, or `BadHeader` or `BadScheme` where it is no header of the form.
+/// Returns what the line at `place` says, or `BadHeader` or `BadScheme` if it is no header of the form.
 pub fn read_header(form: StoreForm, place: u64, line: &[u8]) -> Result<Header, StoreError>
     ensures header { result ≡ header_of form place line.now }
     ensures short { IfOk result IsShort }
@@ -107,7 +107,7 @@ fn read_lengths(port: u16, rest: &[u8]) -> Option<Header>
     })
 }
 
-// Returns the number that the word states, or `None` where it isn't a decimal without a leading zero that is at most
+// Returns the number that the word states, or `None` if it isn't a decimal without a leading zero that is at most
 // `most`.
 fn read_up_to(most: u64, word: &[u8]) -> Option<u64>
     ensures number { result ≡ number_up_to most word.now }

@@ -20,7 +20,7 @@ pub use cut_reading::read_cut_store;
 pub use errors::PairError;
 pub use pairing::pair;
 pub use pieces::StorePieces;
-pub use printing::print_store;
+pub use printing::{print_store, write_first_line, write_record};
 pub use reading::read_store;
 pub use record::{Record, Store};
 pub use store_error::StoreError;

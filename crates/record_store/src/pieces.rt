@@ -107,7 +107,7 @@ impl<'a> StorePieces<'a> {
         }
     }
 
-    /// Returns the piece in hand, or no bytes where there is none.
+    /// Returns the piece in hand, or no bytes if there is none.
     pub fn piece(&self) -> &[u8]
         ensures { result.now ≡ self.now.piece }
     {

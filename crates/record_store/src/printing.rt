@@ -3,7 +3,7 @@ ghost use Rattle.std.specs.Prelude.{◌≡◌, ◌++◌, ◌∷◌, [], IfOk, On
 ghost use Rattle.record_store.specs.declared.header.StoreForm.TheVariants as forms;
 ghost use Rattle.record_store.specs.Words.{spaced};
 ghost use Rattle.record_store.specs.Headers.{header_line};
-ghost use Rattle.record_store.specs.StoreText.{record_text, store_text};
+ghost use Rattle.record_store.specs.StoreText.{magic, record_text, store_text};
 
 use crate::record::{Record, Store};
 use std::alloc::Global;
@@ -29,8 +29,15 @@ pub fn print_store(alloc: Global, store: &Store) -> Result<Bytes, OutOfMemory>
     Ok(out)
 }
 
-// Writes a record.
-pub(crate) fn write_record(out: &mut Bytes, exchange: &Record) -> Result<(), OutOfMemory>
+/// Writes the first line of a text in form 2.
+pub fn write_first_line(out: &mut Bytes) -> Result<(), OutOfMemory>
+    ensures { OnOk result (out.new ≡ out.old ++ magic forms.Two) }
+{
+    out.append(b"MMSTORE 2\n")
+}
+
+/// Writes a record in form 2.
+pub fn write_record(out: &mut Bytes, exchange: &Record) -> Result<(), OutOfMemory>
     ensures { OnOk result (out.new ≡ out.old ++ record_text forms.Two exchange.now) }
 {
     let request = exchange.request.bytes.as_slice();

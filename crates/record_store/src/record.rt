@@ -11,7 +11,7 @@ use text_base::OutOfMemory;
 /// A recorded exchange.
 #[derive(Drop)]
 pub struct Record {
-    /// The port that it was recorded from, or 0 where it may answer at any port.
+    /// The port that it was recorded from, or 0 if it may answer at any port.
     pub port: u16,
     /// The whole request.
     pub request: Request,

@@ -34,7 +34,7 @@ fn cut_off(error: StoreError) -> bool
     }
 }
 
-// Returns the parts of the record at `place`, from which on the text so far is `bytes`. Returns `None` where it isn't
+// Returns the parts of the record at `place`, from which on the text so far is `bytes`. Returns `None` if it isn't
 // whole, and the text hasn't ended. A refusal stays the same however the text goes on.
 fn next_cut(
     form: StoreForm,
@@ -62,7 +62,7 @@ fn next_cut(
 }
 
 /// Adds the records at the front of `bytes` to `store`, and returns how many bytes they have. The records before them
-/// are in the store already; `bytes` begin at `place` of the text. All bytes are read where the text has ended, and else
+/// are in the store already; `bytes` begin at `place` of the text. All bytes are read if the text has ended, and else
 /// up to a record that isn't whole. A refusal stays the same however the text goes on.
 ///
 /// `OutOfMemory` also comes where `place` is past 4,611,686,018,427,387,904.

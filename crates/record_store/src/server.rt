@@ -6,7 +6,7 @@ use crate::errors::PairError;
 use http_frame::{Response, first_response};
 use std::alloc::Global;
 
-/// The response to a request, and where it ends in the server's bytes, interim responses before it included.
+/// The response to a request, and if it ends in the server's bytes, interim responses before it included.
 #[derive(Drop)]
 pub struct FoundResponse {
     pub response: Response,

@@ -41,7 +41,7 @@ impl StoreError {
         }
     }
 
-    /// Returns the place or the number of the record that the refusal names, or 0 where it names none.
+    /// Returns the place or the number of the record that the refusal names, or 0 if it names none.
     pub fn place(self) -> u64
         ensures { result ≡ place_named self }
     {

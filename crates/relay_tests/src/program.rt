@@ -148,7 +148,7 @@ const SCHEDULED: Case = Case {
     ..DELAYED
 };
 
-// The three, a datagram that is too long, and all turns where the clock stands.
+// The three, a datagram that is too long, and all turns if the clock stands.
 static DONE: [Case; 5] = [
     DELAYED,
     LINKED,

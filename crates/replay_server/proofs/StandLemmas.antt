@@ -138,7 +138,7 @@ module _ {store : List Record} {site : Option ℕ} where
     few = x.few;
   }
 
-  -- what was gathered is given, or a front of it
+  -- what was gathered is given, or a prefix of it
   pub stand_pour : {start now : Option LinkBytes} {replies : List Reply} {rest due gathered : List ℕ} {count : ℕ}
       → Stand store site start now replies rest due gathered count
       → (new : Option LinkBytes) (piece gathered' : List ℕ) → new ≡ option_map (giving piece) now → gathered ≡ piece
@@ -248,7 +248,7 @@ module _ {store : List Record} {site : Option ℕ} where
     ];
   }
 
-  -- it is cut where the link refuses, or memory is wanting
+  -- it is cut if the link refuses, or memory is wanting
   pub served_cut : {start now : Option LinkBytes} {replies : List Reply} {rest due gathered : List ℕ} {count : ℕ}
       → Stand store site start now replies rest due gathered count → IsDue replies rest due → (e : EndError)
       → IsServed store site start now (end_of e)

@@ -13,11 +13,11 @@ pub record Answer : Type 0 where
 abbrev pub line : List ℕ → List ℕ
 line text = text ++ crlf_bytes
 
--- the text where no record agrees
+-- the text if no record agrees
 abbrev pub not_found : List ℕ
 not_found = line (codes "HTTP/1.1 404 Not Found") ++ (line (codes "Content-Length: 0") ++ crlf_bytes)
 
--- the text where there is no request, and never will be
+-- the text if there is no request, and never will be
 abbrev pub bad_request : List ℕ
 bad_request =
     line (codes "HTTP/1.1 400 Bad Request")
@@ -27,7 +27,7 @@ bad_request =
 abbrev pub recorded : RequestHead → Record → Answer
 recorded q r = record { bytes = r.response.bytes; closes = q.closes || r.response.head.closes }
 
--- The answer where no record agrees. It closes where the request does.
+-- The answer if no record agrees. It closes where the request does.
 abbrev pub missing : RequestHead → Answer
 missing q = record { bytes = not_found; closes = q.closes }
 

@@ -19,14 +19,14 @@ pub record Passed (taken given : List ℕ) (starts : List ReadStart) (old new : 
   pub given_is : new.given ≡ old.given ++ given
   pub reads_is : new.reads ≡ old.reads ++ map (counted_from old) starts
 
--- P holds of the bytes, where the link tells them
+-- P holds of the bytes, if the link tells them
 abbrev pub IfBothTold : (LinkBytes → LinkBytes → Type 0) → Option LinkBytes → Option LinkBytes → Type 0
 IfBothTold P None None = Unit {0}
 IfBothTold P None (Some new) = ⊥
 IfBothTold P (Some old) None = ⊥
 IfBothTold P (Some old) (Some new) = P old new
 
--- the input is at its end, where the link tells it
+-- the input is at its end, if the link tells it
 abbrev pub IsAtEnd : Option LinkBytes → Type 0
 IsAtEnd told = IfSome told (λ l. l.rest ≡ [])
 
@@ -56,6 +56,6 @@ pub record IsServed (store : List Record) (site_port : Option ℕ) (old new : Op
   pub session : Session store site_port taken (IsAtEnd new) given end
   pub prompt : All (IsPrompt store site_port taken given) starts
 
--- Such an end comes only where a fault of the link was counted.
+-- Such an end comes only if a fault of the link was counted.
 abbrev pub HasFaultCause : LinkView → LinkView → ConnEnd → Type 0
 HasFaultCause old new end = end ≡ LinkFault → Rose old.faults new.faults

@@ -44,7 +44,7 @@ ends_of [] = no_ends
 ends_of (c ∷ served) = with_end c.1 (ends_of served)
 
 -- A serving asked its port once to listen, at this number: it listens there, unless that was refused. It may not have
--- asked where it is out of memory.
+-- asked if it is out of memory.
 abbrev pub ListensAt : {C : Type 0} → ℕ → PortView C → PortView C → Result Served ServeError → Type 0
 ListensAt number old new (Ok n) = new.listened ≡ listened_at number old.listened
 ListensAt number old new (Err errors.Listen) = new.listened ≡ refused_at number old.listened

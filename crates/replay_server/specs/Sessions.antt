@@ -83,7 +83,7 @@ module _ (store : List Record) (site_port : Option ℕ) where
     pub hopeless : IsHopeless rest
     pub text : given ≡ full_text replies ++ bad_request
 
-  -- What was given is a front of what is due to requests that begin the bytes. No request begins another, so that
+  -- What was given is a prefix of what is due to requests that begin the bytes. No request begins another, so that
   -- these requests are the first of those that the bytes have, up to the first whose answer closes.
   pub record IsCut (bytes given : List ℕ) : Type 0 where
     pub replies : List Reply

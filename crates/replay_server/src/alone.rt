@@ -4,14 +4,15 @@ ghost use Rattle.replay_server.specs.Servings.{most_served};
 ghost use Rattle.replay_server.specs.inside.Pools.{InPool, IsCounted, IsStopped, MovesPool};
 
 use crate::messages::{Fresh, Serving};
+use crate::miss_watch::MissWatch;
 use crate::pool::take_back;
 use crate::standing::{MOST_SERVED, ServingStanding};
 use crate::work::ServingWork;
-use mm_base::{Pace, Port};
+use mm_base::Port;
 use std::sync::Wait;
 
 // Serves the next connection of a port in this thread. Err: there is no next one, or it is refused.
-fn serve_next<K: Serving, P: Port, Q: Pace, R: Wait>(
+fn serve_next<K: Serving, P: Port, Q: MissWatch, R: Wait>(
     rt: &R,
     work: &ServingWork<'_, K, Q>,
     port: &mut P,
@@ -44,7 +45,7 @@ fn serve_next<K: Serving, P: Port, Q: Pace, R: Wait>(
 }
 
 /// Serves the connections of a port in this thread, one after the other.
-pub(crate) fn serve_alone<K: Serving, P: Port, Q: Pace, R: Wait>(
+pub(crate) fn serve_alone<K: Serving, P: Port, Q: MissWatch, R: Wait>(
     rt: &R,
     work: &ServingWork<'_, K, Q>,
     port: &mut P,

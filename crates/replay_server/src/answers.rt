@@ -6,18 +6,19 @@ ghost use Rattle.replay_server.specs.Answers.{IsAnswer, not_found, bad_request};
 use crate::server::IndexedStore;
 use http_frame::RequestHead;
 
-// The answer where no record agrees.
+// The answer if no record agrees.
 const NOT_FOUND: &[u8] = b"HTTP/1.1 404 Not Found\r\nContent-Length: 0\r\n\r\n";
 
-// The answer where there is no request, and never will be.
+// The answer if there is no request, and never will be.
 const BAD_REQUEST: &[u8] =
     b"HTTP/1.1 400 Bad Request\r\nContent-Length: 0\r\nConnection: close\r\n\r\n";
 
-/// The bytes of an answer, and whether the connection closes after them.
+/// The bytes of an answer, whether the connection closes after them, and whether no record agrees.
 #[derive(Drop)]
 pub struct ReplayAnswer<'a> {
     pub bytes: &'a [u8],
     pub closes: bool,
+    pub is_missing: bool,
 }
 
 /// The text that says that there is no request.
@@ -58,11 +59,13 @@ pub fn answer_to<'a>(source: &IndexedStore<'a>, head: &RequestHead) -> ReplayAns
             ReplayAnswer {
                 bytes: response.bytes.as_slice(),
                 closes: either(head.closes, response.head.closes),
+                is_missing: false,
             }
         }
         None => ReplayAnswer {
             bytes: missing(),
             closes: head.closes,
+            is_missing: true,
         },
     }
 }

@@ -28,7 +28,7 @@ impl Served {
     ghost use Rattle.std.specs.Prelude.{◌≡◌};
     ghost use Rattle.replay_server.specs.Servings.{no_ends};
 
-    /// Returns the counts where no connection has ended.
+    /// Returns the counts if no connection has ended.
     pub fn none() -> Served
         ensures { result ≡ no_ends }
     {

@@ -9,13 +9,14 @@ ghost use Rattle.replay_server.specs.inside.Pools.{InPool, IsCounted, IsStopped,
 use crate::alone::serve_alone;
 use crate::ends::{ServeError, Served};
 use crate::messages::{Ended, Fresh, Serving};
+use crate::miss_watch::MissWatch;
 use crate::server::{IndexedStore, Server};
 use crate::serving::finish;
 use crate::standing::{MOST_SERVED, ServingStanding};
 use crate::work::{ServingWork, work_all};
 use crate::workers::Workers;
 use crossbeam_channel::Sender;
-use mm_base::{EndError, Link, Pace, Port};
+use mm_base::{EndError, Link, Port};
 use record_store::Store;
 use std::alloc::Global;
 use std::marker::{Brand, PhantomData, Send, Sync};
@@ -81,7 +82,7 @@ fn clear<K: Serving, P: Port, R: Wait>(
     standing
 }
 
-// Sends a connection to the workers. Returns false where there are none.
+// Sends a connection to the workers. Returns false if there are none.
 fn send_fresh<C: Link + Send + Drop, R: Wait>(
     rt: &R,
     to: &Sender<Fresh<C>>,
@@ -175,7 +176,7 @@ fn take_all<K: Serving, P: Port, R: Wait>(
 }
 
 // Accepts the connections of a port for the workers, or, if none has begun, serves them in this thread.
-fn admit_or_serve<K: Serving, P: Port, Q: Pace, R: Wait>(
+fn admit_or_serve<K: Serving, P: Port, Q: MissWatch, R: Wait>(
     rt: &R,
     work: &ServingWork<'_, K, Q>,
     port: &mut P,
@@ -194,7 +195,7 @@ fn admit_or_serve<K: Serving, P: Port, Q: Pace, R: Wait>(
 }
 
 // Serves the connections of a port by the workers, or, if none has begun, in this thread.
-fn serve_port<K: Serving, P: Port, Q: Pace, R: Wait>(
+fn serve_port<K: Serving, P: Port, Q: MissWatch, R: Wait>(
     rt: &R,
     work: &ServingWork<'_, K, Q>,
     port: &mut P,
@@ -208,7 +209,12 @@ fn serve_port<K: Serving, P: Port, Q: Pace, R: Wait>(
 }
 
 // Serves the connections of a port beside the workers.
-fn serve_with<K: Serving + Send + Sync, P: Port + Send, Q: Pace + Sync, R: Threads + Wait + Sync>(
+fn serve_with<
+    K: Serving + Send + Sync,
+    P: Port + Send,
+    Q: MissWatch + Sync,
+    R: Threads + Wait + Sync,
+>(
     rt: &R,
     work: &ServingWork<'_, K, Q>,
     port: &mut P,
@@ -239,7 +245,12 @@ fn serve_with<K: Serving + Send + Sync, P: Port + Send, Q: Pace + Sync, R: Threa
 
 // Serves the connections of a port, `most` of them at a time.
 #[tactic(auto, using(crate::proofs::PoolLemmas::pool_idle))]
-fn run_pool<K: Serving + Send + Sync, P: Port + Send, Q: Pace + Sync, R: Threads + Wait + Sync>(
+fn run_pool<
+    K: Serving + Send + Sync,
+    P: Port + Send,
+    Q: MissWatch + Sync,
+    R: Threads + Wait + Sync,
+>(
     rt: &R,
     alloc: Global,
     server: &Server<'_, Q>,
@@ -268,8 +279,8 @@ fn run_pool<K: Serving + Send + Sync, P: Port + Send, Q: Pace + Sync, R: Threads
 /// none can be made, one after the other.
 ///
 /// `Listen` comes where the port can't be listened at, and `Accept` where a connection can't be accepted or finished,
-/// each only where a fault of the port was counted. Those accepted before are served to their end.
-pub fn serve_pool<P: Port + Send, Q: Pace + Sync, R: Threads + Wait + Sync>(
+/// each only if a fault of the port was counted. Those accepted before are served to their end.
+pub fn serve_pool<P: Port + Send, Q: MissWatch + Sync, R: Threads + Wait + Sync>(
     rt: &R,
     alloc: Global,
     store: &Store,

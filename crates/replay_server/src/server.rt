@@ -1,7 +1,7 @@
 // What the connections of a serving are served by.
 ghost use Rattle.std.specs.Prelude.{◌≡◌, IfOk};
 
-use mm_base::Pace;
+use crate::miss_watch::MissWatch;
 use record_store::Store;
 use request_match::Index;
 use std::alloc::Global;
@@ -32,7 +32,7 @@ impl<'a> IndexedStore<'a> {
 
 /// What every connection of a serving is served by: the source of its answers, and the pace that its turns keep.
 #[derive(Drop)]
-pub struct Server<'a, Q: Pace> {
+pub struct Server<'a, Q: MissWatch> {
     pub source: IndexedStore<'a>,
     pub pace: &'a Q,
 }

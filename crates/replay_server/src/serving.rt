@@ -9,9 +9,10 @@ ghost use Rattle.replay_server.specs.inside.Tallies.{IsTally, total, refusal_of,
 
 use crate::ends::{ConnEnd, ServeError, Served};
 use crate::messages::Fresh;
+use crate::miss_watch::MissWatch;
 use crate::server::{IndexedStore, Server};
 use crate::session::serve_link;
-use mm_base::{EndError, Link, Pace, Port};
+use mm_base::{EndError, Link, Port};
 use record_store::Store;
 use std::alloc::Global;
 use std::marker::{Send, Sync};
@@ -94,7 +95,7 @@ pub(crate) fn finish<P: Port>(port: &mut P, conn: P::Conn) -> Result<(), EndErro
 }
 
 /// Serves a connection of which nothing was taken.
-pub(crate) fn serve_fresh<C: Link, Q: Pace, R: Wait>(
+pub(crate) fn serve_fresh<C: Link, Q: MissWatch, R: Wait>(
     rt: &R,
     alloc: Global,
     server: &Server<'_, Q>,
@@ -109,7 +110,7 @@ pub(crate) fn serve_fresh<C: Link, Q: Pace, R: Wait>(
 
 // Accepts up to `most` connections, and serves each beside accepting the next. They are finished in the other order.
 #[cycle(serve)]
-fn serve_from<P: Port + Send, Q: Pace + Sync, R: Threads + Wait + Sync>(
+fn serve_from<P: Port + Send, Q: MissWatch + Sync, R: Threads + Wait + Sync>(
     rt: &R,
     alloc: Global,
     server: &Server<'_, Q>,
@@ -142,7 +143,7 @@ fn serve_from<P: Port + Send, Q: Pace + Sync, R: Threads + Wait + Sync>(
 // Serves a connection beside accepting up to `most` further ones. Where no thread can be made, what stands first in
 // the join runs last: the connection is served, and then the next one is accepted.
 #[cycle(serve)]
-fn serve_beside<P: Port + Send, Q: Pace + Sync, R: Threads + Wait + Sync>(
+fn serve_beside<P: Port + Send, Q: MissWatch + Sync, R: Threads + Wait + Sync>(
     rt: &R,
     alloc: Global,
     server: &Server<'_, Q>,
@@ -183,8 +184,8 @@ fn serve_beside<P: Port + Send, Q: Pace + Sync, R: Threads + Wait + Sync>(
 /// reverse order of their acceptance: the last of them first.
 ///
 /// `Listen` comes where the port can't be listened at, and `Accept` where a connection can't be accepted or finished,
-/// each only where a fault of the port was counted. Those accepted before are served to their end.
-pub fn serve<P: Port + Send, Q: Pace + Sync, R: Threads + Wait + Sync>(
+/// each only if a fault of the port was counted. Those accepted before are served to their end.
+pub fn serve<P: Port + Send, Q: MissWatch + Sync, R: Threads + Wait + Sync>(
     rt: &R,
     alloc: Global,
     store: &Store,

@@ -4,8 +4,9 @@ ghost use Rattle.mm_base.specs.Link.{LinkBytes, CountsLinkFaults};
 ghost use Rattle.replay_server.specs.Links.{IsServed, HasFaultCause};
 ghost use Rattle.replay_server.specs.inside.Progress.{Progress, GoesOn, to_do};
 
-use crate::answers::answer_to;
+use crate::answers::{ReplayAnswer, answer_to};
 use crate::ends::ConnEnd;
+use crate::miss_watch::MissWatch;
 use crate::server::{IndexedStore, Server};
 use crate::session_state::SessionState;
 use crate::steps::{give_answer, refuse, take_more};
@@ -19,9 +20,16 @@ use text_base::OutOfMemory;
 // How many bytes a read asks for at most.
 const PIECE: usize = 65_536;
 
-// Answers the next request that is there; or ends the session, where there is none and never will be; or takes more
+// Tells the serving's watch if no record answers a request.
+fn tell<Q: MissWatch>(server: &Server<'_, Q>, answer: &ReplayAnswer<'_>) {
+    if answer.is_missing {
+        server.pace.missed();
+    }
+}
+
+// Answers the next request that is there; or ends the session, if there is none and never will be; or takes more
 // bytes.
-fn step<L: Link, Q: Pace, R: Wait>(
+fn step<L: Link, Q: MissWatch, R: Wait>(
     rt: &R,
     server: &Server<'_, Q>,
     state: &mut SessionState,
@@ -41,6 +49,7 @@ fn step<L: Link, Q: Pace, R: Wait>(
     match state.frames.next_head() {
         Ok(Step::Message(head)) => {
             let answer = answer_to(&server.source, &head);
+            tell(server, &answer);
             give_answer(state, link, answer.bytes, answer.closes)
         }
         Ok(Step::More) => take_more(rt, state, link, buf, role, server.pace),
@@ -50,7 +59,7 @@ fn step<L: Link, Q: Pace, R: Wait>(
 }
 
 // Goes on step by step, until the session ends.
-fn converse<L: Link, Q: Pace, R: Wait>(
+fn converse<L: Link, Q: MissWatch, R: Wait>(
     rt: &R,
     alloc: Global,
     server: &Server<'_, Q>,
@@ -80,7 +89,7 @@ fn zeros(alloc: Global, count: usize) -> Result<Vec<u8>, OutOfMemory>
 }
 
 // Holds a session.
-fn hold<L: Link, Q: Pace, R: Wait>(
+fn hold<L: Link, Q: MissWatch, R: Wait>(
     rt: &R,
     alloc: Global,
     server: &Server<'_, Q>,
@@ -99,7 +108,7 @@ fn hold<L: Link, Q: Pace, R: Wait>(
 }
 
 // Says that the connection has ended.
-fn leave<L: Link, Q: Pace, R: Wait>(rt: &R, link: &mut L, role: Role, pace: &Q)
+fn leave<L: Link, Q: MissWatch, R: Wait>(rt: &R, link: &mut L, role: Role, pace: &Q)
     ensures { L.view link.new ≡ L.view link.old }
 {
     link.close_output();
@@ -107,7 +116,7 @@ fn leave<L: Link, Q: Pace, R: Wait>(rt: &R, link: &mut L, role: Role, pace: &Q)
 }
 
 /// Serves one connection, as `serve_conn` does.
-pub fn serve_link<L: Link, Q: Pace, R: Wait>(
+pub fn serve_link<L: Link, Q: MissWatch, R: Wait>(
     rt: &R,
     alloc: Global,
     server: &Server<'_, Q>,
@@ -132,9 +141,9 @@ pub fn serve_link<L: Link, Q: Pace, R: Wait>(
 ///
 /// `Closed` comes after the first answer whose request or response closes (RFC 9112, section 9.3), or at the end of the
 /// input. `BadRequest` comes after the text that there is no request, and never will be. `Full` comes where 67,108,864
-/// bytes were taken and no answer closed, and no more are ever taken. `LinkFault` comes only where a fault of the link
+/// bytes were taken and no answer closed, and no more are ever taken. `LinkFault` comes only if a fault of the link
 /// was counted.
-pub fn serve_conn<L: Link, Q: Pace, R: Wait>(
+pub fn serve_conn<L: Link, Q: MissWatch, R: Wait>(
     rt: &R,
     alloc: Global,
     store: &Store,

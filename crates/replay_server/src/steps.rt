@@ -12,6 +12,7 @@ ghost use Rattle.replay_server.specs.Sessions.{Reply, AllOpen, IsHopeless, MayGo
 use crate::answers::refusal;
 use crate::ends::ConnEnd;
 use crate::giving::{flush, gather};
+use crate::miss_watch::MissWatch;
 use crate::session_state::SessionState;
 use mm_base::{EndError, Link, Pace, Role};
 use std::sync::Wait;
@@ -106,7 +107,7 @@ fn read_more<L: Link>(state: &mut SessionState, link: &mut L, piece: &mut [u8]) 
 }
 
 /// Gives all that is due, and then takes more bytes.
-pub fn take_more<L: Link, Q: Pace, R: Wait>(
+pub fn take_more<L: Link, Q: MissWatch, R: Wait>(
     rt: &R,
     state: &mut SessionState,
     link: &mut L,

@@ -2,10 +2,11 @@
 ghost use Rattle.std.specs.Prelude.{◌≡◌};
 
 use crate::messages::{Ended, Fresh, Serving};
+use crate::miss_watch::MissWatch;
 use crate::server::Server;
 use crate::serving::serve_fresh;
 use crate::workers::Workers;
-use mm_base::{Link, Pace};
+use mm_base::Link;
 use std::alloc::Global;
 use std::marker::{PhantomData, Send, Sync};
 use std::sync::Wait;
@@ -13,7 +14,7 @@ use std::thread::Threads;
 
 /// Serves connections from one store, for requests at one port or at none.
 #[derive(Drop)]
-pub(crate) struct ServingWork<'a, K: Serving, Q: Pace> {
+pub(crate) struct ServingWork<'a, K: Serving, Q: MissWatch> {
     pub alloc: Global,
     pub server: &'a Server<'a, Q>,
     pub serving: PhantomData<K>,
@@ -21,7 +22,7 @@ pub(crate) struct ServingWork<'a, K: Serving, Q: Pace> {
     pub ghost site_port: { server.now.source.index.port ≡ K.site_port },
 }
 
-impl<'a, K: Serving, Q: Pace> ServingWork<'a, K, Q> {
+impl<'a, K: Serving, Q: MissWatch> ServingWork<'a, K, Q> {
     /// Serves a connection of which nothing was taken.
     pub fn serve<C: Link, R: Wait>(&self, rt: &R, fresh: Fresh<C>) -> Ended<K, C> {
         let Fresh { conn, ordinal } = fresh;
@@ -39,7 +40,7 @@ impl<'a, K: Serving, Q: Pace> ServingWork<'a, K, Q> {
 pub(crate) fn work_all<
     K: Serving + Send + Sync,
     C: Link + Send + Drop,
-    Q: Pace + Sync,
+    Q: MissWatch + Sync,
     R: Threads + Wait + Sync,
 >(rt: &R, work: &ServingWork<'_, K, Q>, workers: &Workers<Fresh<C>, Ended<K, C>>) {
     let serve = |fresh: Fresh<C>| -> Ended<K, C> { work.serve(rt, fresh) };

@@ -1,4 +1,4 @@
--- That a record agrees can be decided, also where it is left before it was looked at.
+-- That a record agrees can be decided, also if it is left before it was looked at.
 use Rattle.std.proofs.Common.{true, false, Bool, ◌≡◌, ◌⊎◌, inl, inr, ℕ, ◌<◌, List, cond, refl, sym, ap, subst}
 use Rattle.std.proofs.Common.{arith}
 use Rattle.std.specs.Prelude.{◌==◌, Decides, Option, Some, None, nat_lt}

@@ -77,7 +77,7 @@ fn pass_scored(
     (i, first)
 }
 
-// Does what `pass_scored` does where there is a score, and passes nothing where there is none.
+// Does what `pass_scored` does if there is a score, and passes nothing if there is none.
 fn pass_equals(
     entries: &[(u64, usize)],
     fronts: &[Option<usize>],

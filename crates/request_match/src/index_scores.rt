@@ -33,7 +33,7 @@ fn carried(front: usize, score: usize, line: &[u8], asked: &[u8]) -> usize
     front + common_front(tail(line, front), tail(asked, front))
 }
 
-/// Returns the score of an entry's record, or `None` where it doesn't agree. `before` is the score of the entry before
+/// Returns the score of an entry's record, or `None` if it doesn't agree. `before` is the score of the entry before
 /// it, and `front` what both share.
 pub(crate) fn next_score(
     front: Option<usize>,

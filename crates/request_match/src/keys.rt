@@ -25,7 +25,7 @@ fn hash_of(hash: u64, bytes: &[u8]) -> u64
     whole.wrapping_mul(FACTOR).wrapping_add(last)
 }
 
-// Returns the bytes of a value, or no bytes where there is none.
+// Returns the bytes of a value, or no bytes if there is none.
 fn value_of(value: &Option<Bytes>) -> &[u8]
     ensures { result.now ≡ unwrap_or value.now [] }
 {

@@ -188,7 +188,7 @@ fn may_beat(found: Option<(usize, usize)>, line: &[u8], asked: &[u8]) -> bool
     }
 }
 
-/// Returns the score of a record, or `None` where it doesn't agree.
+/// Returns the score of a record, or `None` if it doesn't agree.
 pub(crate) fn own_score(exchange: &Record, asked: &Asked<'_>) -> Option<usize>
     ensures { HasScore asked.now.request.now asked.now.port exchange.now result }
 {
@@ -224,7 +224,7 @@ pub(crate) fn with_record(
     }
 }
 
-/// Returns the place of the best record, or `None` exactly where no record agrees. It is the first of the agreeing
+/// Returns the place of the best record, or `None` exactly if no record agrees. It is the first of the agreeing
 /// records with the greatest score.
 ///
 /// A record agrees where its port fits that at which the request is asked, if it is asked at one, and Host, User-Agent

@@ -319,7 +319,7 @@ items_sent h (s ∷ ss) (xs ∷ coming) all =
     ap (λ (ts : List Timed). ts ++ all_sent ss (coming_of coming)) (sym (after_all-packets s.flow xs))
     ∙ ap (λ (ts : List Timed). (after_all s.flow xs).packets ++ ts) (items_sent h ss coming all.1)
 
--- the law: what was given is a front of the merge of whatever may still come
+-- the law: what was given is a prefix of the merge of whatever may still come
 pub front : (m : Merging) → Stands m → IsMergeFront m
 front m stands = record {
   front = λ horizon coming all. (

@@ -262,7 +262,7 @@ from_bounded b s (Some t) at sound heads bounded =
       bound = λ going. omega arith;
     }
 
--- where no head is before the merged bound, nothing that waits or comes is
+-- if no head is before the merged bound, nothing that waits or comes is
 pub all_from_bounded : (b : ℕ) (ss : List Inflow) → AllSound ss → HeadsFrom b ss → AllBounded b ss → AllFrom b ss
 all_from_bounded b [] sound heads bounded = tt
 all_from_bounded b (s ∷ ss) sound heads bounded =
@@ -335,7 +335,7 @@ nothing_sent (s ∷ ss) =
     ap (λ (ts : List Timed). ts ++ all_sent ss (nothings ss)) (append-nil s.flow.packets)
     ∙ ap (λ (ts : List Timed). s.flow.packets ++ ts) (nothing_sent ss)
 
--- after the end the merge keeps what it kept, where no packet waits and all senders have ended
+-- after the end the merge keeps what it kept, if no packet waits and all senders have ended
 pub stands-end : (m : Merging) → Stands m → NoHeads m.senders → list_all has_ended m.senders ≡ true
     → Stands (merging m.senders (after m.given End))
 stands-end m stands none over = record {

@@ -12,7 +12,7 @@ use Rattle.sender_merge.specs.Inflows.{Inflow, fresh, has_ended, head_of}
 use Rattle.sender_merge.specs.Steps.{all_clear, bound_of, candidate_from, clears, earlier, head, is_needed, lesser}
 use Rattle.sender_merge.specs.Steps.{merged_bound, moment_or, needed_from}
 
--- no packet waits where there is no head
+-- no packet waits if there is no head
 pub none_wait : (xs : List Timed) (n : ℕ) → slice_get xs n ≡ None → drop n xs ≡ []
 none_wait [] zero is = refl
 none_wait [] (suc n) is = refl
@@ -101,7 +101,7 @@ no_head : (k : ℕ) (h : Option Timed) (r : Option Head) → earlier (option_map
 no_head k None r is = (refl, is)
 no_head k (Some t) r is = absurd (some_earlier (head k t) r is)
 
--- where there is no candidate, no sender has a head
+-- if there is no candidate, no sender has a head
 pub none_found : (k : ℕ) (ss : List Inflow) → candidate_from k ss ≡ None → NoHeads ss
 none_found k [] is = tt
 none_found k (s ∷ ss) is =
@@ -224,7 +224,7 @@ not_cleared c k s is =
       low = ltb-false c.packet.moment s.flow.bound parts.2;
     }
 
--- `b` is at most the bound of each sender that hasn't ended, or its head's moment where it has a head
+-- `b` is at most the bound of each sender that hasn't ended, or its head's moment if it has a head
 abbrev pub AllBounded : ℕ → List Inflow → Type 0
 AllBounded b [] = Unit {0}
 AllBounded b (s ∷ ss) = (has_ended s ≡ false → b ≤ moment_or s.flow.bound (head_of s)) × AllBounded b ss
@@ -326,7 +326,7 @@ one_needed c k (s ∷ ss) is = ⊎_elim
     (needed_from (Some c) (k + 1) ss) (one_needed c (k + 1) ss there))
     (and_cases (clears c k s) (all_clear c (k + 1) ss) is)
 
--- where no sender has a head and not all have ended, a sender is needed
+-- if no sender has a head and not all have ended, a sender is needed
 pub one_missing : (k : ℕ) (ss : List Inflow) → NoHeads ss → list_all has_ended ss ≡ false
     → IsSome (needed_from None k ss)
 one_missing k [] none is = absurd cc

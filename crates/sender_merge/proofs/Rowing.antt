@@ -197,12 +197,12 @@ from_row xs n r sorted is =
     let from : From row_moment r.timed.moment (r ∷ drop (suc n) xs) = (omega arith, all.0) in
     subst (From row_moment r.timed.moment) (sym e) from
 
--- where no row is at a place, none is left from it on
+-- if no row is at a place, none is left from it on
 pub late_past : (limit : Option ℕ) (rows : List Row) (n : ℕ) → slice_get rows n ≡ None → IsLate limit (drop n rows)
 late_past None rows n is = row_none rows n is
 late_past (Some m) rows n is = subst (From row_moment m) (sym (row_none rows n is)) tt
 
--- where the row at a place isn't before the limit, none from it on is
+-- if the row at a place isn't before the limit, none from it on is
 pub late_at : (m n : ℕ) (rows : List Row) (r : Row) → Sorted row_moment rows → slice_get rows n ≡ Some r
     → m ≤ r.timed.moment → From row_moment m (drop n rows)
 late_at m n rows r sorted is le =

@@ -75,7 +75,7 @@ struct Seen {
     said: Option<usize>,
 }
 
-// How many bytes there are, where they are a front of a text.
+// How many bytes there are, where they are a prefix of a text.
 fn length_of_front(given: &[u8], text: &[u8]) -> Option<usize> {
     if text.starts_with(given) {
         Some(given.len())
@@ -253,7 +253,7 @@ fn passes_so(alloc: Global, row: &Row, most: usize) -> bool
     seen_of(alloc, &talk, 8080) == Ok(seen)
 }
 
-// The same where a read brings all, and where it brings a byte.
+// The same where a read brings all, and if it brings a byte.
 fn passes_whole_and_cut(alloc: Global, row: &Row) -> bool {
     passes_so(alloc, row, 65_536) && passes_so(alloc, row, 1)
 }
@@ -304,7 +304,7 @@ fn end_with_fails(alloc: Global, client_fail: u64, server_fail: u64) -> Option<P
     }
 }
 
-// Whether a call of the client's link is a fault where the link has that many. The link is read 55 times and written
+// Whether a call of the client's link is a fault if the link has that many. The link is read 55 times and written
 // twice.
 fn client_fails_at(alloc: Global, call: u64) -> bool {
     match end_with_fails(alloc, call, 0) {

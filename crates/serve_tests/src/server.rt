@@ -11,8 +11,8 @@ mod watched;
 use crate::links::{REQUEST, RESPONSE, link};
 use crate::store::paired;
 use crate::texts::{copies, long_field, long_messages};
-use mm_base::{Link, MemLink, NoPace, Pace};
-use replay_server::{ConnEnd, serve_conn};
+use mm_base::{Link, MemLink, NoPace};
+use replay_server::{ConnEnd, MissWatch, serve_conn};
 use std::alloc::Global;
 use std::sync::Wait;
 use text_base::OutOfMemory;
@@ -24,7 +24,7 @@ static ONE: Pair = (REQUEST, RESPONSE);
 
 /// How a session of the store of a pair ends. No test needs what the contract of `serve_conn` says of it, and so this
 /// has none.
-fn end_of<R: Wait, L: Link, Q: Pace>(
+fn end_of<R: Wait, L: Link, Q: MissWatch>(
     rt: &R,
     alloc: Global,
     pair: &Pair,
@@ -204,8 +204,8 @@ const TWO_ANSWERS: &str =
 // A session of these has 58 calls of its link.
 const CALLS: u64 = 58;
 
-/// Whether a session should end so, and give that, where this call of its link is to fail. It fails where it has so
-/// many calls, and gives a front of the answers; else it ends well, and gives all of them.
+/// Whether a session should end so, and give that, where this call of its link is to fail. It fails if it has so
+/// many calls, and gives a prefix of the answers; else it ends well, and gives all of them.
 fn is_end_at(call: u64, end: ConnEnd, given: &[u8]) -> bool {
     if call <= CALLS {
         return end == ConnEnd::LinkFault && TWO_ANSWERS.as_bytes().starts_with(given);

@@ -67,7 +67,7 @@ number_of (errors.BadLine line) = 2
 number_of (errors.Backwards line) = 3
 number_of errors.OutOfMemory = 0
 
--- the line that it names, 0 where it names none
+-- the line that it names, 0 if it names none
 abbrev pub line_named : LogError → ℕ
 line_named errors.BadHeader = 0
 line_named (errors.BadLine line) = line

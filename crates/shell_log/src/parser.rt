@@ -64,7 +64,7 @@ impl LogParser {
     }
 
     /// Reads a piece of the text up to its next entry. Returns that, and what of the piece follows it. Returns `None`
-    /// where no entry ends in the piece, or a line is refused: the piece is read then.
+    /// if no entry ends in the piece, or a line is refused: the piece is read then.
     #[inline]
     pub fn next<'a>(&mut self, piece: &'a [u8]) -> Option<(Entry, &'a [u8])>
         ensures some { IfSome result (λ r. (whole rest : List ℕ) (es : List EntryValue)

@@ -109,7 +109,7 @@ none_burnt s (suc n) st bound all high =
     let low : s.taken.bound ≤ floor_of s = st.floor in
     absurd (omega arith)
 
--- where it waits, nothing was burnt
+-- if it waits, nothing was burnt
 waits : (s : State) (most m : ℕ) → Stands s → s.broken ≡ false → 1 ≤ most
     → answer_after (with_burnt s (burns s most)) (burns s most) most ≡ NotYet m → Waits s × (m ≡ s.fed.bound)
 waits s most m st whole some e =

@@ -31,7 +31,7 @@ pub record Stands (s : State) : Type 0 where
   -- its bound is at most each departure that isn't taken, and at most the floor
   pub waits : AreFrom s.taken.bound (ready s)
   pub floor : s.taken.bound ≤ floor_of s
-  -- it has ended only where all was fed, burnt and taken; and a flow is broken only where the state is
+  -- it has ended only where all was fed, burnt and taken; and a flow is broken only if the state is
   pub ended : s.taken.end ≡ Ended → (s.fed.end ≡ Ended) × (s.burnt ≡ length (opps_of s)) × (ready s ≡ [])
   pub fed_broken : s.fed.end ≡ Cut → s.broken ≡ true
   pub taken_broken : s.taken.end ≡ Cut → s.broken ≡ true

@@ -102,7 +102,7 @@ pub(crate) fn answer(core: &Core, fed: Reach, taken: Front, burnt: u32, most: u3
     Taken::NotYet { bound: fed.bound }
 }
 
-// Adds what a take returns to what was taken, where it is an item.
+// Adds what a take returns to what was taken, if it is an item.
 pub(crate) fn put(taken: &mut Front, answer: Taken)
     requires open { taken.old.reach.end ≡ FlowEnd.Open }
     requires follows { AnswerFollows taken.old.reach.bound answer }

@@ -24,7 +24,7 @@ use text_base::limits::{HOUR, MOST_OPPORTUNITIES};
 
 /// One direction of a shell that is fed items and from which items are taken, in any order of the two.
 ///
-/// What is taken is always a front of what the whole shell would let out, whatever is fed later. A mark that is taken
+/// What is taken is always a prefix of what the whole shell would let out, whatever is fed later. A mark that is taken
 /// is at or before every departure still to come.
 ///
 /// Contracts see what the direction does, its horizon, the two streams, how many opportunities were burnt, and whether
@@ -100,7 +100,7 @@ impl ShellState {
     /// 6. Where this call burnt `most` opportunities, `Again` with that number.
     /// 7. Else `NotYet` with the bound of what was fed, and nothing has changed.
     ///
-    /// Where it runs out of memory the state is as it was. It needs none where there is nothing to burn.
+    /// Where it runs out of memory the state is as it was. It needs none if there is nothing to burn.
     pub fn take(&mut self, most: u32) -> Result<Taken, OutOfMemory>
         requires most { 1 ≤ most }
         requires open { self.old.taken.end ≡ Open }

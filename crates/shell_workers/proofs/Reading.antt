@@ -8,7 +8,7 @@ use Rattle.packet_record.specs.PartsRead.{HasRead}
 use Rattle.shell_workers.specs.declared.schedule_file.ScheduleFile.{ScheduleFile}
 use Rattle.shell_workers.specs.inside.Reading.{HasReadFront, HasReadPiece}
 
--- a front of the file and a piece behind it
+-- a prefix of the file and a piece behind it
 pub more_front : (told now : Option Files) (read : ℕ) (first old new : ScheduleFile) → now ≡ told
     → HasReadFront told first old → HasReadPiece now read old new → HasReadFront told first new
 more_front told now read first old new is front piece = record {
@@ -23,7 +23,7 @@ more_front told now read first old new is front piece = record {
       piece.piece)));
 }
 
--- a front of the file that reaches its size
+-- a prefix of the file that reaches its size
 pub full_front : (told : Option Files) (first last : ScheduleFile) → HasReadFront told first last
     → last.place.size ≤ last.place.at
     → FrontIsRead HasRead told first.place.name.now first.place.size first.text last.text
@@ -32,7 +32,7 @@ full_front told first last front le =
     let is : last.place.at ≡ first.place.size = omega (arith, le, most, front.size) in
     subst (λ n. FrontIsRead HasRead told first.place.name.now n first.text last.text) is front.front
 
--- a front of the file behind which there was nothing more to read
+-- a prefix of the file behind which there was nothing more to read
 pub ended_front : (told now : Option Files) (first old new : ScheduleFile) → now ≡ told → HasReadFront told first old
     → HasReadPiece now 0 old new → FrontIsRead HasRead told first.place.name.now first.place.size first.text new.text
 ended_front told now first old new is front piece =

@@ -65,7 +65,7 @@ pub all_sent : (d : Direction) (h sent : ℕ) (first : List Item) (rows : List R
 all_sent d h sent first rows old new has is =
     is ∙ has.items [] ∙ ap (λ (l : List Row). first ++ source_items d h l) (append-nil rows)
 
--- a front of a list and what is behind it make the list
+-- a prefix of a list and what is behind it make the list
 pub rest_of : (old new : List Row) → IsPrefix old new → old ++ drop (length old) new ≡ new
 rest_of [] new prefix = refl
 rest_of (x ∷ xs) [] prefix = absurd (cc (prefix.1))

@@ -23,7 +23,7 @@ IfWants Ended p = Unit {0}
 IfWants Broken p = Unit {0}
 IfWants OutOfMemory p = p
 
--- `Ended` where both are, else `OutOfMemory` where one is, else `Broken`
+-- `Ended` where both are, else `OutOfMemory` if one is, else `Broken`
 abbrev pub worse : WorkEnd → WorkEnd → WorkEnd
 worse Ended b = b
 worse OutOfMemory b = OutOfMemory

@@ -7,7 +7,7 @@ use Rattle.mm_base.specs.declared.errors.DiskError.TheVariants as disk_errors
 use Rattle.packet_record.specs.PartsRead.{HasRead}
 use Rattle.shell_workers.specs.declared.schedule_file.ScheduleFile.{ScheduleFile}
 
--- The disk was only read. An error is one of reading the file `name`, and `Absent` only where there is none.
+-- The disk was only read. An error is one of reading the file `name`, and `Absent` only if there is none.
 pub record ReadsFile {T : Type 0} (old new : DiskView) (name : List ℕ) (result : Result T DiskError) : Type 0 where
   pub only_reads : OnlyReads old new
   pub cause : HasReadCause name old new result

@@ -1,4 +1,4 @@
--- The text of a store, a front of which is written.
+-- The text of a store, a prefix of which is written.
 use Rattle.std.proofs.Common.{◌≡◌, ◌⊎◌, inl, inr, ◌↔◌, ℕ, ◌<◌, ◌-◌, ◌++◌, Bool, true, false, IsTrue, List, [], ◌∷◌}
 use Rattle.std.proofs.Common.{Option, Result, Ok, Err, IsOk, OnErr, IfErr, length, take, drop, refl, ap, sym, ◌∙◌}
 use Rattle.std.proofs.Common.{arith}
@@ -28,7 +28,7 @@ front_held told after name whole front rest is some held =
       held ∙ ap (λ l. holding name l told) (sym same),
     )
 
--- a front of the next piece was written
+-- a prefix of the next piece was written
 pub piece_held : (told before after : Option Files) (name whole front left piece rest : List ℕ)
     → front ++ left ≡ whole → left ≡ piece ++ rest → before ≡ holding name front told
     → ((n : ℕ) × (n < length piece) × (after ≡ lengthened name (take n piece) before))

@@ -13,7 +13,7 @@ use mm_base::{Disk, DiskError, append_all};
 use record_store::{Store, StorePieces};
 use std::alloc::Global;
 
-// Makes the file `name` hold a store's text in form 2. Where it stops, the file is as before, or holds a front of the
+// Makes the file `name` hold a store's text in form 2. Where it stops, the file is as before, or holds a prefix of the
 // text, but not all. The memory for all pieces is taken before the file is made, so that a want of it leaves the file
 // as before.
 fn save_store<D: Disk>(
@@ -38,7 +38,7 @@ fn save_store<D: Disk>(
     Ok(())
 }
 
-/// Writes the file of a store, in form 2. Where writing stops, the file is as before or holds a front of its text. The
+/// Writes the file of a store, in form 2. Where writing stops, the file is as before or holds a prefix of its text. The
 /// cause is a fault of the disk or out of memory.
 pub fn write_store<D: Disk>(
     alloc: Global,

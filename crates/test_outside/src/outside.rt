@@ -4,7 +4,7 @@ use mm_base::{MemDisk, MemSink};
 use std::alloc::Global;
 use text_base::{Bytes, OutOfMemory, Text};
 
-/// What stands in place of a file's text where the file isn't there.
+/// What stands in place of a file's text if the file isn't there.
 pub const ABSENT: &str = "absent";
 
 /// A disk and an `out` in memory.

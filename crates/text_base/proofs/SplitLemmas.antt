@@ -82,7 +82,7 @@ pub none_is : {A : Type 0} (o : Option A) → ((x : A) → o ≡ Some x → ⊥)
 none_is None never = refl
 none_is (Some x) never = absurd (never x refl)
 
--- a text is no decimal where it is none with nothing after it
+-- a text is no decimal if it is none with nothing after it
 pub no_decimal : (text : List ℕ) → ((n : ℕ) → text ≡ text ++ [] → decimal_of text ≡ Some n → ⊥) → None ≡ decimal_of text
 no_decimal text never = none_is (decimal_of text) (λ n e. never n (sym (append-nil text)) e)
 

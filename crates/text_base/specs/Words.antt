@@ -2,7 +2,7 @@
 use Rattle.std.specs.Prelude.{ℕ, List, ◌==◌}
 use Rattle.std.specs.List.{before_first, after_first}
 
--- what stands before the first space, or all where there is none
+-- what stands before the first space, or all if there is none
 abbrev pub first_word : List ℕ → List ℕ
 first_word text = before_first (λ byte. byte == 32) text
 

@@ -12,7 +12,7 @@ pub struct Lines<'a> {
     rest: &'a [u8],
 }
 
-/// Cuts a text at its first line feed: returns what stands before it, and what follows it. Returns `None` where there
+/// Cuts a text at its first line feed: returns what stands before it, and what follows it. Returns `None` if there
 /// is none.
 pub fn cut_line(text: &[u8]) -> Option<(&[u8], &[u8])>
     ensures { MatchOption result (is_one_line text.now ≡ true)

@@ -8,7 +8,7 @@ use crate::{Bytes, OutOfMemory};
 use itoa::Buffer;
 
 /// The number that the digits at the front of a text stand for, at most ten of them, and what follows those. None
-/// exactly where the text doesn't begin with an ASCII digit. Leading zeros are accepted.
+/// exactly if the text doesn't begin with an ASCII digit. Leading zeros are accepted.
 #[inline(always)]
 pub fn split_decimal(text: &[u8]) -> Option<(u64, &[u8])>
     ensures read { IfSome result (λ r. (word : List ℕ) × (text.now ≡ word ++ r.1.now) × (decimal_of word ≡ Some r.0)) }
@@ -60,7 +60,7 @@ fn is_digit(byte: u8) -> bool
     48 <= byte && byte <= 57
 }
 
-/// The number that a text stands for. Returns `None` exactly where the text isn't 1 to 10 ASCII digits. Leading zeros
+/// The number that a text stands for. Returns `None` exactly if the text isn't 1 to 10 ASCII digits. Leading zeros
 /// are accepted.
 pub fn read_decimal(text: &[u8]) -> Option<u64>
     ensures { result ≡ decimal_of text.now }

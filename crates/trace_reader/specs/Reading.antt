@@ -18,7 +18,7 @@ number_of errors.TooManyLines = 5
 number_of (errors.BadBytes line) = 6
 number_of errors.OutOfMemory = 0
 
--- the line that it names, or 0 where it names none
+-- the line that it names, or 0 if it names none
 abbrev pub place_of : TraceError → ℕ
 place_of errors.Empty = 0
 place_of (errors.BadLine line) = line

@@ -27,7 +27,7 @@ opportunity_said (Some said) = opportunity_within said.0 said.1 (nat_le 1 said.1
 abbrev pub opportunities_said : TraceForm → List (List ℕ) → List Opportunity
 opportunities_said form lines = flat_map (λ line. opportunity_said (said_of form line)) lines
 
--- the trace of which this is the text, where it is one
+-- the trace of which this is the text, if it is one
 unfoldable pub trace_in : List ℕ → TraceView
 trace_in text = record {
   form = form_of (lines_of text);

@@ -27,7 +27,7 @@ pub(crate) fn read_first(form: TraceForm, text: &[u8]) -> (Option<(u64, u64)>, &
     (read_line(form, line), rest)
 }
 
-// The number in the first line of a text, where it is that alone and a line feed follows, and what follows this. It may
+// The number in the first line of a text, if it is that alone and a line feed follows, and what follows this. It may
 // return `None` for any text.
 #[inline]
 #[tactic(auto, using(crate::proofs::LineLemmas::moment_in_front))]

@@ -7,7 +7,7 @@ use crate::{Opportunity, Trace, TraceForm};
 use std::alloc::Global;
 use text_base::{Bytes, OutOfMemory, write_decimal};
 
-/// The text of a trace in its own form: each opportunity on a line, after the line `# mm-trace 2` where it states
+/// The text of a trace in its own form: each opportunity on a line, after the line `# mm-trace 2` if it states
 /// bytes. Reading it gives the trace back.
 pub fn print_trace(alloc: Global, trace: &Trace) -> Result<Bytes, OutOfMemory>
     ensures text { IfOk result (λ text. text ≡ trace_text trace.now) }

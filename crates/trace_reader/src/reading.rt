@@ -20,7 +20,7 @@ use text_base::{OutOfMemory, first_line};
 pub enum TraceError {
     /// There is no opportunity.
     Empty,
-    /// The line isn't a number of 1 to 10 digits, or two with a single space where the text states bytes.
+    /// The line isn't a number of 1 to 10 digits, or two with a single space if the text states bytes.
     BadLine { line: u32 },
     /// The moment is below that of the line before.
     Decreasing { line: u32 },
@@ -52,7 +52,7 @@ impl TraceError {
         }
     }
 
-    /// The line that the refusal names, or 0 where it names none.
+    /// The line that the refusal names, or 0 if it names none.
     pub fn line(self) -> u64
         ensures { result ≡ place_of self }
     {

@@ -14,7 +14,7 @@ use Rattle.command_ends.specs.declared.cause.Cause.{Cause}
 use Rattle.command_ends.specs.declared.cause.Cause.TheVariants.{Refused, OutOfMemory}
 use Rattle.command_ends.specs.Stops.{StopsReading}
 
--- why what was read is refused where it is judged: its refusal, or out of memory
+-- why what was read is refused if it is judged: its refusal, or out of memory
 abbrev pub RefusesBy : (Option Refusal → Type 0) → Cause → Type 0
 RefusesBy Says cause = (cause ≡ OutOfMemory) ⊎ ((refusal : Refusal) × (cause ≡ Refused refusal) × Says (Some refusal))
 
@@ -23,7 +23,7 @@ abbrev pub ReadsOn : {A T : Type 0} → Reading A → (T → Reading A) → Disk
 ReadsOn reading next old new (Ok value) = Leads old.files reading (next value)
 ReadsOn reading next old new (Err cause) = StopsReading reading old new cause
 
--- All of the text is written, or after a refusal a front of it that isn't all.
+-- All of the text is written, or after a refusal a prefix of it that isn't all.
 pub record Sends {T : Type 0} (text : List ℕ) (old new : SinkView) (result : Result T EndError) : Type 0 where
   pub ok : OnOk result (new.written ≡ sending text old.written)
   pub err : OnErr result ((n : ℕ) × (n < length text) × (new.written ≡ sending (take n text) old.written))

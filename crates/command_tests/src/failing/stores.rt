@@ -14,7 +14,7 @@ const FILES: Files = &[
     ("old", OLD),
 ];
 
-// What is left where `o` isn't made, where it is made, and where it is written. The others stay as they are.
+// What is left where `o` isn't made, if it is made, and if it is written. The others stay as they are.
 const UNMADE: Files = &[
     ("l", LOG),
     ("c", CLIENT),

@@ -25,7 +25,7 @@ HasNoLine bytes = (l : ChunkLine) (after : List ℕ) → IsSizeLine l → bytes 
 abbrev pub NeverHasLine : List ℕ → Type 0
 NeverHasLine bytes = (extra : List ℕ) → HasNoLine (bytes ++ extra)
 
--- The bytes are a front of a chunk line within its limits, or a whole one.
+-- The bytes are a prefix of a chunk line within its limits, or a whole one.
 abbrev pub MayBecomeLine : List ℕ → Type 0
 MayBecomeLine bytes = (extra : List ℕ) × (l : ChunkLine) × IsSizeLine l × (bytes ++ extra ≡ print_chunk_line l)
 
@@ -52,7 +52,7 @@ HasNoTrailers bytes = (s : Section) (after : List ℕ) → Reads print_tree IsSe
 abbrev pub NeverHasTrailers : List ℕ → Type 0
 NeverHasTrailers bytes = (extra : List ℕ) → HasNoTrailers (bytes ++ extra)
 
--- The bytes are a front of a trailer section within its limits, or a whole one.
+-- The bytes are a prefix of a trailer section within its limits, or a whole one.
 abbrev pub MayBecomeTrailers : List ℕ → Type 0
 MayBecomeTrailers bytes = (extra : List ℕ) × (s : Section) × IsSection s × IsWithin 101 (print_tree s)
     × (bytes ++ extra ≡ print_tree s)

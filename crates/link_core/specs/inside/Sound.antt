@@ -27,7 +27,7 @@ pub record Gone : Type 0 where
 abbrev pub nothing : Gone
 nothing = record { come = []; departed = []; log = [] }
 
--- the same, where no arrival was let go
+-- the same, if no arrival was let go
 abbrev pub keeping_arrivals : Gone → Gone
 keeping_arrivals gone = record gone { come = [] }
 

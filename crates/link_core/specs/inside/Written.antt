@@ -1,4 +1,4 @@
--- For proofs alone: a link's log, where it keeps one or none.
+-- For proofs alone: a link's log, if it keeps one or none.
 use Rattle.std.specs.Prelude.{◌≡◌, ◌++◌, Bool, true, false, List, []}
 use Rattle.shell_log.specs.declared.entry.Entry.{Entry}
 use Rattle.link_core.specs.views.Written.{KeptLog}

@@ -1,4 +1,4 @@
--- A link's log, where it keeps one or none.
+-- A link's log, if it keeps one or none.
 use Rattle.std.specs.Prelude.{ℕ, ◌-◌, ◌^◌, Bool, true, false, List}
 use Rattle.shell_log.specs.declared.entry.Entry.{Entry}
 

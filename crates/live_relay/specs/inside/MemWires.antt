@@ -3,7 +3,7 @@ use Rattle.std.specs.Prelude.{Option, Some, None}
 use Rattle.std.specs.Borrow.{Bor}
 use Rattle.live_relay.specs.Wires.{Datagram}
 
--- an answer that is lent, where there is one
+-- an answer that is lent, if there is one
 abbrev pub lent_answer : Option (Bor (Option Datagram)) → Option Datagram
 lent_answer None = None
 lent_answer (Some answer) = answer.now

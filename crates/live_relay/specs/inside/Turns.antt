@@ -83,7 +83,7 @@ pub record IsSameButSent (old new : Relay) : Type 0 where
 abbrev pub ToldBefore : WireView → WireView → Type 0
 ToldBefore old new = (now : WireTold) → new.told ≡ Some now → (start : WireTold) × (old.told ≡ Some start)
 
--- What was asked and sent before goes on to this, where the wire tells it.
+-- What was asked and sent before goes on to this, if the wire tells it.
 abbrev pub GoesTo : NestParts → List Turn → WireView → WireView → (WireTold → WireTold → Type 0) → Type 0
 GoesTo nest turns old new P = (start before now : WireTold) → old.told ≡ Some before → new.told ≡ Some now
     → HasAsked nest turns start before → HasSent nest turns (last_moment turns) start.sent before.sent → P start now

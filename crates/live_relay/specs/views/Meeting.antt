@@ -11,7 +11,7 @@ abbrev pub fed_of : List State → Stream
 fed_of [] = no_items
 fed_of (s ∷ states) = s.fed
 
--- The packets that were taken from the last shell, or `packets` where there is no shell.
+-- The packets that were taken from the last shell, or `packets` if there is no shell.
 abbrev pub last_taken : List Timed → List State → List Timed
 last_taken packets [] = packets
 last_taken packets (s ∷ states) = last_taken s.taken.packets states

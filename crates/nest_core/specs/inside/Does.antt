@@ -21,7 +21,7 @@ takes s = takes_where s.drain s.state.taken.end s
 abbrev pub sends : Station → Bool
 sends s = is_some s.drain && has_room s.channel
 
--- `p` is true of the station at place `j`; false where there is none.
+-- `p` is true of the station at place `j`; false if there is none.
 abbrev pub at_station : (Station → Bool) → ℕ → List Station → Bool
 at_station p j [] = false
 at_station p zero (s ∷ stations) = p s

@@ -7,7 +7,7 @@ use Rattle.packet_record.specs.declared.packet.Direction.TheVariants.{Up, Down}
 use Rattle.nest_spec.specs.declared.fate.FateRow.{FateRow}
 use Rattle.nest_spec.specs.declared.packed_fate.PackedFate.TheInside.{Inside}
 
--- The fate of a kind (0 departed, 1 dropped, 2 inside, else unsent), with `shell` and `moment` where it has them.
+-- The fate of a kind (0 departed, 1 dropped, 2 inside, else unsent), with `shell` and `moment` if it has them.
 abbrev pub fate_at : ℕ → ℕ → ℕ → Fate
 fate_at kind shell moment =
     if kind == 0 then fates.Departed moment

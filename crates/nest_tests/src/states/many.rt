@@ -105,7 +105,7 @@ fn is_same_unlogged(unlogged: &Passage, other: &Passage) -> bool {
     have_same_packets(unlogged, other) && unlogged.log.is_none()
 }
 
-// Returns the log of a passage, written out, or an empty one where it has none.
+// Returns the log of a passage, written out, or an empty one if it has none.
 fn log_of(rt: &impl Abort, alloc: Global, passage: Passage) -> Log {
     let log = passage.log;
     match log {

@@ -85,7 +85,7 @@ fn every_order_gives_the_composition(rt: HostRuntime) {
     gives_the_composition(&rt, rt.alloc(), &all_bytes());
 }
 
-// Returns the moment of the first packet that was collected, or 0 where there is none.
+// Returns the moment of the first packet that was collected, or 0 if there is none.
 fn first_moment(world: &World<'_>) -> u64 {
     match world.collected().packets() {
         [first, ..] => first.moment,

@@ -91,7 +91,7 @@ pub record IsIndex (rs : List Record) (port : Option ℕ) (es : List Entry) (sha
   pub ordered : IsNonDecreasingBy (λ (e : Entry). e.0) es
   pub fronts : HasFrontsTo rs es (length es) shared
 
--- What was found after one more record, at `place`: the record where it agrees and is better, else what was found
+-- What was found after one more record, at `place`: the record if it agrees and is better, else what was found
 -- before.
 abbrev pub WithRecord : RequestHead → Option ℕ → Record → ℕ → Option (ℕ × ℕ) → Option (ℕ × ℕ) → Type 0
 WithRecord q asked r place found next = (Agrees q asked r × (next ≡ better_of found place (score q r)))

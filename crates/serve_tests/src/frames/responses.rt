@@ -12,7 +12,7 @@ fn next_response(frames: &mut ResponseFrames, to_head: bool) -> Result<Step<Resp
     frames.next(to_head)
 }
 
-/// 1000 and the bytes of a message, and 100000 more where it closes.
+/// 1000 and the bytes of a message, and 100000 more if it closes.
 fn message_number(message: &Response) -> u64 {
     let number = 1000u64.saturating_add(message.bytes.len() as u64);
     if message.head.closes {

@@ -5,7 +5,7 @@ use super::TWO;
 use crate::links::{REQUEST, RESPONSE, port_of};
 use crate::store::paired;
 use mm_base::{EndError, MemLink, MemPort, Pace, Port, Role};
-use replay_server::{ServeError, Served, serve};
+use replay_server::{MissWatch, ServeError, Served, serve};
 use std::alloc::Global;
 use std::marker::{Send, Sync};
 use std::sync::Wait;
@@ -42,7 +42,11 @@ impl Pace for FirstAnswer {
     }
 }
 
-/// A port in memory whose second call of `accept` waits for the first answer, and notes where it didn't come.
+impl MissWatch for FirstAnswer {
+    fn missed(&self) {}
+}
+
+/// A port in memory whose second call of `accept` waits for the first answer, and notes if it didn't come.
 #[derive(Drop)]
 struct Patient<'a> {
     port: MemPort,
@@ -74,7 +78,7 @@ impl Port for Patient<'_> {
 }
 
 /// What `serve` returns with the store of one request, over two connections.
-fn served<R: Threads + Wait + Sync, P: Port + Send, Q: Pace + Sync>(
+fn served<R: Threads + Wait + Sync, P: Port + Send, Q: MissWatch + Sync>(
     rt: &R,
     alloc: Global,
     port: &mut P,

@@ -5,7 +5,7 @@ use super::{TWO, TWO_ANSWERS};
 use crate::links::{REQUEST, RESPONSE, port_of};
 use crate::store::paired;
 use mm_base::{MemPort, NoPace, Pace, Port, Role};
-use replay_server::{ServeError, Served, ServingPlan, serve_pool};
+use replay_server::{MissWatch, ServeError, Served, ServingPlan, serve_pool};
 use std::alloc::Global;
 use std::marker::{Send, Sync};
 use std::sync::Wait;
@@ -15,7 +15,7 @@ use text_base::OutOfMemory;
 
 /// What `serve_pool` returns with the store of one request. No test needs what its contract says of that, and so this
 /// has none.
-fn served<R: Threads + Wait + Sync, P: Port + Send, Q: Pace + Sync>(
+fn served<R: Threads + Wait + Sync, P: Port + Send, Q: MissWatch + Sync>(
     rt: &R,
     alloc: Global,
     port: &mut P,
@@ -83,6 +83,10 @@ impl Pace for Others {
     }
 }
 
+impl MissWatch for Others {
+    fn missed(&self) {}
+}
+
 // Seven connections: of two requests each, one of which is bad and one fails.
 static SEVEN: [(&str, u64); 7] = [
     (TWO, 0),
@@ -144,6 +148,10 @@ impl Pace for AtATime {
             thread::yield_now();
         }
     }
+}
+
+impl MissWatch for AtATime {
+    fn missed(&self) {}
 }
 
 /// Whether no more than `connections` of seven are served at a time, and all of them in the end.

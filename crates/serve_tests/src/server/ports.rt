@@ -5,7 +5,7 @@ use super::{TWO, TWO_ANSWERS};
 use crate::links::{REQUEST, RESPONSE, port_of};
 use crate::store::paired;
 use mm_base::{Listened, MemPort, NoPace, Pace, Port, Role};
-use replay_server::{ServeError, Served, serve};
+use replay_server::{MissWatch, ServeError, Served, serve};
 use std::alloc::Global;
 use std::marker::{Send, Sync};
 use std::sync::Wait;
@@ -15,7 +15,7 @@ use text_base::OutOfMemory;
 
 /// What `serve` returns with the store of one request. No test needs what its contract says of that, and so this has
 /// none.
-fn served<R: Threads + Wait + Sync, P: Port + Send, Q: Pace + Sync>(
+fn served<R: Threads + Wait + Sync, P: Port + Send, Q: MissWatch + Sync>(
     rt: &R,
     alloc: Global,
     port: &mut P,
@@ -67,6 +67,10 @@ impl Pace for Together {
         }
         self.limits.fetch_add(1, Ordering::SeqCst);
     }
+}
+
+impl MissWatch for Together {
+    fn missed(&self) {}
 }
 
 // Four connections: three of two requests, the first of which fails, and a bad one.

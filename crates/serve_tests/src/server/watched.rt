@@ -4,7 +4,7 @@ ghost use Rattle.mm_base.specs.MemLink.{mem_link_view};
 use super::{ONE, TWO, end_of};
 use crate::links::link;
 use mm_base::{EndError, Link, MemLink, Pace, Role};
-use replay_server::ConnEnd;
+use replay_server::{ConnEnd, MissWatch};
 use std::alloc::Global;
 use std::sync::Wait;
 use std::sync::atomic::{AtomicU64, Ordering};
@@ -56,6 +56,10 @@ impl Pace for Turns {
             self.wrong.fetch_add(1, Ordering::SeqCst);
         }
     }
+}
+
+impl MissWatch for Turns {
+    fn missed(&self) {}
 }
 
 // A link in memory that counts the reads that began without a turn of their own, and how often its output was closed.

@@ -14,7 +14,7 @@ with_entry e p = record p { entries = p.entries + 1; last = moment_of e }
 abbrev pub keeping : List ℕ → LogPart → LogPart
 keeping bytes p = record p { kept = bytes }
 
--- the refusal of the line that has begun, where it says nothing
+-- the refusal of the line that has begun, if it says nothing
 abbrev pub bad_line : LogPart → LogError
 bad_line p = if p.has_begun then BadLine (p.entries + 2) else BadHeader
 

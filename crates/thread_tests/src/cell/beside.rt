@@ -49,8 +49,8 @@ fn feed_all<R: Wait>(rt: &R, cell: &ShellCell, seat: &mut FeedSeat, count: u32) 
     feed_to(rt, cell, seat, Item::End).is_ok()
 }
 
-// Takes until the end, waits where there is nothing yet, which it counts, and returns how many takes there were. None
-// where it finds no memory or a broken state.
+// Takes until the end, waits if there is nothing yet, which it counts, and returns how many takes there were. None
+// if it finds no memory or a broken state.
 fn count_takes<R: Wait>(
     rt: &R,
     cell: &ShellCell,
@@ -146,7 +146,7 @@ fn two_threads_pass_all_through(rt: HostRuntime) {
     );
 }
 
-// Feeds the end long after the other thread has begun to wait. False where it finds no memory, or nobody waits.
+// Feeds the end long after the other thread has begun to wait. False if it finds no memory, or nobody waits.
 fn feed_late<R: Wait>(rt: &R, cell: &ShellCell, seat: &mut FeedSeat, waits: &AtomicU64) -> bool
     requires own { seat.old.cell ≡ cell.now }
     requires empty { seat.old.flow ≡ no_items }

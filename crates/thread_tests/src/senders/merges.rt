@@ -30,7 +30,7 @@ fn packet(id: u32, moment: u64) -> Item {
     Item::Packet(timed(id, moment))
 }
 
-// What a merge does next. None where it is over.
+// What a merge does next. None if it is over.
 fn next_step(core: &mut MergeCore) -> Option<MergeStep> {
     if core.given().end() != FlowEnd::Open {
         return None;
@@ -38,7 +38,7 @@ fn next_step(core: &mut MergeCore) -> Option<MergeStep> {
     Some(core.next())
 }
 
-// Takes what a merge gives until it needs an item of a sender: that sender, or 0 where it is over.
+// Takes what a merge gives until it needs an item of a sender: that sender, or 0 if it is over.
 fn take_given(core: &mut MergeCore, given: &mut Vec<Item>) -> Result<u32, OutOfMemory> {
     for _ in 0..10_000 {
         let Some(step) = next_step(core) else {
@@ -52,7 +52,7 @@ fn take_given(core: &mut MergeCore, given: &mut Vec<Item>) -> Result<u32, OutOfM
     Ok(0)
 }
 
-// Adds the item, where that sender may send it. False where it may not.
+// Adds the item, where that sender may send it. False if it may not.
 fn add_next(core: &mut MergeCore, sender: u32, item: Item) -> Result<bool, OutOfMemory> {
     if sender == 0 || sender > core.senders() || !core.may_add(sender, &item) {
         return Ok(false);
@@ -61,7 +61,7 @@ fn add_next(core: &mut MergeCore, sender: u32, item: Item) -> Result<bool, OutOf
     Ok(true)
 }
 
-// The same where there is an item. False where there is none.
+// The same if there is an item. False if there is none.
 fn add_some(core: &mut MergeCore, sender: u32, item: Option<Item>) -> Result<bool, OutOfMemory> {
     match item {
         Some(item) => add_next(core, sender, item),

@@ -1,0 +1,3 @@
+-- For proofs alone.
+pub mod Rules
+pub mod Sides

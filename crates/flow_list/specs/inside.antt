@@ -1,0 +1,2 @@
+-- What proofs and the clauses of inner functions cite, and no caller needs.
+pub mod Behind

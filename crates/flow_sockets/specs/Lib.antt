@@ -1,0 +1,2 @@
+pub mod SocketViews
+pub mod MemSockets

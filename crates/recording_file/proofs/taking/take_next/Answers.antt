@@ -1,0 +1,14 @@
+use Rattle.std.proofs.Common.{◌++◌, ◌∷◌, [], sym, subst}
+use Rattle.recording_file.specs.Recordings.{Holds}
+use Rattle.recording_file.specs.declared.file_state.FileState.{FileState}
+use Rattle.recording_file.proofs.RecordingLemmas.{next_taken}
+use Rattle.recording_file.proofs.taking.take_next.Goals as goal
+
+pub returns-clause-holds : goal.returns-clause-holds
+returns-clause-holds g c before records h =
+    let name = c.args.name.now in
+    let new = (g.D.Disk.view c.write_next-written.new.disk).files in
+    let all = records ++ c.args.record.now ∷ [] in
+    subst (λ (s : FileState). Holds name before all s new) (sym c.after.ensures)
+    (next_taken name (g.D.Disk.view c.args.disk.now).files before new records c.args.record.now
+    c.write_next-written.result c.write_next-written.ensures.ok c.write_next-written.ensures.err h)

@@ -1,0 +1,10 @@
+pub mod Lists
+pub mod Numbers
+pub mod Turns
+pub mod Soundness
+pub mod Keeping
+pub mod OnWay
+mod Rows
+pub mod Given
+pub mod Due
+pub mod Moments

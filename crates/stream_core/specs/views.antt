@@ -1,0 +1,2 @@
+-- What the value of a type means.
+pub mod Stream
