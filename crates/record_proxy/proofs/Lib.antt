@@ -11,4 +11,5 @@ pub mod FirstLemmas
 pub mod AskingLemmas
 pub mod ServingLemmas
 pub mod PoolLemmas
+pub mod RecordingLemmas
 pub mod CommandLemmas

@@ -13,7 +13,7 @@ use Rattle.record_store.specs.declared.record.Record.{Record}
 use Rattle.replay_server.specs.declared.ends.Served.{Served}
 use Rattle.record_proxy.specs.Dialers.{DialerView}
 use Rattle.record_proxy.specs.Servings.{GivenUp, IsDialed, IsJoined, IsServed, Joined, Net, NotDialed, Passage}
-use Rattle.record_proxy.specs.Servings.{RisesFor, Serves, added_of, counted_as, dials_of, end_of, finished_with}
+use Rattle.record_proxy.specs.Servings.{RisesFor, Serves, added_by, added_of, counted_as, dials_of, end_of, finished_with}
 use Rattle.replay_server.specs.Servings.{no_ends}
 use Rattle.record_proxy.specs.Servings.{most_recorded, net, servers_of}
 use Rattle.record_proxy.specs.Links.{HasFaultCause, IsStored, links}
@@ -24,7 +24,7 @@ use Rattle.record_proxy.specs.declared.ends.ProxyEnd.TheVariants.{ClientFault, S
 use Rattle.record_proxy.specs.declared.ends.ProxyError.{ProxyError}
 use Rattle.record_proxy.specs.declared.standing.RecordingStanding.{RecordingStanding}
 use Rattle.record_proxy.proofs.ServingLemmas.{keeps_then, rises_later, risen, same_finished, serves_next, serves_none}
-use Rattle.record_proxy.proofs.ServingLemmas.{serves_same, tally_push}
+use Rattle.record_proxy.proofs.ServingLemmas.{added_push, serves_same, tally_push}
 
 -- the number of accepted connections is no matter of what each call keeps
 keeps_at : {C : Type 0} (old new : PortView C) (a b : ℕ) → KeepsPort old new
@@ -80,9 +80,8 @@ module _ {C X : Type 0} (site_port : ℕ) (client_view : C → LinkView) (server
     accepted = new.accepted;
     dialed = dialer.dialed;
     faults = dialer.faults;
-    serves = subst (λ (l : List Record). Serves site_port client_view server_view true (net old dialer) (net new dialer) []
-        l []) (sym records)
-        (serves_none site_port client_view server_view true old new dialer [] keeps finished accepted);
+    serves = serves_none site_port client_view server_view true old new dialer keeps finished accepted;
+    records = records;
     accepted_is = omega (arith, away);
     dialed_is = omega (arith, away);
     grows = omega arith;
@@ -104,11 +103,10 @@ module _ {C X : Type 0} (site_port : ℕ) (client_view : C → LinkView) (server
         accepted = x.accepted;
         dialed = x.dialed;
         faults = x.faults;
-        serves = subst (λ (l : List Record). Serves site_port client_view server_view true start
-            (at (net port dialer) x.accepted x.dialed x.faults) [] l x.passages) (sym records)
-            (serves_same site_port client_view server_view true start (at old x.accepted x.dialed x.faults)
-            (at (net port dialer) x.accepted x.dialed x.faults) [] s.records x.passages x.serves refl finished
-            (keeps_at old.port port x.accepted x.accepted keeps) refl dials_finished refl);
+        serves = serves_same site_port client_view server_view true start (at old x.accepted x.dialed x.faults)
+            (at (net port dialer) x.accepted x.dialed x.faults) x.passages x.serves refl finished
+            (keeps_at old.port port x.accepted x.accepted keeps) refl dials_finished refl;
+        records = records ∙ x.records;
         accepted_is = let a = x.accepted_is in omega (arith, a, accepted, away);
         dialed_is = let a = x.dialed_is in omega (arith, a, dialed, away);
         grows = let a = x.grows in omega (arith, a, grows);
@@ -136,10 +134,9 @@ module _ {C X : Type 0} (site_port : ℕ) (client_view : C → LinkView) (server
       dialed = x.dialed + dials_of p.dialed;
       faults = new.dialer.faults;
       serves = serves_next site_port client_view server_view true start (at old x.accepted x.dialed x.faults)
-          (at new (x.accepted + 1) (x.dialed + dials_of p.dialed) new.dialer.faults) [] s.records s'.records x.passages
-          p x.serves is refl finished (keeps_at old.port new.port x.accepted (x.accepted + 1) keeps) refl dials_finished
-          (rises_later site_port server_view p.dialed x.faults old.dialer.faults new.dialer.faults x.grows rises)
-          records;
+          (at new (x.accepted + 1) (x.dialed + dials_of p.dialed) new.dialer.faults) x.passages p x.serves is refl finished (keeps_at old.port new.port x.accepted (x.accepted + 1) keeps) refl dials_finished
+          (rises_later site_port server_view p.dialed x.faults old.dialer.faults new.dialer.faults x.grows rises);
+      records = added_push [] s.records s'.records x.passages p x.records records;
       accepted_is = accepted;
       dialed_is = dialed;
       grows = omega arith;
@@ -206,10 +203,11 @@ module _ {C X : Type 0} (site_port : ℕ) (client_view : C → LinkView) (server
       → IsServed site_port client_view server_view true most_recorded start new [] s.records s.served
   pool_ends start new s x none stopped few = record {
     passages = x.passages;
-    serves = serves_same site_port client_view server_view true start (at new x.accepted x.dialed x.faults) new []
-        s.records x.passages x.serves (let a = x.accepted_is in omega (arith, a, none)) refl
+    serves = serves_same site_port client_view server_view true start (at new x.accepted x.dialed x.faults) new
+        x.passages x.serves (let a = x.accepted_is in omega (arith, a, none)) refl
         (keeps_at new.port new.port x.accepted new.port.accepted (keeps_same new.port))
         (let a = x.dialed_is in omega (arith, a, none)) refl (x.same none);
+    records = x.records;
     counts = x.counts;
     many = elim (cases_lt (length x.passages) most_recorded) [
       | inl less ↦ elim stopped [
@@ -255,9 +253,9 @@ module _ {C X : Type 0} (site_port : ℕ) (client_view : C → LinkView) (server
           dials_finished = s.dials_finished;
           rises = s.rises;
           lost = s.lost;
-          records = s.records;
           keeps = keeps_then keeps s.keeps;
         };
+        records = x.records;
         counts = x.counts;
         many = x.many;
       }

@@ -25,7 +25,7 @@ use Rattle.record_proxy.specs.Servings.{Net, ServingSays, most_recorded}
 use Rattle.record_proxy.specs.declared.ends.ProxyError.{ProxyError}
 use Rattle.record_proxy.specs.declared.ends.ProxyError.TheVariants as errors
 
--- the port to listen at, the site's port, how many clients are served, and the name of the store's file; or, if it
+-- the port to listen at, the site's port, how many clients are served, and the name of the store's file; or, where it
 -- is recorded until ended, how many are served at a time
 pub record ProxyJob : Type 0 where
   pub port : ℕ

@@ -3,3 +3,4 @@ pub mod Passing
 pub mod Pools
 pub mod Progress
 pub mod Values
+pub mod Recordings

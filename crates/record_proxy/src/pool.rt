@@ -128,7 +128,7 @@ fn clear<K: Site, P: Port, X: Dialer, R: Wait>(
     Ok(standing)
 }
 
-// Sends a client and the connection that was dialed for it to the workers. Returns false if there are none.
+// Sends a client and the connection that was dialed for it to the workers. Returns false where there are none.
 fn send_pair<A: Link + Send + Drop, B: Link + Send + Drop, R: Wait>(
     rt: &R,
     door: &Door<A, B>,
@@ -346,8 +346,8 @@ fn run_pool<K: Site + Send + Sync, P: Port + Send, X: Dialer + Send, R: Threads 
 /// (`proxy_conn`) in a thread, and both are finished once they have ended and the next client comes. It is waited for
 /// one to end where as many are being served as may be. A client for which the dialer fails is counted as broken.
 ///
-/// `Port` comes only if a fault of the port was counted: it can't be listened at, or a client can't be accepted or
-/// finished. `OutOfMemory` means out of memory, and comes also if no thread can be made; where fewer can be made
+/// `Port` comes only where a fault of the port was counted: it can't be listened at, or a client can't be accepted or
+/// finished. `OutOfMemory` means out of memory, and comes also where no thread can be made; where fewer can be made
 /// than the job says, fewer clients are served at a time.
 pub fn serve_until_ended<P: Port + Send, X: Dialer + Send, R: Threads + Wait + Sync>(
     rt: &R,

@@ -187,7 +187,7 @@ fn serve_client<P: Port, X: Dialer, R: Threads>(
 /// connection to the site's port is dialed, both pass through (`proxy_conn`), and both are finished. It stops after
 /// that number, or where the port has no more. A client for which the dialer fails is counted as broken.
 ///
-/// `Port` comes only if a fault of the port was counted: it can't be listened at, or a client can't be accepted or
+/// `Port` comes only where a fault of the port was counted: it can't be listened at, or a client can't be accepted or
 /// finished. `OutOfMemory` means out of memory.
 pub fn serve<P: Port, X: Dialer, R: Threads>(
     rt: &R,

@@ -1,7 +1,7 @@
 -- How far a proxy has come that serves clients beside each other.
 use Rattle.std.specs.Prelude.{◌≡◌, ◌≤◌, ℕ, ◌+◌, true, List, [], length}
 use Rattle.mm_base.specs.Link.{LinkView}
-use Rattle.record_proxy.specs.Servings.{Net, Passage, Serves, net, tally}
+use Rattle.record_proxy.specs.Servings.{Net, Passage, Serves, added_by, net, tally}
 use Rattle.record_proxy.specs.declared.standing.RecordingStanding.{RecordingStanding}
 
 module _ {C X : Type 0} (site_port : ℕ) (client_view : C → LinkView) (server_view : X → LinkView) where
@@ -13,8 +13,9 @@ module _ {C X : Type 0} (site_port : ℕ) (client_view : C → LinkView) (server
     pub dialed : ℕ
     pub faults : ℕ
     pub serves : Serves site_port client_view server_view true old
-        (net (record new.port { accepted = accepted }) (record new.dialer { dialed = dialed; faults = faults })) []
-        s.records passages
+        (net (record new.port { accepted = accepted }) (record new.dialer { dialed = dialed; faults = faults }))
+        passages
+    pub records : s.records ≡ added_by passages
     pub accepted_is : new.port.accepted ≡ accepted + s.away
     pub dialed_is : new.dialer.dialed ≡ dialed + s.away
     pub grows : faults ≤ new.dialer.faults

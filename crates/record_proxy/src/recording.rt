@@ -1,0 +1,6 @@
+// A recording until its user ends it, whose records are sent as they come.
+mod messages;
+mod pool;
+mod sending;
+mod standing;
+mod workers;
