@@ -13,3 +13,4 @@ pub mod ServingLemmas
 pub mod PoolLemmas
 pub mod RecordingLemmas
 pub mod CommandLemmas
+pub mod JobLemmas

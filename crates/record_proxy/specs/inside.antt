@@ -3,4 +3,5 @@ pub mod Passing
 pub mod Pools
 pub mod Progress
 pub mod Values
+pub mod Jobs
 pub mod Recordings

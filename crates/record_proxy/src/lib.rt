@@ -14,6 +14,7 @@ mod proxy;
 mod proxy_state;
 mod record_sink;
 mod recording;
+mod recording_job;
 mod refusing;
 mod serving;
 mod standing;

@@ -3,4 +3,7 @@ mod messages;
 mod pool;
 mod sending;
 mod standing;
+mod until_ended;
 mod workers;
+
+pub(crate) use until_ended::{Recorded, record_until_ended};
