@@ -1,5 +1,5 @@
 -- What a top call leaves, from how its command ended and how that was explained.
-use Rattle.std.proofs.Common.{◌≡◌, ◌≢◌, inl, inr, ℕ, Option}
+use Rattle.std.proofs.Common.{◌≢◌, inl, inr, ℕ, Option}
 use Rattle.std.proofs.lemmas.Bool.{cases_eq}
 use Rattle.mm_base.specs.Counts.{Rose}
 use Rattle.mm_base.specs.Disk.{DiskView}

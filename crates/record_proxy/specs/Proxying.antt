@@ -100,7 +100,7 @@ module _ {C X : Type 0} (client_view : C → LinkView) (server_view : X → Link
   -- What the serving of a job did, from no records on, one client after the other.
   abbrev pub ServesJob : ProxyJob → Net C X → Net C X → List Record → Result Served ProxyError → Type 0
   ServesJob job old new records result =
-      ServingSays job.site_port client_view server_view false job.connections old new [] records result
+      ServingSays job.site_port client_view server_view job.connections old new [] records result
 
   -- The clients of a job were served, and these are the records of all: connection after connection, or where they were
   -- served beside each other, as until ended, in any order that keeps that of each connection.

@@ -1,5 +1,5 @@
 -- What a proxy does to its port and its dialer.
-use Rattle.std.specs.Prelude.{◌≡◌, ◌⊎◌, ◌<◌, ◌≤◌, ℕ, ◌+◌, ◌-◌, ◌^◌, ◌++◌, Bool, true, List, [], ◌∷◌, length}
+use Rattle.std.specs.Prelude.{◌≡◌, ◌⊎◌, ◌<◌, ◌≤◌, ℕ, ◌+◌, ◌-◌, ◌^◌, ◌++◌, Bool, true, false, List, [], ◌∷◌, length}
 use Rattle.std.specs.Prelude.{map}
 use Rattle.std.specs.Prelude.{All, Option, Some, None, Result, Ok, Err, sum_by}
 use Rattle.std.specs.List.{flat_map}
@@ -156,15 +156,14 @@ module _ {C X : Type 0} (site_port : ℕ) (client_view : C → LinkView) (server
           → old.dialer.faults + sum_by (λ (p : Passage C X). lost_of p.dialed) ps ≤ new.dialer.faults
       pub keeps : KeepsPort old.port new.port
 
-  -- A serving of at most `most` clients that is done: as many as it should, or the port is drained. The store has the
-  -- records of all, in this order.
-  pub record IsServed (beside : Bool) (most : ℕ) (old new : Net C X) (store store' : List Record) (n : Served) : Type 0
-    where
-      pub passages : List (Passage C X)
-      pub serves : Serves beside old new passages
-      pub records : store' ≡ store ++ added_by passages
-      pub counts : n ≡ tally passages
-      pub many : (length passages ≡ most) ⊎ ((length passages < most) × (new.port.drained ≡ true))
+  -- A serving of at most `most` clients, one after the other, that is done: as many as it should, or the port is
+  -- drained. The store has the records of all, in this order.
+  pub record IsServed (most : ℕ) (old new : Net C X) (store store' : List Record) (n : Served) : Type 0 where
+    pub passages : List (Passage C X)
+    pub serves : Serves false old new passages
+    pub records : store' ≡ store ++ added_by passages
+    pub counts : n ≡ tally passages
+    pub many : (length passages ≡ most) ⊎ ((length passages < most) × (new.port.drained ≡ true))
 
   -- Likewise of clients that are served beside each other. These are the records of each.
   pub record IsServedBeside (most : ℕ) (old new : Net C X) (lists : List (List Record)) (n : Served) : Type 0 where
@@ -175,7 +174,7 @@ module _ {C X : Type 0} (site_port : ℕ) (client_view : C → LinkView) (server
     pub many : (length passages ≡ most) ⊎ ((length passages < most) × (new.port.drained ≡ true))
 
   -- Or it stopped, by a fault of the port or for lack of memory.
-  abbrev pub ServingSays : Bool → ℕ → Net C X → Net C X → List Record → List Record → Result Served ProxyError → Type 0
-  ServingSays beside most old new store store' (Ok n) = IsServed beside most old new store store' n
-  ServingSays beside most old new store store' (Err errors.Port) = Rose old.port.faults new.port.faults
-  ServingSays beside most old new store store' (Err errors.OutOfMemory) = Unit {0}
+  abbrev pub ServingSays : ℕ → Net C X → Net C X → List Record → List Record → Result Served ProxyError → Type 0
+  ServingSays most old new store store' (Ok n) = IsServed most old new store store' n
+  ServingSays most old new store store' (Err errors.Port) = Rose old.port.faults new.port.faults
+  ServingSays most old new store store' (Err errors.OutOfMemory) = Unit {0}

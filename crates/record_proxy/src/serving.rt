@@ -1,5 +1,5 @@
 // A proxy: clients one after the other, and a connection dialed for each.
-ghost use Rattle.std.specs.Prelude.{◌≡◌, ◌<◌, ◌≤◌, ◌+◌, false, Option, Ok, Err, IfOk, IsErrOf, IsOk};
+ghost use Rattle.std.specs.Prelude.{◌≡◌, ◌<◌, ◌≤◌, ◌+◌, Option, Ok, Err, IfOk, IsErrOf, IsOk};
 ghost use Rattle.mm_base.specs.Counts.{Rose};
 ghost use Rattle.mm_base.specs.Link.{IsFresh};
 ghost use Rattle.mm_base.specs.Port.{KeepsPort, after_finish};
@@ -197,7 +197,7 @@ pub fn serve<P: Port, X: Dialer, R: Threads>(
     dialer: &mut X,
     store: &mut Store,
 ) -> Result<Served, ProxyError>
-    ensures serving { ServingSays job.now.site_port P.Conn.view X.Conn.view false job.now.connections
+    ensures serving { ServingSays job.now.site_port P.Conn.view X.Conn.view job.now.connections
         (net (P.view port.old) (X.view dialer.old)) (net (P.view port.new) (X.view dialer.new)) store.old store.new
         result }
     ensures listens { ListensAt job.now.port (P.view port.old) (P.view port.new) result }
