@@ -8,8 +8,9 @@ use Rattle.mm_base.specs.Files.{Files}
 use Rattle.mm_base.specs.Sink.{SinkView, sending}
 use Rattle.command_ends.specs.Answers.{cause_in}
 use Rattle.command_ends.specs.Ends.{Outside, outside, Ends, Finishes, HasOutFault, HasReadFault, HasWriteFault}
-use Rattle.command_ends.specs.Ends.{IsPartlyPrinted, IsPartlyWritten, IsRefused, IsUnchanged, KeepsFiles, Early}
+use Rattle.command_ends.specs.Ends.{IsPartlyPrinted, IsPartlyWritten, IsRefused, IsUnchanged, Early}
 use Rattle.command_ends.specs.Ends.{Writing, Printing}
+use Rattle.command_ends.specs.Kept.{KeepsFiles}
 use Rattle.command_ends.specs.inside.Ends.{FinishesOnly}
 use Rattle.command_ends.specs.Outputs.{NamedText, Output, HoldsFirst, holding_all, prints, writes}
 use Rattle.command_ends.specs.Readings.{Reading, Done, Refuses, AtTask, asked, usage}

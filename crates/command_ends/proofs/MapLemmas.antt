@@ -5,6 +5,7 @@ use Rattle.mm_base.specs.Files.{Files}
 use Rattle.mm_base.specs.Sink.{SinkView}
 use Rattle.command_ends.specs.Ends.{Outside, outside, offline, Ends, Finishes, IsPartlyPrinted, IsPartlyWritten}
 use Rattle.command_ends.specs.Ends.{IsStopped, IsUnchanged, Early, Serving, Writing, Printing}
+use Rattle.command_ends.specs.Kept.{KeepsFiles}
 use Rattle.command_ends.specs.Outputs.{Output}
 use Rattle.command_ends.specs.Readings.{Reading, Done, Refuses, Reads, Judges, Reaches, ReachesPast, input_of}
 use Rattle.command_ends.specs.Readings.{Stop, AtTask, AtRefusal, AtFile, map_reading}
@@ -72,6 +73,8 @@ pub record Widens {A B N M : Type 0} (f : A → B) (work : A → Work N) (whole 
   pub gives : (task : A) (output : Output) → (work task).gives old new output
       → (whole (f task)).gives before after output
   pub stops : (task : A) (cause : Cause) → (work task).stops old new cause → (whole (f task)).stops before after cause
+  pub leaves : (task : A) (disk disk' : DiskView) → (work task).leaves disk disk'
+      → (whole (f task)).leaves disk disk'
   pub faulted : (task : A) → (work task).faulted old new → (whole (f task)).faulted before after
   pub kept : new ≡ old → after ≡ before
 
@@ -95,7 +98,7 @@ module _ {A B N M : Type 0} (f : A → B) (work : A → Work N) (whole : B → W
     task = f e.task;
     read = reaches_mapped f old.files reading (AtTask e.task) e.read;
     stops = w.stops e.task cause e.stops;
-    keeps = e.keeps;
+    leaves = w.leaves e.task old disk e.leaves;
     silent = e.silent;
   }
 
@@ -159,13 +162,15 @@ pub ends_beside : {A B M : Type 0} (f : A → B) (Gives : A → Output → Type 
     (reading : Reading A) (to : Reading B) (old disk : DiskView) (out written : SinkView) (net : M)
     (answer : Option Cause)
     → ((task : A) (output : Output) → (only Gives task).gives net net output → (whole (f task)).gives net net output)
+    → ((task : A) (before after : DiskView) → KeepsFiles before after → (whole (f task)).leaves before after)
     → map_reading f reading ≡ to → Ends (only Gives) reading (offline old out) (offline disk written) answer
     → Ends whole to (outside old out net) (outside disk written net) answer
-ends_beside {A} {B} f Gives whole reading to old disk out written net answer does e ends =
+ends_beside {A} {B} f Gives whole reading to old disk out written net answer does leaves e ends =
     subst (λ (r : Reading B). Ends whole r (outside old out net) (outside disk written net) answer) e
     (ends_widened f (only Gives) whole reading old disk out written tt tt net net (record {
       gives = λ task output g. does task output (record { gives = g.gives; net = refl });
       stops = λ task cause no. absurd no;
+      leaves = leaves;
       faulted = λ task no. absurd no;
       kept = λ same. refl;
     }) answer ends)

@@ -8,8 +8,10 @@ use Rattle.mm_base.specs.Sink.{SinkView}
 use Rattle.mm_base.proofs.Then.{Rose-before}
 use Rattle.command_ends.specs.Causes.{status_by, status_of, status_of_refusal}
 use Rattle.command_ends.specs.Answers.{Answers, Concludes, IsFaultless, StopsShort}
-use Rattle.command_ends.specs.Ends.{Outside, outside, Ends, IsDone, KeepsFiles}
+use Rattle.command_ends.specs.Ends.{Outside, outside, Ends, IsDone}
+use Rattle.command_ends.specs.Kept.{KeepsFiles}
 use Rattle.command_ends.specs.Readings.{Reading, Reaches, Stop, AtTask, AtRefusal, AtFile, refused_first}
+use Rattle.command_ends.specs.TopCalls.{LeavesByTask}
 use Rattle.command_ends.specs.Works.{Work}
 use Rattle.command_ends.specs.declared.cause.Cause.{Cause}
 use Rattle.command_ends.specs.declared.cause.Cause.TheVariants.{Refused, ReadFault, WriteFault, OutFault, NetFault}
@@ -102,7 +104,8 @@ module _ {A N : Type 0} (work : A → Work N) (reading : Reading A) (old : Outsi
     pub read_fault : status ≡ 6 → Rose old.disk.read_faults disk.read_faults
     pub write_fault : status ≡ 7 → Rose old.disk.write_faults disk.write_faults ⊎ Rose old.out.faults out.faults
     pub net_fault : status ≡ 8 → (task : A) × (work task).faulted old.net net
-    pub keeps : status ≢ 0 → status ≢ 7 → status ≢ 9 → KeepsFiles old.disk disk
+    pub keeps : status ≢ 0 → status ≢ 7 → status ≢ 8 → status ≢ 9 → KeepsFiles old.disk disk
+    pub leaves : status ≡ 8 → LeavesByTask work reading old (outside disk out net)
     pub by_words : (refusal : Refusal) → refused_first reading ≡ Some refusal → (status ≡ status_of_refusal refusal)
         ⊎ (status ≡ 9)
     pub by_files : (m : Files) (refusal : Refusal) → HasOneEnd reading → old.disk.files ≡ Some m
@@ -146,7 +149,8 @@ module _ {A N : Type 0} (work : A → Work N) (reading : Reading A) (old : Outsi
     read_fault = λ e. absurd (omega arith);
     write_fault = λ e. absurd (omega arith);
     net_fault = λ e. absurd (omega arith);
-    keeps = λ a _ _. absurd (a refl);
+    keeps = λ a _ _ _. absurd (a refl);
+    leaves = λ e. absurd (omega arith);
     by_words = λ refusal e. absurd (led_first refusal ends.finishes.task e ends.finishes.read);
     by_files = λ m refusal single told e _. absurd
         (led_told m refusal ends.finishes.task single told e ends.finishes.read);
@@ -166,7 +170,8 @@ module _ {A N : Type 0} (work : A → Work N) (reading : Reading A) (old : Outsi
     read_fault = λ e. absurd (omega (arith, (within refusal).1));
     write_fault = λ e. absurd (omega (arith, (within refusal).1));
     net_fault = λ e. absurd (omega (arith, (within refusal).1));
-    keeps = λ _ _ _. ends.unchanged.keeps;
+    keeps = λ _ _ _ _. ends.unchanged.keeps;
+    leaves = λ e. absurd (omega (arith, (within refusal).1));
     by_words = λ wanted e.
         let same : AtRefusal refusal ≡ AtRefusal wanted =
         first_kept old.disk.files reading (AtRefusal refusal) wanted e ends.first in
@@ -186,7 +191,8 @@ module _ {A N : Type 0} (work : A → Work N) (reading : Reading A) (old : Outsi
     read_fault = λ e. ends.fails.rose;
     write_fault = λ e. absurd (omega arith);
     net_fault = λ e. absurd (omega arith);
-    keeps = λ _ _ _. ends.unchanged.keeps;
+    keeps = λ _ _ _ _. ends.unchanged.keeps;
+    leaves = λ e. absurd (omega arith);
     by_words = λ refusal e. absurd (let no : AtFile name ≡ AtRefusal refusal =
         first_kept old.disk.files reading (AtFile name) refusal e ends.next in cc no);
     by_files = λ m refusal single told e calm. absurd (calm ends.fails.rose);
@@ -201,7 +207,8 @@ module _ {A N : Type 0} (work : A → Work N) (reading : Reading A) (old : Outsi
     read_fault = λ e. absurd (omega arith);
     write_fault = λ e. inl ends.rose;
     net_fault = λ e. absurd (omega arith);
-    keeps = λ _ b _. absurd (b refl);
+    keeps = λ _ b _ _. absurd (b refl);
+    leaves = λ e. absurd (omega arith);
     by_words = λ refusal e. absurd (led_first refusal ends.partly.finishes.task e ends.partly.finishes.read);
     by_files = λ m refusal single told e calm. absurd
         (led_told m refusal ends.partly.finishes.task single told e ends.partly.finishes.read);
@@ -217,7 +224,8 @@ module _ {A N : Type 0} (work : A → Work N) (reading : Reading A) (old : Outsi
         read_fault = λ e. absurd (omega arith);
         write_fault = λ e. inr rose;
         net_fault = λ e. absurd (omega arith);
-        keeps = λ _ b _. absurd (b refl);
+        keeps = λ _ b _ _. absurd (b refl);
+        leaves = λ e. absurd (omega arith);
         by_words = λ refusal e. absurd (led_first refusal ends.partly.finishes.task e ends.partly.finishes.read);
         by_files = λ m refusal single told e calm. absurd
             (led_told m refusal ends.partly.finishes.task single told e ends.partly.finishes.read);
@@ -237,7 +245,12 @@ module _ {A N : Type 0} (work : A → Work N) (reading : Reading A) (old : Outsi
     read_fault = λ e. absurd (omega arith);
     write_fault = λ e. absurd (omega arith);
     net_fault = λ _. (ends.stopped.task, ends.rose);
-    keeps = λ _ _ _. ends.stopped.keeps;
+    keeps = λ _ _ c _. absurd (c refl);
+    leaves = λ _. record {
+      task = ends.stopped.task;
+      read = ends.stopped.read;
+      leaves = ends.stopped.leaves;
+    };
     by_words = λ refusal e. absurd (led_first refusal ends.stopped.task e ends.stopped.read);
     by_files = λ m refusal single told e _. absurd
         (led_told m refusal ends.stopped.task single told e ends.stopped.read);
@@ -255,7 +268,8 @@ module _ {A N : Type 0} (work : A → Work N) (reading : Reading A) (old : Outsi
     read_fault = λ e. absurd (omega arith);
     write_fault = λ e. absurd (omega arith);
     net_fault = λ e. absurd (omega arith);
-    keeps = λ _ _ c. absurd (c refl);
+    keeps = λ _ _ _ d. absurd (d refl);
+    leaves = λ e. absurd (omega arith);
     by_words = λ refusal e. inr refl;
     by_files = λ m refusal single told e calm. inr refl;
     complete = λ m task single told e faultless. inr refl;

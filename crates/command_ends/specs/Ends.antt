@@ -5,6 +5,7 @@ use Rattle.mm_base.specs.Disk.{DiskView, FailsReading}
 use Rattle.mm_base.specs.Files.{Files}
 use Rattle.mm_base.specs.Sink.{SinkView, sending}
 use Rattle.command_ends.specs.Causes.{Text}
+use Rattle.command_ends.specs.Kept.{KeepsFiles}
 use Rattle.command_ends.specs.Outputs.{Output, holding_all, HoldsFirst}
 use Rattle.command_ends.specs.Readings.{Reading, Reaches, AtTask, AtRefusal, AtFile}
 use Rattle.command_ends.specs.Works.{Work}
@@ -26,11 +27,6 @@ outside disk out net = record { disk = disk; out = out; net = net }
 -- the outside of a command that touches no net
 abbrev pub offline : DiskView → SinkView → Outside (Unit {0})
 offline disk out = outside disk out tt
-
--- no file is changed, and no fault of writing is counted
-pub record KeepsFiles (old new : DiskView) : Type 0 where
-  pub files : new.files ≡ old.files
-  pub faults : new.write_faults ≡ old.write_faults
 
 -- Nothing is changed.
 pub record IsUnchanged {N : Type 0} (old new : Outside N) : Type 0 where
@@ -94,13 +90,14 @@ pub record HasOutFault {A N : Type 0} (work : A → Work N) (reading : Reading A
   pub partly : IsPartlyPrinted work reading old new
   pub rose : Rose old.out.faults new.out.faults
 
--- The files lead to a task, and it stopped by itself for this cause. No file is changed, and nothing is printed.
+-- The files lead to a task, and it stopped by itself for this cause, and left the files as its work says. Nothing is
+-- printed.
 pub record IsStopped {A N : Type 0} (work : A → Work N) (reading : Reading A) (old new : Outside N) (cause : Cause) :
     Type 0 where
   pub task : A
   pub read : Reaches old.disk.files reading (AtTask task)
   pub stops : (work task).stops old.net new.net cause
-  pub keeps : KeepsFiles old.disk new.disk
+  pub leaves : (work task).leaves old.disk new.disk
   pub silent : new.out ≡ old.out
 
 -- A fault of the net stopped it, which was counted.

@@ -3,6 +3,7 @@ pub mod Names
 pub mod Readings
 pub mod Alone
 pub mod Outputs
+pub mod Kept
 pub mod Works
 pub mod Ends
 pub mod Answers

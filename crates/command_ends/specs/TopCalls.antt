@@ -6,7 +6,8 @@ use Rattle.mm_base.specs.Sink.{CountsSinkFaults}
 use Rattle.command_ends.specs.Alone.{IsLeftAlone}
 use Rattle.command_ends.specs.Answers.{Answers, CountsDisk, IsFaultless, StopsShort}
 use Rattle.command_ends.specs.Causes.{status_of_refusal}
-use Rattle.command_ends.specs.Ends.{IsDone, KeepsFiles, Outside}
+use Rattle.command_ends.specs.Ends.{IsDone, Outside}
+use Rattle.command_ends.specs.Kept.{KeepsFiles}
 use Rattle.command_ends.specs.Readings.{Reading, Reaches, AtRefusal, AtTask, refused_first}
 use Rattle.command_ends.specs.Works.{Work}
 use Rattle.command_ends.specs.declared.cause.Refusal.{Refusal}
@@ -21,6 +22,12 @@ pub record NetCounts (N : Type 0) : Type 1 where
   -- What every call of it keeps: the faults never fall, and if it never fails they stand still. A port that has no
   -- more connections has none later.
   pub keeps : N → N → Type 0
+
+-- The files lead to a task, and when it stopped by itself it left them so.
+pub record LeavesByTask {A N : Type 0} (work : A → Work N) (reading : Reading A) (old new : Outside N) : Type 0 where
+  pub task : A
+  pub read : Reaches old.disk.files reading (AtTask task)
+  pub leaves : (work task).leaves old.disk new.disk
 
 -- `work` is what the program's tasks do, `reading` what its words read and refuse, `old` and `new` the disk, `out` and
 -- the net before the call and after it.
@@ -43,8 +50,10 @@ pub record TopCall {A N : Type 0} (net : NetCounts N) (work : A → Work N) (rea
       ⊎ Rose old.out.faults new.out.faults
   -- 8: the net counted a fault, as `NetCounts` says of which net.
   pub net_fault : status ≡ 8 → Rose (net.faults old.net) (net.faults new.net)
-  -- Files are changed at 0, 7 and 9 alone, and no fault of writing is counted at another status.
-  pub keeps : status ≢ 0 → status ≢ 7 → status ≢ 9 → KeepsFiles old.disk new.disk
+  -- Files are changed at 0, 7, 8 and 9 alone, and no fault of writing is counted at another status.
+  pub keeps : status ≢ 0 → status ≢ 7 → status ≢ 8 → status ≢ 9 → KeepsFiles old.disk new.disk
+  -- 8: what a task leaves of the files that stops by itself.
+  pub leaves : status ≡ 8 → LeavesByTask work reading old new
   -- Where the words have no job, or are refused before any file is read, the disk isn't asked, and neither is the net.
   pub disk_alone : IsLeftAlone reading old.disk new.disk
   pub net_alone : IsLeftAlone reading old.net new.net

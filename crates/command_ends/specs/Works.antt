@@ -1,5 +1,7 @@
--- What a task does: what it gives, and what becomes of the net that it serves.
+-- What a task does: what it gives, and what becomes of the net that it serves and of the files.
 use Rattle.std.specs.Prelude.{◌≡◌}
+use Rattle.mm_base.specs.Disk.{DiskView}
+use Rattle.command_ends.specs.Kept.{KeepsFiles}
 use Rattle.command_ends.specs.Outputs.{Output}
 use Rattle.command_ends.specs.declared.cause.Cause.{Cause}
 
@@ -9,6 +11,8 @@ pub record Work (N : Type 0) : Type 1 where
   pub gives : N → N → Output → Type 0
   -- stopped by itself, by a fault of the net or for lack of memory, it left the net so
   pub stops : N → N → Cause → Type 0
+  -- stopped by itself, it left the files so
+  pub leaves : DiskView → DiskView → Type 0
   -- a fault of the net was counted while it served
   pub faulted : N → N → Type 0
 
@@ -23,5 +27,6 @@ abbrev pub only : {A N : Type 0} → (A → Output → Type 0) → A → Work N
 only Gives task = record {
   gives = λ old new output. GivesOnly Gives task old new output;
   stops = λ old new cause. ⊥;
+  leaves = KeepsFiles;
   faulted = λ old new. ⊥;
 }

@@ -117,7 +117,7 @@ module _ (job : RelayJob) (plan : NestPlan) (nest : NestParts) (disk mid : DiskV
           stopped = subst (λ (n : NestParts). HasStopped job n old new k) has.nest_is
               (subst (HasStopped job nest old new) is stopped);
         };
-        keeps = keeps reads;
+        leaves = keeps reads;
         silent = refl;
       }
 

@@ -17,6 +17,7 @@ use Rattle.live_relay.specs.Wires.{CountsWireFaults, WireView}
 use Rattle.live_relay.specs.declared.outcome.RelayEnd.TheVariants.{Horizon}
 use Rattle.live_relay.specs.declared.outcome.RelayResult.{RelayResult}
 use Rattle.command_ends.specs.Causes.{Text}
+use Rattle.command_ends.specs.Kept.{KeepsFiles}
 use Rattle.command_ends.specs.Outputs.{NamedText, Output, named_text}
 use Rattle.command_ends.specs.Readings.{Reading, Done, asked, unless}
 use Rattle.command_ends.specs.TopCalls.{NetCounts}
@@ -114,6 +115,7 @@ abbrev pub relay_work : RelayTask → Work RelayNet
 relay_work task = record {
   gives = GivesRelay task;
   stops = StopsRelay task;
+  leaves = KeepsFiles;
   faulted = λ old new. Rose old.wire.faults new.wire.faults;
 }
 

@@ -1,10 +1,11 @@
 // The program `mm-relay`: its words, its inputs, its datagrams, the files that it writes and the line that it prints.
-ghost use Rattle.std.specs.Prelude.{map, string_bytes};
+ghost use Rattle.std.specs.Prelude.{◌≢◌, map, string_bytes};
 ghost use Rattle.mm_base.specs.Sink.{CountsSinkFaults};
 ghost use Rattle.live_relay.specs.Wires.{CountsWireFaults};
 ghost use Rattle.command_ends.specs.Alone.{IsLeftAlone};
 ghost use Rattle.command_ends.specs.Answers.{CountsDisk, IsEnding, cause_in};
 ghost use Rattle.command_ends.specs.Ends.{Ends, outside};
+ghost use Rattle.command_ends.specs.Kept.{KeepsFiles};
 ghost use Rattle.command_ends.specs.TopCalls.{RefusesByWords, TopCall};
 ghost use Rattle.command_relay.specs.Relaying.{net, net_counts, relay_reading, relay_words, relay_work};
 ghost use Rattle.command_relay.specs.inside.Values.{relay_values};
@@ -92,6 +93,9 @@ pub fn relay_main<D: Disk, O: Sink, C: Clock, W: Wire>(
         (outside (D.view disk.old) (O.view out.old) (net (C.view clock.old) (W.view wire.old)))
         (outside (D.view disk.new) (O.view out.new) (net (C.view clock.new) (W.view wire.new))) result }
 
+    // Files are changed at 0, 7 and 9 alone, and no fault of writing is counted at another status.
+    ensures keeps { result ≢ 0 → result ≢ 7 → result ≢ 9 → KeepsFiles (D.view disk.old) (D.view disk.new) }
+
     // 2 comes by the words alone.
     ensures usage { RefusesByWords (relay_words (map string_bytes words.now)) result }
 {
@@ -116,6 +120,10 @@ pub fn relay_ending<D: Disk, O: Sink, C: Clock, W: Wire>(
     ensures top { TopCall net_counts relay_work (relay_words (map string_bytes words.now))
         (outside (D.view disk.old) (O.view out.old) (net (C.view clock.old) (W.view wire.old)))
         (outside (D.view disk.new) (O.view out.new) (net (C.view clock.new) (W.view wire.new))) result.status }
+
+    // Files are changed at 0, 7 and 9 alone, and no fault of writing is counted at another status.
+    ensures keeps { result.status ≢ 0 → result.status ≢ 7 → result.status ≢ 9
+        → KeepsFiles (D.view disk.old) (D.view disk.new) }
 
     // 2 comes by the words alone.
     ensures usage { RefusesByWords (relay_words (map string_bytes words.now)) result.status }

@@ -76,7 +76,7 @@ module _ {C : Type 0} (view : C → LinkView) (job : ReplayJob) (old new : DiskV
     task = task;
     read = led.on (AtTask task) refl;
     stops = record { records = records; says = says; stopped = stopped };
-    keeps = keeps reads;
+    leaves = keeps reads;
     silent = refl;
   }
 

@@ -15,6 +15,7 @@ use Rattle.option_words.specs.Givens.{givens, ◌>>=◌}
 use Rattle.option_words.specs.Numbers.{number_within, port_of}
 use Rattle.option_words.specs.declared.command.Command.TheVariants.{Replay}
 use Rattle.command_ends.specs.Causes.{Text}
+use Rattle.command_ends.specs.Kept.{KeepsFiles}
 use Rattle.command_ends.specs.Outputs.{Output, prints}
 use Rattle.command_ends.specs.Readings.{Reading, Done, asked}
 use Rattle.command_ends.specs.Works.{Work}
@@ -116,5 +117,6 @@ module _ {C : Type 0} where
   serve_work view task = record {
     gives = λ old new output. GivesReplay view task old new output;
     stops = λ old new cause. StopsReplay view task old new cause;
+    leaves = KeepsFiles;
     faulted = λ old new. Rose old.faults new.faults;
   }

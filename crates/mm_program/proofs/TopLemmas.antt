@@ -3,9 +3,11 @@ use Rattle.std.proofs.Common.{◌≡◌, ◌≢◌, ◌≤◌, ◌-◌, List, []
 use Rattle.std.proofs.Common.{Option, Some, None, refl}
 use Rattle.std.proofs.lemmas.List.{take_rest}
 use Rattle.mm_base.specs.Counts.{Rose}
+use Rattle.mm_base.specs.Disk.{DiskView}
 use Rattle.mm_base.specs.Link.{LinkView}
 use Rattle.mm_base.specs.Port.{PortView}
 use Rattle.command_ends.specs.Causes.{Text}
+use Rattle.command_ends.specs.Kept.{KeepsFiles}
 use Rattle.command_ends.proofs.MapLemmas.{first_mapped, one_end_mapped}
 use Rattle.command_ends.proofs.ReadingLemmas.{HasOneEnd, RefusesWordsFirst, first_one}
 use Rattle.command_report.specs.Make.{make_words}
@@ -73,6 +75,18 @@ named_one (Some command) words = command_one command words
 pub reading_one : (words : List Text) → HasOneEnd (reading_of words)
 reading_one [] = tt
 reading_one (word ∷ words) = named_one (command_named word) words
+
+-- no task that stops by itself has changed a file
+pub files_kept : {C : Type 0} (view : C → LinkView) (task : Task) (old new : DiskView)
+    → (work view task).leaves old new → KeepsFiles old new
+files_kept view (ToRun task) old new kept = kept
+files_kept view (ToReport text) old new kept = kept
+files_kept view (ToMake job) old new kept = kept
+files_kept view (ToReplay task) old new kept = kept
+files_kept view (ToRecord task) old new kept = kept
+files_kept view (ToMatch task) old new kept = kept
+files_kept view (ToMigrate task) old new kept = kept
+files_kept view (ToMerge task) old new kept = kept
 
 -- a fault of the net is one that the port counted
 pub port_rose : {C : Type 0} (view : C → LinkView) (task : Task) (old new : PortView C)

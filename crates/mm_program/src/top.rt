@@ -3,6 +3,7 @@ ghost use Rattle.std.specs.Prelude.{◌≡◌, ◌≢◌, Some, map, string_byte
 ghost use Rattle.option_words.specs.declared.command.Command.TheVariants as commands;
 ghost use Rattle.command_ends.specs.Answers.{IsEnding};
 ghost use Rattle.command_ends.specs.Ends.{outside};
+ghost use Rattle.command_ends.specs.Kept.{KeepsFiles};
 ghost use Rattle.command_ends.specs.TopCalls.{RefusesByWords, TopCall};
 ghost use Rattle.mm_program.specs.Commands.{named_command, reading_of};
 ghost use Rattle.mm_program.specs.Tasks.{port_counts, work};
@@ -55,6 +56,9 @@ pub fn mm_main<
         (outside (D.view disk.old) (O.view out.old) (P.view port.old))
         (outside (D.view disk.new) (O.view out.new) (P.view port.new)) result }
 
+    // Files are changed at 0, 7 and 9 alone, and no fault of writing is counted at another status.
+    ensures keeps { result ≢ 0 → result ≢ 7 → result ≢ 9 → KeepsFiles (D.view disk.old) (D.view disk.new) }
+
     // 2 comes by the words alone, but of `merge` also by a name on its list. No other command than `replay` touches the
     // port, and `make` asks the disk for nothing.
     ensures usage { named_command (map string_bytes words.now) ≢ Some commands.Merge
@@ -92,6 +96,10 @@ pub fn mm_ending<
     ensures top { TopCall port_counts (work P.Conn.view) (reading_of (map string_bytes words.now))
         (outside (D.view disk.old) (O.view out.old) (P.view port.old))
         (outside (D.view disk.new) (O.view out.new) (P.view port.new)) result.status }
+
+    // Files are changed at 0, 7 and 9 alone, and no fault of writing is counted at another status.
+    ensures keeps { result.status ≢ 0 → result.status ≢ 7 → result.status ≢ 9
+        → KeepsFiles (D.view disk.old) (D.view disk.new) }
 
     // 2 comes by the words alone, but of `merge` also by a name on its list. No other command than `replay` touches the
     // port, and `make` asks the disk for nothing.

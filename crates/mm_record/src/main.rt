@@ -23,6 +23,9 @@ use text_base::limits::MOST_FILE_BYTES;
 // Who says that it listens, and what became of the store.
 const NAME: &str = "mm-record";
 
+// How many bytes the parts have at most that a store is to be split into which is too long.
+const PART_BYTES: u64 = 60_000_000;
+
 // Returns the reason that an error of the system is.
 fn reason_in(error: &io::Error) -> Option<Reason> {
     Reason::of_system(error.raw_os_error()?)
@@ -67,23 +70,23 @@ fn say_dialed(
     Ok(())
 }
 
-// Says on the standard error that the store was not written, or that it is too long to be replayed.
+// Says on the standard error that the store of this name was not written, or that it is too long to be replayed, and how
+// it is split.
 fn say_written(
     rt: &HostRuntime,
-    name: Option<&str>,
+    name: &str,
+    is_done: bool,
     disk: &SeenDisk<PipedDisk<HostRuntime>>,
 ) -> io::Result<()> {
-    let Some(name) = name else {
-        return Ok(());
-    };
-    if !disk.is_written {
+    if is_done && !disk.is_written {
         return eprintln!(rt; "{NAME}: nothing was recorded, so {name} was not written");
     }
     let bytes = disk.bytes;
     if bytes > MOST_FILE_BYTES {
-        return eprintln!(rt;
+        eprintln!(rt;
             "{NAME}: {name} has {bytes} bytes, and mm replay refuses it: it reads at most {MOST_FILE_BYTES}"
-        );
+        )?;
+        eprintln!(rt; "{NAME}: split it: mm-stores split --bytes {PART_BYTES} {name} part")?;
     }
     Ok(())
 }
@@ -127,8 +130,8 @@ fn run_until<'a, T: Threads + Wait + Sync>(
         &mut told,
     );
     let _ = say_dialed(rt, &dialer, &mut told);
-    if ending.status == 0 {
-        let _ = say_written(rt, name, &disk);
+    if let Some(name) = name {
+        let _ = say_written(rt, name, ending.status == 0, &disk);
     }
     Ok(ending.status)
 }

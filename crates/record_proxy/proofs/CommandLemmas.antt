@@ -1,7 +1,8 @@
 -- How `mm-record` ends, from what its serving did.
-use Rattle.std.specs.Prelude.{◌⊎◌, Result, if◌then◌else◌}
+use Rattle.std.specs.Prelude.{◌⊎◌}
 use Rattle.std.proofs.Common.{◌≡◌, inl, inr, ℕ, ap, arith, List, [], Option, Some, None, Ok, Err, refl, sym}
-use Rattle.std.proofs.Common.{Bool, true, false, subst}
+use Rattle.std.proofs.Common.{subst}
+use Rattle.mm_base.specs.Counts.{Rose}
 use Rattle.mm_base.specs.Disk.{DiskView, OnlyReads}
 use Rattle.mm_base.specs.Files.{Files}
 use Rattle.mm_base.specs.Link.{LinkView}
@@ -16,13 +17,12 @@ use Rattle.command_ends.specs.declared.cause.Cause.TheVariants.{Refused, WriteFa
 use Rattle.command_ends.specs.declared.cause.Refusal.{Refusal}
 use Rattle.command_ends.specs.declared.cause.Refusal.TheVariants.{Words}
 use Rattle.command_ends.specs.declared.cause.WordsRefusal.TheVariants.{Usage}
-use Rattle.command_ends.proofs.EndLemmas.{keeps_all}
 use Rattle.command_ends.proofs.ReadingLemmas.{HasOneEnd, RefusesWordsFirst, asked_first}
 use Rattle.command_ends.specs.Readings.{Reaches, Stop, AtTask, AtRefusal, AtFile, asked}
-use Rattle.record_proxy.specs.Proxying.{AsksAt, ProxyJob, ServesJob, StopsProxy, cause_of, proxy_job_of, proxy_output}
-use Rattle.record_proxy.specs.Proxying.{proxy_reading}
+use Rattle.record_proxy.specs.Proxying.{AsksAt, LeavesBy, ProxyJob, ServesBy, StopsProxy, cause_of, proxy_job_of}
+use Rattle.record_proxy.specs.Proxying.{proxy_output, proxy_reading}
 use Rattle.record_proxy.specs.Proxying.{IsProxyStatus, proxy_words, proxy_work}
-use Rattle.record_proxy.specs.Servings.{Net, ServingSays, most_recorded}
+use Rattle.record_proxy.specs.Servings.{Net}
 use Rattle.record_proxy.specs.declared.ends.ProxyError.{ProxyError}
 use Rattle.record_proxy.specs.declared.ends.ProxyError.TheVariants as errors
 
@@ -48,27 +48,10 @@ job_one (Some job) = tt
 pub proxy_words_one : (words : List Text) → HasOneEnd (proxy_words words)
 proxy_words_one words = job_one (proxy_job_of words)
 
-module _ {C X : Type 0} (client_view : C → LinkView) (server_view : X → LinkView) (old new : Net C X)
-    (records : List Record) (result : Result Served ProxyError) where
-  -- a serving beside each other, and one in turn, is that of a job that asks for it
-  pub serves_beside : (site_port connections : ℕ) (beside : Bool) → beside ≡ true
-      → ServingSays site_port client_view server_view true most_recorded old new [] records result
-      → ServingSays site_port client_view server_view beside (if beside then most_recorded else connections) old new []
-      records result
-  serves_beside site_port connections true is x = x
-  serves_beside site_port connections false is x = absurd (cc is)
-
-  pub serves_in_turn : (site_port connections : ℕ) (beside : Bool) → beside ≡ false
-      → ServingSays site_port client_view server_view false connections old new [] records result
-      → ServingSays site_port client_view server_view beside (if beside then most_recorded else connections) old new []
-      records result
-  serves_in_turn site_port connections true is x = absurd (cc is)
-  serves_in_turn site_port connections false is x = x
-
 module _ {C X : Type 0} (client_view : C → LinkView) (server_view : X → LinkView) (job : ProxyJob) (told : Option Files)
     (old new : Net C X) where
   pub finishes : (records : List Record) (n : Served)
-      → ServesJob client_view server_view job old new records (Ok n)
+      → ServesBy client_view server_view job.until_ended job old new records n
       → AsksAt job old new (Ok n)
       → Finishes (proxy_work client_view server_view) (proxy_reading job) told old new (proxy_output job records n)
   finishes records n serving asks = record {
@@ -77,40 +60,37 @@ module _ {C X : Type 0} (client_view : C → LinkView) (server_view : X → Link
     gives = record { records = records; served = n; serving = serving; asks = asks; output_is = refl };
   }
 
-module _ {C X : Type 0} (client_view : C → LinkView) (server_view : X → LinkView) (job : ProxyJob) (disk : DiskView)
-    (out : SinkView) (old new : Net C X) where
+module _ {C X : Type 0} (client_view : C → LinkView) (server_view : X → LinkView) (job : ProxyJob)
+    (disk disk' : DiskView) (out : SinkView) (old new : Net C X) where
   stops_for : (cause : Cause) → StopsProxy client_view server_view job old new cause
+      → LeavesBy job.until_ended job.out disk disk'
       → IsStopped (proxy_work client_view server_view) (proxy_reading job) (outside disk out old)
-      (outside disk out new) cause
-  stops_for cause stopped = record {
+      (outside disk' out new) cause
+  stops_for cause stopped left = record {
     task = job;
     read = refl;
     stops = stopped;
-    keeps = keeps_all disk;
+    leaves = left;
     silent = refl;
   }
 
-  ends_for : (e : ProxyError) (store : List Record)
-      → ServesJob client_view server_view job old new store (Err e)
-      → AsksAt job old new (Err e)
-      → Ends (proxy_work client_view server_view) (proxy_reading job) (outside disk out old) (outside disk out new)
+  ends_for : (e : ProxyError) → StopsProxy client_view server_view job old new (cause_of e)
+      → (e ≡ errors.Port → Rose old.port.faults new.port.faults) → LeavesBy job.until_ended job.out disk disk'
+      → Ends (proxy_work client_view server_view) (proxy_reading job) (outside disk out old) (outside disk' out new)
       (Some (cause_of e))
-  ends_for errors.Port store s asks = record {
-    stopped = stops_for NetFault
-        (record { error = errors.Port; cause_is = refl; store = store; serving = s; asks = asks });
-    rose = s;
-  }
-  ends_for errors.OutOfMemory store s asks =
-      Serving (stops_for OutOfMemory
-      (record { error = errors.OutOfMemory; cause_is = refl; store = store; serving = s; asks = asks }))
+  ends_for errors.Port stopped rose left = record { stopped = stops_for NetFault stopped left; rose = rose refl }
+  ends_for errors.OutOfMemory stopped rose left = Serving (stops_for OutOfMemory stopped left)
 
   pub ends_serving : (cause : Cause) → StopsProxy client_view server_view job old new cause
-      → Ends (proxy_work client_view server_view) (proxy_reading job) (outside disk out old) (outside disk out new)
+      → LeavesBy job.until_ended job.out disk disk'
+      → Ends (proxy_work client_view server_view) (proxy_reading job) (outside disk out old) (outside disk' out new)
       (Some cause)
-  ends_serving cause stopped =
+  ends_serving cause stopped left =
       subst (λ (k : Cause). Ends (proxy_work client_view server_view) (proxy_reading job) (outside disk out old)
-      (outside disk out new) (Some k)) (sym stopped.cause_is)
-      (ends_for stopped.error stopped.store stopped.serving stopped.asks)
+      (outside disk' out new) (Some k)) (sym stopped.cause_is)
+      (ends_for stopped.error
+      (subst (λ (k : Cause). StopsProxy client_view server_view job old new k) stopped.cause_is stopped)
+      stopped.rose left)
 
 -- ---- statuses
 

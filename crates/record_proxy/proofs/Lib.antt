@@ -10,5 +10,6 @@ pub mod ServerLemmas
 pub mod FirstLemmas
 pub mod AskingLemmas
 pub mod ServingLemmas
-pub mod PoolLemmas
+pub mod RecordingLemmas
 pub mod CommandLemmas
+pub mod JobLemmas

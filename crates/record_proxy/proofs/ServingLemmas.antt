@@ -24,7 +24,7 @@ use Rattle.record_proxy.specs.inside.Passing.{Dials, EndsWith, Joins, ServesOne,
 use Rattle.record_proxy.specs.Servings.{IsJoined, IsDialed, Dialed, NotDialed, GivenUp, Joined, Passage, Net, Serves}
 use Rattle.record_proxy.specs.Servings.{Rises, RisesFor, tally, counted_as, end_of, lost_of, dials_of, servers_of}
 use Rattle.replay_server.specs.Servings.{Known}
-use Rattle.record_proxy.specs.Servings.{added_of}
+use Rattle.record_proxy.specs.Servings.{added_by, added_of}
 use Rattle.record_proxy.specs.Servings.{finished_with, net}
 use Rattle.record_proxy.specs.declared.ends.ProxyEnd.{ProxyEnd}
 use Rattle.record_proxy.specs.declared.ends.ProxyEnd.TheVariants.{ClientFault, ServerFault}
@@ -178,6 +178,14 @@ tally_push {C} {X} ps p end is =
     (sum_by (part (λ s. s.broken)) (ps ++ p ∷ [])) n)
     (sym (sum_push (part (λ s. s.full)) ps p))
 
+-- and the records are theirs
+pub added_push : {C X : Type 0} (store mid_store store' : List Record) (ps : List (Passage C X)) (p : Passage C X)
+    → mid_store ≡ store ++ added_by ps → store' ≡ mid_store ++ added_of p.dialed
+    → store' ≡ store ++ added_by (ps ++ p ∷ [])
+added_push {C} {X} store mid_store store' ps p before records =
+    records ∙ ap (λ l. l ++ added_of p.dialed) before ∙ append_assoc store (added_by ps) (added_of p.dialed)
+    ∙ ap (λ l. store ++ l) (sym (flat_push (λ (q : Passage C X). added_of q.dialed) ps p))
+
 -- the passage of a client that was served
 abbrev pub passage_of : {C X : Type 0} {site_port : ℕ} {client_view : C → LinkView} {server_view : X → LinkView}
     {old new : Net C X} {store store' : List Record} {end : Option ProxyEnd}
@@ -188,13 +196,13 @@ module _ {C X : Type 0} (site_port : ℕ) (client_view : C → LinkView) (server
   abbrev Each : Passage C X → Type 0
   Each q = Known beside (IsDialed site_port server_view (client_view q.client) q.dialed)
 
-  abbrev So : Net C X → Net C X → List Record → List Record → List (Passage C X) → Type 0
-  So old new store store' ps = Serves site_port client_view server_view beside old new store store' ps
+  abbrev So : Net C X → Net C X → List (Passage C X) → Type 0
+  So old new ps = Serves site_port client_view server_view beside old new ps
 
   -- it listens, and no client was accepted
-  pub serves_none : (old new : PortView C) (dialer : DialerView X) (store : List Record) → KeepsPort old new
-      → new.finished ≡ old.finished → new.accepted ≡ old.accepted → So (net old dialer) (net new dialer) store store []
-  serves_none old new dialer store keeps finished accepted = record {
+  pub serves_none : (old new : PortView C) (dialer : DialerView X) → KeepsPort old new
+      → new.finished ≡ old.finished → new.accepted ≡ old.accepted → So (net old dialer) (net new dialer) []
+  serves_none old new dialer keeps finished accepted = record {
     each = All-nil Each;
     accepted = accepted ∙ omega arith;
     finished = finished ∙ same_finished old.finished;
@@ -202,17 +210,15 @@ module _ {C X : Type 0} (site_port : ℕ) (client_view : C → LinkView) (server
     dials_finished = same_finished dialer.finished;
     rises = refl;
     lost = λ few. omega arith;
-    records = sym (append-nil store);
     keeps = keeps;
   }
 
   -- nothing of it changes
-  pub serves_same : (old mid new : Net C X) (store store' : List Record) (ps : List (Passage C X))
-      → So old mid store store' ps
+  pub serves_same : (old mid new : Net C X) (ps : List (Passage C X)) → So old mid ps
       → new.port.accepted ≡ mid.port.accepted → new.port.finished ≡ mid.port.finished → KeepsPort mid.port new.port
       → new.dialer.dialed ≡ mid.dialer.dialed → new.dialer.finished ≡ mid.dialer.finished
-      → new.dialer.faults ≡ mid.dialer.faults → So old new store store' ps
-  serves_same old mid new store store' ps s accepted finished keeps dialed dials_finished faults = record {
+      → new.dialer.faults ≡ mid.dialer.faults → So old new ps
+  serves_same old mid new ps s accepted finished keeps dialed dials_finished faults = record {
     each = s.each;
     accepted = accepted ∙ s.accepted;
     finished = finished ∙ s.finished;
@@ -220,20 +226,17 @@ module _ {C X : Type 0} (site_port : ℕ) (client_view : C → LinkView) (server
     dials_finished = dials_finished ∙ s.dials_finished;
     rises = subst (λ (n : ℕ). Rises old.dialer.faults ps n) (sym faults) s.rises;
     lost = λ few. let k = s.lost (omega (arith, few, faults)) in omega (arith, k, faults);
-    records = s.records;
     keeps = keeps_then s.keeps keeps;
   }
 
   -- one client more was accepted and finished
-  pub serves_next : (old mid new : Net C X) (store mid_store store' : List Record) (ps : List (Passage C X))
-      (p : Passage C X) → So old mid store mid_store ps → Each p
+  pub serves_next : (old mid new : Net C X) (ps : List (Passage C X)) (p : Passage C X) → So old mid ps → Each p
       → new.port.accepted ≡ mid.port.accepted + 1
       → new.port.finished ≡ finished_with (p.client ∷ []) mid.port.finished → KeepsPort mid.port new.port
       → new.dialer.dialed ≡ mid.dialer.dialed + dials_of p.dialed
       → new.dialer.finished ≡ finished_with (servers_of p.dialed) mid.dialer.finished
-      → RisesFor p.dialed mid.dialer.faults new.dialer.faults → store' ≡ mid_store ++ added_of p.dialed
-      → So old new store store' (ps ++ p ∷ [])
-  serves_next old mid new store mid_store store' ps p s is accepted finished keeps dialed dials_finished rises records =
+      → RisesFor p.dialed mid.dialer.faults new.dialer.faults → So old new (ps ++ p ∷ [])
+  serves_next old mid new ps p s is accepted finished keeps dialed dials_finished rises =
       let d = p.dialed in
       let more = lost_more d mid.dialer.faults new.dialer.faults rises in
       record {
@@ -260,22 +263,18 @@ module _ {C X : Type 0} (site_port : ℕ) (client_view : C → LinkView) (server
             = s.lost (omega (arith, grows, few)) in
             let b : mid.dialer.faults + lost_of d ≤ new.dialer.faults = more.1 few in
             omega (arith, a, b, sum_push (λ (q : Passage C X). lost_of q.dialed) ps p);
-        records = records ∙ ap (λ l. l ++ added_of d) s.records
-            ∙ append_assoc store (flat_map (λ (q : Passage C X). added_of q.dialed) ps) (added_of d)
-            ∙ ap (λ l. store ++ l) (sym (flat_push (λ (q : Passage C X). added_of q.dialed) ps p));
         keeps = keeps_then s.keeps keeps;
       }
 
 module _ {C X : Type 0} (site_port : ℕ) (client_view : C → LinkView) (server_view : X → LinkView) where
-  pub serves_push : (old mid new : Net C X) (port : PortView C) (store mid_store store' : List Record)
+  pub serves_push : (old mid new : Net C X) (port : PortView C) (mid_store store' : List Record)
       (ps : List (Passage C X))
-      → Serves site_port client_view server_view false old mid store mid_store ps
+      → Serves site_port client_view server_view false old mid ps
       → port.accepted ≡ mid.port.accepted + 1 → port.finished ≡ mid.port.finished → KeepsPort mid.port port
       → (end : Option ProxyEnd)
       → (one : ServesOne site_port client_view server_view (net port mid.dialer) new mid_store store' end)
-      → Serves site_port client_view server_view false old new store store'
-      (ps ++ passage_of one ∷ [])
-  serves_push old mid new port store mid_store store' ps s accepted kept keeps end one =
-      serves_next site_port client_view server_view false old mid new store mid_store store' ps (passage_of one) s
+      → Serves site_port client_view server_view false old new (ps ++ passage_of one ∷ [])
+  serves_push old mid new port mid_store store' ps s accepted kept keeps end one =
+      serves_next site_port client_view server_view false old mid new ps (passage_of one) s
       one.dials.is (one.accepted ∙ accepted) (one.finished ∙ ap (finished_with (one.client ∷ [])) kept)
-      (keeps_then keeps one.keeps) one.dials.count one.dials.finished one.dials.rises one.dials.records
+      (keeps_then keeps one.keeps) one.dials.count one.dials.finished one.dials.rises

@@ -91,7 +91,7 @@ pub record IsDue (s : Sides) (whole : List Exchange) (b : Begun) (rest : List �
   pub client_rest : List ℕ
   pub passes : Passes (course whole (Some b)) s client_rest rest
 
--- A message whose body ends by closing takes all that there is, and is whole only if the input is at its end.
+-- A message whose body ends by closing takes all that there is, and is whole only where the input is at its end.
 abbrev pub StopsAt : Type 0 → Framing → List ℕ → Type 0
 StopsAt Ended (Length n) after = Unit {0}
 StopsAt Ended Chunked after = Unit {0}
@@ -123,7 +123,7 @@ abbrev pub IsPart : Type 0 → Option Begun → List ℕ → List ℕ → Type 0
 IsPart Ended None rest part = part ≡ []
 IsPart Ended (Some b) rest part = (part ≡ []) ⊎ IsPartOf Ended b rest part
 
--- What was passed on is a prefix of that: of the requests any, and of the responses all whole ones so far with a part of
+-- What was passed on is a front of that: of the requests any, and of the responses all whole ones so far with a part of
 -- the next.
 pub record IsCut (Ended : Type 0) (s : Sides) (whole : List Exchange) : Type 0 where
   pub begun : Option Begun

@@ -6,5 +6,7 @@ pub mod Asking
 pub mod Dialers
 pub mod MemDialers
 pub mod Servings
+pub mod Interleaved
+pub mod Recorded
 pub mod Proxying
 pub mod inside

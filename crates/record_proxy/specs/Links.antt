@@ -21,7 +21,7 @@ pub record Links : Type 0 where
 abbrev pub links : Option LinkBytes → Option LinkBytes → Links
 links client server = record { client = client; server = server }
 
--- A link has taken and given so, if it tells it, no more than may be taken, and was ready when each read began.
+-- A link has taken and given so, where it tells it, no more than may be taken, and was ready when each read began.
 pub record IsUsed (Ready : List ℕ → List ℕ → Type 0) (old new : Option LinkBytes) (s : Side) : Type 0 where
   pub starts : List ReadStart
   pub passed : IfBothTold (Passed s.taken s.given starts) old new
@@ -53,6 +53,6 @@ pub record IsStored (port : ℕ) (old new : Links) (store store' : List Record) 
   pub behind : store' ≡ store ++ added
   pub proxied : IsProxied port old new added result
 
--- Such an end comes only if a fault of that link was counted.
+-- Such an end comes only where a fault of that link was counted.
 abbrev pub HasFaultCause : ProxyEnd → LinkView → LinkView → Result ProxyEnd OutOfMemory → Type 0
 HasFaultCause fault old new result = result ≡ Ok fault → Rose old.faults new.faults

@@ -1,5 +1,5 @@
 -- What a proxy does to its port and its dialer.
-use Rattle.std.specs.Prelude.{◌≡◌, ◌⊎◌, ◌<◌, ◌≤◌, ℕ, ◌+◌, ◌-◌, ◌^◌, ◌++◌, Bool, true, List, [], ◌∷◌, length}
+use Rattle.std.specs.Prelude.{◌≡◌, ◌⊎◌, ◌<◌, ◌≤◌, ℕ, ◌+◌, ◌-◌, ◌^◌, ◌++◌, Bool, true, false, List, [], ◌∷◌, length}
 use Rattle.std.specs.Prelude.{map}
 use Rattle.std.specs.Prelude.{All, Option, Some, None, Result, Ok, Err, sum_by}
 use Rattle.std.specs.List.{flat_map}
@@ -64,7 +64,7 @@ module _ {X : Type 0} where
   added_of (GivenUp added) = added
   added_of (Joined server added end) = added
 
-  -- the dialed connection, if it was finished
+  -- the dialed connection, where it was finished
   abbrev pub servers_of : Dialed X → List X
   servers_of NotDialed = []
   servers_of (GivenUp added) = []
@@ -81,7 +81,7 @@ module _ {X : Type 0} where
   end_of (GivenUp added) = None
   end_of (Joined server added end) = Some end
 
-  -- if it failed
+  -- where it failed
   abbrev pub lost_of : Dialed X → ℕ
   lost_of NotDialed = 1
   lost_of (GivenUp added) = 1
@@ -111,6 +111,10 @@ module _ {C X : Type 0} where
     full = sum_by (λ (p : Passage C X). (counted_as (end_of p.dialed)).full) ps;
   }
 
+  -- their records, connection after connection
+  abbrev pub added_by : List (Passage C X) → List Record
+  added_by ps = flat_map (λ (p : Passage C X). added_of p.dialed) ps
+
   -- the dialer's faults before, during and after these, one after the other
   abbrev pub Rises : ℕ → List (Passage C X) → ℕ → Type 0
   Rises old [] new = new ≡ old
@@ -137,9 +141,9 @@ module _ {C X : Type 0} (site_port : ℕ) (client_view : C → LinkView) (server
   IsPassage p = IsDialed site_port server_view (client_view p.client) p.dialed
 
   -- These clients were accepted, and each was finished, in this order: that of their acceptance, or where they are
-  -- served beside each other that in which they ended. The store has the records of all, in this order. Those for which
-  -- the dialer failed are no more than the faults that it counted.
-  pub record Serves (beside : Bool) (old new : Net C X) (store store' : List Record) (ps : List (Passage C X)) : Type 0
+  -- served beside each other that in which they ended. Those for which the dialer failed are no more than the faults that
+  -- it counted.
+  pub record Serves (beside : Bool) (old new : Net C X) (ps : List (Passage C X)) : Type 0
     where
       pub each : All (λ (p : Passage C X). Known beside (IsPassage p)) ps
       pub accepted : new.port.accepted ≡ old.port.accepted + length ps
@@ -150,19 +154,27 @@ module _ {C X : Type 0} (site_port : ℕ) (client_view : C → LinkView) (server
       pub rises : Rises old.dialer.faults ps new.dialer.faults
       pub lost : new.dialer.faults < 2 ^ 64 - 1
           → old.dialer.faults + sum_by (λ (p : Passage C X). lost_of p.dialed) ps ≤ new.dialer.faults
-      pub records : store' ≡ store ++ flat_map (λ (p : Passage C X). added_of p.dialed) ps
       pub keeps : KeepsPort old.port new.port
 
-  -- A serving of at most `most` clients that is done: as many as it should, or the port is drained.
-  pub record IsServed (beside : Bool) (most : ℕ) (old new : Net C X) (store store' : List Record) (n : Served) : Type 0
-    where
-      pub passages : List (Passage C X)
-      pub serves : Serves beside old new store store' passages
-      pub counts : n ≡ tally passages
-      pub many : (length passages ≡ most) ⊎ ((length passages < most) × (new.port.drained ≡ true))
+  -- A serving of at most `most` clients, one after the other, that is done: as many as it should, or the port is
+  -- drained. The store has the records of all, in this order.
+  pub record IsServed (most : ℕ) (old new : Net C X) (store store' : List Record) (n : Served) : Type 0 where
+    pub passages : List (Passage C X)
+    pub serves : Serves false old new passages
+    pub records : store' ≡ store ++ added_by passages
+    pub counts : n ≡ tally passages
+    pub many : (length passages ≡ most) ⊎ ((length passages < most) × (new.port.drained ≡ true))
+
+  -- Likewise of clients that are served beside each other. These are the records of each.
+  pub record IsServedBeside (most : ℕ) (old new : Net C X) (lists : List (List Record)) (n : Served) : Type 0 where
+    pub passages : List (Passage C X)
+    pub serves : Serves true old new passages
+    pub lists_are : lists ≡ map (λ (p : Passage C X). added_of p.dialed) passages
+    pub counts : n ≡ tally passages
+    pub many : (length passages ≡ most) ⊎ ((length passages < most) × (new.port.drained ≡ true))
 
   -- Or it stopped, by a fault of the port or for lack of memory.
-  abbrev pub ServingSays : Bool → ℕ → Net C X → Net C X → List Record → List Record → Result Served ProxyError → Type 0
-  ServingSays beside most old new store store' (Ok n) = IsServed beside most old new store store' n
-  ServingSays beside most old new store store' (Err errors.Port) = Rose old.port.faults new.port.faults
-  ServingSays beside most old new store store' (Err errors.OutOfMemory) = Unit {0}
+  abbrev pub ServingSays : ℕ → Net C X → Net C X → List Record → List Record → Result Served ProxyError → Type 0
+  ServingSays most old new store store' (Ok n) = IsServed most old new store store' n
+  ServingSays most old new store store' (Err errors.Port) = Rose old.port.faults new.port.faults
+  ServingSays most old new store store' (Err errors.OutOfMemory) = Unit {0}

@@ -10,7 +10,7 @@ use mm_base::{EndError, Link};
 use std::marker::Send;
 
 /// A place to which connections go out. It counts its faults, as a port does, and the connections that it gives, and
-/// tells at which ports it was asked for them. The count of faults never falls, and if it stands at the last value
+/// tells at which ports it was asked for them. The count of faults never falls, and where it stands at the last value
 /// of a `u64` it is taken as risen.
 pub trait Dialer {
     type Conn: Link + Send + Drop;

@@ -10,10 +10,11 @@ ghost use Rattle.record_proxy.specs.inside.Progress.{Progress, GoesOn, to_do};
 
 use crate::ends::ProxyEnd;
 use crate::proxy_state::ProxyState;
+use crate::record_sink::RecordSink;
 use crate::taking::{refused, take_of_client, take_of_server};
 use http_frame::{FrameFault, Request, Step};
 use mm_base::Link;
-use record_store::{Record, Store};
+use record_store::Record;
 use replay_server::give;
 use text_base::OutOfMemory;
 
@@ -73,12 +74,12 @@ fn ask<A: Link, B: Link>(
     }
 }
 
-// Passes a whole response on to the client, and adds the record if it is final.
-fn pass_response<L: Link>(
+// Passes a whole response on to the client, and adds the record where it is final.
+fn pass_response<L: Link, S: RecordSink>(
     state: &mut ProxyState,
     client: &mut L,
     exchange: Record,
-    store: &mut Store,
+    sink: &mut S,
 ) -> Option<Result<ProxyEnd, OutOfMemory>>
     requires port { exchange.port ≤ 65535 }
     requires request { IsRequestOf exchange.request }
@@ -87,9 +88,11 @@ fn pass_response<L: Link>(
         (is : IsResponseOf exchange.request.head.head_only exchange.response)
         → MayStop is.is.framing state.old.server_ended state.old.responses.unread
         → state.old.due ≡ None → unread ≡ exchange.response.bytes ++ state.old.responses.unread
-        → Progress exchange.port start (links (L.view client.old).told server) before store.old
+        → Progress exchange.port start (links (L.view client.old).told server) before
+        (S.records sink.old)
         (record state.old { due = Some exchange.request; responses = record state.old.responses { unread = unread } })
-        → GoesOn exchange.port start (links (L.view client.new).told server) before store.new state.new result }
+        → GoesOn exchange.port start (links (L.view client.new).told server) before
+        (S.records sink.new) state.new result }
     ensures same { state.new ≡ record state.old { due = state.new.due } }
     ensures counts { CountsLinkFaults (L.view client.old) (L.view client.new) }
     ensures cause { IfSome result (HasFaultCause ProxyEnd.ClientFault (L.view client.old) (L.view client.new)) }
@@ -103,7 +106,7 @@ fn pass_response<L: Link>(
         return None;
     }
     let closes = either(exchange.request.head.closes, exchange.response.head.closes);
-    if let Err(error) = store.add(exchange) {
+    if let Err(error) = sink.add(exchange) {
         return Some(Err(error));
     }
     if closes {
@@ -120,23 +123,23 @@ struct DueRequest {
 }
 
 // Passes the next whole response to a request on, or takes more bytes of the server.
-fn answer<A: Link, B: Link>(
+fn answer<A: Link, B: Link, S: RecordSink>(
     state: &mut ProxyState,
     client: &mut A,
     server: &mut B,
     buf: &mut [u8],
     asked: DueRequest,
-    store: &mut Store,
+    sink: &mut S,
 ) -> Option<Result<ProxyEnd, OutOfMemory>>
     requires room { 0 < length buf.old }
     requires request { IsRequestOf asked.request }
     requires tied { state.old.responses.ended ≡ state.old.server_ended }
     ensures goes_on { (start : Links) (before : List RecordValue)
-        → Progress asked.site_port start (links (A.view client.old).told (B.view server.old).told) before store.old
-        (record state.old { due = Some asked.request })
+        → Progress asked.site_port start (links (A.view client.old).told (B.view server.old).told) before
+        (S.records sink.old) (record state.old { due = Some asked.request })
         → state.old.due ≡ None
-        → GoesOn asked.site_port start (links (A.view client.new).told (B.view server.new).told) before store.new
-        state.new result }
+        → GoesOn asked.site_port start (links (A.view client.new).told (B.view server.new).told) before
+        (S.records sink.new) state.new result }
     ensures less { IfNone result (to_do state.new < to_do state.old) }
     ensures client_counts { CountsLinkFaults (A.view client.old) (A.view client.new) }
     ensures server_counts { CountsLinkFaults (B.view server.old) (B.view server.new) }
@@ -151,7 +154,7 @@ fn answer<A: Link, B: Link>(
                 request,
                 response,
             };
-            pass_response(state, client, exchange, store)
+            pass_response(state, client, exchange, sink)
         }
         Ok(Step::More) => {
             state.due = Some(request);
@@ -162,23 +165,24 @@ fn answer<A: Link, B: Link>(
     }
 }
 
-/// Passes the next message on that is due; or ends the connection, if there is none and never will be; or takes more
+/// Passes the next message on that is due; or ends the connection, where there is none and never will be; or takes more
 /// bytes.
-pub fn step<A: Link, B: Link>(
+pub fn step<A: Link, B: Link, S: RecordSink>(
     state: &mut ProxyState,
     client: &mut A,
     server: &mut B,
     buf: &mut [u8],
     site_port: u16,
-    store: &mut Store,
+    sink: &mut S,
 ) -> Option<Result<ProxyEnd, OutOfMemory>>
     requires room { 0 < length buf.old }
     requires due { IfSome state.old.due IsRequestOf }
     requires tied { state.old.responses.ended ≡ state.old.server_ended }
     ensures goes_on { (start : Links) (before : List RecordValue)
-        → Progress site_port start (links (A.view client.old).told (B.view server.old).told) before store.old state.old
-        → GoesOn site_port start (links (A.view client.new).told (B.view server.new).told) before store.new state.new
-        result }
+        → Progress site_port start (links (A.view client.old).told (B.view server.old).told) before
+        (S.records sink.old) state.old
+        → GoesOn site_port start (links (A.view client.new).told (B.view server.new).told) before
+        (S.records sink.new) state.new result }
     ensures less { IfNone result (to_do state.new < to_do state.old) }
     ensures client_counts { CountsLinkFaults (A.view client.old) (A.view client.new) }
     ensures server_counts { CountsLinkFaults (B.view server.old) (B.view server.new) }
@@ -193,7 +197,7 @@ pub fn step<A: Link, B: Link>(
             server,
             buf,
             DueRequest { request, site_port },
-            store,
+            sink,
         ),
     }
 }

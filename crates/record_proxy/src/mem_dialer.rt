@@ -19,7 +19,7 @@ use std::alloc::Global;
 use std::marker::Model;
 
 /// A dialer in memory, which gives links in memory in their order. It tells its finished links and at which ports it
-/// was asked, counts its calls from 1, and fails those that its list names, and a `dial` if no link is left.
+/// was asked, counts its calls from 1, and fails those that its list names, and a `dial` where no link is left.
 #[derive(Drop)]
 pub struct MemDialer {
     asked: PortsAsked,

@@ -1,5 +1,5 @@
 // A proxy: clients one after the other, and a connection dialed for each.
-ghost use Rattle.std.specs.Prelude.{◌≡◌, ◌<◌, ◌≤◌, ◌+◌, false, Option, Ok, Err, IfOk, IsErrOf, IsOk};
+ghost use Rattle.std.specs.Prelude.{◌≡◌, ◌<◌, ◌≤◌, ◌+◌, Option, Ok, Err, IfOk, IsErrOf, IsOk};
 ghost use Rattle.mm_base.specs.Counts.{Rose};
 ghost use Rattle.mm_base.specs.Link.{IsFresh};
 ghost use Rattle.mm_base.specs.Port.{KeepsPort, after_finish};
@@ -187,7 +187,7 @@ fn serve_client<P: Port, X: Dialer, R: Threads>(
 /// connection to the site's port is dialed, both pass through (`proxy_conn`), and both are finished. It stops after
 /// that number, or where the port has no more. A client for which the dialer fails is counted as broken.
 ///
-/// `Port` comes only if a fault of the port was counted: it can't be listened at, or a client can't be accepted or
+/// `Port` comes only where a fault of the port was counted: it can't be listened at, or a client can't be accepted or
 /// finished. `OutOfMemory` means out of memory.
 pub fn serve<P: Port, X: Dialer, R: Threads>(
     rt: &R,
@@ -197,7 +197,7 @@ pub fn serve<P: Port, X: Dialer, R: Threads>(
     dialer: &mut X,
     store: &mut Store,
 ) -> Result<Served, ProxyError>
-    ensures serving { ServingSays job.now.site_port P.Conn.view X.Conn.view false job.now.connections
+    ensures serving { ServingSays job.now.site_port P.Conn.view X.Conn.view job.now.connections
         (net (P.view port.old) (X.view dialer.old)) (net (P.view port.new) (X.view dialer.new)) store.old store.new
         result }
     ensures listens { ListensAt job.now.port (P.view port.old) (P.view port.new) result }

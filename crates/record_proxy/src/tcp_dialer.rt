@@ -60,7 +60,7 @@ impl<'a, R: Net<Stream = TcpStream, Listener = TcpListener> + Clock + Copy + Dro
         }
     }
 
-    /// The number of the last error that the system gave. None if there was none.
+    /// The number of the last error that the system gave. None where there was none.
     pub fn last_error(&self) -> Option<i32> {
         self.last_error
     }
@@ -80,7 +80,7 @@ impl<'a, R: Net<Stream = TcpStream, Listener = TcpListener> + Clock + Copy + Dro
         EndError::Failed
     }
 
-    // A connection to a port of this machine, if it can still be counted.
+    // A connection to a port of this machine, where it can still be counted.
     fn link_to(&self, number: u16) -> io::Result<EndedLink<'a, R>>
         ensures ok { IfOk result (λ link. link.faults ≡ 0) }
         ensures room { OnOk result (self.now.dialed < 2 ^ 64 - 1) }
@@ -94,7 +94,7 @@ impl<'a, R: Net<Stream = TcpStream, Listener = TcpListener> + Clock + Copy + Dro
         )
     }
 
-    // A stream to a port of this machine, if it can still be counted.
+    // A stream to a port of this machine, where it can still be counted.
     fn stream_to(&self, number: u16) -> io::Result<TcpStream>
         ensures { OnOk result (self.now.dialed < 2 ^ 64 - 1) }
     {

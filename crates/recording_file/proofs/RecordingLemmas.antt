@@ -116,14 +116,19 @@ stopped_taken name before files records r stops = record {
 
 pub cause_written : {T : Type 0} (before : FileState) (written : Result T DiskError) (old new : DiskView)
     → HasWriteCause old new written → HasStateCause before (state_of written) old new
-cause_written before (Ok value) old new cause = record { failed = λ is. cc is; not_absent = λ is. cc is }
+cause_written before (Ok value) old new cause = record {
+  failed = λ is. cc is;
+  not_absent = λ is. cc is;
+  untouched = λ is. absurd (cc is);
+}
 cause_written before (Err error) old new cause = record {
   failed = λ is. let same : error ≡ Failed = cc is in inr (cause.failed (ap Err same));
   not_absent = λ is. let same : error ≡ Absent = cc is in absurd (cause.not_absent (ap Err same));
+  untouched = λ is. absurd (cc is);
 }
 
 pub cause_none : (state : FileState) (disk : DiskView) → HasStateCause state state disk disk
-cause_none state disk = record { failed = λ is. inl is; not_absent = λ is. is }
+cause_none state disk = record { failed = λ is. inl is; not_absent = λ is. is; untouched = λ is. (is, refl) }
 
 pub cause_then : {a b c : FileState} {x y z : DiskView} → OnlyWrites x y → OnlyWrites y z → HasStateCause a b x y
     → HasStateCause b c y z → HasStateCause a c x z
@@ -133,6 +138,7 @@ cause_then {a} {b} {c} {x} {y} {z} first second p q = record {
       (p.failed s))
       (λ r. inr (Rose-later x.write_faults y.write_faults z.write_faults first.writes r)) (q.failed is);
   not_absent = λ is. p.not_absent (q.not_absent is);
+  untouched = λ is. let middle = q.untouched is in let first = p.untouched middle.0 in (first.0, middle.1 ∙ first.1);
 }
 
 pub only_writes_none : (disk : DiskView) → OnlyWrites disk disk

@@ -49,7 +49,9 @@ Holds name before records Untouched files = (records ≡ []) × (files ≡ befor
 Holds name before records Whole files = (0 < length records) × (files ≡ holding name (store_text Two records) before)
 Holds name before records (Stopped error) files = StopsWithin name before records files
 
--- What stopped writing, if it was still going on before: a fault of the disk was counted, or memory was wanting.
+-- What stopped writing, if it was still going on before: a fault of the disk was counted, or memory was wanting. As long
+-- as no record has come the disk has counted no fault of writing.
 pub record HasStateCause (before after : FileState) (old new : DiskView) : Type 0 where
   pub failed : after ≡ Stopped Failed → (before ≡ Stopped Failed) ⊎ Rose old.write_faults new.write_faults
   pub not_absent : after ≡ Stopped Absent → before ≡ Stopped Absent
+  pub untouched : after ≡ Untouched → (before ≡ Untouched) × (new.write_faults ≡ old.write_faults)

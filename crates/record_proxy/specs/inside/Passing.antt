@@ -9,7 +9,7 @@ use Rattle.replay_server.specs.declared.ends.Served.{Served}
 use Rattle.record_proxy.specs.Dialers.{DialerView}
 use Rattle.record_proxy.specs.Servings.{Dialed, IsDialed, Passage, RisesFor, Net, added_of, servers_of, dials_of}
 use Rattle.record_proxy.specs.Servings.{end_of}
-use Rattle.record_proxy.specs.Servings.{Serves, finished_with, tally}
+use Rattle.record_proxy.specs.Servings.{Serves, added_by, finished_with, tally}
 use Rattle.replay_server.specs.inside.Tallies.{total}
 use Rattle.record_proxy.specs.declared.ends.ProxyEnd.{ProxyEnd}
 
@@ -65,7 +65,8 @@ module _ {C X : Type 0} (site_port : ℕ) (client_view : C → LinkView) (server
   -- A serving that goes on, with `left` clients left of `most`.
   pub record ServesSoFar (old new : Net C X) (store store' : List Record) (n : Served) (left most : ℕ) : Type 0 where
     pub passages : List (Passage C X)
-    pub serves : Serves site_port client_view server_view false old new store store' passages
+    pub serves : Serves site_port client_view server_view false old new passages
+    pub records : store' ≡ store ++ added_by passages
     pub counts : n ≡ tally passages
     pub few : length passages + left ≡ most
     pub within : total n ≤ length passages

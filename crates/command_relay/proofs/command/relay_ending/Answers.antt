@@ -1,6 +1,6 @@
 use Rattle.std.proofs.Common.{map, string_bytes}
 use Rattle.command_ends.specs.Answers.{cause_in}
-use Rattle.command_ends.proofs.TopLemmas.{refuses_by_words, top_call}
+use Rattle.command_ends.proofs.TopLemmas.{keeps_files, refuses_by_words, top_call}
 use Rattle.command_relay.specs.Relaying.{net_counts, relay_work}
 use Rattle.command_relay.proofs.RelayLemmas.{relay_first, relay_one}
 use Rattle.command_relay.proofs.command.relay_ending.Goals as goal
@@ -12,6 +12,10 @@ returns-clause-top g c =
     (cause_in c.answer-answer.result) c.conclude-status.result answered.ends c.conclude-status.ensures
     net_counts (relay_one (map string_bytes c.args.words.now)) (λ task rose. rose)
     answered.alone answered.counts answered.out_counts answered.wire_counts
+
+pub returns-clause-keeps : goal.returns-clause-keeps
+returns-clause-keeps g c =
+    keeps_files net_counts relay_work _ _ _ c.conclude-status.result (λ task kept. kept) (returns-clause-top g c)
 
 pub returns-clause-usage : goal.returns-clause-usage
 returns-clause-usage g c =

@@ -29,7 +29,7 @@ returns-in-Run-clause-ends g c =
     let disk = g.D.Disk.view c.args.disk.now in
     let out = g.O.Sink.view c.args.out.now in
     ends_beside ToRun GivesRun (work g.P.Conn.Link.view) (run_words words) _ disk (g.D.Disk.view c.answer_run.new.disk) out out
-    (g.P.Port.view c.args.port.now) (cause_in c.answer_run.result) (λ task output gives. gives)
+    (g.P.Port.view c.args.port.now) (cause_in c.answer_run.result) (λ task output gives. gives) (λ task before after kept. kept)
     (ap (λ (command : Command). command_reading command words) (sym c.in-Run.is)) (c.answer_run.ensures.ends out)
 
 pub returns-in-Merge-clause-ends : goal.returns-in-Merge-clause-ends
@@ -38,7 +38,7 @@ returns-in-Merge-clause-ends g c =
     let disk = g.D.Disk.view c.args.disk.now in
     let out = g.O.Sink.view c.args.out.now in
     ends_beside ToMerge GivesMerge (work g.P.Conn.Link.view) (merge_words words) _ disk (g.D.Disk.view c.answer_merge.new.disk) out out
-    (g.P.Port.view c.args.port.now) (cause_in c.answer_merge.result) (λ task output gives. gives)
+    (g.P.Port.view c.args.port.now) (cause_in c.answer_merge.result) (λ task output gives. gives) (λ task before after kept. kept)
     (ap (λ (command : Command). command_reading command words) (sym c.in-Merge.is)) (c.answer_merge.ensures.ends out)
 
 pub returns-in-Report-clause-ends : goal.returns-in-Report-clause-ends
@@ -47,7 +47,7 @@ returns-in-Report-clause-ends g c =
     let disk = g.D.Disk.view c.args.disk.now in
     let out = g.O.Sink.view c.args.out.now in
     ends_beside ToReport GivesReport (work g.P.Conn.Link.view) (report_words words) _ disk (g.D.Disk.view c.answer_report.new.disk) out (g.O.Sink.view c.answer_report.new.out)
-    (g.P.Port.view c.args.port.now) (cause_in c.answer_report.result) (λ task output gives. gives)
+    (g.P.Port.view c.args.port.now) (cause_in c.answer_report.result) (λ task output gives. gives) (λ task before after kept. kept)
     (ap (λ (command : Command). command_reading command words) (sym c.in-Report.is)) c.answer_report.ensures.ends
 
 pub returns-in-Make-clause-ends : goal.returns-in-Make-clause-ends
@@ -56,7 +56,7 @@ returns-in-Make-clause-ends g c =
     let disk = g.D.Disk.view c.args.disk.now in
     let out = g.O.Sink.view c.args.out.now in
     ends_beside ToMake GivesMake (work g.P.Conn.Link.view) (make_words words) _ disk disk out (g.O.Sink.view c.answer_make.new.out)
-    (g.P.Port.view c.args.port.now) (cause_in c.answer_make.result) (λ task output gives. gives)
+    (g.P.Port.view c.args.port.now) (cause_in c.answer_make.result) (λ task output gives. gives) (λ task before after kept. kept)
     (ap (λ (command : Command). command_reading command words) (sym c.in-Make.is)) (c.answer_make.ensures.ends disk)
 
 pub returns-in-Record-clause-ends : goal.returns-in-Record-clause-ends
@@ -65,7 +65,7 @@ returns-in-Record-clause-ends g c =
     let disk = g.D.Disk.view c.args.disk.now in
     let out = g.O.Sink.view c.args.out.now in
     ends_beside ToRecord GivesRecord (work g.P.Conn.Link.view) (record_words words) _ disk (g.D.Disk.view c.answer_record.new.disk) out out
-    (g.P.Port.view c.args.port.now) (cause_in c.answer_record.result) (λ task output gives. gives)
+    (g.P.Port.view c.args.port.now) (cause_in c.answer_record.result) (λ task output gives. gives) (λ task before after kept. kept)
     (ap (λ (command : Command). command_reading command words) (sym c.in-Record.is)) (c.answer_record.ensures.ends out)
 
 pub returns-in-Match-clause-ends : goal.returns-in-Match-clause-ends
@@ -74,7 +74,7 @@ returns-in-Match-clause-ends g c =
     let disk = g.D.Disk.view c.args.disk.now in
     let out = g.O.Sink.view c.args.out.now in
     ends_beside ToMatch GivesMatch (work g.P.Conn.Link.view) (match_words words) _ disk (g.D.Disk.view c.answer_match.new.disk) out (g.O.Sink.view c.answer_match.new.out)
-    (g.P.Port.view c.args.port.now) (cause_in c.answer_match.result) (λ task output gives. gives)
+    (g.P.Port.view c.args.port.now) (cause_in c.answer_match.result) (λ task output gives. gives) (λ task before after kept. kept)
     (ap (λ (command : Command). command_reading command words) (sym c.in-Match.is)) c.answer_match.ensures.ends
 
 pub returns-in-Migrate-clause-ends : goal.returns-in-Migrate-clause-ends
@@ -83,7 +83,7 @@ returns-in-Migrate-clause-ends g c =
     let disk = g.D.Disk.view c.args.disk.now in
     let out = g.O.Sink.view c.args.out.now in
     ends_beside ToMigrate GivesMigrate (work g.P.Conn.Link.view) (migrate_words words) _ disk (g.D.Disk.view c.answer_migrate.new.disk) out out
-    (g.P.Port.view c.args.port.now) (cause_in c.answer_migrate.result) (λ task output gives. gives)
+    (g.P.Port.view c.args.port.now) (cause_in c.answer_migrate.result) (λ task output gives. gives) (λ task before after kept. kept)
     (ap (λ (command : Command). command_reading command words) (sym c.in-Migrate.is)) (c.answer_migrate.ensures.ends out)
 
 pub returns-in-Replay-clause-ends : goal.returns-in-Replay-clause-ends
@@ -96,6 +96,7 @@ returns-in-Replay-clause-ends g c =
     (record {
       gives = λ task output gives. gives;
       stops = λ task cause stops. stops;
+      leaves = λ task before after left. left;
       faulted = λ task faulted. faulted;
       kept = λ same. same;
     })

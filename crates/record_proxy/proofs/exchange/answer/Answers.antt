@@ -64,7 +64,7 @@ returns-in-Ok-More-clause-goes_on g c =
     (needs_more to_head old result p.stands.responses_run c.next.ensures.first c.next.ensures.fails is) in
     c.take_of_server.ensures.goes_on _ start _ before _ c.args.asked.request
     (subst (λ (f : Frames). Progress c.args.asked.site_port start (links (g.A.Link.view c.args.client.now).told
-    (g.B.Link.view c.args.server.now).told) before c.args.store.now
+    (g.B.Link.view c.args.server.now).told) before (g.S.RecordSink.records c.args.sink.now)
     (record state { responses = f; due = Some c.args.asked.request })) (sym same) p)
     refl
     (subst (λ (f : Frames). NeedsMore to_head state.server_ended f.unread) (sym same) needs)
@@ -84,9 +84,10 @@ returns-in-Err-Frame-clause-goes_on g c =
     (refuses to_head old result p.stands.responses_run c.next.ensures.first new _ is
     (fails (response_form to_head) old new result c.next.ensures.says _ is)) in
     refused_response start _ _ p.whole (begun request p.interim) (taken_of state) (due_stands p request refl)
-    c.args.asked.site_port before c.args.store.now p.records_are faulty
+    c.args.asked.site_port before (g.S.RecordSink.records c.args.sink.now) p.records_are faulty
 
 pub returns-clause-goes_on : goal.returns-clause-goes_on
 returns-clause-goes_on g c =
     λ start before p due.
-    stored_cut (due_stands p c.args.asked.request refl) c.args.asked.site_port before c.args.store.now p.records_are _
+    stored_cut (due_stands p c.args.asked.request refl) c.args.asked.site_port before
+    (g.S.RecordSink.records c.args.sink.now) p.records_are _

@@ -42,7 +42,7 @@ returns-in-Err-add-clause-goes_on g c =
     (final_unadded start told server p.whole (taken_of c.args.state.now) unread x.request p.interim x.response is e
     (due_stands p x.request refl) _
     (c.in_default.ensures.ok ∙ ap (λ l. option_map (giving l) told) c.as_slice.ensures) c.if-exchange-lt200.false x.port
-    before c.args.store.now p.records_are c.in-Err-add.error)
+    before (g.S.RecordSink.records c.args.sink.now) p.records_are c.in-Err-add.error)
 
 pub returns-then-closes-clause-goes_on : goal.returns-then-closes-clause-goes_on
 returns-then-closes-clause-goes_on g c =
@@ -54,7 +54,7 @@ returns-then-closes-clause-goes_on g c =
     (final_closes start told server p.whole (taken_of c.args.state.now) unread x.request p.interim x.response is e
     (due_stands p x.request refl) _
     (c.in_default.ensures.ok ∙ ap (λ l. option_map (giving l) told) c.as_slice.ensures) c.if-exchange-lt200.false x.port
-    before c.args.store.now p.records_are stops (sym c.either-closes.ensures ∙ c.if-closes.true))
+    before (g.S.RecordSink.records c.args.sink.now) p.records_are stops (sym c.either-closes.ensures ∙ c.if-closes.true))
 
 pub returns-clause-goes_on : goal.returns-clause-goes_on
 returns-clause-goes_on g c =
@@ -67,7 +67,7 @@ returns-clause-goes_on g c =
     state) (sym c.in_default-add.ensures.ok)
     (progress_idle state (p.whole ++ exchange x.request p.interim x.response ∷ [])
     (records_push start told server p.whole (taken_of state) unread x.request p.interim x.response is e
-    (due_stands p x.request refl) _ given c.if-exchange-lt200.false x.port before c.args.store.now p.records_are)
+    (due_stands p x.request refl) _ given c.if-exchange-lt200.false x.port before (g.S.RecordSink.records c.args.sink.now) p.records_are)
     due
     (passed_final start told server p.whole (taken_of state) unread x.request p.interim x.response is e
     (due_stands p x.request refl) _ given c.if-exchange-lt200.false (sym c.either-closes.ensures ∙ c.if-closes.false)))

@@ -10,7 +10,7 @@ use Rattle.record_proxy.proofs.proxy.converse.Goals as goal
 pub steps-init : goal.steps-init
 steps-init g c =
     let told = links (g.A.Link.view c.args.client.now).told (g.B.Link.view c.args.server.now).told in
-    let store = c.args.store.now in
+    let store = g.S.RecordSink.records c.args.sink.now in
     record {
       progress = subst (λ (t : ProxyState). Progress c.args.port told told store store t) (sym c.new-state.ensures)
           (progress_first c.args.port told store);

@@ -7,7 +7,7 @@ use Rattle.record_proxy.proofs.proxy.converse.Given as goal
 abbrev pub invariant-steps : goal.invariant-steps
 invariant-steps g l = record {
   progress : Progress l.port (links (g.A.Link.view l.fn.client).told (g.B.Link.view l.fn.server).told)
-      (links (g.A.Link.view l.client).told (g.B.Link.view l.server).told) l.fn.store l.store l.state;
+      (links (g.A.Link.view l.client).told (g.B.Link.view l.server).told) (g.S.RecordSink.records l.fn.sink) (g.S.RecordSink.records l.sink) l.state;
   client_counts : CountsLinkFaults (g.A.Link.view l.fn.client) (g.A.Link.view l.client);
   server_counts : CountsLinkFaults (g.B.Link.view l.fn.server) (g.B.Link.view l.server);
   room : 0 < length l.buf;

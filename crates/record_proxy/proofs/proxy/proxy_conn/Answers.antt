@@ -5,4 +5,4 @@ use Rattle.record_proxy.proofs.proxy.proxy_conn.Goals as goal
 pub returns-in-Err-clause-stored : goal.returns-in-Err-clause-stored
 returns-in-Err-clause-stored g c =
     no_memory_at_first c.args.port (links (g.A.Link.view c.args.client.now).told (g.B.Link.view c.args.server.now).told)
-    c.args.store.now _
+    (g.S.RecordSink.records c.args.sink.now) _

@@ -18,9 +18,9 @@ returns-clause-joins g c =
     joins_so c.args.site_port g.X.Conn.Link.view first after (g.A.Link.view c.part.new.client) server_first server_after
     c.part.new.server (g.X.Dialer.view c.args.dialer.now) (g.X.Dialer.view c.finish_dialed-done.new.dialer)
     c.args.store.now
-    c.proxy_conn-end.new.store found.0 c.requires.client_fresh c.requires.server_fresh
+    c.proxy_conn-end.new.sink found.0 c.requires.client_fresh c.requires.server_fresh
     (subst (λ (r : Result ProxyEnd OutOfMemory). IsStored c.args.site_port (links first.told server_first.told)
-    (links after.told server_after.told) c.args.store.now c.proxy_conn-end.new.store r) found.1
+    (links after.told server_after.told) c.args.store.now c.proxy_conn-end.new.sink r) found.1
     c.proxy_conn-end.ensures.stored)
     (subst (λ (r : Result ProxyEnd OutOfMemory). HasFaultCause ClientFault first after r) found.1
     c.proxy_conn-end.ensures.client_cause)

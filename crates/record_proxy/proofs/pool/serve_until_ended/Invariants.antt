@@ -1,4 +1,0 @@
-use Rattle.record_proxy.proofs.pool.serve_until_ended.Given as goal
-
-abbrev pub ghosts-run_pool : goal.ghosts-run_pool
-ghosts-run_pool g a = record { port = a.job.now.site_port }
