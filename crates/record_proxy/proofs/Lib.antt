@@ -12,4 +12,5 @@ pub mod AskingLemmas
 pub mod ServingLemmas
 pub mod PoolLemmas
 pub mod RecordingLemmas
+pub mod InterleavedLemmas
 pub mod CommandLemmas

@@ -7,5 +7,6 @@ pub mod Dialers
 pub mod MemDialers
 pub mod Servings
 pub mod Interleaved
+pub mod Recorded
 pub mod Proxying
 pub mod inside
