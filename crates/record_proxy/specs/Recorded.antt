@@ -9,8 +9,8 @@ use Rattle.record_proxy.specs.Servings.{IsServedBeside, Net, most_recorded}
 -- one of the lists, and the others are those of what is left.
 abbrev pub IsInterleaved : List (List Record) → List Record → Type 0
 IsInterleaved lists [] = All (λ (list : List Record). list ≡ []) lists
-IsInterleaved lists (record ∷ records) = (before after : List (List Record)) × (rest : List Record)
-    × (lists ≡ before ++ (record ∷ rest) ∷ after) × IsInterleaved (before ++ rest ∷ after) records
+IsInterleaved lists (first ∷ records) = (before after : List (List Record)) × (rest : List Record)
+    × (lists ≡ before ++ (first ∷ rest) ∷ after) × IsInterleaved (before ++ rest ∷ after) records
 
 module _ {C X : Type 0} (site_port : ℕ) (client_view : C → LinkView) (server_view : X → LinkView) where
   -- Clients were served beside each other, and these are the records of all, of each connection in its order.

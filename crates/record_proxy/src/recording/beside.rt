@@ -26,7 +26,10 @@ use std::marker::{Send, Sync};
 use std::sync::Wait;
 use std::thread::{Threads, join_mut};
 
-// Accepts the clients of a port, once the one who writes has begun.
+// Accepts the clients of a port, once the writer of the records has begun.
+//
+// If the writer gets no thread, `join_mut` runs it after this. So this gives up once it has waited long enough, and lets
+// go of door and keeper: then the workers end, and the writer finds that nobody sends any more.
 fn accept_beside<K: Recording, P: Port, X: Dialer, R: Wait>(
     rt: &R,
     workers: &RecordingWorkers<K, P::Conn, X::Conn>,
@@ -54,23 +57,29 @@ fn accept_beside<K: Recording, P: Port, X: Dialer, R: Wait>(
     serve_port::<K, P, X, R>(rt, workers, door, keeper, port, dialer)
 }
 
-// Accepts the clients of a port, and beside it writes their records as they come. If no thread can be made for the one
-// who writes, nobody is accepted.
+// Accepts the clients of a port, and beside it writes their records as they come. Returns how far the file is written,
+// and how far accepting came.
+//
+// The writer ends once the keeper has closed the channel, or keeper and senders are gone. Accepting closes it if it
+// ends well. If it stops by an error, it drops the keeper; the senders that are away end with their clients, since
+// workers that are given no more pairs finish those that they have.
 fn accept_and_write<
+    'a,
     K: Recording + Send + Sync,
     D: Disk + Send,
     P: Port + Send,
     X: Dialer + Send,
     R: Threads + Wait + Sync,
 >(
-    rt: &R,
-    workers: &RecordingWorkers<K, P::Conn, X::Conn>,
-    start: &mut Option<Start<K, P::Conn, X::Conn>>,
-    port: &mut P,
-    dialer: &mut X,
-    disk: &mut D,
-    name: &str,
-    from: &mut Receiver,
+    rt: &'a R,
+    workers: &'a RecordingWorkers<K, P::Conn, X::Conn>,
+    writer: &'a Begun,
+    start: &'a mut Option<Start<K, P::Conn, X::Conn>>,
+    port: &'a mut P,
+    dialer: &'a mut X,
+    disk: &'a mut D,
+    name: &'a str,
+    from: &'a mut Receiver,
 ) -> (FileState, Result<RecordingStanding, ProxyError>)
     ensures holds { (before : Option Files)
         → Holds name.now before (records_in from.old.got) states.Untouched (D.view disk.old).files
@@ -88,14 +97,13 @@ fn accept_and_write<
     ensures keeps { KeepsPort (P.view port.old) (P.view port.new) }
     ensures cause { result.1 ≡ Err ProxyError.Port → Rose (P.view port.old).faults (P.view port.new).faults }
 {
-    let writer = Begun::new();
     join_mut(
         rt,
         &mut || -> FileState
             requires { IsSync R.row }
             ensures holds { (before : Option Files)
-                → Holds name.now before (records_in from.entry.now.got) states.Untouched (D.view disk.entry.now).files
-                → Holds name.now before (records_in from.exit.now.got) result (D.view disk.exit.now).files }
+                → Holds name.entry.now before (records_in from.entry.now.got) states.Untouched (D.view disk.entry.now).files
+                → Holds name.entry.now before (records_in from.exit.now.got) result (D.view disk.exit.now).files }
             ensures from { from.exit.now.channel ≡ from.entry.now.channel }
             ensures only_writes { OnlyWrites (D.view disk.entry.now) (D.view disk.exit.now) }
             ensures state_cause { HasStateCause states.Untouched result (D.view disk.entry.now)
@@ -116,26 +124,28 @@ fn accept_and_write<
             ensures keeps { KeepsPort (P.view port.entry.now) (P.view port.exit.now) }
             ensures cause { result ≡ Err ProxyError.Port
                 → Rose (P.view port.entry.now).faults (P.view port.exit.now).faults }
-        { accept_beside::<K, P, X, R>(rt, workers, &writer, start.take(), port, dialer) },
+        { accept_beside::<K, P, X, R>(rt, workers, writer, start.take(), port, dialer) },
     )
 }
 
 /// Serves the clients of a port beside the workers, and beside both writes their records as they come.
 pub(crate) fn serve_beside<
+    'a,
     K: Recording + Send + Sync,
     D: Disk + Send,
     P: Port + Send,
     X: Dialer + Send,
     R: Threads + Wait + Sync,
 >(
-    rt: &R,
-    workers: &RecordingWorkers<K, P::Conn, X::Conn>,
+    rt: &'a R,
+    workers: &'a RecordingWorkers<K, P::Conn, X::Conn>,
+    writer: &'a Begun,
     start: Start<K, P::Conn, X::Conn>,
-    port: &mut P,
-    dialer: &mut X,
-    disk: &mut D,
-    name: &str,
-    from: &mut Receiver,
+    port: &'a mut P,
+    dialer: &'a mut X,
+    disk: &'a mut D,
+    name: &'a str,
+    from: &'a mut Receiver,
 ) -> (FileState, Result<RecordingStanding, ProxyError>)
     ensures holds { (before : Option Files)
         → Holds name.now before (records_in from.old.got) states.Untouched (D.view disk.old).files
@@ -162,8 +172,8 @@ pub(crate) fn serve_beside<
         &mut || -> (FileState, Result<RecordingStanding, ProxyError>)
             requires { IsSync R.row }
             ensures holds { (before : Option Files)
-                → Holds name.now before (records_in from.entry.now.got) states.Untouched (D.view disk.entry.now).files
-                → Holds name.now before (records_in from.exit.now.got) result.0 (D.view disk.exit.now).files }
+                → Holds name.entry.now before (records_in from.entry.now.got) states.Untouched (D.view disk.entry.now).files
+                → Holds name.entry.now before (records_in from.exit.now.got) result.0 (D.view disk.exit.now).files }
             ensures from { from.exit.now.channel ≡ from.entry.now.channel }
             ensures only_writes { OnlyWrites (D.view disk.entry.now) (D.view disk.exit.now) }
             ensures state_cause { HasStateCause states.Untouched result.0 (D.view disk.entry.now)
@@ -180,7 +190,7 @@ pub(crate) fn serve_beside<
                 → Rose (P.view port.entry.now).faults (P.view port.exit.now).faults }
         {
             accept_and_write::<K, D, P, X, R>(
-                rt, workers, &mut start, port, dialer, disk, name, from,
+                rt, workers, writer, &mut start, port, dialer, disk, name, from,
             )
         },
     );

@@ -1,4 +1,4 @@
-// What the one takes along who accepts clients.
+// What accepting clients begins with.
 ghost use Rattle.std.specs.Prelude.{◌≡◌, [], Some};
 
 use crate::recording::messages::Recording;

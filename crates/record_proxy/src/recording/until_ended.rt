@@ -13,6 +13,7 @@ ghost use Rattle.record_proxy.specs.Servings.{net};
 use crate::dialer::Dialer;
 use crate::ends::ProxyError;
 use crate::job::ProxyJob;
+use crate::recording::begun::Begun;
 use crate::recording::beside::serve_beside;
 use crate::recording::messages::Recording;
 use crate::recording::pool::Door;
@@ -107,6 +108,7 @@ fn run_pool<
     let (file, served) = serve_beside(
         rt,
         &workers,
+        &Begun::new(),
         Start { door, keeper },
         port,
         dialer,
