@@ -74,12 +74,12 @@ fn accept_and_write<
     rt: &'a R,
     workers: &'a RecordingWorkers<K, P::Conn, X::Conn>,
     writer: &'a Begun,
-    start: &'a mut Option<Start<K, P::Conn, X::Conn>>,
-    port: &'a mut P,
-    dialer: &'a mut X,
-    disk: &'a mut D,
-    name: &'a str,
-    from: &'a mut Receiver,
+    start: &mut Option<Start<K, P::Conn, X::Conn>>,
+    port: &mut P,
+    dialer: &mut X,
+    disk: &mut D,
+    name: &str,
+    from: &mut Receiver,
 ) -> (FileState, Result<RecordingStanding, ProxyError>)
     ensures holds { (before : Option Files)
         → Holds name.now before (records_in from.old.got) states.Untouched (D.view disk.old).files
@@ -141,11 +141,11 @@ pub(crate) fn serve_beside<
     workers: &'a RecordingWorkers<K, P::Conn, X::Conn>,
     writer: &'a Begun,
     start: Start<K, P::Conn, X::Conn>,
-    port: &'a mut P,
-    dialer: &'a mut X,
-    disk: &'a mut D,
-    name: &'a str,
-    from: &'a mut Receiver,
+    port: &mut P,
+    dialer: &mut X,
+    disk: &mut D,
+    name: &str,
+    from: &mut Receiver,
 ) -> (FileState, Result<RecordingStanding, ProxyError>)
     ensures holds { (before : Option Files)
         → Holds name.now before (records_in from.old.got) states.Untouched (D.view disk.old).files

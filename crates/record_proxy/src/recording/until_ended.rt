@@ -1,13 +1,15 @@
 // The serving of a recording until its user ends it.
-ghost use Rattle.std.specs.Prelude.{◌≡◌, List, Some, Ok, Err, IfOk, OnErr};
+ghost use Rattle.std.specs.Prelude.{◌≡◌, List, [], Option, Some, Ok, Err, IfOk};
 ghost use Rattle.mm_base.specs.Counts.{Rose};
 ghost use Rattle.mm_base.specs.Disk.{OnlyWrites};
+ghost use Rattle.mm_base.specs.Files.{Files};
 ghost use Rattle.mm_base.specs.Port.{KeepsPort};
 ghost use Rattle.record_store.specs.declared.record.Record.{Record as RecordValue};
-ghost use Rattle.recording_file.specs.Recordings.{HasStateCause, Holds};
+ghost use Rattle.recording_file.specs.Recordings.{HasStateCause, Holds, records_in};
 ghost use Rattle.recording_file.specs.declared.file_state.FileState.TheVariants as states;
 ghost use Rattle.record_proxy.specs.Asking.{ListensAt, OnlyAsks};
-ghost use Rattle.record_proxy.specs.Recorded.{RecordsBeside};
+ghost use Rattle.record_proxy.specs.Interleaved.{lists_of};
+ghost use Rattle.record_proxy.specs.Recorded.{IsInterleaved, RecordsBeside};
 ghost use Rattle.record_proxy.specs.Servings.{net};
 
 use crate::dialer::Dialer;
@@ -60,6 +62,13 @@ fn write_left<D: Disk, R: Wait>(
 ) -> Recorded
     requires back { standing.keeper.away ≡ 0 }
     requires channel { standing.keeper.channel ≡ from.channel }
+    ensures holds { (before : Option Files)
+        → Holds name.now before (records_in from.got) file (D.view disk.old).files
+        → (records : List RecordValue) × Holds name.now before records result.file (D.view disk.new).files
+        × IsInterleaved (lists_of standing.keeper.back) records }
+    ensures served { result.served ≡ Ok standing.served }
+    ensures only_writes { OnlyWrites (D.view disk.old) (D.view disk.new) }
+    ensures state_cause { HasStateCause file result.file (D.view disk.old) (D.view disk.new) }
 {
     let RecordingStanding { keeper, served, .. } = standing;
     let mut left = keeper.settle(from);
@@ -92,6 +101,16 @@ fn run_pool<
     requires same { keeper.channel ≡ from.channel }
     requires unused { ((keeper.next ≡ 0) × (keeper.away ≡ 0)) × (keeper.back ≡ []) }
     requires none { from.got ≡ [] }
+    ensures holds { (records : List RecordValue)
+        × Holds job.now.out.now (D.view disk.old).files records result.file (D.view disk.new).files
+        × IfOk result.served (λ n. RecordsBeside K.port P.Conn.view X.Conn.view
+        (net (P.view port.old) (X.view dialer.old)) (net (P.view port.new) (X.view dialer.new)) records n) }
+    ensures only_writes { OnlyWrites (D.view disk.old) (D.view disk.new) }
+    ensures state_cause { HasStateCause states.Untouched result.file (D.view disk.old) (D.view disk.new) }
+    ensures cause { result.served ≡ Err ProxyError.Port → Rose (P.view port.old).faults (P.view port.new).faults }
+    ensures heard { (P.view port.new).listened ≡ (P.view port.old).listened }
+    ensures asks { OnlyAsks K.port (X.view dialer.old).asked (X.view dialer.new).asked }
+    ensures keeps { KeepsPort (P.view port.old) (P.view port.new) }
 {
     let (to, pool) = match Workers::new(alloc, job.connections) {
         Ok(made) => made,
