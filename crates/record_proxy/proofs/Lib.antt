@@ -13,4 +13,5 @@ pub mod ServingLemmas
 pub mod PoolLemmas
 pub mod RecordingLemmas
 pub mod InterleavedLemmas
+pub mod RecordedLemmas
 pub mod CommandLemmas
