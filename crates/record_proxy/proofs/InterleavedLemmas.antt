@@ -21,15 +21,15 @@ nothing_after : (xs ys : List Record) → [] ≡ xs ++ ys → [] ≡ ys
 nothing_after [] ys e = e
 nothing_after (x ∷ xs) ys e = absurd (cc e)
 
-said-append : (n : ℕ) (as bs : List Line) → said_by n (as ++ bs) ≡ said_by n as ++ said_by n bs
-said-append n [] bs = refl
-said-append n (l ∷ as) bs = ap (λ r. part_of n l ++ r) (said-append n as bs)
-    ∙ sym (append_assoc (part_of n l) (said_by n as) (said_by n bs))
+said-append : (n : ℕ) (ks ls : List Line) → said_by n (ks ++ ls) ≡ said_by n ks ++ said_by n ls
+said-append n [] ls = refl
+said-append n (k ∷ ks) ls = ap (λ rs. part_of n k ++ rs) (said-append n ks ls)
+    ∙ sym (append_assoc (part_of n k) (said_by n ks) (said_by n ls))
 
-lists-append : (as : List Line) (l : Line) (bs : List Line)
-    → lists_of (as ++ l ∷ bs) ≡ lists_of as ++ l.records ∷ lists_of bs
-lists-append [] l bs = refl
-lists-append (a ∷ as) l bs = ap (λ ls. a.records ∷ ls) (lists-append as l bs)
+lists-append : (ks : List Line) (l : Line) (ls : List Line)
+    → lists_of (ks ++ l ∷ ls) ≡ lists_of ks ++ l.records ∷ lists_of ls
+lists-append [] l ls = refl
+lists-append (k ∷ ks) l ls = ap (λ lists. k.records ∷ lists) (lists-append ks l ls)
 
 -- senders that sent nothing
 all_empty : (lines : List Line) → ((n : ℕ) → [] ≡ said_by n lines)
@@ -102,7 +102,8 @@ said-others n m lines first others t apart =
     let left : Line = record t.line { records = t.rest } in
     let other : t.line.number ≢ m = λ is. apart (sym is ∙ t.number) in
     ap (said_by m) t.split ∙ said-append m t.before (t.line ∷ t.after)
-    ∙ ap (λ rs. said_by m t.before ++ (rs ++ said_by m t.after)) (part_other m t.line other ∙ sym (part_other m left other))
+    ∙ ap (λ rs. said_by m t.before ++ (rs ++ said_by m t.after))
+    (part_other m t.line other ∙ sym (part_other m left other))
     ∙ sym (said-append m t.before (left ∷ t.after))
 
 -- The records that were received are those that the senders sent, interleaved.

@@ -1,5 +1,6 @@
 -- What a recording until ended leaves, put together of its parts.
-use Rattle.std.proofs.Common.{◌≡◌, ◌+◌, ℕ, List, [], Option, Result, Ok, Err, IfOk, length, map, inl, refl, sym, ◌∙◌, ap, subst}
+use Rattle.std.proofs.Common.{◌≡◌, ◌+◌, ℕ, List, [], Option, Result, Ok, Err, IfOk, length, map, inl, refl, sym, ◌∙◌}
+use Rattle.std.proofs.Common.{ap, subst}
 use Rattle.mm_base.specs.Files.{Files}
 use Rattle.mm_base.specs.Link.{LinkView}
 use Rattle.mm_base.specs.Listened.{listened_at}
@@ -27,8 +28,9 @@ pub none_recorded : (name : List ℕ) (files : Option Files) (P : List Record �
     (error : ProxyError) → r ≡ record { file = Untouched; served = Err error }
     → (records : List Record) × Holds name files records r.file files × IfOk r.served (P records)
 none_recorded name files P r error is =
-    subst (λ (r : Recorded). (records : List Record) × Holds name files records r.file files × IfOk r.served (P records))
-    (sym is) ([], (refl, refl), tt)
+    subst (λ (r : Recorded).
+    (records : List Record) × Holds name files records r.file files × IfOk r.served (P records)) (sym is)
+    ([], (refl, refl), tt)
 
 -- what was left was written
 pub left_written : (name : List ℕ) (before files : Option Files) (back lines : List Line) (got : List Message)

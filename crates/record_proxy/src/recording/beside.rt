@@ -1,5 +1,5 @@
 // A recording whose records are written beside it.
-ghost use Rattle.std.specs.Prelude.{◌≡◌, Option, Some, Ok, Err, IfOk};
+ghost use Rattle.std.specs.Prelude.{◌≡◌, Option, Some, Err, IfOk};
 ghost use Rattle.std.specs.Thread.{IsSync};
 ghost use Rattle.mm_base.specs.Counts.{Rose};
 ghost use Rattle.mm_base.specs.Disk.{OnlyWrites};
@@ -28,8 +28,8 @@ use std::thread::{Threads, join_mut};
 
 // Accepts the clients of a port, once the writer of the records has begun.
 //
-// If the writer gets no thread, `join_mut` runs it after this. So this gives up once it has waited long enough, and lets
-// go of door and keeper: then the workers end, and the writer finds that nobody sends any more.
+// If the writer gets no thread, `join_mut` runs it after this. So this gives up once it has waited long enough, and
+// drops door and keeper: then the workers end, and the writer finds that nobody sends any more.
 fn accept_beside<K: Recording, P: Port, X: Dialer, R: Wait>(
     rt: &R,
     workers: &RecordingWorkers<K, P::Conn, X::Conn>,
@@ -60,9 +60,9 @@ fn accept_beside<K: Recording, P: Port, X: Dialer, R: Wait>(
 // Accepts the clients of a port, and beside it writes their records as they come. Returns how far the file is written,
 // and how far accepting came.
 //
-// The writer ends once the keeper has closed the channel, or keeper and senders are gone. Accepting closes it if it
-// ends well. If it stops by an error, it drops the keeper; the senders that are away end with their clients, since
-// workers that are given no more pairs finish those that they have.
+// The writer ends once the keeper has closed the channel, or keeper and senders are gone. If accepting ends well, it
+// closes the channel. If it stops by an error, it drops the keeper; the senders that are away end with their clients,
+// since workers that are given no more pairs finish those that they have.
 fn accept_and_write<
     'a,
     K: Recording + Send + Sync,
@@ -102,7 +102,8 @@ fn accept_and_write<
         &mut || -> FileState
             requires { IsSync R.row }
             ensures holds { (before : Option Files)
-                → Holds name.entry.now before (records_in from.entry.now.got) states.Untouched (D.view disk.entry.now).files
+                → Holds name.entry.now before (records_in from.entry.now.got) states.Untouched
+                (D.view disk.entry.now).files
                 → Holds name.entry.now before (records_in from.exit.now.got) result (D.view disk.exit.now).files }
             ensures from { from.exit.now.channel ≡ from.entry.now.channel }
             ensures only_writes { OnlyWrites (D.view disk.entry.now) (D.view disk.exit.now) }
@@ -172,7 +173,8 @@ pub(crate) fn serve_beside<
         &mut || -> (FileState, Result<RecordingStanding, ProxyError>)
             requires { IsSync R.row }
             ensures holds { (before : Option Files)
-                → Holds name.entry.now before (records_in from.entry.now.got) states.Untouched (D.view disk.entry.now).files
+                → Holds name.entry.now before (records_in from.entry.now.got) states.Untouched
+                (D.view disk.entry.now).files
                 → Holds name.entry.now before (records_in from.exit.now.got) result.0 (D.view disk.exit.now).files }
             ensures from { from.exit.now.channel ≡ from.entry.now.channel }
             ensures only_writes { OnlyWrites (D.view disk.entry.now) (D.view disk.exit.now) }

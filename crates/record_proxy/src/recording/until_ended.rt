@@ -150,12 +150,12 @@ fn run_pool<
 /// many are served as may be, it waits until one ends. A client for which the dialer fails is counted as broken.
 ///
 /// The records are written to the job's file as they come, each by one append once its exchange is whole, and none is
-/// kept. What the file held before stays until the first record is there. If the file can't be written any more, clients
-/// are served on, and no record more is written.
+/// kept. What the file held before stays until the first record is there. If the file can't be written any more,
+/// clients are served on, and no more records are written.
 ///
-/// `served` is `Port` only if a fault of the port was counted: it can't be listened at, or a client can't be accepted or
-/// finished. `OutOfMemory` means out of memory, and comes also if no thread can be made for a worker, or none for the
-/// writer; if fewer workers can be made than the job says, fewer clients are served at a time.
+/// `served` is `Port` only if a fault of the port was counted: it can't be listened at, or a client can't be accepted
+/// or finished. `OutOfMemory` means out of memory, and comes also if no thread can be made for a worker, or none for
+/// the writer; if fewer workers can be made than the job says, fewer clients are served at a time.
 pub(crate) fn record_until_ended<
     D: Disk + Send,
     P: Port + Send,

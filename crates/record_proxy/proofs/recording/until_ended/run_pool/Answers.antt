@@ -1,4 +1,4 @@
-use Rattle.std.proofs.Common.{◌≡◌, List, Result, IfOk, ap, refl, subst}
+use Rattle.std.proofs.Common.{List, Result, IfOk, ap, refl, subst}
 use Rattle.record_store.specs.declared.record.Record.{Record}
 use Rattle.recording_file.specs.Recordings.{Holds, records_in}
 use Rattle.record_proxy.specs.Interleaved.{lists_of}
