@@ -161,14 +161,7 @@ pub(crate) fn record_until_ended<
     P: Port + Send,
     X: Dialer + Send,
     R: Threads + Wait + Sync,
->(
-    rt: &R,
-    alloc: Global,
-    job: &ProxyJob<'_>,
-    port: &mut P,
-    dialer: &mut X,
-    disk: &mut D,
-) -> Recorded
+>(rt: &R, alloc: Global, job: &ProxyJob<'_>, port: &mut P, dialer: &mut X, disk: &mut D) -> Recorded
     ensures holds { (records : List RecordValue)
         × Holds job.now.out.now (D.view disk.old).files records result.file (D.view disk.new).files
         × IfOk result.served (λ n. RecordsBeside job.now.site_port P.Conn.view X.Conn.view
