@@ -2,8 +2,9 @@
 use Rattle.std.specs.Prelude.{◌⊎◌, Result, IsOk, IsErrAnd, IfOk, IfErr, if◌then◌else◌}
 use Rattle.std.specs.List.{flat_map}
 use Rattle.std.proofs.Common.{◌≡◌, inl, inr, ⊎_elim, ℕ, ◌<◌, ◌≤◌, ◌+◌, ◌-◌, ◌++◌, ◌∷◌, List, [], Option, Some, None, Ok}
-use Rattle.std.proofs.Common.{Err, Bool, true, false, length, take, refl, sym, ap, ◌∙◌, subst, arith, length-append}
-use Rattle.std.proofs.lemmas.List.{append_assoc, take-append-le}
+use Rattle.std.proofs.Common.{Err, Bool, true, false, length, take, drop, refl, sym, ap, ◌∙◌, subst, arith, length-append}
+use Rattle.std.proofs.Common.{length-drop}
+use Rattle.std.proofs.lemmas.List.{append_assoc, take-append-drop}
 use Rattle.std.proofs.lemmas.List.Concat.{flat_map-append}
 use Rattle.mm_base.specs.Counts.{Rose}
 use Rattle.mm_base.specs.Disk.{DiskView, HasWriteCause}
@@ -25,6 +26,7 @@ use Rattle.command_ends.specs.Stops.{StopsAtOutput, StopsWriting}
 use Rattle.command_ends.specs.declared.cause.Cause.{Cause}
 use Rattle.command_ends.proofs.EndLemmas.{ends_unwritten, keeps_all}
 use Rattle.store_files.specs.Written.{store_file}
+use Rattle.store_files.proofs.WritingLemmas.{front_held}
 use Rattle.record_proxy.specs.Asking.{ListensAt, OnlyAsks}
 use Rattle.record_proxy.specs.Proxying.{AsksAt, LeavesBy, LeavesRecording, ProxyJob, ServesBy, ServesJob, StopsProxy}
 use Rattle.record_proxy.specs.Proxying.{cause_of, proxy_files, proxy_output, proxy_reading, proxy_work}
@@ -57,9 +59,20 @@ store-append xs ys =
     ap (λ l. magic Two ++ l) (flat_map-append (record_text Two) xs ys)
     ∙ sym (append_assoc (magic Two) (flat_map (record_text Two) xs) (flat_map (record_text Two) ys))
 
-take_past : (front next : List ℕ) (n : ℕ) → take (length front + n) (front ++ next) ≡ front ++ take n next
-take_past [] next n = refl
-take_past (b ∷ bs) next n = ap (λ l. b ∷ l) (take_past bs next n)
+-- a prefix of a text, what is left of it, and what is behind it
+cut_again : (front text later : List ℕ) (n : ℕ)
+    → (front ++ take n text) ++ (drop n text ++ later) ≡ front ++ (text ++ later)
+cut_again front text later n =
+    append_assoc front (take n text) (drop n text ++ later)
+    ∙ ap (λ l. front ++ l) (sym (append_assoc (take n text) (drop n text) later)
+    ∙ ap (λ l. l ++ later) (take-append-drop n text))
+
+some_left : (text later : List ℕ) (n : ℕ) → n < length text → 0 < length (drop n text ++ later)
+some_left text later n less = omega (arith, length-append (drop n text) later, length-drop n text)
+
+-- a store's text isn't empty
+some_text : (records : List Record) → 0 < length (store_text Two records)
+some_text records = omega (arith, length-append (magic Two) (records_text Two records))
 
 -- a prefix of the text up to a record, and a prefix of that one, is a prefix of the whole text
 some_held : (name : List ℕ) (before after : Option Files) (whole : List Record) (next : Record) (rest : List Record)
@@ -68,34 +81,17 @@ some_held : (name : List ℕ) (before after : Option Files) (whole : List Record
 some_held name before after [] next rest (inl same) = inl same
 some_held name before after [] next rest (inr p) =
     let text = store_text Two (next ∷ []) in
-    let others = records_text Two rest in
-    let whole_is : store_text Two (next ∷ rest) ≡ text ++ others = store-append (next ∷ []) rest in
-    let few : p.0 ≤ length text - 1 = p.1 in
-    let long : length (store_text Two (next ∷ rest)) ≡ length text + length others =
-    ap length whole_is ∙ length-append text others in
-    inr (
-      p.0,
-      omega (arith, few, long),
-      p.2 ∙ ap (λ l. holding name l before)
-          (sym (take-append-le p.0 text others (omega (arith, few))) ∙ ap (take p.0) (sym whole_is)),
-    )
+    let later = records_text Two rest in
+    let less : p.0 < length text = omega (arith, p.1, some_text (next ∷ [])) in
+    front_held before after name (store_text Two (next ∷ rest)) (take p.0 text) (drop p.0 text ++ later)
+    (cut_again [] text later p.0 ∙ sym (store-append (next ∷ []) rest)) (some_left text later p.0 less) p.2
 some_held name before after (r ∷ rs) next rest p =
-    let text = store_text Two (r ∷ rs) in
-    let own = record_text Two next in
-    let others = records_text Two rest in
-    let whole_is : store_text Two ((r ∷ rs) ++ next ∷ rest) ≡ text ++ (own ++ others) =
-    store-append (r ∷ rs) (next ∷ rest) in
-    let short : p.0 < length own = p.1 in
-    let long : length (store_text Two ((r ∷ rs) ++ next ∷ rest)) ≡ length text + (length own + length others) =
-    ap length whole_is ∙ length-append text (own ++ others) ∙ ap (λ n. length text + n) (length-append own others) in
-    inr (
-      length text + p.0,
-      omega (arith, short, long),
-      p.2 ∙ ap (λ l. holding name l before)
-          (sym (take_past text (own ++ others) p.0
-          ∙ ap (λ l. text ++ l) (take-append-le p.0 own others (omega (arith, short))))
-          ∙ ap (take (length text + p.0)) (sym whole_is)),
-    )
+    let front = store_text Two (r ∷ rs) in
+    let text = record_text Two next in
+    let later = records_text Two rest in
+    front_held before after name (store_text Two ((r ∷ rs) ++ next ∷ rest)) (front ++ take p.0 text)
+    (drop p.0 text ++ later) (cut_again front text later p.0 ∙ sym (store-append (r ∷ rs) (next ∷ rest)))
+    (some_left text later p.0 p.1) p.2
 
 held_first : (job : ProxyJob) (records : List Record) (before after : Option Files)
     → StopsWithin job.out before records after → HoldsFirst (proxy_files job records) before after job.out
@@ -118,7 +114,7 @@ held_written job records before after Untouched until ok h =
     h.1 ∙ sym (ap (λ fs. holding_all fs before) (files_of_none job records until h.0))
 held_written job records before after Whole until ok h =
     h.1 ∙ sym (ap (λ fs. holding_all fs before) (files_of_some job records h.0))
-held_written job records before after (Stopped error) until ok h = absurd ok
+held_written job records before after (Stopped error) until ok h = absurd (cc ok)
 
 held_unwritten : (job : ProxyJob) (records : List Record) (old new : DiskView) (state : FileState)
     → IsOk (answer_of state) → Holds job.out old.files records state new.files
@@ -126,13 +122,13 @@ held_unwritten : (job : ProxyJob) (records : List Record) (old new : DiskView) (
 held_unwritten job records old new Untouched ok h cause none = (cause.untouched refl).1
 held_unwritten job records old new Whole ok h cause none =
     absurd (let no = sym (files_of_some job records h.0) ∙ none in cc no)
-held_unwritten job records old new (Stopped error) ok h cause none = absurd ok
+held_unwritten job records old new (Stopped error) ok h cause none = absurd (cc ok)
 
 held_stopped : (job : ProxyJob) (records : List Record) (old new : DiskView) (state : FileState)
     → (IsOk (answer_of state) → ⊥) → Holds job.out old.files records state new.files
     → HoldsFirst (proxy_files job records) old.files new.files job.out
-held_stopped job records old new Untouched stopped h = absurd (stopped tt)
-held_stopped job records old new Whole stopped h = absurd (stopped tt)
+held_stopped job records old new Untouched stopped h = absurd (stopped refl)
+held_stopped job records old new Whole stopped h = absurd (stopped refl)
 held_stopped job records old new (Stopped error) stopped h = held_first job records old.files new.files h
 
 -- why writing stopped that began with the first record

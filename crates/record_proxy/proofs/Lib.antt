@@ -11,5 +11,7 @@ pub mod FirstLemmas
 pub mod AskingLemmas
 pub mod ServingLemmas
 pub mod RecordingLemmas
+pub mod InterleavedLemmas
+pub mod RecordedLemmas
 pub mod CommandLemmas
 pub mod JobLemmas

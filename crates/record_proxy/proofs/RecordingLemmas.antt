@@ -1,7 +1,7 @@
 -- A recording that serves clients beside each other, one step more.
 use Rattle.std.proofs.Common.{◌≡◌, ◌∙◌, ◌⊎◌, inl, inr, ◌<◌, ◌≤◌, ℕ, ◌+◌, ◌-◌, true, List, [], ◌∷◌, ◌++◌, length}
-use Rattle.std.proofs.Common.{Option, None, Ok, Err, refl, sym, ap, subst, arith, append-nil, length-append, map}
-use Rattle.std.specs.Prelude.{Result, IfOk, IsErrOf}
+use Rattle.std.proofs.Common.{Option, None, Ok, Err, refl, sym, ap, subst, arith, length-append, map}
+use Rattle.std.specs.Prelude.{Result, IsErrOf}
 use Rattle.std.proofs.lemmas.Bool.{cases_lt}
 use Rattle.std.proofs.lemmas.List.{map-append}
 use mathlib.Core.Logic.{∥∥₁_map}
@@ -11,12 +11,11 @@ use Rattle.mm_base.specs.Port.{PortView, KeepsPort, after_finish}
 use Rattle.mm_base.specs.declared.errors.EndError.{EndError}
 use Rattle.mm_base.specs.declared.errors.EndError.TheVariants.{Failed, OutOfMemory as NoMemory}
 use Rattle.record_store.specs.declared.record.Record.{Record}
-use Rattle.replay_server.specs.declared.ends.Served.{Served}
 use Rattle.fan_in.specs.declared.rule.Line.{Line}
 use Rattle.record_proxy.specs.Dialers.{DialerView}
 use Rattle.record_proxy.specs.Interleaved.{lists_of}
 use Rattle.record_proxy.specs.Servings.{GivenUp, IsDialed, IsJoined, IsServedBeside, Joined, Net, NotDialed, Passage}
-use Rattle.record_proxy.specs.Servings.{RisesFor, Serves, added_of, counted_as, dials_of, end_of, finished_with}
+use Rattle.record_proxy.specs.Servings.{RisesFor, added_of, counted_as, dials_of, end_of, finished_with}
 use Rattle.replay_server.specs.Servings.{no_ends}
 use Rattle.record_proxy.specs.Servings.{most_recorded, net, servers_of}
 use Rattle.record_proxy.specs.Links.{HasFaultCause, IsStored, links}
@@ -24,7 +23,6 @@ use Rattle.record_proxy.specs.inside.Passing.{EndsWith, plus}
 use Rattle.record_proxy.specs.inside.Recordings.{InRecording, MovesRecording}
 use Rattle.record_proxy.specs.declared.ends.ProxyEnd.{ProxyEnd}
 use Rattle.record_proxy.specs.declared.ends.ProxyEnd.TheVariants.{ClientFault, ServerFault}
-use Rattle.record_proxy.specs.declared.ends.ProxyError.{ProxyError}
 use Rattle.record_proxy.specs.declared.recording.standing.RecordingStanding.{RecordingStanding}
 use Rattle.record_proxy.proofs.ServingLemmas.{keeps_then, rises_later, risen, same_finished, serves_next, serves_none}
 use Rattle.record_proxy.proofs.ServingLemmas.{serves_same, tally_push}
@@ -112,7 +110,8 @@ module _ {C X : Type 0} (site_port : ℕ) (client_view : C → LinkView) (server
       → KeepsPort old.port port → dialer.dialed ≡ old.dialer.dialed + 1 → dialer.finished ≡ old.dialer.finished
       → old.dialer.faults ≤ dialer.faults → s'.keeper.back ≡ s.keeper.back → s'.served ≡ s.served
       → s'.begun ≡ s.begun + 1 → s'.away ≡ s.away + 1 → Stands start (net port dialer) s'
-  recording_sent start old s port dialer s' x accepted finished keeps dialed dials_finished grows back served begun away =
+  recording_sent start old s port dialer s' x accepted finished keeps dialed dials_finished grows back served begun
+      away =
       record {
         passages = x.passages;
         accepted = x.accepted;
@@ -149,7 +148,8 @@ module _ {C X : Type 0} (site_port : ℕ) (client_view : C → LinkView) (server
       dialed = x.dialed + dials_of p.dialed;
       faults = new.dialer.faults;
       serves = serves_next site_port client_view server_view true start (at old x.accepted x.dialed x.faults)
-          (at new (x.accepted + 1) (x.dialed + dials_of p.dialed) new.dialer.faults) x.passages p x.serves is refl finished (keeps_at old.port new.port x.accepted (x.accepted + 1) keeps) refl dials_finished
+          (at new (x.accepted + 1) (x.dialed + dials_of p.dialed) new.dialer.faults) x.passages p x.serves is refl
+          finished (keeps_at old.port new.port x.accepted (x.accepted + 1) keeps) refl dials_finished
           (rises_later site_port server_view p.dialed x.faults old.dialer.faults new.dialer.faults x.grows rises);
       lists_are = lists_push s.keeper.back line s'.keeper.back x.passages p x.lists_are back records;
       accepted_is = accepted;
@@ -171,8 +171,8 @@ module _ {C X : Type 0} (site_port : ℕ) (client_view : C → LinkView) (server
       → s'.keeper.back ≡ s.keeper.back ++ line ∷ [] → line.records ≡ []
       → s'.served ≡ plus s.served (counted_as None) → s'.begun ≡ s.begun + 1
       → s'.away ≡ s.away → Stands start new s'
-  recording_lost start old s port new s' client line x fresh accepted finished keeps then_accepted then_finished then_keeps dialed
-      dials_finished grows rose back none served begun away =
+  recording_lost start old s port new s' client line x fresh accepted finished keeps then_accepted then_finished
+      then_keeps dialed dials_finished grows rose back none served begun away =
       let p : Passage C X = record { client = client; dialed = NotDialed } in
       recording_next start old new s s' p x ∣ fresh ∣₁ (then_finished ∙ ap (finished_with (client ∷ [])) finished)
       (keeps_then keeps then_keeps) (dials_finished ∙ same_finished old.dialer.finished) (grows, rose)
@@ -189,7 +189,8 @@ module _ {C X : Type 0} (site_port : ℕ) (client_view : C → LinkView) (server
       (grows : old.dialer.faults ≤ new.dialer.faults) (accepted : new.port.accepted ≡ old.port.accepted)
       (finished : new.port.finished ≡ finished_with (client ∷ []) old.port.finished)
       (keeps : KeepsPort old.port new.port)
-      (back : s'.keeper.back ≡ s.keeper.back ++ line ∷ []) (begun : s'.begun ≡ s.begun) (away : s'.away ≡ s.away - 1) where
+      (back : s'.keeper.back ≡ s.keeper.back ++ line ∷ []) (begun : s'.begun ≡ s.begun)
+      (away : s'.away ≡ s.away - 1) where
     accepted_now : new.port.accepted ≡ (x.accepted + 1) + s'.away
     accepted_now = let a = x.accepted_is in omega (arith, a, accepted, some, away)
 
@@ -204,13 +205,13 @@ module _ {C X : Type 0} (site_port : ℕ) (client_view : C → LinkView) (server
         → (IsErrOf done Failed → Rose old.dialer.faults new.dialer.faults)
         → s'.served ≡ plus s.served (counted_as counted) → Stands start new s'
     recording_back (Ok u) counted is dials_finished rose served =
-        recording_next start old new s s' (record { client = client; dialed = Joined server line.records end }) x joined finished
-        keeps dials_finished grows line back refl counted is served accepted_now dialed_now begun_now
+        recording_next start old new s s' (record { client = client; dialed = Joined server line.records end }) x joined
+        finished keeps dials_finished grows line back refl counted is served accepted_now dialed_now begun_now
     recording_back (Err Failed) counted is dials_finished rose served =
         recording_next start old new s s' (record { client = client; dialed = GivenUp line.records }) x
         (∥∥₁_map joined (λ j. (server_view server, end, j))) finished keeps
-        (dials_finished ∙ same_finished old.dialer.finished) (grows, rose refl) line back refl counted is served accepted_now
-        dialed_now begun_now
+        (dials_finished ∙ same_finished old.dialer.finished) (grows, rose refl) line back refl counted is served
+        accepted_now dialed_now begun_now
     recording_back (Err NoMemory) counted is dials_finished rose served = absurd is
 
   -- nobody is away, and nobody is accepted any more

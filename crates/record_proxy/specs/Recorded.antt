@@ -1,22 +1,16 @@
 -- What a recording until ended has recorded.
-use Rattle.std.specs.Prelude.{◌≡◌, ℕ, List, map}
+use Rattle.std.specs.Prelude.{◌≡◌, ◌++◌, ◌∷◌, ℕ, List, [], All}
 use Rattle.mm_base.specs.Link.{LinkView}
 use Rattle.record_store.specs.declared.record.Record.{Record}
-use Rattle.fan_in.specs.Lines.{IsFannedIn}
-use Rattle.fan_in.specs.declared.message.Message.{Message}
-use Rattle.fan_in.specs.declared.rule.Line.{Line}
-use Rattle.recording_file.specs.Recordings.{records_in}
 use Rattle.replay_server.specs.declared.ends.Served.{Served}
-use Rattle.record_proxy.specs.Interleaved.{lists_of}
 use Rattle.record_proxy.specs.Servings.{IsServedBeside, Net, most_recorded}
 
--- The records are those of these lists: of each all, in its order, and nothing else.
-pub record IsInterleaved (lists : List (List Record)) (records : List Record) : Type 0 where
-  pub lines : List Line
-  pub messages : List Message
-  pub lists_are : lists ≡ lists_of lines
-  pub fanned_in : IsFannedIn lines messages
-  pub records_are : records ≡ records_in messages
+-- These are the records of the lists: each of them once, and those of each list in its order. The first is the first of
+-- one of the lists, and the others are those of what is left.
+abbrev pub IsInterleaved : List (List Record) → List Record → Type 0
+IsInterleaved lists [] = All (λ (list : List Record). list ≡ []) lists
+IsInterleaved lists (first ∷ records) = (before after : List (List Record)) × (rest : List Record)
+    × (lists ≡ before ++ (first ∷ rest) ∷ after) × IsInterleaved (before ++ rest ∷ after) records
 
 module _ {C X : Type 0} (site_port : ℕ) (client_view : C → LinkView) (server_view : X → LinkView) where
   -- Clients were served beside each other, and these are the records of all, of each connection in its order.

@@ -12,8 +12,9 @@ returns-in_ok-with_one_lost-in-Err-Failed-clause-moves g c = λ before accepted 
     recording_lost g.K.Recording.port g.P.Conn.Link.view g.X.Conn.Link.view start
     (net before (g.X.Dialer.view c.args.dialer.now))
     c.args.standing (g.P.Port.view c.args.port.now)
-    (net (g.P.Port.view c.finish_client.new.port) (g.X.Dialer.view c.dial.new.self)) c.in_ok-with_one_lost-in-Err-Failed.field-0
-    c.args.client (record { number = c.args.standing.begun; records = [] }) pool c.requires.fresh accepted finished keeps
+    (net (g.P.Port.view c.finish_client.new.port) (g.X.Dialer.view c.dial.new.self))
+    c.in_ok-with_one_lost-in-Err-Failed.field-0 c.args.client (record { number = c.args.standing.begun; records = [] })
+    pool c.requires.fresh accepted finished keeps
     client.accepted c.in_ok-finish_client-in-Err-Failed.ensures.finished client.keeps dialed.err dialed.finished
     dialed.counts (dialed.failed_cause (ap Err c.in-Err-Failed.field-0-is)) lost.back refl lost.served lost.one.0
     lost.one.1
