@@ -6,7 +6,7 @@ use option_words::{Command, Fault, option_words};
 use std::fmt;
 
 // The version of the programs, and the kit that they are proved with.
-const VERSION: &str = "0.5.0 (rattle-kit-13f)";
+const VERSION: &str = "0.6.0 (rattle-kit-13f)";
 
 /// What the words of a command line without a job ask for.
 #[derive(Clone, Copy)]
