@@ -1,0 +1,587 @@
+// A relay of flows between its turns.
+ghost use Rattle.std.specs.Prelude.{◌≡◌, ◌≤◌, ◌<◌, length, IfOk};
+
+use crate::FlowsError;
+use crate::connection::{Connection, direction_of, side_after};
+use crate::entry::{Entry, Origin};
+use crate::path::{MOST_ROWS, Passed, Path};
+use crate::stream_turns::Entering;
+use flow_list::{Flow, FlowKind};
+use flow_sockets::{Arrival, Sockets};
+use live_relay::Side;
+use nest_spec::Nest;
+use packet_record::Direction;
+use std::alloc::Global;
+use stream_core::Settings;
+use text_base::OutOfMemory;
+
+// The most connections that stand at once.
+const MOST_CONNECTIONS: usize = 256;
+
+// How many turns, rows, datagrams and connections there were.
+#[derive(Clone, Copy)]
+pub(crate) struct Counts {
+    pub accepted: u32,
+    pub refused: u64,
+    pub again: u32,
+}
+
+// What entered and what came of it, the connections that stand, by their numbers, and whose turn it is.
+#[derive(Drop)]
+pub(crate) struct RelayState {
+    alloc: Global,
+    settings: Settings,
+    pub path: Path,
+    connections: Vec<Connection>,
+    // For each flow, the connection that was read first in the last turn; 0 before any was.
+    first_read: Vec<u32>,
+    // The place of the flow that takes first in the next turn.
+    first_flow: usize,
+    pub counts: Counts,
+    // Whether the turn took or gave anything.
+    is_active: bool,
+}
+
+// Returns the place that is `index` places after the first of `count` places in a ring.
+fn place_after(first: usize, index: usize, count: usize) -> usize
+    requires { index < count }
+    ensures { result < count }
+{
+    let first = if first < count { first } else { 0 };
+    let left = count - first;
+    if index < left {
+        first + index
+    } else {
+        index - left
+    }
+}
+
+impl RelayState {
+    // Makes a relay before its first turn.
+    pub fn new(
+        alloc: Global,
+        nest: &Nest,
+        flows: &[Flow],
+        settings: Settings,
+    ) -> Result<RelayState, OutOfMemory> {
+        let mut first_read = Vec::new(alloc);
+        for _ in flows {
+            first_read.push(0)?;
+        }
+        Ok(RelayState {
+            alloc,
+            settings,
+            path: Path::new(alloc, nest)?,
+            connections: Vec::new(alloc),
+            first_read,
+            first_flow: 0,
+            counts: Counts {
+                accepted: 0,
+                refused: 0,
+                again: 0,
+            },
+            is_active: false,
+        })
+    }
+
+    // Returns the connection of this number, if it stands.
+    fn standing(&mut self, number: u32) -> Option<&mut Connection> {
+        for connection in self.connections.iter_mut() {
+            if connection.number() == number {
+                return Some(connection);
+            }
+        }
+        None
+    }
+
+    // Hands on a datagram that departed.
+    fn send_datagram<S: Sockets>(
+        &mut self,
+        sockets: &mut S,
+        passed: Passed,
+        client: u32,
+    ) -> Result<(), FlowsError> {
+        if let Some(bytes) = self.path.take_bytes(passed.packet.packet.id) {
+            let side = side_after(passed.direction);
+            sockets.send(passed.entry.flow, client, side, bytes.as_slice())?;
+            self.is_active = true;
+        }
+        Ok(())
+    }
+
+    // Takes what departed, and hands on datagrams.
+    fn take_departures<S: Sockets>(&mut self, sockets: &mut S) -> Result<(), FlowsError> {
+        for _ in 0..MOST_ROWS {
+            let Some(passed) = self.path.take_departure() else {
+                break;
+            };
+            match passed.entry.origin {
+                Origin::Datagram { client } => self.send_datagram(sockets, passed, client)?,
+                Origin::Try { connection, number } => {
+                    if let Some(connection) = self.standing(connection) {
+                        let packet = passed.packet;
+                        connection.note_departure(
+                            passed.direction,
+                            number,
+                            packet.packet.id,
+                            packet.moment,
+                        );
+                    }
+                }
+            }
+        }
+        Ok(())
+    }
+
+    // Takes note of a row that was lost.
+    fn note_loss(&mut self, passed: Passed) {
+        let packet = passed.packet;
+        match passed.entry.origin {
+            Origin::Datagram { .. } => {
+                let _ = self.path.take_bytes(packet.packet.id);
+            }
+            Origin::Try { connection, number } => {
+                if let Some(connection) = self.standing(connection) {
+                    connection.note_loss(
+                        passed.direction,
+                        number,
+                        packet.packet.id,
+                        packet.moment,
+                    );
+                }
+            }
+        }
+    }
+
+    // Takes what was lost in a direction.
+    fn take_losses(&mut self, direction: Direction) {
+        for _ in 0..MOST_ROWS {
+            let Some(passed) = self.path.take_loss(direction) else {
+                break;
+            };
+            self.note_loss(passed);
+        }
+    }
+
+    // Gives what can be handed on, as far as the sides take it, and lets go connections that stand no longer.
+    fn give<S: Sockets>(&mut self, sockets: &mut S) {
+        let moment = self.path.moment();
+        let mut has_given = false;
+        for connection in self.connections.iter_mut() {
+            connection.advance(moment);
+            if connection.give(sockets, moment) {
+                has_given = true;
+            }
+        }
+        if has_given {
+            self.connections.retain(|connection| connection.stands());
+            self.is_active = true;
+        }
+    }
+
+    // Lets what was made of a connection enter as the next row.
+    fn enter(
+        self,
+        place: usize,
+        direction: Direction,
+        entering: Option<Entering>,
+    ) -> Result<RelayState, OutOfMemory>
+        requires { length self.path.rows < 1000000 }
+    {
+        let Some(entering) = entering else {
+            return Ok(self);
+        };
+        let Some(connection) = self.connections.get(place) else {
+            return Ok(self);
+        };
+        let entry = Entry {
+            flow: connection.flow(),
+            origin: Origin::Try {
+                connection: connection.number(),
+                number: entering.number,
+            },
+        };
+        let RelayState {
+            alloc,
+            settings,
+            path,
+            connections,
+            first_read,
+            first_flow,
+            counts,
+            ..
+        } = self;
+        let path = path.enter(entry, direction, entering.size)?;
+        Ok(RelayState {
+            alloc,
+            settings,
+            path,
+            connections,
+            first_read,
+            first_flow,
+            counts,
+            is_active: true,
+        })
+    }
+
+    // Takes the outcome of the dial of the connection at this place.
+    fn take_dial<S: Sockets>(
+        self,
+        sockets: &mut S,
+        place: usize,
+    ) -> Result<RelayState, OutOfMemory> {
+        let mut state = self;
+        if !state.path.has_room() {
+            return Ok(state);
+        }
+        let moment = state.path.moment();
+        let row = state.path.next_row();
+        let Some(connection) = state.connections.get_mut(place) else {
+            return Ok(state);
+        };
+        let entering = connection.take_dial(sockets, moment, row)?;
+        state.enter(place, Direction::Down, entering)
+    }
+
+    // Takes the outcomes of dials.
+    fn take_dials<S: Sockets>(self, sockets: &mut S) -> Result<RelayState, OutOfMemory> {
+        let mut state = self;
+        for place in 0..state.connections.len() {
+            state = state.take_dial(sockets, place)?;
+        }
+        Ok(state)
+    }
+
+    // Moves on to the moment that a clock shows.
+    fn advance(self, moment: u64) -> Result<RelayState, OutOfMemory> {
+        let RelayState {
+            alloc,
+            settings,
+            path,
+            connections,
+            first_read,
+            first_flow,
+            counts,
+            ..
+        } = self;
+        Ok(RelayState {
+            alloc,
+            settings,
+            path: path.advance(moment)?,
+            connections,
+            first_read,
+            first_flow,
+            counts,
+            is_active: false,
+        })
+    }
+
+    // Does what comes in a turn at this moment before the end of the relay is looked for: takes what departed and was
+    // lost, sends datagrams, gives what can be handed on, and takes the outcomes of dials.
+    pub fn settle<S: Sockets>(
+        self,
+        sockets: &mut S,
+        moment: u64,
+    ) -> Result<RelayState, FlowsError> {
+        let mut state = self.advance(moment)?;
+        state.take_departures(sockets)?;
+        state.take_losses(Direction::Up);
+        state.take_losses(Direction::Down);
+        state.give(sockets);
+        Ok(state.take_dials(sockets)?)
+    }
+
+    // Returns the place and direction of the due try that is the first to enter.
+    fn first_due(&self) -> Option<(usize, Direction)> {
+        let mut first = None;
+        for place in 0..self.connections.len() {
+            let connection = &self.connections[place];
+            for direction in [Direction::Up, Direction::Down] {
+                if let Some(due) = connection.next_due(direction) {
+                    first = sooner(first, (due.moment, due.row, place, direction));
+                }
+            }
+        }
+        let (_, _, place, direction) = first?;
+        Some((place, direction))
+    }
+
+    // Lets due tries enter.
+    fn retry(self) -> Result<RelayState, OutOfMemory> {
+        let mut state = self;
+        for _ in 0..MOST_ROWS {
+            let Some((place, direction)) = state.first_due() else {
+                break;
+            };
+            if !state.path.has_room() {
+                break;
+            }
+            let row = state.path.next_row();
+            let Some(connection) = state.connections.get_mut(place) else {
+                break;
+            };
+            let entering = connection.retry(direction, row);
+            state.counts.again = state.counts.again.saturating_add(1);
+            state = state.enter(place, direction, entering)?;
+        }
+        Ok(state)
+    }
+
+    // Lets a datagram that came from a side of a flow enter.
+    fn enter_datagram(
+        self,
+        entry: Entry,
+        side: Side,
+        bytes: &[u8],
+    ) -> Result<RelayState, OutOfMemory>
+        requires room { length self.path.rows < 1000000 }
+        requires some { 1 ≤ length bytes.now }
+        requires most { length bytes.now ≤ 1472 }
+    {
+        let RelayState {
+            alloc,
+            settings,
+            path,
+            connections,
+            first_read,
+            first_flow,
+            counts,
+            ..
+        } = self;
+        let path = path.enter_datagram(entry, direction_of(side), bytes)?;
+        Ok(RelayState {
+            alloc,
+            settings,
+            path,
+            connections,
+            first_read,
+            first_flow,
+            counts,
+            is_active: true,
+        })
+    }
+
+    // Takes a datagram of a side of a flow.
+    fn take_datagram<S: Sockets>(
+        self,
+        sockets: &mut S,
+        flow: u32,
+        side: Side,
+        buf: &mut [u8],
+    ) -> Result<RelayState, FlowsError>
+        requires { length buf.old ≡ 1473 }
+    {
+        let mut state = self;
+        if !state.path.has_room() {
+            return Ok(state);
+        }
+        match sockets.receive(flow, side, buf)? {
+            Arrival::Nothing => Ok(state),
+            Arrival::Refused => {
+                state.counts.refused = state.counts.refused.saturating_add(1);
+                state.is_active = true;
+                Ok(state)
+            }
+            Arrival::Datagram { client, size, .. } => {
+                let entry = Entry {
+                    flow,
+                    origin: Origin::Datagram { client },
+                };
+                Ok(state.enter_datagram(entry, side, &buf[..size])?)
+            }
+        }
+    }
+
+    // Takes a new connection of a flow, if fewer than 256 stand.
+    fn accept<S: Sockets>(
+        self,
+        sockets: &mut S,
+        flow: u32,
+    ) -> Result<RelayState, FlowsError> {
+        let mut state = self;
+        if state.connections.len() >= MOST_CONNECTIONS || !state.path.has_room() {
+            return Ok(state);
+        }
+        let number = state.counts.accepted.saturating_add(1);
+        if !sockets.accept(flow, number)? {
+            return Ok(state);
+        }
+        state.counts.accepted = number;
+        let mut connection = Connection::new(state.alloc, flow, number, state.settings);
+        let entering = connection.begin(state.path.next_row())?;
+        let place = state.connections.len();
+        if state.connections.push(connection).is_err() {
+            return Err(FlowsError::OutOfMemory);
+        }
+        Ok(state.enter(place, Direction::Up, entering)?)
+    }
+
+    // Returns the places of a flow's connections.
+    fn places_of(&self, flow: u32) -> Result<Vec<usize>, OutOfMemory> {
+        let mut places = Vec::new(self.alloc);
+        for place in 0..self.connections.len() {
+            if self.connections[place].flow() == flow {
+                places.push(place)?;
+            }
+        }
+        Ok(places)
+    }
+
+    // Returns the place among these of the first connection to be read: the one after the first of the last turn.
+    fn first_of(&self, places: &[usize], last: u32) -> usize {
+        for index in 0..places.len() {
+            if let Some(connection) = self.connections.get(places[index])
+                && connection.number() > last
+            {
+                return index;
+            }
+        }
+        0
+    }
+
+    // Takes a read of a side of the connection at this place.
+    fn read<S: Sockets>(
+        self,
+        sockets: &mut S,
+        place: usize,
+        side: Side,
+        buf: &mut [u8],
+    ) -> Result<RelayState, OutOfMemory>
+        requires { length buf.old ≡ 1473 }
+    {
+        let mut state = self;
+        if !state.path.has_room() {
+            return Ok(state);
+        }
+        let row = state.path.next_row();
+        let Some(connection) = state.connections.get_mut(place) else {
+            return Ok(state);
+        };
+        let entering = connection.read(sockets, side, row, buf)?;
+        state.enter(place, direction_of(side), entering)
+    }
+
+    // Takes a read of both sides of each connection of a flow, at `place` among the flows.
+    fn read_all<S: Sockets>(
+        self,
+        sockets: &mut S,
+        place: usize,
+        flow: u32,
+        buf: &mut [u8],
+    ) -> Result<RelayState, OutOfMemory>
+        requires { length buf.old ≡ 1473 }
+    {
+        let mut state = self;
+        let places = state.places_of(flow)?;
+        let last = match state.first_read.get(place) {
+            Some(last) => *last,
+            None => 0,
+        };
+        let first = state.first_of(places.as_slice(), last);
+        for index in 0..places.len() {
+            let at = places[place_after(first, index, places.len())];
+            if index == 0 {
+                state.note_first(place, at);
+            }
+            state = state.read(sockets, at, Side::Client, buf)?;
+            state = state.read(sockets, at, Side::Server, buf)?;
+        }
+        Ok(state)
+    }
+
+    // Notes that the connection at this place is the first of its flow to be read.
+    fn note_first(&mut self, flow_place: usize, place: usize) {
+        let number = match self.connections.get(place) {
+            Some(connection) => connection.number(),
+            None => 0,
+        };
+        if let Some(first) = self.first_read.get_mut(flow_place) {
+            *first = number;
+        }
+    }
+
+    // Takes what a flow has, at `place` among the flows.
+    fn take_flow<S: Sockets>(
+        self,
+        sockets: &mut S,
+        place: usize,
+        kind: FlowKind,
+        buf: &mut [u8],
+    ) -> Result<RelayState, FlowsError>
+        requires few { place < 16 }
+        requires room { length buf.old ≡ 1473 }
+    {
+        let flow = place as u32 + 1;
+        match kind {
+            FlowKind::Udp => {
+                let state = self.take_datagram(sockets, flow, Side::Client, buf)?;
+                state.take_datagram(sockets, flow, Side::Server, buf)
+            }
+            FlowKind::Tcp => {
+                let state = self.accept(sockets, flow)?;
+                Ok(state.read_all(sockets, place, flow, buf)?)
+            }
+        }
+    }
+
+    // Does what comes in a turn unless the relay ends: due tries enter, and flows take once each.
+    pub fn take<S: Sockets>(
+        self,
+        sockets: &mut S,
+        flows: &[Flow],
+        buf: &mut [u8],
+    ) -> Result<RelayState, FlowsError>
+        requires few { length flows.now ≤ 16 }
+        requires room { length buf.old ≡ 1473 }
+    {
+        let mut state = self.retry()?;
+        let first = state.first_flow;
+        for index in 0..flows.len() {
+            let place = place_after(first, index, flows.len());
+            state = state.take_flow(sockets, place, flows[place].kind, buf)?;
+        }
+        let next = first.saturating_add(1);
+        state.first_flow = if next < flows.len() { next } else { 0 };
+        Ok(state)
+    }
+
+    // Rests, unless the turn took or gave anything.
+    pub fn rest<S: Sockets>(&self, sockets: &mut S, horizon: u64) {
+        if self.is_active {
+            return;
+        }
+        let end = horizon.saturating_add(1);
+        let mut next = end;
+        if let Some(moment) = self.path.next_moment() {
+            next = next.min(moment);
+        }
+        for connection in self.connections.iter() {
+            if let Some(moment) = connection.next_moment() {
+                next = next.min(moment);
+            }
+        }
+        sockets.rest(next);
+    }
+
+    // Closes the sockets of connections that stand, which are reset.
+    pub fn close<S: Sockets>(&self, sockets: &mut S) {
+        for connection in self.connections.iter() {
+            sockets.reset(connection.number(), Side::Client);
+            sockets.reset(connection.number(), Side::Server);
+            sockets.let_go(connection.number());
+        }
+    }
+}
+
+// Returns which of two due tries comes first, by moments, then rows.
+fn sooner(
+    first: Option<(u64, u32, usize, Direction)>,
+    other: (u64, u32, usize, Direction),
+) -> Option<(u64, u32, usize, Direction)> {
+    match first {
+        Some((moment, row, _, _)) if moment < other.0 || moment == other.0 && row < other.1 => {
+            first
+        }
+        _ => Some(other),
+    }
+}
