@@ -202,31 +202,42 @@ moves-then a b c x y z first second = record {
   others = λ d side no. same-then d side x y z (first.others d side no) (second.others d side (λ e. no (e ∙ first.number)));
 }
 
+keeps-carries : (old new : Connection) → KeepsConnection old new → (told : Events) → Carries told old → Carries told new
+keeps-carries old new keeps told h = record {
+  up = subst (λ n. CarriesWay n Client told new.up) (sym keeps.number)
+      (keeps.up (taken_from old.number Client told) (given_to old.number Server told) h.up);
+  down = subst (λ n. CarriesWay n Server told new.down) (sym keeps.number)
+      (keeps.down (taken_from old.number Server told) (given_to old.number Client told) h.down);
+}
+
 pub moves-quiet : (old new : Connection) → KeepsConnection old new → (before all : Events) → IsQuiet before all
     → MovesConnection old new before all
 moves-quiet old new keeps before all q = record {
   number = keeps.number;
   order = λ order h. q.order order;
   carries = λ h. carries-same new before all (λ side. record { taken = q.taken new.number side; given = q.given new.number (other_side side) })
-      (keeps.carries before h);
+      (keeps-carries old new keeps before h);
   others = λ d side no. record { taken = q.taken d side; given = q.given d (other_side side) };
 }
 
 pub keeps-same : (old new : Connection) → new.number ≡ old.number → new.up ≡ old.up → new.down ≡ old.down → KeepsConnection old new
-keeps-same old new number up down = keeps-ways old new number
-    (λ taken gives c. subst (λ (s : Stream). CarriesStream taken gives s) (sym up) c)
-    (λ taken gives c. subst (λ (s : Stream). CarriesStream taken gives s) (sym down) c)
-
-pub keeps-ways : (old new : Connection) → new.number ≡ old.number
-    → ((taken gives : List ℕ) → CarriesStream taken gives old.up → CarriesStream taken gives new.up)
-    → ((taken gives : List ℕ) → CarriesStream taken gives old.down → CarriesStream taken gives new.down)
-    → KeepsConnection old new
-keeps-ways old new number up down = record {
+keeps-same old new number up down = record {
   number = number;
-  carries = λ told h. record {
-    up = subst (λ n. CarriesWay n Client told new.up) (sym number)
-        (up (taken_from old.number Client told) (given_to old.number Server told) h.up);
-    down = subst (λ n. CarriesWay n Server told new.down) (sym number)
-        (down (taken_from old.number Server told) (given_to old.number Client told) h.down);
-  };
+  up = λ taken gives c. subst (λ (s : Stream). CarriesStream taken gives s) (sym up) c;
+  down = λ taken gives c. subst (λ (s : Stream). CarriesStream taken gives s) (sym down) c;
 }
+
+pub keeps-then : (a b c : Connection) → KeepsConnection a b → KeepsConnection b c → KeepsConnection a c
+keeps-then a b c first second = record {
+  number = second.number ∙ first.number;
+  up = λ taken gives h. second.up taken gives (first.up taken gives h);
+  down = λ taken gives h. second.down taken gives (first.down taken gives h);
+}
+
+-- bytes that are given to a side
+pub way-gives-to : (c : ℕ) (side : Side) (bytes : List ℕ) (old new : Stream)
+    → ((taken gives : List ℕ) → CarriesStream taken gives old → CarriesStream taken (gives ++ bytes) new)
+    → (before all : Events) → Gives c side bytes before all → MovesWay c (other_side side) old new before all
+way-gives-to c side bytes old new change before all g =
+    way-gives c (other_side side) bytes old new change before all
+    (subst (λ (u : Side). Gives c u bytes before all) (sym (other-twice side)) g)

@@ -1,5 +1,7 @@
 // A connection: what its sides said, on its way through the nest.
-ghost use Rattle.std.specs.Prelude.{◌≡◌, ◌≤◌, length};
+ghost use Rattle.std.specs.Prelude.{◌≡◌, ◌≤◌, ◌×◌, [], length, OnOk, OnErr};
+ghost use Rattle.relay_flows.specs.inside.Carrying.{WhileTold, StaysInOrder, IsQuiet, CarriesStream, KeepsConnection};
+ghost use Rattle.relay_flows.specs.inside.Carrying.{MovesConnection};
 
 use crate::stream_turns::{Entering, HandedOn, begin, hand_on, read, retry};
 use flow_sockets::{DialState, Sockets};
@@ -44,7 +46,11 @@ pub(crate) struct Connection {
 
 impl Connection {
     // Makes a connection of a flow that was accepted.
-    pub fn new(alloc: Global, flow: u32, number: u32, settings: Settings) -> Connection {
+    pub fn new(alloc: Global, flow: u32, number: u32, settings: Settings) -> Connection
+        ensures number { result.number ≡ number }
+        ensures up { CarriesStream [] [] result.up }
+        ensures down { CarriesStream [] [] result.down }
+    {
         Connection {
             number,
             flow,
@@ -58,7 +64,9 @@ impl Connection {
         }
     }
 
-    pub fn number(&self) -> u32 {
+    pub fn number(&self) -> u32
+        ensures { result ≡ self.now.number }
+    {
         self.number
     }
 
@@ -72,13 +80,17 @@ impl Connection {
     }
 
     // Takes all answers and notices up to this moment.
-    pub fn advance(&mut self, moment: u64) {
+    pub fn advance(&mut self, moment: u64)
+        ensures { KeepsConnection self.old self.new }
+    {
         self.up.advance_to(moment);
         self.down.advance_to(moment);
     }
 
     // Takes note that a try departed.
-    pub fn note_departure(&mut self, direction: Direction, number: u32, row: u32, moment: u64) {
+    pub fn note_departure(&mut self, direction: Direction, number: u32, row: u32, moment: u64)
+        ensures { KeepsConnection self.old self.new }
+    {
         match direction {
             Direction::Up => self.up.try_departure(number, row, moment),
             Direction::Down => self.down.try_departure(number, row, moment),
@@ -86,15 +98,19 @@ impl Connection {
     }
 
     // Takes note that a try was lost.
-    pub fn note_loss(&mut self, direction: Direction, number: u32, row: u32, moment: u64) {
+    pub fn note_loss(&mut self, direction: Direction, number: u32, row: u32, moment: u64)
+        ensures { KeepsConnection self.old self.new }
+    {
         match direction {
             Direction::Up => self.up.try_loss(number, row, moment),
             Direction::Down => self.down.try_loss(number, row, moment),
         }
     }
 
-    // Notes what was handed on up. Returns whether more may be.
-    fn note_up<S: Sockets>(&mut self, sockets: &mut S, handed_on: HandedOn, moment: u64) -> bool {
+    // Notes what was handed on up.
+    fn note_up<S: Sockets>(&mut self, sockets: &mut S, handed_on: HandedOn, moment: u64)
+        ensures { WhileTold (MovesConnection self.old self.new) (S.view sockets.old).told (S.view sockets.new).told }
+    {
         match handed_on {
             HandedOn::Opening => {
                 sockets.dial(self.number);
@@ -106,32 +122,47 @@ impl Connection {
             HandedOn::Reset => self.is_reset = true,
             HandedOn::Piece | HandedOn::Part => {}
         }
-        handed_on == HandedOn::Opening || handed_on == HandedOn::Piece
     }
 
-    // Notes what was handed on down. Returns whether more may be.
-    fn note_down(&mut self, handed_on: HandedOn) -> bool {
+    // Notes what was handed on down.
+    fn note_down(&mut self, handed_on: HandedOn)
+        ensures { KeepsConnection self.old self.new }
+    {
         match handed_on {
             HandedOn::Opening => self.is_open = true,
             HandedOn::End => self.is_ended_down = true,
             HandedOn::Reset => self.is_reset = true,
             HandedOn::Piece | HandedOn::Part => {}
         }
-        handed_on == HandedOn::Opening || handed_on == HandedOn::Piece
+    }
+
+    // Hands on the next segment up, as far as the server takes it.
+    fn hand_up<S: Sockets>(&mut self, sockets: &mut S) -> Option<HandedOn>
+        ensures { WhileTold (MovesConnection self.old self.new) (S.view sockets.old).told (S.view sockets.new).told }
+    {
+        let takes = self.server == ServerSide::Connected;
+        hand_on(&mut self.up, sockets, self.number, Side::Server, takes)
+    }
+
+    // Hands on the next segment down, as far as the client takes it.
+    fn hand_down<S: Sockets>(&mut self, sockets: &mut S) -> Option<HandedOn>
+        ensures { WhileTold (MovesConnection self.old self.new) (S.view sockets.old).told (S.view sockets.new).told }
+    {
+        hand_on(&mut self.down, sockets, self.number, Side::Client, true)
     }
 
     // Gives what can be handed on up, as far as the server takes it. Returns whether anything was given.
-    fn give_up<S: Sockets>(&mut self, sockets: &mut S, moment: u64) -> bool {
+    fn give_up<S: Sockets>(&mut self, sockets: &mut S, moment: u64) -> bool
+        ensures { WhileTold (MovesConnection self.old self.new) (S.view sockets.old).told (S.view sockets.new).told }
+    {
         let mut has_given = false;
         for _ in 0..=MOST_KEPT {
-            let takes = self.server == ServerSide::Connected;
-            let Some(handed_on) =
-                hand_on(&mut self.up, sockets, self.number, Side::Server, takes)
-            else {
+            let Some(handed_on) = self.hand_up(sockets) else {
                 break;
             };
             has_given = true;
-            if !self.note_up(sockets, handed_on, moment) {
+            self.note_up(sockets, handed_on, moment);
+            if !handed_on.may_be_followed() {
                 break;
             }
         }
@@ -139,30 +170,63 @@ impl Connection {
     }
 
     // Gives what can be handed on down, as far as the client takes it. Returns whether anything was given.
-    fn give_down<S: Sockets>(&mut self, sockets: &mut S) -> bool {
+    fn give_down<S: Sockets>(&mut self, sockets: &mut S) -> bool
+        ensures { WhileTold (MovesConnection self.old self.new) (S.view sockets.old).told (S.view sockets.new).told }
+    {
         let mut has_given = false;
         for _ in 0..=MOST_KEPT {
-            let Some(handed_on) =
-                hand_on(&mut self.down, sockets, self.number, Side::Client, true)
-            else {
+            if !self.stands() {
+                break;
+            }
+            let Some(handed_on) = self.hand_down(sockets) else {
                 break;
             };
             has_given = true;
-            if !self.note_down(handed_on) {
+            self.note_down(handed_on);
+            if !handed_on.may_be_followed() {
                 break;
             }
         }
         has_given
     }
 
-    // Gives what can be handed on, up before down. Returns whether anything was given.
-    pub fn give<S: Sockets>(&mut self, sockets: &mut S, moment: u64) -> bool {
-        let up = self.give_up(sockets, moment);
-        let down = self.stands() && self.give_down(sockets);
+    // Lets the connection go if it stands no longer.
+    fn let_go<S: Sockets>(&self, sockets: &mut S)
+        ensures { WhileTold IsQuiet (S.view sockets.old).told (S.view sockets.new).told }
+    {
         if !self.stands() {
             sockets.let_go(self.number);
         }
+    }
+
+    // Gives what can be handed on, up before down. Returns whether anything was given.
+    pub fn give<S: Sockets>(&mut self, sockets: &mut S, moment: u64) -> bool
+        ensures { WhileTold (MovesConnection self.old self.new) (S.view sockets.old).told (S.view sockets.new).told }
+    {
+        let up = self.give_up(sockets, moment);
+        let down = self.give_down(sockets);
+        self.let_go(sockets);
         up || down
+    }
+
+    // Returns whether the server was reached, once its dial is done or its time is over.
+    fn dial_outcome<S: Sockets>(&self, sockets: &mut S, moment: u64) -> Option<bool>
+        ensures { WhileTold IsQuiet (S.view sockets.old).told (S.view sockets.new).told }
+    {
+        let ServerSide::Dialing { limit } = self.server else {
+            return None;
+        };
+        match sockets.dialed(self.number) {
+            DialState::Connected => Some(true),
+            DialState::Failed => Some(false),
+            DialState::Waiting => {
+                if moment < limit {
+                    return None;
+                }
+                sockets.give_up(self.number);
+                Some(false)
+            }
+        }
     }
 
     // Takes the outcome of a dial. It makes an opening of the way down, or a reset, which enters as `row`.
@@ -171,14 +235,11 @@ impl Connection {
         sockets: &mut S,
         moment: u64,
         row: u32,
-    ) -> Result<Option<Entering>, OutOfMemory> {
-        let ServerSide::Dialing { limit } = self.server else {
+    ) -> Result<Option<Entering>, OutOfMemory>
+        ensures { WhileTold (MovesConnection self.old self.new) (S.view sockets.old).told (S.view sockets.new).told }
+    {
+        let Some(is_connected) = self.dial_outcome(sockets, moment) else {
             return Ok(None);
-        };
-        let is_connected = match sockets.dialed(self.number) {
-            DialState::Waiting if moment < limit => return Ok(None),
-            DialState::Connected => true,
-            DialState::Waiting | DialState::Failed => false,
         };
         self.server = if is_connected {
             ServerSide::Connected
@@ -189,8 +250,18 @@ impl Connection {
     }
 
     // Makes the opening of the way up, which enters as `row`.
-    pub fn begin(&mut self, row: u32) -> Result<Option<Entering>, OutOfMemory> {
+    pub fn begin(&mut self, row: u32) -> Result<Option<Entering>, OutOfMemory>
+        ensures { KeepsConnection self.old self.new }
+    {
         begin(&mut self.up, true, row)
+    }
+
+    // Returns whether a side is read: the client from the arrival of the opening on, the server once it was reached.
+    fn reads(&self, side: Side) -> bool {
+        match side {
+            Side::Client => self.is_open,
+            Side::Server => self.server == ServerSide::Connected,
+        }
     }
 
     // Takes a read of a side. What it makes enters as `row`.
@@ -199,18 +270,19 @@ impl Connection {
         sockets: &mut S,
         side: Side,
         row: u32,
-        buf: &mut [u8],
+        piece: &mut [u8],
     ) -> Result<Option<Entering>, OutOfMemory>
-        requires { length buf.old ≡ 1473 }
+        requires { length piece.old ≡ 1460 }
+        ensures ok { OnOk result (WhileTold (MovesConnection self.old self.new)
+            (S.view sockets.old).told (S.view sockets.new).told) }
+        ensures err { OnErr result (WhileTold StaysInOrder (S.view sockets.old).told (S.view sockets.new).told) }
     {
+        if !self.reads(side) {
+            return Ok(None);
+        }
         match side {
-            Side::Client if self.is_open => {
-                read(&mut self.up, sockets, self.number, side, row, buf)
-            }
-            Side::Server if self.server == ServerSide::Connected => {
-                read(&mut self.down, sockets, self.number, side, row, buf)
-            }
-            Side::Client | Side::Server => Ok(None),
+            Side::Client => read(&mut self.up, sockets, self.number, Side::Client, row, piece),
+            Side::Server => read(&mut self.down, sockets, self.number, Side::Server, row, piece),
         }
     }
 
@@ -224,7 +296,9 @@ impl Connection {
     }
 
     // Lets the first due segment of a direction enter again, as `row`.
-    pub fn retry(&mut self, direction: Direction, row: u32) -> Option<Entering> {
+    pub fn retry(&mut self, direction: Direction, row: u32) -> Option<Entering>
+        ensures { KeepsConnection self.old self.new }
+    {
         match direction {
             Direction::Up => retry(&mut self.up, row),
             Direction::Down => retry(&mut self.down, row),

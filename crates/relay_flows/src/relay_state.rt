@@ -1,5 +1,7 @@
 // A relay of flows between its turns.
-ghost use Rattle.std.specs.Prelude.{◌≡◌, ◌≤◌, ◌<◌, length, IfOk};
+ghost use Rattle.std.specs.Prelude.{◌≡◌, ◌≤◌, ◌<◌, ◌×◌, [], length, IfOk, IfSome, OnOk, OnErr};
+ghost use Rattle.relay_flows.specs.inside.Carrying.{WhileTold, StaysInOrder, IsQuiet, IsOrdered, MovesState, LeavesState};
+ghost use Rattle.relay_flows.specs.inside.Carrying.{KeepsState};
 
 use crate::FlowsError;
 use crate::connection::{Connection, direction_of, side_after};
@@ -63,7 +65,9 @@ impl RelayState {
         nest: &Nest,
         flows: &[Flow],
         settings: Settings,
-    ) -> Result<RelayState, OutOfMemory> {
+    ) -> Result<RelayState, OutOfMemory>
+        ensures { IfOk result (λ state. IsOrdered state []) }
+    {
         let mut first_read = Vec::new(alloc);
         for _ in flows {
             first_read.push(0)?;
@@ -84,11 +88,13 @@ impl RelayState {
         })
     }
 
-    // Returns the connection of this number, if it stands.
-    fn standing(&mut self, number: u32) -> Option<&mut Connection> {
-        for connection in self.connections.iter_mut() {
-            if connection.number() == number {
-                return Some(connection);
+    // Returns the place of the connection of this number, if it stands.
+    fn place_of(&self, number: u32) -> Option<usize>
+        ensures { IfSome result (λ place. place < length self.now.connections.items) }
+    {
+        for place in 0..self.connections.len() {
+            if self.connections[place].number() == number {
+                return Some(place);
             }
         }
         None
@@ -100,61 +106,102 @@ impl RelayState {
         sockets: &mut S,
         passed: Passed,
         client: u32,
-    ) -> Result<(), FlowsError> {
-        if let Some(bytes) = self.path.take_bytes(passed.packet.packet.id) {
-            let side = side_after(passed.direction);
-            sockets.send(passed.entry.flow, client, side, bytes.as_slice())?;
-            self.is_active = true;
-        }
+    ) -> Result<(), FlowsError>
+        ensures told { WhileTold IsQuiet (S.view sockets.old).told (S.view sockets.new).told }
+        ensures connections { self.new.connections ≡ self.old.connections }
+        ensures counts { self.new.counts ≡ self.old.counts }
+    {
+        let Some(bytes) = self.path.take_bytes(passed.packet.packet.id) else {
+            return Ok(());
+        };
+        self.is_active = true;
+        let side = side_after(passed.direction);
+        sockets.send(passed.entry.flow, client, side, bytes.as_slice())?;
         Ok(())
     }
 
+    // Takes note that a try departed.
+    fn note_departure(&mut self, connection: u32, number: u32, passed: Passed)
+        ensures { KeepsState self.old self.new }
+    {
+        let Some(place) = self.place_of(connection) else {
+            return;
+        };
+        let packet = passed.packet;
+        self.connections[place].note_departure(
+            passed.direction,
+            number,
+            packet.packet.id,
+            packet.moment,
+        );
+    }
+
+    // Takes a departure: hands on a datagram, or notes that of a try.
+    fn pass<S: Sockets>(&mut self, sockets: &mut S, passed: Passed) -> Result<(), FlowsError>
+        ensures ok { OnOk result (WhileTold (MovesState self.old self.new)
+            (S.view sockets.old).told (S.view sockets.new).told) }
+        ensures err { OnErr result (WhileTold (LeavesState self.old)
+            (S.view sockets.old).told (S.view sockets.new).told) }
+    {
+        match passed.entry.origin {
+            Origin::Datagram { client } => self.send_datagram(sockets, passed, client),
+            Origin::Try { connection, number } => {
+                self.note_departure(connection, number, passed);
+                Ok(())
+            }
+        }
+    }
+
     // Takes what departed, and hands on datagrams.
-    fn take_departures<S: Sockets>(&mut self, sockets: &mut S) -> Result<(), FlowsError> {
+    fn take_departures<S: Sockets>(&mut self, sockets: &mut S) -> Result<(), FlowsError>
+        ensures ok { OnOk result (WhileTold (MovesState self.old self.new)
+            (S.view sockets.old).told (S.view sockets.new).told) }
+        ensures err { OnErr result (WhileTold (LeavesState self.old)
+            (S.view sockets.old).told (S.view sockets.new).told) }
+    {
         for _ in 0..MOST_ROWS {
             let Some(passed) = self.path.take_departure() else {
                 break;
             };
-            match passed.entry.origin {
-                Origin::Datagram { client } => self.send_datagram(sockets, passed, client)?,
-                Origin::Try { connection, number } => {
-                    if let Some(connection) = self.standing(connection) {
-                        let packet = passed.packet;
-                        connection.note_departure(
-                            passed.direction,
-                            number,
-                            packet.packet.id,
-                            packet.moment,
-                        );
-                    }
-                }
-            }
+            self.pass(sockets, passed)?;
         }
         Ok(())
     }
 
-    // Takes note of a row that was lost.
-    fn note_loss(&mut self, passed: Passed) {
+    // Takes note that a try was lost.
+    fn note_try_lost(&mut self, connection: u32, number: u32, passed: Passed)
+        ensures { KeepsState self.old self.new }
+    {
+        let Some(place) = self.place_of(connection) else {
+            return;
+        };
         let packet = passed.packet;
+        self.connections[place].note_loss(
+            passed.direction,
+            number,
+            packet.packet.id,
+            packet.moment,
+        );
+    }
+
+    // Takes note of a row that was lost.
+    fn note_loss(&mut self, passed: Passed)
+        ensures { KeepsState self.old self.new }
+    {
         match passed.entry.origin {
             Origin::Datagram { .. } => {
-                let _ = self.path.take_bytes(packet.packet.id);
+                let _ = self.path.take_bytes(passed.packet.packet.id);
             }
             Origin::Try { connection, number } => {
-                if let Some(connection) = self.standing(connection) {
-                    connection.note_loss(
-                        passed.direction,
-                        number,
-                        packet.packet.id,
-                        packet.moment,
-                    );
-                }
+                self.note_try_lost(connection, number, passed);
             }
         }
     }
 
     // Takes what was lost in a direction.
-    fn take_losses(&mut self, direction: Direction) {
+    fn take_losses(&mut self, direction: Direction)
+        ensures { KeepsState self.old self.new }
+    {
         for _ in 0..MOST_ROWS {
             let Some(passed) = self.path.take_loss(direction) else {
                 break;
@@ -163,20 +210,35 @@ impl RelayState {
         }
     }
 
-    // Gives what can be handed on, as far as the sides take it, and lets go connections that stand no longer.
-    fn give<S: Sockets>(&mut self, sockets: &mut S) {
+    // Gives what can be handed on of the connection at this place.
+    fn give_at<S: Sockets>(&mut self, sockets: &mut S, place: usize)
+        requires { place < length self.old.connections.items }
+        ensures told { WhileTold (MovesState self.old self.new) (S.view sockets.old).told (S.view sockets.new).told }
+        ensures many { length self.new.connections.items ≡ length self.old.connections.items }
+    {
         let moment = self.path.moment();
-        let mut has_given = false;
-        for connection in self.connections.iter_mut() {
-            connection.advance(moment);
-            if connection.give(sockets, moment) {
-                has_given = true;
-            }
-        }
-        if has_given {
-            self.connections.retain(|connection| connection.stands());
+        let connection = &mut self.connections[place];
+        connection.advance(moment);
+        if connection.give(sockets, moment) {
             self.is_active = true;
         }
+    }
+
+    // Lets go connections that stand no longer.
+    fn let_go(&mut self)
+        ensures { KeepsState self.old self.new }
+    {
+        self.connections.retain(|connection| connection.stands());
+    }
+
+    // Gives what can be handed on, as far as the sides take it, and lets go connections that stand no longer.
+    fn give<S: Sockets>(&mut self, sockets: &mut S)
+        ensures { WhileTold (MovesState self.old self.new) (S.view sockets.old).told (S.view sockets.new).told }
+    {
+        for place in 0..self.connections.len() {
+            self.give_at(sockets, place);
+        }
+        self.let_go();
     }
 
     // Lets what was made of a connection enter as the next row.
@@ -187,6 +249,8 @@ impl RelayState {
         entering: Option<Entering>,
     ) -> Result<RelayState, OutOfMemory>
         requires { length self.path.rows < 1000000 }
+        ensures connections { IfOk result (λ state. state.connections ≡ self.connections) }
+        ensures counts { IfOk result (λ state. state.counts ≡ self.counts) }
     {
         let Some(entering) = entering else {
             return Ok(self);
@@ -224,27 +288,47 @@ impl RelayState {
         })
     }
 
+    // Takes the outcome of the dial of the connection at this place. What it makes enters as the next row.
+    fn dial_at<S: Sockets>(
+        &mut self,
+        sockets: &mut S,
+        place: usize,
+    ) -> Result<Option<Entering>, OutOfMemory>
+        requires { place < length self.old.connections.items }
+        ensures told { WhileTold (MovesState self.old self.new) (S.view sockets.old).told (S.view sockets.new).told }
+        ensures path { self.new.path ≡ self.old.path }
+    {
+        let moment = self.path.moment();
+        let row = self.path.next_row();
+        self.connections[place].take_dial(sockets, moment, row)
+    }
+
     // Takes the outcome of the dial of the connection at this place.
     fn take_dial<S: Sockets>(
         self,
         sockets: &mut S,
         place: usize,
-    ) -> Result<RelayState, OutOfMemory> {
+    ) -> Result<RelayState, OutOfMemory>
+        ensures ok { IfOk result (λ state. WhileTold (MovesState self state)
+            (S.view sockets.old).told (S.view sockets.new).told) }
+        ensures err { OnErr result (WhileTold (LeavesState self)
+            (S.view sockets.old).told (S.view sockets.new).told) }
+    {
         let mut state = self;
-        if !state.path.has_room() {
+        if place >= state.connections.len() || !state.path.has_room() {
             return Ok(state);
         }
-        let moment = state.path.moment();
-        let row = state.path.next_row();
-        let Some(connection) = state.connections.get_mut(place) else {
-            return Ok(state);
-        };
-        let entering = connection.take_dial(sockets, moment, row)?;
+        let entering = state.dial_at(sockets, place)?;
         state.enter(place, Direction::Down, entering)
     }
 
     // Takes the outcomes of dials.
-    fn take_dials<S: Sockets>(self, sockets: &mut S) -> Result<RelayState, OutOfMemory> {
+    fn take_dials<S: Sockets>(self, sockets: &mut S) -> Result<RelayState, OutOfMemory>
+        ensures ok { IfOk result (λ state. WhileTold (MovesState self state)
+            (S.view sockets.old).told (S.view sockets.new).told) }
+        ensures err { OnErr result (WhileTold (LeavesState self)
+            (S.view sockets.old).told (S.view sockets.new).told) }
+    {
         let mut state = self;
         for place in 0..state.connections.len() {
             state = state.take_dial(sockets, place)?;
@@ -253,7 +337,10 @@ impl RelayState {
     }
 
     // Moves on to the moment that a clock shows.
-    fn advance(self, moment: u64) -> Result<RelayState, OutOfMemory> {
+    fn advance(self, moment: u64) -> Result<RelayState, OutOfMemory>
+        ensures connections { IfOk result (λ state. state.connections ≡ self.connections) }
+        ensures counts { IfOk result (λ state. state.counts ≡ self.counts) }
+    {
         let RelayState {
             alloc,
             settings,
@@ -282,7 +369,12 @@ impl RelayState {
         self,
         sockets: &mut S,
         moment: u64,
-    ) -> Result<RelayState, FlowsError> {
+    ) -> Result<RelayState, FlowsError>
+        ensures ok { IfOk result (λ state. WhileTold (MovesState self state)
+            (S.view sockets.old).told (S.view sockets.new).told) }
+        ensures err { OnErr result (WhileTold (LeavesState self)
+            (S.view sockets.old).told (S.view sockets.new).told) }
+    {
         let mut state = self.advance(moment)?;
         state.take_departures(sockets)?;
         state.take_losses(Direction::Up);
@@ -306,22 +398,30 @@ impl RelayState {
         Some((place, direction))
     }
 
+    // Lets the first due segment of a direction of the connection at this place enter again.
+    fn retry_at(&mut self, place: usize, direction: Direction) -> Option<Entering>
+        requires { place < length self.old.connections.items }
+        ensures keeps { KeepsState self.old self.new }
+        ensures path { self.new.path ≡ self.old.path }
+    {
+        let row = self.path.next_row();
+        self.counts.again = self.counts.again.saturating_add(1);
+        self.connections[place].retry(direction, row)
+    }
+
     // Lets due tries enter.
-    fn retry(self) -> Result<RelayState, OutOfMemory> {
+    fn retry(self) -> Result<RelayState, OutOfMemory>
+        ensures { IfOk result (KeepsState self) }
+    {
         let mut state = self;
         for _ in 0..MOST_ROWS {
             let Some((place, direction)) = state.first_due() else {
                 break;
             };
-            if !state.path.has_room() {
+            if place >= state.connections.len() || !state.path.has_room() {
                 break;
             }
-            let row = state.path.next_row();
-            let Some(connection) = state.connections.get_mut(place) else {
-                break;
-            };
-            let entering = connection.retry(direction, row);
-            state.counts.again = state.counts.again.saturating_add(1);
+            let entering = state.retry_at(place, direction);
             state = state.enter(place, direction, entering)?;
         }
         Ok(state)
@@ -337,6 +437,8 @@ impl RelayState {
         requires room { length self.path.rows < 1000000 }
         requires some { 1 ≤ length bytes.now }
         requires most { length bytes.now ≤ 1472 }
+        ensures connections { IfOk result (λ state. state.connections ≡ self.connections) }
+        ensures counts { IfOk result (λ state. state.counts ≡ self.counts) }
     {
         let RelayState {
             alloc,
@@ -367,15 +469,19 @@ impl RelayState {
         sockets: &mut S,
         flow: u32,
         side: Side,
-        buf: &mut [u8],
+        datagram: &mut [u8],
     ) -> Result<RelayState, FlowsError>
-        requires { length buf.old ≡ 1473 }
+        requires { length datagram.old ≡ 1473 }
+        ensures ok { IfOk result (λ state. WhileTold (MovesState self state)
+            (S.view sockets.old).told (S.view sockets.new).told) }
+        ensures err { OnErr result (WhileTold (LeavesState self)
+            (S.view sockets.old).told (S.view sockets.new).told) }
     {
         let mut state = self;
         if !state.path.has_room() {
             return Ok(state);
         }
-        match sockets.receive(flow, side, buf)? {
+        match sockets.receive(flow, side, datagram)? {
             Arrival::Nothing => Ok(state),
             Arrival::Refused => {
                 state.counts.refused = state.counts.refused.saturating_add(1);
@@ -387,9 +493,24 @@ impl RelayState {
                     flow,
                     origin: Origin::Datagram { client },
                 };
-                Ok(state.enter_datagram(entry, side, &buf[..size])?)
+                Ok(state.enter_datagram(entry, side, &datagram[..size])?)
             }
         }
+    }
+
+    // Begins a connection of this number. Its opening enters.
+    fn begin(self, flow: u32, number: u32) -> Result<RelayState, OutOfMemory>
+        requires next { self.counts.accepted < number }
+        requires room { length self.path.rows < 1000000 }
+        ensures { IfOk result (KeepsState self) }
+    {
+        let mut state = self;
+        state.counts.accepted = number;
+        let mut connection = Connection::new(state.alloc, flow, number, state.settings);
+        let entering = connection.begin(state.path.next_row())?;
+        let place = state.connections.len();
+        state.connections.push(connection)?;
+        state.enter(place, Direction::Up, entering)
     }
 
     // Takes a new connection of a flow, if fewer than 256 stand.
@@ -397,23 +518,22 @@ impl RelayState {
         self,
         sockets: &mut S,
         flow: u32,
-    ) -> Result<RelayState, FlowsError> {
-        let mut state = self;
-        if state.connections.len() >= MOST_CONNECTIONS || !state.path.has_room() {
-            return Ok(state);
+    ) -> Result<RelayState, FlowsError>
+        ensures ok { IfOk result (λ state. WhileTold (MovesState self state)
+            (S.view sockets.old).told (S.view sockets.new).told) }
+        ensures err { OnErr result (WhileTold (LeavesState self)
+            (S.view sockets.old).told (S.view sockets.new).told) }
+    {
+        if self.connections.len() >= MOST_CONNECTIONS || !self.path.has_room() {
+            return Ok(self);
         }
-        let number = state.counts.accepted.saturating_add(1);
+        let Some(number) = self.counts.accepted.checked_add(1) else {
+            return Ok(self);
+        };
         if !sockets.accept(flow, number)? {
-            return Ok(state);
+            return Ok(self);
         }
-        state.counts.accepted = number;
-        let mut connection = Connection::new(state.alloc, flow, number, state.settings);
-        let entering = connection.begin(state.path.next_row())?;
-        let place = state.connections.len();
-        if state.connections.push(connection).is_err() {
-            return Err(FlowsError::OutOfMemory);
-        }
-        Ok(state.enter(place, Direction::Up, entering)?)
+        Ok(self.begin(flow, number)?)
     }
 
     // Returns the places of a flow's connections.
@@ -439,25 +559,45 @@ impl RelayState {
         0
     }
 
+    // Takes a read of a side of the connection at this place. What it makes enters as the next row.
+    fn read_at<S: Sockets>(
+        &mut self,
+        sockets: &mut S,
+        place: usize,
+        side: Side,
+        piece: &mut [u8],
+    ) -> Result<Option<Entering>, OutOfMemory>
+        requires place { place < length self.old.connections.items }
+        requires room { length piece.old ≡ 1460 }
+        ensures ok { OnOk result (WhileTold (MovesState self.old self.new)
+            (S.view sockets.old).told (S.view sockets.new).told) }
+        ensures err { OnErr result (WhileTold (LeavesState self.old)
+            (S.view sockets.old).told (S.view sockets.new).told) }
+        ensures path { self.new.path ≡ self.old.path }
+    {
+        let row = self.path.next_row();
+        self.connections[place].read(sockets, side, row, piece)
+    }
+
     // Takes a read of a side of the connection at this place.
     fn read<S: Sockets>(
         self,
         sockets: &mut S,
         place: usize,
         side: Side,
-        buf: &mut [u8],
+        piece: &mut [u8],
     ) -> Result<RelayState, OutOfMemory>
-        requires { length buf.old ≡ 1473 }
+        requires { length piece.old ≡ 1460 }
+        ensures ok { IfOk result (λ state. WhileTold (MovesState self state)
+            (S.view sockets.old).told (S.view sockets.new).told) }
+        ensures err { OnErr result (WhileTold (LeavesState self)
+            (S.view sockets.old).told (S.view sockets.new).told) }
     {
         let mut state = self;
-        if !state.path.has_room() {
+        if place >= state.connections.len() || !state.path.has_room() {
             return Ok(state);
         }
-        let row = state.path.next_row();
-        let Some(connection) = state.connections.get_mut(place) else {
-            return Ok(state);
-        };
-        let entering = connection.read(sockets, side, row, buf)?;
+        let entering = state.read_at(sockets, place, side, piece)?;
         state.enter(place, direction_of(side), entering)
     }
 
@@ -467,9 +607,13 @@ impl RelayState {
         sockets: &mut S,
         place: usize,
         flow: u32,
-        buf: &mut [u8],
+        piece: &mut [u8],
     ) -> Result<RelayState, OutOfMemory>
-        requires { length buf.old ≡ 1473 }
+        requires { length piece.old ≡ 1460 }
+        ensures ok { IfOk result (λ state. WhileTold (MovesState self state)
+            (S.view sockets.old).told (S.view sockets.new).told) }
+        ensures err { OnErr result (WhileTold (LeavesState self)
+            (S.view sockets.old).told (S.view sockets.new).told) }
     {
         let mut state = self;
         let places = state.places_of(flow)?;
@@ -483,14 +627,17 @@ impl RelayState {
             if index == 0 {
                 state.note_first(place, at);
             }
-            state = state.read(sockets, at, Side::Client, buf)?;
-            state = state.read(sockets, at, Side::Server, buf)?;
+            state = state.read(sockets, at, Side::Client, piece)?;
+            state = state.read(sockets, at, Side::Server, piece)?;
         }
         Ok(state)
     }
 
     // Notes that the connection at this place is the first of its flow to be read.
-    fn note_first(&mut self, flow_place: usize, place: usize) {
+    fn note_first(&mut self, flow_place: usize, place: usize)
+        ensures connections { self.new.connections ≡ self.old.connections }
+        ensures counts { self.new.counts ≡ self.old.counts }
+    {
         let number = match self.connections.get(place) {
             Some(connection) => connection.number(),
             None => 0,
@@ -506,20 +653,26 @@ impl RelayState {
         sockets: &mut S,
         place: usize,
         kind: FlowKind,
-        buf: &mut [u8],
+        datagram: &mut [u8],
+        piece: &mut [u8],
     ) -> Result<RelayState, FlowsError>
         requires few { place < 16 }
-        requires room { length buf.old ≡ 1473 }
+        requires datagram { length datagram.old ≡ 1473 }
+        requires piece { length piece.old ≡ 1460 }
+        ensures ok { IfOk result (λ state. WhileTold (MovesState self state)
+            (S.view sockets.old).told (S.view sockets.new).told) }
+        ensures err { OnErr result (WhileTold (LeavesState self)
+            (S.view sockets.old).told (S.view sockets.new).told) }
     {
         let flow = place as u32 + 1;
         match kind {
             FlowKind::Udp => {
-                let state = self.take_datagram(sockets, flow, Side::Client, buf)?;
-                state.take_datagram(sockets, flow, Side::Server, buf)
+                let state = self.take_datagram(sockets, flow, Side::Client, datagram)?;
+                state.take_datagram(sockets, flow, Side::Server, datagram)
             }
             FlowKind::Tcp => {
                 let state = self.accept(sockets, flow)?;
-                Ok(state.read_all(sockets, place, flow, buf)?)
+                Ok(state.read_all(sockets, place, flow, piece)?)
             }
         }
     }
@@ -529,16 +682,22 @@ impl RelayState {
         self,
         sockets: &mut S,
         flows: &[Flow],
-        buf: &mut [u8],
+        datagram: &mut [u8],
+        piece: &mut [u8],
     ) -> Result<RelayState, FlowsError>
         requires few { length flows.now ≤ 16 }
-        requires room { length buf.old ≡ 1473 }
+        requires datagram { length datagram.old ≡ 1473 }
+        requires piece { length piece.old ≡ 1460 }
+        ensures ok { IfOk result (λ state. WhileTold (MovesState self state)
+            (S.view sockets.old).told (S.view sockets.new).told) }
+        ensures err { OnErr result (WhileTold (LeavesState self)
+            (S.view sockets.old).told (S.view sockets.new).told) }
     {
         let mut state = self.retry()?;
         let first = state.first_flow;
         for index in 0..flows.len() {
             let place = place_after(first, index, flows.len());
-            state = state.take_flow(sockets, place, flows[place].kind, buf)?;
+            state = state.take_flow(sockets, place, flows[place].kind, datagram, piece)?;
         }
         let next = first.saturating_add(1);
         state.first_flow = if next < flows.len() { next } else { 0 };
@@ -564,13 +723,22 @@ impl RelayState {
     }
 
     // Closes the sockets of connections that stand, which are reset.
-    pub fn close<S: Sockets>(&self, sockets: &mut S) {
+    pub fn close<S: Sockets>(&self, sockets: &mut S)
+        ensures { WhileTold StaysInOrder (S.view sockets.old).told (S.view sockets.new).told }
+    {
         for connection in self.connections.iter() {
-            sockets.reset(connection.number(), Side::Client);
-            sockets.reset(connection.number(), Side::Server);
-            sockets.let_go(connection.number());
+            close_connection(sockets, connection.number());
         }
     }
+}
+
+// Closes the sockets of a connection, which is reset.
+fn close_connection<S: Sockets>(sockets: &mut S, number: u32)
+    ensures { WhileTold IsQuiet (S.view sockets.old).told (S.view sockets.new).told }
+{
+    sockets.reset(number, Side::Client);
+    sockets.reset(number, Side::Server);
+    sockets.let_go(number);
 }
 
 // Returns which of two due tries comes first, by moments, then rows.

@@ -17,6 +17,9 @@ use text_base::OutOfMemory;
 // The room for a read: one byte more than the longest datagram has, so that a longer one shows.
 const ROOM: usize = 1_473;
 
+// The longest piece of a connection's bytes that is read at once.
+const PIECE: usize = 1_460;
+
 // Returns the delay of a nest: the sum of its delays in a direction, which both have.
 fn delay_of(nest: &Nest) -> Result<u32, OutOfMemory> {
     let mut delay = 0u32;
@@ -85,7 +88,8 @@ pub fn relay_flows<K: Wait, C: Clock, S: Sockets>(
         again: settings.again,
     };
     let mut state = RelayState::new(alloc, &nest, flows, settings)?;
-    let mut buf = [0u8; ROOM];
+    let mut datagram = [0u8; ROOM];
+    let mut piece = [0u8; PIECE];
     for _ in rt.forever() {
         let moment = clock.now();
         state = state.settle(sockets, moment)?;
@@ -94,7 +98,7 @@ pub fn relay_flows<K: Wait, C: Clock, S: Sockets>(
             state.close(sockets);
             return result_of(alloc, nest, state, end);
         }
-        state = state.take(sockets, flows, &mut buf)?;
+        state = state.take(sockets, flows, &mut datagram, &mut piece)?;
         state.rest(sockets, horizon);
     }
     unreachable!()

@@ -62,6 +62,10 @@ pub record CarriesStream (taken gave : List ℕ) (s : Stream) : Type 0 where
   pub begun : (history.whole < length history.segments) ⊎ (history.begun ≡ 0)
   pub gives : given history ≡ gave
 
+-- whatever bytes the old state carries, the new one does
+abbrev pub KeepsStream : Stream → Stream → Type 0
+KeepsStream old new = (taken gave : List ℕ) → CarriesStream taken gave old → CarriesStream taken gave new
+
 -- of the way on which a side of a connection sends
 abbrev pub CarriesWay : ℕ → Side → List SocketEvent → Stream → Type 0
 CarriesWay c side told s = CarriesStream (taken_from c side told) (given_to c (other_side side) told) s
@@ -92,7 +96,8 @@ pub record MovesConnection (old new : Connection) (before all : List SocketEvent
 -- The same, without a call of the sockets.
 pub record KeepsConnection (old new : Connection) : Type 0 where
   pub number : new.number ≡ old.number
-  pub carries : (told : List SocketEvent) → Carries told old → Carries told new
+  pub up : KeepsStream old.up new.up
+  pub down : KeepsStream old.down new.down
 
 -- Connections with rising numbers, above the first and up to the second, carry what their sides said.
 abbrev pub AllCarry : List SocketEvent → ℕ → ℕ → List Connection → Type 0
