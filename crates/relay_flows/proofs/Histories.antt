@@ -141,6 +141,11 @@ stage-push ss x =
     ap (fold (λ _ kind. stage_after kind) Unopened) (map-append (λ (s : Segment). s.kind) ss (x ∷ []))
     ∙ fold_push (λ _ kind. stage_after kind) Unopened (map (λ (s : Segment). s.kind) ss) x.kind
 
+rest-some : (ss : List Segment) (w : ℕ) → w < length ss → 1 ≤ length (drop w ss)
+rest-some [] w below = absurd (omega arith)
+rest-some (s ∷ ss) zero below = omega arith
+rest-some (s ∷ ss) (suc w) below = rest-some ss w (omega arith)
+
 given-rest : (ss : List Segment) (x : Segment) (w b : ℕ) → w ≤ length ss → (w < length ss) ⊎ (b ≡ 0)
     → take b (bytes_of (take 1 (drop w (ss ++ x ∷ [])))) ≡ take b (bytes_of (take 1 (drop w ss)))
 given-rest ss x w b within (inl below) =
@@ -149,11 +154,6 @@ given-rest ss x w b within (inl below) =
 given-rest ss x w b within (inr none) =
     ap (λ n. take n (bytes_of (take 1 (drop w (ss ++ x ∷ []))))) none
     ∙ sym (ap (λ n. take n (bytes_of (take 1 (drop w ss)))) none)
-
-rest-some : (ss : List Segment) (w : ℕ) → w < length ss → 1 ≤ length (drop w ss)
-rest-some [] w below = absurd (omega arith)
-rest-some (s ∷ ss) zero below = omega arith
-rest-some (s ∷ ss) (suc w) below = rest-some ss w (omega arith)
 
 given-made : (kind : Kind) (bytes : List ℕ) (row : ℕ) (h : History) → h.whole ≤ length h.segments
     → (h.whole < length h.segments) ⊎ (h.begun ≡ 0) → given (made kind bytes row h) ≡ given h
@@ -229,6 +229,10 @@ carries-made taken gives bytes s s' kind row may after c =
       gives = given-made kind bytes row h c.keeps.whole c.begun ∙ c.gives;
     }
 
+past : {s t : Stage} → s ≡ t → (s ≡ Unopened → ⊥) → (s ≡ Open → ⊥) → (t ≡ Unopened) ⊎ (t ≡ Open) → ⊥
+past same opened ended (inl e) = opened (same ∙ e)
+past same opened ended (inr e) = ended (same ∙ e)
+
 -- Bytes that were taken after the end are left.
 pub carries-more : (taken gives bytes : List ℕ) (s : Stream) → (s.stage ≡ Unopened → ⊥) → (s.stage ≡ Open → ⊥)
     → CarriesStream taken gives s → CarriesStream (taken ++ bytes) gives s
@@ -242,9 +246,13 @@ carries-more taken gives bytes s opened ended c = record {
   gives = c.gives;
 }
 
-past : {s t : Stage} → s ≡ t → (s ≡ Unopened → ⊥) → (s ≡ Open → ⊥) → (t ≡ Unopened) ⊎ (t ≡ Open) → ⊥
-past same opened ended (inl e) = opened (same ∙ e)
-past same opened ended (inr e) = ended (same ∙ e)
+-- Bytes that were read, of which no segment is made: after the end, or none.
+pub carries-dropped : (taken gives bytes : List ℕ) (s : Stream) (stage : Stage) → stage ≡ s.stage → (stage ≡ Unopened → ⊥)
+    → (stage ≡ Open → ⊥) ⊎ (bytes ≡ []) → CarriesStream taken gives s → CarriesStream (taken ++ bytes) gives s
+carries-dropped taken gives bytes s stage same opened (inl ended) c =
+    carries-more taken gives bytes s (λ e. opened (same ∙ e)) (λ e. ended (same ∙ e)) c
+carries-dropped taken gives bytes s stage same opened (inr none) c =
+    subst (λ ts. CarriesStream ts gives s) (sym (ap (λ bs. taken ++ bs) none ∙ append-nil taken)) c
 
 -- further bytes are given
 

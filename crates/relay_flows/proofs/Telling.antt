@@ -1,8 +1,9 @@
 -- What the calls of sockets tell, by the bytes that were taken and given.
+use Prim.Native.Nat.{zero}
 use Rattle.std.proofs.Common.{◌≡◌, ℕ, suc, ◌+◌, ◌<◌, ◌≤◌, ◌==◌, Bool, cond, true, false, List, [], ◌∷◌, ◌++◌}
 use Rattle.std.proofs.Common.{length, take, drop, ◌⊎◌, inl, inr, Option, Some, None, Ok, Err}
 use Rattle.std.proofs.Common.{refl, subst, sym, ◌∙◌, ap, arith, append_assoc, length-append}
-use Rattle.std.specs.Prelude.{Result}
+use Rattle.std.specs.Prelude.{Result, OnErr}
 use mathlib.Core.List.{IsPrefix}
 use Rattle.std.proofs.lemmas.List.{append-nil, take-append-le, take_all}
 use Rattle.std.proofs.lemmas.Bool.{cases_lt}
@@ -198,6 +199,11 @@ pub tells-send : (flow client : ℕ) (side : Side) (piece : List ℕ) (result : 
     → Tells (sending flow client side piece result) old new → WhileTold IsQuiet old new
 tells-send flow client side piece result old new told =
     tells IsQuiet (sending flow client side piece result) old new (send-quiet flow client side piece result) told
+
+-- what is so at all is so at an error
+pub on-err : {A E : Type 0} (r : Result A E) (P : Type 0) → P → OnErr r P
+on-err (Ok value) P p = tt
+on-err (Err error) P p = p
 
 -- while they tell
 

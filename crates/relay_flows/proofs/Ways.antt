@@ -105,6 +105,16 @@ other-ways : {d c : ℕ} (t side : Side) → (d ≡ c → ⊥) ⊎ (t ≡ side �
 other-ways t side (inl no) = inl no
 other-ways t side (inr no) = inr (λ e. no (sym (other-twice t) ∙ (ap other_side e ∙ other-twice side)))
 
+-- ways on which nothing was given are in order
+same-prefix : (c : ℕ) (side : Side) (bytes : List ℕ) (before all : Events) → Gives c (other_side side) bytes before all
+    → IsInOrder before → (d : ℕ) (t : Side) → (d ≡ c → ⊥) ⊎ (t ≡ other_side side → ⊥)
+    → IsPrefix (given_to d t all) (taken_from d (other_side t) all)
+same-prefix c side bytes before all g order d t no =
+    let given : given_to d t all ≡ given_to d t before =
+    g.given d t ∙ (ap (λ bs. given_to d t before ++ bs) (not-its d c t (other_side side) bytes no) ∙ append-nil (given_to d t before)) in
+    subst (λ gs. IsPrefix gs (taken_from d (other_side t) all)) (sym given)
+    (subst (λ ts. IsPrefix (given_to d t before) ts) (sym (g.taken d (other_side t))) (order d t))
+
 -- each way is in order, whether the bytes were given on it or not
 gives-prefix : (c : ℕ) (side : Side) (bytes : List ℕ) (before all : Events) → Gives c (other_side side) bytes before all
     → IsPrefix (given_to c (other_side side) all) (taken_from c side all) → IsInOrder before
@@ -116,15 +126,6 @@ gives-prefix c side bytes before all g here order d t (inl e) (inl f) =
     (subst (λ (u : Side). IsPrefix (given_to c (other_side side) all) (taken_from c u all)) (sym (other-twice side)) here))
 gives-prefix c side bytes before all g here order d t (inr no) f = same-prefix c side bytes before all g order d t (inl no)
 gives-prefix c side bytes before all g here order d t (inl e) (inr no) = same-prefix c side bytes before all g order d t (inr no)
-
-same-prefix : (c : ℕ) (side : Side) (bytes : List ℕ) (before all : Events) → Gives c (other_side side) bytes before all
-    → IsInOrder before → (d : ℕ) (t : Side) → (d ≡ c → ⊥) ⊎ (t ≡ other_side side → ⊥)
-    → IsPrefix (given_to d t all) (taken_from d (other_side t) all)
-same-prefix c side bytes before all g order d t no =
-    let given : given_to d t all ≡ given_to d t before =
-    g.given d t ∙ (ap (λ bs. given_to d t before ++ bs) (not-its d c t (other_side side) bytes no) ∙ append-nil (given_to d t before)) in
-    subst (λ gs. IsPrefix gs (taken_from d (other_side t) all)) (sym given)
-    (subst (λ ts. IsPrefix (given_to d t before) ts) (sym (g.taken d (other_side t))) (order d t))
 
 pub way-gives : (c : ℕ) (side : Side) (bytes : List ℕ) (old new : Stream)
     → ((taken gives : List ℕ) → CarriesStream taken gives old → CarriesStream taken (gives ++ bytes) new)

@@ -30,7 +30,7 @@ taken_by c side (events.OutputClosed connection other) = []
 taken_by c side (events.WasReset connection other) = []
 taken_by c side (events.LetGo connection) = []
 taken_by c side (events.Refused flow other) = []
-taken_by c side (events.Received flow client other bytes gone) = []
+taken_by c side (events.Received flow client other bytes gave_way) = []
 taken_by c side (events.Sent flow client other bytes) = []
 
 -- the bytes that were taken from a side of a connection
@@ -51,7 +51,7 @@ given_by c side (events.OutputClosed connection other) = []
 given_by c side (events.WasReset connection other) = []
 given_by c side (events.LetGo connection) = []
 given_by c side (events.Refused flow other) = []
-given_by c side (events.Received flow client other bytes gone) = []
+given_by c side (events.Received flow client other bytes gave_way) = []
 given_by c side (events.Sent flow client other bytes) = []
 
 -- the bytes that a side of a connection was given

@@ -1,5 +1,5 @@
 // A connection: what its sides said, on its way through the nest.
-ghost use Rattle.std.specs.Prelude.{◌≡◌, ◌≤◌, ◌×◌, [], length, OnOk, OnErr};
+ghost use Rattle.std.specs.Prelude.{◌≡◌, ◌≤◌, [], length, OnOk, OnErr};
 ghost use Rattle.relay_flows.specs.inside.Carrying.{WhileTold, StaysInOrder, IsQuiet, CarriesStream, KeepsConnection};
 ghost use Rattle.relay_flows.specs.inside.Carrying.{MovesConnection};
 

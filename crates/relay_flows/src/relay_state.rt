@@ -1,5 +1,5 @@
 // A relay of flows between its turns.
-ghost use Rattle.std.specs.Prelude.{◌≡◌, ◌≤◌, ◌<◌, ◌×◌, [], length, IfOk, IfSome, OnOk, OnErr};
+ghost use Rattle.std.specs.Prelude.{◌≡◌, ◌≤◌, ◌<◌, [], length, IfOk, IfSome, OnOk, OnErr};
 ghost use Rattle.relay_flows.specs.inside.Carrying.{WhileTold, StaysInOrder, IsQuiet, IsOrdered, MovesState, LeavesState};
 ghost use Rattle.relay_flows.specs.inside.Carrying.{KeepsState};
 

@@ -1,5 +1,5 @@
 // What a turn does with one direction of a connection.
-ghost use Rattle.std.specs.Prelude.{◌≡◌, ◌≤◌, ◌<◌, ◌×◌, ◌⊎◌, [], length, take, IfSome, IfNone, IsTrue, OnOk, OnErr};
+ghost use Rattle.std.specs.Prelude.{◌≡◌, ◌≤◌, ◌<◌, ◌⊎◌, [], length, take, IfSome, IfNone, IsTrue, OnOk, OnErr};
 ghost use Rattle.stream_core.specs.View.{CanFollow, bytes_in, on_way_of};
 ghost use Rattle.stream_core.specs.declared.segment.Stage.TheVariants.{Unopened, Open};
 ghost use Rattle.flow_sockets.specs.SocketViews.{IsInput};
