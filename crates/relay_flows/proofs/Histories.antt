@@ -19,7 +19,8 @@ use Rattle.stream_core.specs.History.{departed, lost, advanced, retried}
 use Rattle.stream_core.specs.View.{Stream, first_kept}
 use Rattle.stream_core.specs.Keeps.{Keeps, After, Ever}
 use Rattle.stream_core.proofs.Keeping.{IsNext, is-next}
-use Rattle.relay_flows.specs.inside.Carrying.{CarriesStream}
+use Rattle.std.proofs.lemmas.Bool.{cases_lt}
+use Rattle.relay_flows.specs.inside.Carrying.{CarriesStream, KeepsStream}
 
 -- segments without their tries
 
@@ -323,3 +324,28 @@ carries-none s h keeps none whole begun = record {
   gives = ap (λ n. bytes_of (take h.whole h.segments) ++ take n (bytes_of (take 1 (drop h.whole h.segments)))) begun
       ∙ (append-nil (bytes_of (take h.whole h.segments)) ∙ ap (λ n. bytes_of (take n h.segments)) whole);
 }
+
+-- what notes of tries and moments leave
+
+keeps-same : (s s' : Stream) → s' ≡ s → KeepsStream s s'
+keeps-same s s' same taken gives c = subst (λ (t : Stream). CarriesStream taken gives t) (sym same) c
+
+pub keeps-departed : (number moment : ℕ) (s s' : Stream) → (s' ≡ s) ⊎ After (departed number moment) s s' → KeepsStream s s'
+keeps-departed number moment s s' (inl same) = keeps-same s s' same
+keeps-departed number moment s s' (inr after) =
+    λ taken gives c. carries-alike taken gives s s' (departed number moment) (alike-departed number moment) after c
+
+pub keeps-lost : (number moment : ℕ) (s s' : Stream) → (s' ≡ s) ⊎ After (lost number moment) s s' → KeepsStream s s'
+keeps-lost number moment s s' (inl same) = keeps-same s s' same
+keeps-lost number moment s s' (inr after) =
+    λ taken gives c. carries-alike taken gives s s' (lost number moment) (alike-lost number moment) after c
+
+advanced-by : (moment : ℕ) (s s' : Stream) → (s.moment ≤ moment → After (advanced moment) s s') → (moment < s.moment → s' ≡ s)
+    → (moment < s.moment) ⊎ (s.moment ≤ moment) → KeepsStream s s'
+advanced-by moment s s' later earlier (inl before) = keeps-same s s' (earlier before)
+advanced-by moment s s' later earlier (inr past) =
+    λ taken gives c. carries-alike taken gives s s' (advanced moment) (alike-advanced moment) (later past) c
+
+pub keeps-advanced : (moment : ℕ) (s s' : Stream) → (s.moment ≤ moment → After (advanced moment) s s')
+    → (moment < s.moment → s' ≡ s) → KeepsStream s s'
+keeps-advanced moment s s' later earlier = advanced-by moment s s' later earlier (cases_lt moment s.moment)

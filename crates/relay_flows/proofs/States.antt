@@ -1,5 +1,5 @@
 -- How a relay's connections carry what their sides said.
-use Rattle.std.proofs.Common.{◌≡◌, ℕ, suc, ◌<◌, ◌≤◌, Bool, true, false, List, [], ◌∷◌, ◌++◌, length, get_or}
+use Rattle.std.proofs.Common.{◌≡◌, ℕ, suc, ◌<◌, ◌≤◌, Bool, true, false, Option, List, [], ◌∷◌, ◌++◌, length, get_or}
 use Rattle.std.proofs.Common.{refl, subst, sym, ◌∙◌, ap, arith}
 use Prim.Native.Nat.{zero}
 use Rattle.std.proofs.Math.ListN.{set}
@@ -10,8 +10,10 @@ use Rattle.flow_sockets.specs.declared.event.SocketEvent.{SocketEvent}
 use Rattle.relay_flows.specs.Streams.{other_side, AlwaysInOrder}
 use Rattle.relay_flows.specs.declared.connection.Connection.{Connection}
 use Rattle.relay_flows.specs.inside.Carrying.{IsQuiet, CarriesStream, Carries, SameWay, MovesConnection, KeepsConnection}
-use Rattle.relay_flows.specs.inside.Carrying.{AllCarry, Ordered}
-use Rattle.relay_flows.proofs.Telling.{none-in-order, quiet-same}
+use Rattle.relay_flows.specs.inside.Carrying.{AllCarry, Ordered, IsOrdered, KeepsState, LeavesState, MovesState}
+use Rattle.relay_flows.specs.inside.Carrying.{StaysInOrder, WhileTold}
+use Rattle.relay_flows.specs.declared.relay_state.RelayState.{RelayState}
+use Rattle.relay_flows.proofs.Telling.{none-in-order, quiet-same, while-map, while-then}
 use Rattle.relay_flows.proofs.Ways.{carries-same, moves-quiet, same-then, stream-same}
 
 abbrev Events : Type 0
@@ -133,3 +135,48 @@ ordered-none = record {
   carry = omega arith;
   later = λ c side above. record { taken = refl; given = refl };
 }
+
+-- whole states
+
+abbrev Told : Type 0
+Told = Option Events
+
+pub ordered-same : (old new : RelayState) → new.connections ≡ old.connections → new.counts ≡ old.counts → KeepsState old new
+ordered-same old new connections counts told o = rw (connections, counts) o
+
+pub keeps-both : (x y z : RelayState) → KeepsState x y → KeepsState y z → KeepsState x z
+keeps-both x y z first second told o = second told (first told o)
+
+pub state-keeps : (old new : RelayState) (a b : Told) → KeepsState old new → WhileTold IsQuiet a b → WhileTold (MovesState old new) a b
+state-keeps old new a b keeps quiet = while-map IsQuiet (MovesState old new) a b (λ before all q o.
+    keeps all (ordered-quiet old.counts.accepted old.connections.items before all q o)) quiet
+
+pub state-then : (x y z : RelayState) (a b c : Told) → WhileTold (MovesState x y) a b → WhileTold (MovesState y z) b c
+    → WhileTold (MovesState x z) a c
+state-then x y z a b c first second =
+    while-then (MovesState x y) (MovesState y z) (MovesState x z) a b c (λ p q r f s o. s (f o)) first second
+
+-- nothing was told meanwhile
+pub state-also : (x y z : RelayState) (a b : Told) → WhileTold (MovesState x y) a b → KeepsState y z → WhileTold (MovesState x z) a b
+state-also x y z a b first keeps = while-map (MovesState x y) (MovesState x z) a b (λ before all f o. keeps all (f o)) first
+
+pub keeps-first : (x y z : RelayState) (a b : Told) → KeepsState x y → WhileTold (MovesState y z) a b → WhileTold (MovesState x z) a b
+keeps-first x y z a b keeps second = while-map (MovesState y z) (MovesState x z) a b (λ before all s o. s (keeps before o)) second
+
+-- it was given up
+pub state-stop : (x y : RelayState) (a b : Told) → WhileTold (MovesState x y) a b → WhileTold (LeavesState x) a b
+state-stop x y a b moved = while-map (MovesState x y) (LeavesState x) a b (λ before all m o. (m o).order) moved
+
+pub state-leave : (x y : RelayState) (a b c : Told) → WhileTold (MovesState x y) a b → WhileTold (LeavesState y) b c
+    → WhileTold (LeavesState x) a c
+state-leave x y a b c first second =
+    while-then (MovesState x y) (LeavesState y) (LeavesState x) a b c (λ p q r f s o. s (f o)) first second
+
+pub keeps-leave : (x y : RelayState) (a b : Told) → KeepsState x y → WhileTold (LeavesState y) a b → WhileTold (LeavesState x) a b
+keeps-leave x y a b keeps second = while-map (LeavesState y) (LeavesState x) a b (λ before all s o. s (keeps before o)) second
+
+pub state-order : (x : RelayState) (a b : Told) → WhileTold StaysInOrder a b → WhileTold (LeavesState x) a b
+state-order x a b order = while-map StaysInOrder (LeavesState x) a b (λ before all s o. s o.order) order
+
+pub state-quiet : (x : RelayState) (a b : Told) → WhileTold IsQuiet a b → WhileTold (LeavesState x) a b
+state-quiet x a b quiet = while-map IsQuiet (LeavesState x) a b (λ before all q o. q.order o.order) quiet

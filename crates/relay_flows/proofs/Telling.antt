@@ -3,7 +3,7 @@ use Prim.Native.Nat.{zero}
 use Rattle.std.proofs.Common.{◌≡◌, ℕ, suc, ◌+◌, ◌<◌, ◌≤◌, ◌==◌, Bool, cond, true, false, List, [], ◌∷◌, ◌++◌}
 use Rattle.std.proofs.Common.{length, take, drop, ◌⊎◌, inl, inr, Option, Some, None, Ok, Err}
 use Rattle.std.proofs.Common.{refl, subst, sym, ◌∙◌, ap, arith, append_assoc, length-append}
-use Rattle.std.specs.Prelude.{Result, OnErr}
+use Rattle.std.specs.Prelude.{Result, OnErr, OnOk}
 use mathlib.Core.List.{IsPrefix}
 use Rattle.std.proofs.lemmas.List.{append-nil, take-append-le, take_all}
 use Rattle.std.proofs.lemmas.Bool.{cases_lt}
@@ -88,7 +88,10 @@ quiet-event es e taken given = record {
 quiet-nil : (es : Events) → IsQuiet es (es ++ [])
 quiet-nil es = subst (λ (all : Events). IsQuiet es all) (sym (append-nil es)) (quiet-same es)
 
-its-by : (b s : Bool) → cond b (cond s ([] {A = ℕ}) []) [] ≡ []
+abbrev no-bytes : List ℕ
+no-bytes = []
+
+its-by : (b s : Bool) → cond b (cond s no-bytes []) [] ≡ no-bytes
 its-by true true = refl
 its-by true false = refl
 its-by false s = refl
@@ -204,6 +207,10 @@ tells-send flow client side piece result old new told =
 pub on-err : {A E : Type 0} (r : Result A E) (P : Type 0) → P → OnErr r P
 on-err (Ok value) P p = tt
 on-err (Err error) P p = p
+
+pub on-ok-map : {A E : Type 0} (r : Result A E) (P Q : Type 0) → (P → Q) → OnOk r P → OnOk r Q
+on-ok-map (Ok value) P Q weaker p = weaker p
+on-ok-map (Err error) P Q weaker p = tt
 
 -- while they tell
 

@@ -1,5 +1,5 @@
 -- How the ways of connections are carried.
-use Rattle.std.proofs.Common.{◌≡◌, ℕ, ◌<◌, ◌≤◌, ◌==◌, Bool, cond, true, false, List, [], ◌∷◌, ◌++◌, ◌⊎◌, inl, inr}
+use Rattle.std.proofs.Common.{◌≡◌, ℕ, ◌<◌, ◌≤◌, ◌==◌, Bool, cond, true, false, List, [], ◌∷◌, ◌++◌, ◌⊎◌, inl, inr, Option}
 use Rattle.std.proofs.Common.{refl, subst, sym, ◌∙◌, ap, arith}
 use mathlib.Core.List.{IsPrefix}
 use Rattle.std.proofs.lemmas.List.{append-nil}
@@ -12,9 +12,9 @@ use Rattle.stream_core.specs.View.{Stream}
 use Rattle.relay_flows.specs.Streams.{is_side, if_its, taken_from, given_to, other_side, IsInOrder, AlwaysInOrder}
 use Rattle.relay_flows.specs.declared.connection.Connection.{Connection}
 use Rattle.relay_flows.specs.inside.Carrying.{IsQuiet, Takes, Gives, CarriesStream, CarriesWay, Carries, SameWay, MovesWay}
-use Rattle.relay_flows.specs.inside.Carrying.{MovesConnection, KeepsConnection}
+use Rattle.relay_flows.specs.inside.Carrying.{MovesConnection, KeepsConnection, WhileTold}
 use Rattle.relay_flows.proofs.Histories.{carries-prefix}
-use Rattle.relay_flows.proofs.Telling.{at-end}
+use Rattle.relay_flows.proofs.Telling.{at-end, quiet-same, while-map, while-then}
 
 abbrev Events : Type 0
 Events = List SocketEvent
@@ -52,16 +52,16 @@ other-twice Client = refl
 other-twice Server = refl
 
 not-by : (b s : Bool) (bytes : List ℕ) → (b ≡ true → s ≡ true → ⊥) → cond b (cond s bytes []) [] ≡ []
-not-by true true bytes no = absurd (no refl refl)
-not-by true false bytes no = refl
-not-by false s bytes no = refl
+not-by true true bytes distinct = absurd (distinct refl refl)
+not-by true false bytes distinct = refl
+not-by false s bytes distinct = refl
 
 differ : {d c : ℕ} {t u : Side} → (d ≡ c → ⊥) ⊎ (t ≡ u → ⊥) → d ≡ c → t ≡ u → ⊥
-differ (inl no) e f = no e
-differ (inr no) e f = no f
+differ (inl distinct) e f = distinct e
+differ (inr distinct) e f = distinct f
 
 not-its : (d c : ℕ) (t u : Side) (bytes : List ℕ) → (d ≡ c → ⊥) ⊎ (t ≡ u → ⊥) → if_its d t c u bytes ≡ []
-not-its d c t u bytes no = not-by (d == c) (is_side t u) bytes (λ e f. differ no (is-equal d c e) (side-equal t u f))
+not-its d c t u bytes distinct = not-by (d == c) (is_side t u) bytes (λ e f. differ distinct (is-equal d c e) (side-equal t u f))
 
 its-by : (b s : Bool) (bytes : List ℕ) → b ≡ true → s ≡ true → cond b (cond s bytes []) [] ≡ bytes
 its-by true true bytes e f = refl
@@ -81,7 +81,7 @@ way-quiet c side old new change before all q = record {
   carries = λ w. subst (λ ts. CarriesStream ts (given_to c (other_side side) all) new) (sym (q.taken c side))
       (subst (λ gs. CarriesStream (taken_from c side before) gs new) (sym (q.given c (other_side side)))
       (change (taken_from c side before) (given_to c (other_side side) before) w));
-  others = λ d t no. record { taken = q.taken d t; given = q.given d (other_side t) };
+  others = λ d t distinct. record { taken = q.taken d t; given = q.given d (other_side t) };
 }
 
 pub way-takes : (c : ℕ) (side : Side) (bytes : List ℕ) (old new : Stream)
@@ -95,23 +95,23 @@ way-takes c side bytes old new change before all t = record {
       subst (λ ts. CarriesStream ts (given_to c (other_side side) all) new) (sym taken)
       (subst (λ gs. CarriesStream (taken_from c side before ++ bytes) gs new) (sym (t.given c (other_side side)))
       (change (taken_from c side before) (given_to c (other_side side) before) w));
-  others = λ d u no. record {
-    taken = t.taken d u ∙ (ap (λ bs. taken_from d u before ++ bs) (not-its d c u side bytes no) ∙ append-nil (taken_from d u before));
+  others = λ d u distinct. record {
+    taken = t.taken d u ∙ (ap (λ bs. taken_from d u before ++ bs) (not-its d c u side bytes distinct) ∙ append-nil (taken_from d u before));
     given = t.given d (other_side u);
   };
 }
 
 other-ways : {d c : ℕ} (t side : Side) → (d ≡ c → ⊥) ⊎ (t ≡ side → ⊥) → (d ≡ c → ⊥) ⊎ (other_side t ≡ other_side side → ⊥)
-other-ways t side (inl no) = inl no
-other-ways t side (inr no) = inr (λ e. no (sym (other-twice t) ∙ (ap other_side e ∙ other-twice side)))
+other-ways t side (inl distinct) = inl distinct
+other-ways t side (inr distinct) = inr (λ e. distinct (sym (other-twice t) ∙ (ap other_side e ∙ other-twice side)))
 
 -- ways on which nothing was given are in order
 same-prefix : (c : ℕ) (side : Side) (bytes : List ℕ) (before all : Events) → Gives c (other_side side) bytes before all
     → IsInOrder before → (d : ℕ) (t : Side) → (d ≡ c → ⊥) ⊎ (t ≡ other_side side → ⊥)
     → IsPrefix (given_to d t all) (taken_from d (other_side t) all)
-same-prefix c side bytes before all g order d t no =
+same-prefix c side bytes before all g order d t distinct =
     let given : given_to d t all ≡ given_to d t before =
-    g.given d t ∙ (ap (λ bs. given_to d t before ++ bs) (not-its d c t (other_side side) bytes no) ∙ append-nil (given_to d t before)) in
+    g.given d t ∙ (ap (λ bs. given_to d t before ++ bs) (not-its d c t (other_side side) bytes distinct) ∙ append-nil (given_to d t before)) in
     subst (λ gs. IsPrefix gs (taken_from d (other_side t) all)) (sym given)
     (subst (λ ts. IsPrefix (given_to d t before) ts) (sym (g.taken d (other_side t))) (order d t))
 
@@ -124,8 +124,8 @@ gives-prefix c side bytes before all g here order d t (inl e) (inl f) =
     subst (λ n. IsPrefix (given_to n t all) (taken_from n (other_side t) all)) (sym e)
     (subst (λ (u : Side). IsPrefix (given_to c u all) (taken_from c (other_side u) all)) (sym f)
     (subst (λ (u : Side). IsPrefix (given_to c (other_side side) all) (taken_from c u all)) (sym (other-twice side)) here))
-gives-prefix c side bytes before all g here order d t (inr no) f = same-prefix c side bytes before all g order d t (inl no)
-gives-prefix c side bytes before all g here order d t (inl e) (inr no) = same-prefix c side bytes before all g order d t (inr no)
+gives-prefix c side bytes before all g here order d t (inr distinct) f = same-prefix c side bytes before all g order d t (inl distinct)
+gives-prefix c side bytes before all g here order d t (inl e) (inr distinct) = same-prefix c side bytes before all g order d t (inr distinct)
 
 pub way-gives : (c : ℕ) (side : Side) (bytes : List ℕ) (old new : Stream)
     → ((taken gives : List ℕ) → CarriesStream taken gives old → CarriesStream taken (gives ++ bytes) new)
@@ -142,10 +142,10 @@ way-gives c side bytes old new change before all g =
           (carries-prefix (taken_from c side all) (given_to c (other_side side) all) new (carried w)) (at-end before order) d t
           (cases_eq d c) (sides t (other_side side)));
       carries = carried;
-      others = λ d t no. record {
+      others = λ d t distinct. record {
         taken = g.taken d t;
         given = g.given d (other_side t) ∙ (ap (λ bs. given_to d (other_side t) before ++ bs)
-            (not-its d c (other_side t) (other_side side) bytes (other-ways t side no)) ∙ append-nil (given_to d (other_side t) before));
+            (not-its d c (other_side t) (other_side side) bytes (other-ways t side distinct)) ∙ append-nil (given_to d (other_side t) before));
       };
     }
 
@@ -178,7 +178,7 @@ moves-up old new number down before all m = record {
         (subst (λ (s : Stream). CarriesWay old.number Server all s) (sym down)
         (stream-same old.number Server old.down before all (m.others old.number Server (inr (other-differs Client))) h.down));
   };
-  others = λ d side no. m.others d side (inl no);
+  others = λ d side distinct. m.others d side (inl distinct);
 }
 
 pub moves-down : (old new : Connection) → new.number ≡ old.number → new.up ≡ old.up
@@ -192,7 +192,7 @@ moves-down old new number up before all m = record {
         (subst (λ (s : Stream). CarriesWay old.number Client all s) (sym up)
         (stream-same old.number Client old.up before all (m.others old.number Client (inr (other-differs Server))) h.up));
   };
-  others = λ d side no. m.others d side (inl no);
+  others = λ d side distinct. m.others d side (inl distinct);
 }
 
 pub moves-then : (a b c : Connection) → (x y z : Events) → MovesConnection a b x y → MovesConnection b c y z → MovesConnection a c x z
@@ -200,7 +200,7 @@ moves-then a b c x y z first second = record {
   number = second.number ∙ first.number;
   order = λ order h. second.order (first.order order h) (first.carries h);
   carries = λ h. second.carries (first.carries h);
-  others = λ d side no. same-then d side x y z (first.others d side no) (second.others d side (λ e. no (e ∙ first.number)));
+  others = λ d side distinct. same-then d side x y z (first.others d side distinct) (second.others d side (λ e. distinct (e ∙ first.number)));
 }
 
 keeps-carries : (old new : Connection) → KeepsConnection old new → (told : Events) → Carries told old → Carries told new
@@ -218,7 +218,7 @@ moves-quiet old new keeps before all q = record {
   order = λ order h. q.order order;
   carries = λ h. carries-same new before all (λ side. record { taken = q.taken new.number side; given = q.given new.number (other_side side) })
       (keeps-carries old new keeps before h);
-  others = λ d side no. record { taken = q.taken d side; given = q.given d (other_side side) };
+  others = λ d side distinct. record { taken = q.taken d side; given = q.given d (other_side side) };
 }
 
 pub keeps-same : (old new : Connection) → new.number ≡ old.number → new.up ≡ old.up → new.down ≡ old.down → KeepsConnection old new
@@ -242,3 +242,36 @@ pub way-gives-to : (c : ℕ) (side : Side) (bytes : List ℕ) (old new : Stream)
 way-gives-to c side bytes old new change before all g =
     way-gives c (other_side side) bytes old new change before all
     (subst (λ (u : Side). Gives c u bytes before all) (sym (other-twice side)) g)
+
+-- calls that tell
+
+abbrev Told : Type 0
+Told = Option Events
+
+pub told-up : (old new : Connection) (a b : Told) → new.number ≡ old.number → new.down ≡ old.down
+    → WhileTold (MovesWay old.number Client old.up new.up) a b → WhileTold (MovesConnection old new) a b
+told-up old new a b number down moved = while-map (MovesWay old.number Client old.up new.up) (MovesConnection old new) a b
+    (moves-up old new number down) moved
+
+pub told-down : (old new : Connection) (a b : Told) → new.number ≡ old.number → new.up ≡ old.up
+    → WhileTold (MovesWay old.number Server old.down new.down) a b → WhileTold (MovesConnection old new) a b
+told-down old new a b number up moved = while-map (MovesWay old.number Server old.down new.down) (MovesConnection old new) a b
+    (moves-down old new number up) moved
+
+pub told-quiet : (old new : Connection) (a b : Told) → KeepsConnection old new → WhileTold IsQuiet a b
+    → WhileTold (MovesConnection old new) a b
+told-quiet old new a b keeps quiet = while-map IsQuiet (MovesConnection old new) a b (moves-quiet old new keeps) quiet
+
+pub told_then : (x y z : Connection) (a b c : Told) → WhileTold (MovesConnection x y) a b → WhileTold (MovesConnection y z) b c
+    → WhileTold (MovesConnection x z) a c
+told_then x y z a b c first second = while-then (MovesConnection x y) (MovesConnection y z) (MovesConnection x z) a b c
+    (moves-then x y z) first second
+
+pub told_keeps : (x y z : Connection) (a b : Told) → WhileTold (MovesConnection x y) a b → KeepsConnection y z
+    → WhileTold (MovesConnection x z) a b
+told_keeps x y z a b first keeps = while-map (MovesConnection x y) (MovesConnection x z) a b
+    (λ before all m. moves-then x y z before all all m (moves-quiet y z keeps all all (quiet-same all))) first
+
+pub told-later : (x y : Connection) (a b c : Told) → WhileTold (MovesConnection x y) a b → WhileTold IsQuiet b c
+    → WhileTold (MovesConnection x y) a c
+told-later x y a b c first quiet = told_then x y y a b c first (told-quiet y y b c (keeps-same y y refl refl refl) quiet)
