@@ -152,7 +152,6 @@ impl Connection {
     }
 
     // Gives what can be handed on up, as far as the server takes it. Returns whether anything was given.
-    #[tactic(auto, using(crate::proofs::Ways::told_then, crate::proofs::Ways::told_keeps))]
     fn give_up<S: Sockets>(&mut self, sockets: &mut S, moment: u64) -> bool
         ensures { WhileTold (MovesConnection self.old self.new) (S.view sockets.old).told (S.view sockets.new).told }
     {
@@ -171,7 +170,6 @@ impl Connection {
     }
 
     // Gives what can be handed on down, as far as the client takes it. Returns whether anything was given.
-    #[tactic(auto, using(crate::proofs::Ways::told_then, crate::proofs::Ways::told_keeps))]
     fn give_down<S: Sockets>(&mut self, sockets: &mut S) -> bool
         ensures { WhileTold (MovesConnection self.old self.new) (S.view sockets.old).told (S.view sockets.new).told }
     {

@@ -12,6 +12,6 @@ returns-in-Up c = record {
 pub returns-in-Down : goal.returns-in-Down
 returns-in-Down c = record {
   number = refl;
-  down = keeps-departed c.args.number c.args.moment c.args.self.now.down c.try_departure.new.self c.try_departure.ensures;
+  down = keeps-departed c.args.number c.args.moment c.args.self.now.down c.try_departure-in-Down.new.self c.try_departure-in-Down.ensures;
   up = λ taken gives h. h;
 }

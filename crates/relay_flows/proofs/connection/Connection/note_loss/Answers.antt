@@ -12,6 +12,6 @@ returns-in-Up c = record {
 pub returns-in-Down : goal.returns-in-Down
 returns-in-Down c = record {
   number = refl;
-  down = keeps-lost c.args.number c.args.moment c.args.self.now.down c.try_loss.new.self c.try_loss.ensures;
+  down = keeps-lost c.args.number c.args.moment c.args.self.now.down c.try_loss-in-Down.new.self c.try_loss-in-Down.ensures;
   up = λ taken gives h. h;
 }

@@ -8,5 +8,5 @@ returns-in-Client-clause-ok g c = on-ok-map c.read.result _ _
     (told-up c.args.self.now _ (g.S.Sockets.view c.args.sockets.now).told (g.S.Sockets.view c.read.new.sockets).told refl refl) c.read.ensures.ok
 
 pub returns-in-Server-clause-ok : goal.returns-in-Server-clause-ok
-returns-in-Server-clause-ok g c = on-ok-map c.read-2.result _ _
-    (told-down c.args.self.now _ (g.S.Sockets.view c.args.sockets.now).told (g.S.Sockets.view c.read-2.new.sockets).told refl refl) c.read-2.ensures.ok
+returns-in-Server-clause-ok g c = on-ok-map c.read-in-Server.result _ _
+    (told-down c.args.self.now _ (g.S.Sockets.view c.args.sockets.now).told (g.S.Sockets.view c.read-in-Server.new.sockets).told refl refl) c.read-in-Server.ensures.ok
