@@ -134,9 +134,9 @@ way-gives c side bytes old new change before all g =
     let given : given_to c (other_side side) all ≡ given_to c (other_side side) before ++ bytes =
     g.given c (other_side side) ∙ ap (λ bs. given_to c (other_side side) before ++ bs) (its c (other_side side) bytes) in
     let carried : CarriesWay c side before old → CarriesWay c side all new = λ w.
-        subst (λ ts. CarriesStream ts (given_to c (other_side side) all) new) (sym (g.taken c side))
-        (subst (λ gs. CarriesStream (taken_from c side before) gs new) (sym given)
-        (change (taken_from c side before) (given_to c (other_side side) before) w)) in
+    subst (λ ts. CarriesStream ts (given_to c (other_side side) all) new) (sym (g.taken c side))
+    (subst (λ gs. CarriesStream (taken_from c side before) gs new) (sym given)
+    (change (taken_from c side before) (given_to c (other_side side) before) w)) in
     record {
       order = λ order w. g.order order (λ d t. gives-prefix c side bytes before all g
           (carries-prefix (taken_from c side all) (given_to c (other_side side) all) new (carried w)) (at-end before order) d t

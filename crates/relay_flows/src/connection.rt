@@ -282,7 +282,14 @@ impl Connection {
         }
         match side {
             Side::Client => read(&mut self.up, sockets, self.number, Side::Client, row, piece),
-            Side::Server => read(&mut self.down, sockets, self.number, Side::Server, row, piece),
+            Side::Server => read(
+                &mut self.down,
+                sockets,
+                self.number,
+                Side::Server,
+                row,
+                piece,
+            ),
         }
     }
 

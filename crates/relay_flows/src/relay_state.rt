@@ -304,11 +304,7 @@ impl RelayState {
     }
 
     // Takes the outcome of the dial of the connection at this place.
-    fn take_dial<S: Sockets>(
-        self,
-        sockets: &mut S,
-        place: usize,
-    ) -> Result<RelayState, OutOfMemory>
+    fn take_dial<S: Sockets>(self, sockets: &mut S, place: usize) -> Result<RelayState, OutOfMemory>
         ensures ok { IfOk result (λ state. WhileTold (MovesState self state)
             (S.view sockets.old).told (S.view sockets.new).told) }
         ensures err { OnErr result (WhileTold (LeavesState self)
@@ -365,11 +361,7 @@ impl RelayState {
 
     // Does what comes in a turn at this moment before the end of the relay is looked for: takes what departed and was
     // lost, sends datagrams, gives what can be handed on, and takes the outcomes of dials.
-    pub fn settle<S: Sockets>(
-        self,
-        sockets: &mut S,
-        moment: u64,
-    ) -> Result<RelayState, FlowsError>
+    pub fn settle<S: Sockets>(self, sockets: &mut S, moment: u64) -> Result<RelayState, FlowsError>
         ensures ok { IfOk result (λ state. WhileTold (MovesState self state)
             (S.view sockets.old).told (S.view sockets.new).told) }
         ensures err { OnErr result (WhileTold (LeavesState self)
@@ -514,11 +506,7 @@ impl RelayState {
     }
 
     // Takes a new connection of a flow, if fewer than 256 stand.
-    fn accept<S: Sockets>(
-        self,
-        sockets: &mut S,
-        flow: u32,
-    ) -> Result<RelayState, FlowsError>
+    fn accept<S: Sockets>(self, sockets: &mut S, flow: u32) -> Result<RelayState, FlowsError>
         ensures ok { IfOk result (λ state. WhileTold (MovesState self state)
             (S.view sockets.old).told (S.view sockets.new).told) }
         ensures err { OnErr result (WhileTold (LeavesState self)

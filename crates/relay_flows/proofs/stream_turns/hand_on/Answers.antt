@@ -16,6 +16,6 @@ returns g c =
     while-map (Gives c.args.connection c.args.side bytes) (MovesWay c.args.connection (other_side c.args.side) s s')
     (g.S.Sockets.view c.args.sockets.now).told (g.S.Sockets.view c.offer.new.sockets).told
     (way-gives-to c.args.connection c.args.side bytes s s' (λ taken gives h.
-        subst (λ bs. CarriesStream taken (gives ++ take count bs) s') (sym c.in_ok-ready.ensures.bytes)
-        (carries-gave taken gives s s' count c.give.ensures.gave c.give.ensures.bytes c.in_ok-ready.ensures.arrived.0 h)))
+    subst (λ bs. CarriesStream taken (gives ++ take count bs) s') (sym c.in_ok-ready.ensures.bytes)
+    (carries-gave taken gives s s' count c.give.ensures.gave c.give.ensures.bytes c.in_ok-ready.ensures.arrived.0 h)))
     c.in_ok-count.ensures.some

@@ -17,7 +17,7 @@ returns-in_default-clause-ok g c =
     let opened : c.stage-stage.result ≡ Unopened → ⊥ = search rules in
     while-map (Takes c.args.connection c.args.side bytes) (MovesWay c.args.connection c.args.side s s) old new
     (way-takes c.args.connection c.args.side bytes s s (λ taken gives h.
-        carries-dropped taken gives bytes s c.stage-stage.result c.stage-stage.ensures.view opened c.in_default.ensures.none h))
+    carries-dropped taken gives bytes s c.stage-stage.result c.stage-stage.ensures.view opened c.in_default.ensures.none h))
     (tells-read c.args.connection c.args.side c.read-input.new.buf c.read-input.result old new c.read-input.ensures.told)
 
 pub returns-in_err-number-clause-err : goal.returns-in_err-number-clause-err
@@ -40,6 +40,6 @@ returns-clause-ok g c =
     let may : CanFollow s.stage segment = subst (λ (t : Stage). CanFollow t segment) c.stage-stage.ensures.view c.in-Some.ensures.follows in
     while-map (Takes c.args.connection c.args.side bytes) (MovesWay c.args.connection c.args.side s s') old new
     (way-takes c.args.connection c.args.side bytes s s' (λ taken gives h.
-        subst (λ bs. CarriesStream (taken ++ bs) gives s') c.in-Some.ensures.bytes
-        (carries-made taken gives (bytes_in segment) s s' (kind_of segment) c.args.row may c.in_ok-number.ensures.ok h)))
+    subst (λ bs. CarriesStream (taken ++ bs) gives s') c.in-Some.ensures.bytes
+    (carries-made taken gives (bytes_in segment) s s' (kind_of segment) c.args.row may c.in_ok-number.ensures.ok h)))
     (tells-read c.args.connection c.args.side c.read-input.new.buf c.read-input.result old new c.read-input.ensures.told)
