@@ -119,7 +119,12 @@ impl Path {
     }
 
     // Lets a packet of this size enter.
-    pub fn enter(self, entry: Entry, direction: Direction, size: u16) -> Result<Path, OutOfMemory>
+    pub fn enter(
+        self,
+        entry: Entry,
+        direction: Direction,
+        size: u16,
+    ) -> Result<Path, OutOfMemory>
         requires room { length self.rows < 1000000 }
         requires some { 1 ≤ size }
         requires most { size ≤ 1504 }
