@@ -83,6 +83,14 @@ impl LiveConnection {
         self.dial
     }
 
+    /// Gives up a dial that isn't done: its socket is closed.
+    pub fn give_up(&mut self) {
+        if let DialState::Waiting = self.dial {
+            self.server = None;
+            self.dial = DialState::Failed;
+        }
+    }
+
     /// Reads a side.
     pub fn read(&mut self, side: Side, buf: &mut [u8]) -> Input
         requires { 1 ≤ length buf.old }

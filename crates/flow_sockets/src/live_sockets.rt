@@ -149,6 +149,13 @@ impl LiveSockets {
         }
     }
 
+    /// Gives up a dial that isn't done.
+    pub fn give_up(&mut self, connection: u32) {
+        if let Some(connection) = self.connections.get_mut(&connection) {
+            connection.give_up();
+        }
+    }
+
     /// Reads a side of a connection.
     pub fn read(&mut self, connection: u32, side: Side, buf: &mut [u8]) -> Input
         requires { 1 ≤ length buf.old }

@@ -5,7 +5,7 @@ ghost use Rattle.mm_base.specs.Counts.{Rose};
 ghost use Rattle.flow_sockets.specs.SocketViews.{CountsSocketFaults, IsArrival, IsInput, Tells, opened_after};
 ghost use Rattle.flow_sockets.specs.SocketViews.{accepting, dial_ending, reading, receiving, sending};
 ghost use Rattle.flow_sockets.specs.declared.answers.DialState.TheVariants.{Waiting};
-ghost use Rattle.flow_sockets.specs.declared.event.SocketEvent.TheVariants.{Dialed, Gave, LetGo, OutputClosed, WasReset};
+ghost use Rattle.flow_sockets.specs.declared.event.SocketEvent.TheVariants.{DialEnded, Dialed, Gave, LetGo, OutputClosed, WasReset};
 ghost use Rattle.flow_sockets.specs.MemSockets.{Brings, IsSocketCall, arrivals_at, bytes_in, connection_at, connection_set};
 ghost use Rattle.flow_sockets.specs.MemSockets.{dial_looked, end_at, end_input, end_offered, end_read, end_takes, first_or};
 ghost use Rattle.flow_sockets.specs.MemSockets.{flow_accepted, flow_at, flow_received, flow_set, mem_view, said_of, with_end};
@@ -133,6 +133,20 @@ impl Sockets for MemSockets {
         let state = dial_script(&mut self.connections, connection);
         self.log.tell_dialed(connection, state);
         state
+    }
+
+    fn give_up(&mut self, connection: u32)
+        ensures script { (self.new.flows ≡ self.old.flows) × (self.new.connections ≡ self.old.connections) }
+        ensures calls { self.new.calls ≡ self.old.calls }
+        ensures opened { self.new.opened ≡ self.old.opened }
+        ensures told { Tells (DialEnded connection false ∷ []) self.old.log self.new.log }
+        ensures counts { CountsSocketFaults (mem_view self.old.opened self.old.log self.old.calls)
+            (mem_view self.new.opened self.new.log self.new.calls) }
+    {
+        self.log.tell(SocketEvent::DialEnded {
+            connection,
+            is_connected: false,
+        });
     }
 
     fn read(&mut self, connection: u32, side: Side, buf: &mut [u8]) -> Input

@@ -1,10 +1,10 @@
 // The sockets of flows, as their callers see them.
-ghost use Rattle.std.specs.Prelude.{◌≡◌, ◌≤◌, ◌∷◌, [], length, IfOk, IsErrOf};
+ghost use Rattle.std.specs.Prelude.{◌≡◌, ◌≤◌, ◌∷◌, [], false, length, IfOk, IsErrOf};
 ghost use Rattle.mm_base.specs.Counts.{Rose};
 ghost use Rattle.flow_sockets.specs.SocketViews.{SocketsView, CountsSocketFaults, opened_after, Tells};
 ghost use Rattle.flow_sockets.specs.SocketViews.{accepting, dial_ending, reading, receiving, sending};
 ghost use Rattle.flow_sockets.specs.SocketViews.{IsInput, IsArrival};
-ghost use Rattle.flow_sockets.specs.declared.event.SocketEvent.TheVariants.{Dialed, Gave, OutputClosed, WasReset, LetGo};
+ghost use Rattle.flow_sockets.specs.declared.event.SocketEvent.TheVariants.{DialEnded, Dialed, Gave, OutputClosed, WasReset, LetGo};
 
 use crate::{Arrival, DialState, Input};
 use flow_list::Flow;
@@ -59,6 +59,12 @@ pub trait Sockets {
     fn dialed(&mut self, connection: u32) -> DialState
         ensures opened { (view self.new).opened ≡ (view self.old).opened }
         ensures told { Tells (dial_ending connection result) (view self.old).told (view self.new).told }
+        ensures counts { CountsSocketFaults (view self.old) (view self.new) };
+
+    /// Gives up a dial that isn't done: it has failed.
+    fn give_up(&mut self, connection: u32)
+        ensures opened { (view self.new).opened ≡ (view self.old).opened }
+        ensures told { Tells (DialEnded connection false ∷ []) (view self.old).told (view self.new).told }
         ensures counts { CountsSocketFaults (view self.old) (view self.new) };
 
     /// Reads what is there of a side of a connection into the start of `buf`.

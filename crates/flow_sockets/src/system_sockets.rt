@@ -143,6 +143,10 @@ impl<R: Net + Eprint + Time + Drop> Sockets for SystemSockets<R> {
         self.live.dialed(connection)
     }
 
+    fn give_up(&mut self, connection: u32) {
+        self.live.give_up(connection);
+    }
+
     fn read(&mut self, connection: u32, side: Side, buf: &mut [u8]) -> Input {
         self.live.read(connection, side, buf)
     }

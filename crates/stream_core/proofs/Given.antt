@@ -62,7 +62,7 @@ unarrived-none h s keeps none =
 
 -- segments one after the other
 
-bytes_of-append : (xs ys : List Segment) → bytes_of (xs ++ ys) ≡ bytes_of xs ++ bytes_of ys
+pub bytes_of-append : (xs ys : List Segment) → bytes_of (xs ++ ys) ≡ bytes_of xs ++ bytes_of ys
 bytes_of-append [] ys = refl
 bytes_of-append (x ∷ xs) ys = ap (λ bs. x.bytes ++ bs) (bytes_of-append xs ys) ∙ sym (append_assoc x.bytes (bytes_of xs) (bytes_of ys))
 

@@ -6,5 +6,6 @@ pub mod Keeping
 pub mod OnWay
 mod Rows
 pub mod Given
+pub mod Giving
 pub mod Due
 pub mod Moments

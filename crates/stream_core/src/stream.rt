@@ -1,5 +1,5 @@
 // One direction of a connection.
-ghost use Rattle.std.specs.Prelude.{◌≡◌, ◌+◌, ◌<◌, ◌≤◌, ◌↔◌, ◌⊎◌, length, drop, All, IsTrue};
+ghost use Rattle.std.specs.Prelude.{◌≡◌, ◌+◌, ◌++◌, ◌<◌, ◌≤◌, ◌↔◌, ◌⊎◌, length, take, drop, All, IsTrue};
 ghost use Rattle.std.specs.Prelude.{IfOk, OnOk, OnErr, IfSome, IsSome, IsNone};
 ghost use mathlib.Core.List.{IsPrefix};
 ghost use Rattle.stream_core.specs.declared.segment.Status.TheVariants.{Arrived};
@@ -305,7 +305,9 @@ impl StreamCore {
 
     /// Takes note that the try of this row of segment `number` departed, as `note_departure` does. If that segment has
     /// no such try inside, or the departure is told out of its order, nothing changes.
-    pub fn try_departure(&mut self, number: u32, row: u32, moment: u64) {
+    pub fn try_departure(&mut self, number: u32, row: u32, moment: u64)
+        ensures { (self.new ≡ self.old) ⊎ After (departed number moment) self.old self.new }
+    {
         if moment < self.moment || moment > LATEST {
             return;
         }
@@ -317,7 +319,9 @@ impl StreamCore {
 
     /// Takes note that the try of this row of segment `number` was lost, as `note_loss` does. If that segment has no
     /// such try inside, or the loss is told out of its order, nothing changes.
-    pub fn try_loss(&mut self, number: u32, row: u32, moment: u64) {
+    pub fn try_loss(&mut self, number: u32, row: u32, moment: u64)
+        ensures { (self.new ≡ self.old) ⊎ After (lost number moment) self.old self.new }
+    {
         if moment < self.moment || moment > LATEST {
             return;
         }
@@ -328,7 +332,10 @@ impl StreamCore {
     }
 
     /// Takes all answers and notices up to `moment`, as `advance` does, unless it took those up to a later one.
-    pub fn advance_to(&mut self, moment: u64) {
+    pub fn advance_to(&mut self, moment: u64)
+        ensures later { self.old.moment ≤ moment → After (advanced moment) self.old self.new }
+        ensures earlier { moment < self.old.moment → self.new ≡ self.old }
+    {
         if self.moment <= moment {
             self.advance(moment);
         }
@@ -367,7 +374,9 @@ impl StreamCore {
         requires some { 0 < length self.old.kept }
         requires arrived { (first_kept self.old).status ≡ Arrived }
         requires within { self.old.begun + count ≤ length (first_kept self.old).bytes }
-        ensures { After (gave count) self.old self.new }
+        ensures gave { After (gave count) self.old self.new }
+        ensures bytes { Ever self.old (λ h. given (gave count h)
+            ≡ given h ++ take count (drop self.old.begun (first_kept self.old).bytes)) }
     {
         let length = first_length(&self.kept);
         if self.begun + count < length {

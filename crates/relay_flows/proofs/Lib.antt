@@ -1,0 +1,4 @@
+pub mod Histories
+pub mod Telling
+pub mod Ways
+pub mod States

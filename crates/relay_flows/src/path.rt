@@ -1,0 +1,254 @@
+// What entered the nest, and what came of it so far.
+ghost use Rattle.std.specs.Prelude.{◌≡◌, ◌≤◌, ◌+◌, ◌<◌, ◌↔◌, length, IfOk, IsTrue};
+
+use crate::entry::Entry;
+use crate::lane::{Lane, is_before};
+use nest_spec::Nest;
+use packet_record::{Direction, Packet, Row, Timed};
+use std::alloc::Global;
+use std::collections::HashMap;
+use std::marker::Model;
+use text_base::{Bytes, OutOfMemory};
+
+// The most rows.
+pub(crate) const MOST_ROWS: usize = 1_000_000;
+
+// How many bytes the headers of a datagram have: 20 of IP, 8 of UDP, 4 of the device.
+const DATAGRAM_HEADERS: usize = 32;
+
+// The rows, what each is, the bytes of the datagrams that may still depart, both directions of the nest, the moment up
+// to which they moved on, the horizon, and how many rows have departed or were lost.
+#[derive(Drop)]
+pub(crate) struct Path {
+    rows: Vec<Row>,
+    entries: Vec<Entry>,
+    datagrams: HashMap<u32, Bytes>,
+    up: Lane,
+    down: Lane,
+    moment: u64,
+    horizon: u64,
+    taken: usize,
+}
+
+// What came of a row.
+#[derive(Clone, Copy)]
+pub(crate) struct Passed {
+    pub direction: Direction,
+    pub packet: Timed,
+    pub entry: Entry,
+}
+
+impl Model for Path {
+    ghost use Rattle.relay_flows.specs.inside.Paths.{PathParts};
+
+    ghost Value = { PathParts };
+
+    ghost use Rattle.relay_flows.specs.views.Path.{path_view};
+    ghost use Rattle.relay_flows.specs.inside.Paths.{IsPath};
+
+    ghost view = { path_view };
+
+    ghost invariant = { λ p. IsPath (path_view p) };
+}
+
+impl Path {
+    // Makes a path that nothing entered.
+    pub fn new(alloc: Global, nest: &Nest) -> Result<Path, OutOfMemory> {
+        let up = Lane::new(alloc, nest, Direction::Up)?;
+        let down = Lane::new(alloc, nest, Direction::Down)?;
+        Ok(Path {
+            rows: Vec::new(alloc),
+            entries: Vec::new(alloc),
+            datagrams: HashMap::new(alloc),
+            up,
+            down,
+            moment: 0,
+            horizon: nest.horizon(),
+            taken: 0,
+        })
+    }
+
+    // Returns the moment up to which it moved on.
+    pub fn moment(&self) -> u64 {
+        self.moment
+    }
+
+    // Returns whether a further row may enter.
+    pub fn has_room(&self) -> bool
+        ensures { IsTrue result ↔ (length self.now.rows < 1000000) }
+    {
+        self.rows.len() < MOST_ROWS
+    }
+
+    // Returns the number of the next row.
+    pub fn next_row(&self) -> u32 {
+        self.rows.len() as u32 + 1
+    }
+
+    // Returns the rows, and what each is.
+    pub fn into_rows(self) -> (Vec<Row>, Vec<Entry>) {
+        let Path { rows, entries, .. } = self;
+        (rows, entries)
+    }
+
+    // Lets the nest move on to the moment that a clock shows, or to the horizon if that is sooner.
+    pub fn advance(self, moment: u64) -> Result<Path, OutOfMemory> {
+        let moment = moment.max(self.moment).min(self.horizon);
+        let Path {
+            rows,
+            entries,
+            datagrams,
+            up,
+            down,
+            horizon,
+            taken,
+            ..
+        } = self;
+        let up = up.advance(moment)?;
+        let down = down.advance(moment)?;
+        Ok(Path {
+            rows,
+            entries,
+            datagrams,
+            up,
+            down,
+            moment,
+            horizon,
+            taken,
+        })
+    }
+
+    // Lets a packet of this size enter.
+    pub fn enter(
+        self,
+        entry: Entry,
+        direction: Direction,
+        size: u16,
+    ) -> Result<Path, OutOfMemory>
+        requires room { length self.rows < 1000000 }
+        requires some { 1 ≤ size }
+        requires most { size ≤ 1504 }
+    {
+        let Path {
+            mut rows,
+            mut entries,
+            datagrams,
+            up,
+            down,
+            moment,
+            horizon,
+            taken,
+        } = self;
+        let packet = Packet {
+            id: rows.len() as u32 + 1,
+            size,
+        };
+        let timed = Timed { moment, packet };
+        rows.push(Row { direction, timed })?;
+        entries.push(entry)?;
+        let (up, down) = match direction {
+            Direction::Up => (up.enter(timed)?, down),
+            Direction::Down => (up, down.enter(timed)?),
+        };
+        Ok(Path {
+            rows,
+            entries,
+            datagrams,
+            up,
+            down,
+            moment,
+            horizon,
+            taken,
+        })
+    }
+
+    // Lets a datagram of 1 to 1,472 bytes enter.
+    pub fn enter_datagram(
+        self,
+        entry: Entry,
+        direction: Direction,
+        bytes: &[u8],
+    ) -> Result<Path, OutOfMemory>
+        requires room { length self.rows < 1000000 }
+        requires some { 1 ≤ length bytes.now }
+        requires most { length bytes.now ≤ 1472 }
+    {
+        let alloc = *self.rows.allocator();
+        let kept = Bytes::from_slice(alloc, bytes)?;
+        let row = self.next_row();
+        let size = (bytes.len() + DATAGRAM_HEADERS) as u16;
+        let mut path = self.enter(entry, direction, size)?;
+        match path.datagrams.insert(row, kept) {
+            Ok(_) => Ok(path),
+            Err(_) => Err(OutOfMemory),
+        }
+    }
+
+    // Returns the bytes of a datagram, which go.
+    pub fn take_bytes(&mut self, row: u32) -> Option<Bytes> {
+        self.datagrams.remove(&row)
+    }
+
+    // Notes that a row has departed or was lost.
+    fn pass(&mut self, direction: Direction, packet: Timed) -> Option<Passed> {
+        self.taken = self.taken.saturating_add(1);
+        let place = (packet.packet.id as usize).checked_sub(1)?;
+        let entry = *self.entries.get(place)?;
+        Some(Passed {
+            direction,
+            packet,
+            entry,
+        })
+    }
+
+    // Returns the next departure, by moments, then rows, and its direction.
+    fn next_departure(&self) -> Option<(Direction, Timed)> {
+        match (self.up.next_departure(), self.down.next_departure()) {
+            (Some(up), Some(down)) if is_before(down, up) => Some((Direction::Down, down)),
+            (Some(up), _) => Some((Direction::Up, up)),
+            (None, Some(down)) => Some((Direction::Down, down)),
+            (None, None) => None,
+        }
+    }
+
+    // Takes the next departure up to the path's moment.
+    pub fn take_departure(&mut self) -> Option<Passed> {
+        let (direction, packet) = self.next_departure()?;
+        if packet.moment > self.moment {
+            return None;
+        }
+        match direction {
+            Direction::Up => self.up.take_departure(),
+            Direction::Down => self.down.take_departure(),
+        }
+        self.pass(direction, packet)
+    }
+
+    // Takes the next loss of a direction, by moments, then rows.
+    pub fn take_loss(&mut self, direction: Direction) -> Option<Passed> {
+        let packet = match direction {
+            Direction::Up => {
+                let (shell, packet) = self.up.next_loss()?;
+                self.up.take_loss(shell);
+                packet
+            }
+            Direction::Down => {
+                let (shell, packet) = self.down.next_loss()?;
+                self.down.take_loss(shell);
+                packet
+            }
+        };
+        self.pass(direction, packet)
+    }
+
+    // Returns the next moment at which the nest may move, if anything is inside.
+    pub fn next_moment(&self) -> Option<u64> {
+        if self.taken >= self.rows.len() {
+            return None;
+        }
+        match self.next_departure() {
+            Some((_, packet)) => Some(packet.moment),
+            None => Some(self.moment.saturating_add(1)),
+        }
+    }
+}

@@ -1,0 +1,105 @@
+// The relay of flows.
+ghost use Rattle.std.specs.Prelude.{◌≤◌, length};
+
+use crate::relay_state::RelayState;
+use crate::{FlowSettings, FlowsEnd, FlowsError, FlowsResult};
+use flow_list::Flow;
+use flow_sockets::Sockets;
+use live_relay::{Clock, RelayRows, run_over};
+use nest_spec::Nest;
+use packet_record::Direction;
+use shell_state::DirSpec;
+use std::alloc::Global;
+use std::sync::Wait;
+use stream_core::Settings;
+use text_base::OutOfMemory;
+
+// The room for a read: one byte more than the longest datagram has, so that a longer one shows.
+const ROOM: usize = 1_473;
+
+// The longest piece of a connection's bytes that is read at once.
+const PIECE: usize = 1_460;
+
+// Returns the delay of a nest: the sum of its delays in a direction, which both have.
+fn delay_of(nest: &Nest) -> Result<u32, OutOfMemory> {
+    let mut delay = 0u32;
+    for spec in nest.directions(Direction::Up)? {
+        if let DirSpec::Delay { ms } = spec {
+            delay = delay.saturating_add(u32::try_from(ms).unwrap_or(u32::MAX));
+        }
+    }
+    Ok(delay)
+}
+
+// Returns what ends the relay in a turn: the clock is past the horizon, the user ended, or a million rows are there.
+fn end_of(is_past: bool, has_ended: bool, has_room: bool) -> Option<FlowsEnd> {
+    if is_past {
+        Some(FlowsEnd::Horizon)
+    } else if has_ended {
+        Some(FlowsEnd::User)
+    } else if has_room {
+        None
+    } else {
+        Some(FlowsEnd::Full)
+    }
+}
+
+// Returns what has passed.
+fn result_of(
+    alloc: Global,
+    nest: Nest,
+    state: RelayState,
+    end: FlowsEnd,
+) -> Result<FlowsResult, FlowsError> {
+    let horizon = state.path.moment();
+    let nest = nest.until(horizon);
+    let counts = state.counts;
+    let RelayState { path, .. } = state;
+    let (rows, entries) = path.into_rows();
+    let run = run_over(alloc, &nest, rows.as_slice())?;
+    Ok(FlowsResult {
+        rows: RelayRows::from_vec(rows),
+        entries,
+        run,
+        refused: counts.refused,
+        connections: counts.accepted,
+        again: counts.again,
+        end,
+        horizon,
+    })
+}
+
+/// Lets 1 to 16 flows pass a nest, until the clock is past its horizon, the user ends, or a million packets entered.
+pub fn relay_flows<K: Wait, C: Clock, S: Sockets>(
+    rt: &K,
+    alloc: Global,
+    nest: Nest,
+    flows: &[Flow],
+    settings: FlowSettings,
+    clock: &mut C,
+    sockets: &mut S,
+) -> Result<FlowsResult, FlowsError>
+    requires { length flows.now ≤ 16 }
+{
+    let horizon = nest.horizon();
+    let settings = Settings {
+        window: settings.window,
+        delay: delay_of(&nest)?,
+        again: settings.again,
+    };
+    let mut state = RelayState::new(alloc, &nest, flows, settings)?;
+    let mut datagram = [0u8; ROOM];
+    let mut piece = [0u8; PIECE];
+    for _ in rt.forever() {
+        let moment = clock.now();
+        state = state.settle(sockets, moment)?;
+        let end = end_of(moment > horizon, clock.has_ended(), state.path.has_room());
+        if let Some(end) = end {
+            state.close(sockets);
+            return result_of(alloc, nest, state, end);
+        }
+        state = state.take(sockets, flows, &mut datagram, &mut piece)?;
+        state.rest(sockets, horizon);
+    }
+    unreachable!()
+}
