@@ -1,7 +1,7 @@
 // One direction of the nest, and what came of its packets so far.
-ghost use Rattle.std.specs.Prelude.{◌≡◌, ◌≤◌, IfOk};
+ghost use Rattle.std.specs.Prelude.{◌≡◌, ◌≤◌, ◌∷◌, [], IfOk};
 ghost use Rattle.packet_record.specs.declared.item.FlowEnd.TheVariants.{Open};
-ghost use Rattle.relay_flows.specs.inside.Lanes.{MayGoOn, GoesOn};
+ghost use Rattle.relay_flows.specs.inside.Lanes.{EnterOne, GoesOn, IsLane};
 
 use live_relay::Line;
 use nest_spec::Nest;
@@ -26,9 +26,10 @@ pub(crate) fn is_before(first: Timed, second: Timed) -> bool {
 impl Lane {
     // Makes a direction of a nest before anything entered.
     pub fn new(alloc: Global, nest: &Nest, direction: Direction) -> Result<Lane, OutOfMemory>
-        ensures { IfOk result (λ lane. MayGoOn nest.now.horizon 0 lane) }
+        ensures { IfOk result (λ lane. IsLane nest.now direction [] 0 lane) }
     {
         let line = Line::new(alloc, nest, direction)?;
+        line.departed(); // fact: a line is settled
         let mut lost = Vec::new(alloc);
         for _ in 0..nest.shells() {
             lost.push(0)?;
@@ -45,7 +46,7 @@ impl Lane {
         requires going { self.line.fed.end ≡ Open }
         requires later { self.line.fed.bound ≤ moment }
         requires within { moment ≤ self.line.horizon }
-        ensures { IfOk result (GoesOn moment self) }
+        ensures { IfOk result (GoesOn moment [] self) }
     {
         let Lane {
             line,
@@ -53,6 +54,7 @@ impl Lane {
             lost,
         } = self;
         let line = line.feed(Item::Mark(moment))?;
+        line.departed(); // fact: a line is settled
         Ok(Lane {
             line,
             departed,
@@ -65,7 +67,7 @@ impl Lane {
         requires going { self.line.fed.end ≡ Open }
         requires later { self.line.fed.bound ≤ packet.moment }
         requires within { packet.moment ≤ self.line.horizon }
-        ensures { IfOk result (GoesOn packet.moment self) }
+        ensures { IfOk result (GoesOn packet.moment (packet ∷ []) self) }
     {
         let Lane {
             line,
@@ -73,6 +75,7 @@ impl Lane {
             lost,
         } = self;
         let line = line.feed(Item::Packet(packet))?;
+        line.departed(); // fact: a line is settled
         Ok(Lane {
             line,
             departed,
@@ -113,6 +116,24 @@ impl Lane {
         if let Some(taken) = self.lost.get_mut(shell) {
             *taken = taken.saturating_add(1);
         }
+    }
+}
+
+// Lets a packet enter one of two directions.
+pub(crate) fn enter_one(
+    direction: Direction,
+    up: Lane,
+    down: Lane,
+    packet: Timed,
+) -> Result<(Lane, Lane), OutOfMemory>
+    requires going { (up.line.fed.end ≡ Open) × (down.line.fed.end ≡ Open) }
+    requires later { (up.line.fed.bound ≤ packet.moment) × (down.line.fed.bound ≤ packet.moment) }
+    requires within { (packet.moment ≤ up.line.horizon) × (packet.moment ≤ down.line.horizon) }
+    ensures { IfOk result (λ r. EnterOne direction packet up down r.0 r.1) }
+{
+    match direction {
+        Direction::Up => Ok((up.enter(packet)?, down)),
+        Direction::Down => Ok((up, down.enter(packet)?)),
     }
 }
 

@@ -1,8 +1,9 @@
 // What entered the nest, and what came of it so far.
 ghost use Rattle.std.specs.Prelude.{◌≡◌, ◌≤◌, ◌+◌, ◌<◌, ◌↔◌, length, IfOk, IsTrue};
+ghost use Rattle.relay_flows.specs.inside.Paths.{Enters, IsFresh, IsPath, MovesTo};
 
 use crate::entry::Entry;
-use crate::lane::{Lane, is_before};
+use crate::lane::{Lane, enter_one, is_before};
 use nest_spec::Nest;
 use packet_record::{Direction, Packet, Row, Timed};
 use std::alloc::Global;
@@ -16,17 +17,17 @@ pub(crate) const MOST_ROWS: usize = 1_000_000;
 // How many bytes the headers of a datagram have: 20 of IP, 8 of UDP, 4 of the device.
 const DATAGRAM_HEADERS: usize = 32;
 
-// The rows, what each is, the bytes of the datagrams that may still depart, both directions of the nest, the moment up
-// to which they moved on, the horizon, and how many rows have departed or were lost.
+// The nest, the rows, what each is, the bytes of the datagrams that may still depart, both directions, the moment up to
+// which they moved on, and how many rows have departed or were lost.
 #[derive(Drop)]
 pub(crate) struct Path {
+    nest: Nest,
     rows: Vec<Row>,
     entries: Vec<Entry>,
     datagrams: HashMap<u32, Bytes>,
     up: Lane,
     down: Lane,
     moment: u64,
-    horizon: u64,
     taken: usize,
 }
 
@@ -53,24 +54,35 @@ impl Model for Path {
 
 impl Path {
     // Makes a path that nothing entered.
-    pub fn new(alloc: Global, nest: &Nest) -> Result<Path, OutOfMemory> {
-        let up = Lane::new(alloc, nest, Direction::Up)?;
-        let down = Lane::new(alloc, nest, Direction::Down)?;
+    pub fn new(alloc: Global, nest: Nest) -> Result<Path, OutOfMemory>
+        ensures { IfOk result (IsFresh nest) }
+    {
+        let up = Lane::new(alloc, &nest, Direction::Up)?;
+        let down = Lane::new(alloc, &nest, Direction::Down)?;
         Ok(Path {
+            nest,
             rows: Vec::new(alloc),
             entries: Vec::new(alloc),
             datagrams: HashMap::new(alloc),
             up,
             down,
             moment: 0,
-            horizon: nest.horizon(),
             taken: 0,
         })
     }
 
     // Returns the moment up to which it moved on.
-    pub fn moment(&self) -> u64 {
+    pub fn moment(&self) -> u64
+        ensures { result ≡ self.now.moment }
+    {
         self.moment
+    }
+
+    // Returns the nest's horizon.
+    pub fn horizon(&self) -> u64
+        ensures { result ≡ self.now.nest.horizon }
+    {
+        self.nest.horizon()
     }
 
     // Returns whether a further row may enter.
@@ -81,39 +93,53 @@ impl Path {
     }
 
     // Returns the number of the next row.
-    pub fn next_row(&self) -> u32 {
+    pub fn next_row(&self) -> u32
+        ensures { result ≡ length self.now.rows + 1 }
+    {
         self.rows.len() as u32 + 1
     }
 
-    // Returns the rows, and what each is.
-    pub fn into_rows(self) -> (Vec<Row>, Vec<Entry>) {
-        let Path { rows, entries, .. } = self;
-        (rows, entries)
+    // Returns the nest, the rows, and what each is.
+    pub fn into_parts(self) -> (Nest, Vec<Row>, Vec<Entry>)
+        ensures path { IsPath self }
+        ensures nest { result.0 ≡ self.nest }
+        ensures rows { result.1.items ≡ self.rows }
+        ensures entries { result.2.items ≡ self.entries }
+    {
+        let Path {
+            nest,
+            rows,
+            entries,
+            ..
+        } = self;
+        (nest, rows, entries)
     }
 
     // Lets the nest move on to the moment that a clock shows, or to the horizon if that is sooner.
-    pub fn advance(self, moment: u64) -> Result<Path, OutOfMemory> {
-        let moment = moment.max(self.moment).min(self.horizon);
+    pub fn advance(self, moment: u64) -> Result<Path, OutOfMemory>
+        ensures { IfOk result (MovesTo moment self) }
+    {
+        let moment = moment.max(self.moment).min(self.horizon());
         let Path {
+            nest,
             rows,
             entries,
             datagrams,
             up,
             down,
-            horizon,
             taken,
             ..
         } = self;
         let up = up.advance(moment)?;
         let down = down.advance(moment)?;
         Ok(Path {
+            nest,
             rows,
             entries,
             datagrams,
             up,
             down,
             moment,
-            horizon,
             taken,
         })
     }
@@ -128,15 +154,16 @@ impl Path {
         requires room { length self.rows < 1000000 }
         requires some { 1 ≤ size }
         requires most { size ≤ 1504 }
+        ensures { IfOk result (Enters entry direction size self) }
     {
         let Path {
+            nest,
             mut rows,
             mut entries,
             datagrams,
             up,
             down,
             moment,
-            horizon,
             taken,
         } = self;
         let packet = Packet {
@@ -146,18 +173,15 @@ impl Path {
         let timed = Timed { moment, packet };
         rows.push(Row { direction, timed })?;
         entries.push(entry)?;
-        let (up, down) = match direction {
-            Direction::Up => (up.enter(timed)?, down),
-            Direction::Down => (up, down.enter(timed)?),
-        };
+        let (up, down) = enter_one(direction, up, down, timed)?;
         Ok(Path {
+            nest,
             rows,
             entries,
             datagrams,
             up,
             down,
             moment,
-            horizon,
             taken,
         })
     }
@@ -172,6 +196,7 @@ impl Path {
         requires room { length self.rows < 1000000 }
         requires some { 1 ≤ length bytes.now }
         requires most { length bytes.now ≤ 1472 }
+        ensures { IfOk result (Enters entry direction (length bytes.now + 32) self) }
     {
         let alloc = *self.rows.allocator();
         let kept = Bytes::from_slice(alloc, bytes)?;

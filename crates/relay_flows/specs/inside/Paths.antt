@@ -1,21 +1,86 @@
--- What entered a nest, as a relay keeps it.
-use Rattle.std.specs.Prelude.{ℕ, ◌≡◌, ◌≤◌, List, length}
+-- What entered a nest, as a relay keeps it, and what departs.
+use Rattle.std.specs.Prelude.{ℕ, ◌≡◌, ◌≤◌, ◌<◌, ◌+◌, ◌++◌, List, [], ◌∷◌, length, take, drop}
+use Rattle.packet_record.specs.declared.packet.Direction.{Direction}
+use Rattle.packet_record.specs.declared.packet.Direction.TheVariants.{Up, Down}
 use Rattle.packet_record.specs.declared.packet.Row.{Row}
+use Rattle.packet_record.specs.declared.packet.Timed.{Timed}
+use Rattle.packet_record.specs.Orders.{AreInOrder, AreWithin}
+use Rattle.packet_record.specs.Rows.{entering}
+use Rattle.nest_spec.specs.Nests.{NestParts, walk_of}
+use Rattle.nest_spec.specs.Walk.{last_list}
+use Rattle.live_relay.specs.Lines.{up_to}
 use Rattle.relay_flows.specs.declared.entry.Entry.{Entry}
 use Rattle.relay_flows.specs.declared.lane.Lane.{Lane}
-use Rattle.relay_flows.specs.inside.Lanes.{MayGoOn}
+use Rattle.relay_flows.specs.inside.Lanes.{IsLane}
 
 pub record PathParts : Type 0 where
+  pub nest : NestParts
   pub rows : List Row
   pub entries : List Entry
   pub up : Lane
   pub down : Lane
   pub moment : ℕ
-  pub horizon : ℕ
 
--- both directions were fed up to the moment, which isn't above the horizon
+-- The rows are those of a schedule up to the moment, which isn't above the nest's horizon, and both directions were fed
+-- just these, up to the moment.
 pub record IsPath (p : PathParts) : Type 0 where
   pub few : length p.rows ≤ 1000000
-  pub within : p.moment ≤ p.horizon
-  pub up : MayGoOn p.horizon p.moment p.up
-  pub down : MayGoOn p.horizon p.moment p.down
+  pub entries_are : length p.entries ≡ length p.rows
+  pub order : AreInOrder 1 0 p.rows
+  pub within : AreWithin p.moment p.rows
+  pub before : p.moment ≤ p.nest.horizon
+  pub up_is : IsLane p.nest Up p.rows p.moment p.up
+  pub down_is : IsLane p.nest Down p.rows p.moment p.down
+
+-- a path that nothing entered
+pub record IsFresh (nest : NestParts) (p : PathParts) : Type 0 where
+  pub nest_is : p.nest ≡ nest
+  pub none : p.rows ≡ []
+  pub first : p.moment ≡ 0
+
+-- the departures of a nest in a direction up to a moment, in order, over these rows
+abbrev pub departures : NestParts → List Row → Direction → ℕ → List Timed
+departures nest rows d m = up_to m (last_list (entering d nest.horizon rows) (walk_of d nest rows))
+
+abbrev pub lane_of : Direction → PathParts → Lane
+lane_of Up p = p.up
+lane_of Down p = p.down
+
+-- the departures in a direction up to the path's moment
+abbrev pub departed_in : Direction → PathParts → List Timed
+departed_in d p = departures p.nest p.rows d p.moment
+
+-- those that were taken, and those that weren't
+abbrev pub taken_in : Direction → PathParts → List Timed
+taken_in d p = take (lane_of d p).departed (departed_in d p)
+
+abbrev pub waiting_in : Direction → PathParts → List Timed
+waiting_in d p = drop (lane_of d p).departed (departed_in d p)
+
+-- of both directions the same departures were taken
+pub record TakesNone (old new : PathParts) : Type 0 where
+  pub nest_is : new.nest ≡ old.nest
+  pub up_taken : taken_in Up new ≡ taken_in Up old
+  pub down_taken : taken_in Down new ≡ taken_in Down old
+
+-- A path moved on to this moment, or to the horizon if that is sooner, and never back.
+pub record MovesTo (moment : ℕ) (old new : PathParts) : Type 0 where
+  pub keeps : TakesNone old new
+  pub rows_are : new.rows ≡ old.rows
+  pub entries_are : new.entries ≡ old.entries
+  pub later : old.moment ≤ new.moment
+  pub reached : moment ≤ old.nest.horizon → moment ≤ new.moment
+  pub over : old.nest.horizon ≤ moment → new.moment ≡ old.nest.horizon
+  pub no_further : old.moment ≤ moment → new.moment ≤ moment
+
+-- One more row entered, at the path's moment, in this direction and with this size.
+pub record Enters (entry : Entry) (d : Direction) (size : ℕ) (old new : PathParts) : Type 0 where
+  pub keeps : TakesNone old new
+  pub row : Row
+  pub rows_are : new.rows ≡ old.rows ++ row ∷ []
+  pub entries_are : new.entries ≡ old.entries ++ entry ∷ []
+  pub moment_is : new.moment ≡ old.moment
+  pub goes : row.direction ≡ d
+  pub at : row.timed.moment ≡ old.moment
+  pub number : row.timed.packet.id ≡ length old.rows + 1
+  pub size_is : row.timed.packet.size ≡ size

@@ -1,0 +1,3 @@
+pub mod RowsSoFar
+pub mod LaneLemmas
+pub mod PathLemmas
