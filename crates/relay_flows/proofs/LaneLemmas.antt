@@ -1,23 +1,20 @@
 -- What a direction that is fed further is, and which of its departures were taken.
 use Rattle.std.proofs.Common.{◌≡◌, ℕ, ◌≤◌, ◌<◌, ◌+◌, ◌-◌, ◌&&◌, Bool, true, false, cond, List, [], ◌∷◌, ◌++◌}
 use Rattle.std.proofs.Common.{length, map, take, drop, nat_le, ap, sym, subst, ◌∙◌, refl, append_assoc, arith, rules, tests}
-use Rattle.std.proofs.lemmas.List.{append-nil, length-append}
+use Rattle.std.proofs.lemmas.List.{append-nil, length-append, take-append-le}
 use Rattle.packet_record.specs.declared.packet.Direction.{Direction}
 use Rattle.packet_record.specs.declared.packet.Direction.TheVariants.{Up, Down}
-use Rattle.packet_record.specs.declared.packet.Packet.{Packet}
 use Rattle.packet_record.specs.declared.packet.Row.{Row}
 use Rattle.packet_record.specs.declared.packet.Timed.{Timed}
 use Rattle.packet_record.specs.Moments.{Rise}
-use Rattle.packet_record.specs.Packets.{number}
 use Rattle.packet_record.specs.Rows.{entering, goes}
-use Rattle.packet_record.specs.Streams.{Stream, no_items}
 use Rattle.packet_record.proofs.RowsLemmas.{entering-append}
 use Rattle.shell_state.specs.declared.spec.DirSpec.{DirSpec}
 use Rattle.shell_state.specs.Shells.{whole_out}
 use Rattle.nest_spec.specs.declared.shell.ShellDirection.{ShellDirection}
 use Rattle.nest_spec.specs.Nests.{NestParts, directions_of, shells_in}
 use Rattle.nest_spec.specs.Walk.{last_list, walk}
-use Rattle.live_relay.specs.Lines.{IsFront, IsSettled, LineParts, last_out, out_of, up_to}
+use Rattle.live_relay.specs.Lines.{IsFront, last_out, up_to}
 use Rattle.live_relay.proofs.Settling.{up_to-append}
 use Rattle.live_relay.proofs.UpTo.{up_to_front}
 use Rattle.relay_flows.specs.declared.lane.Lane.{Lane}
@@ -126,9 +123,6 @@ departed_is nest d rows m lane is le =
     ∙ ap (last_out nest.horizon (directions_of d nest)) is.packets))
     ∙ sym (is.settled.settled m (omega arith) (omega arith))
 
-take_front : {A : Type 0} (n : ℕ) (xs ys : List A) → n ≤ length xs → take n (xs ++ ys) ≡ take n xs
-take_front n xs ys le = search rules
-
 -- what was taken is the same where a direction is fed further
 pub taken_same : (nest : NestParts) (d : Direction) (rows rows' : List Row) (m n : ℕ) (old new : Lane)
     → IsLane nest d rows m old → IsLane nest d rows' n new → m ≤ n → n ≤ nest.horizon
@@ -138,23 +132,5 @@ taken_same nest d rows rows' m n old new was is le within front same =
     let on = goes_on m n old.line.departed new.line.departed was.settled.rises le front in
     ap (λ k. take k (departures nest rows' d n)) same
     ∙ ap (take old.departed) (departed_is nest d rows' n new is within ∙ on.is)
-    ∙ take_front old.departed (up_to m old.line.departed) on.more was.taken
+    ∙ take-append-le old.departed (up_to m old.line.departed) on.more was.taken
     ∙ ap (take old.departed) (sym (departed_is nest d rows m old was (omega arith)))
-
-none_there : (ts : List Timed) → number (λ p. true) ts ≡ 0 → ts ≡ []
-none_there [] none = refl
-none_there (t ∷ ts) none = absurd (omega arith)
-
--- one that was fed nothing
-pub lane_begins : (nest : NestParts) (d : Direction) (lane : Lane) → lane.line.specs ≡ directions_of d nest
-    → lane.line.horizon ≡ nest.horizon → lane.line.fed ≡ no_items → IsSettled lane.line → lane.departed ≡ 0
-    → IsLane nest d [] 0 lane
-lane_begins nest d lane specs horizon fed settled none = record {
-  specs = specs;
-  horizon = horizon;
-  packets = ap (λ (f : Stream). f.packets) fed;
-  bound = ap (λ (f : Stream). f.bound) fed;
-  going = ap (λ (f : Stream). f.end) fed;
-  settled = settled;
-  taken = omega arith;
-}

@@ -1,3 +1,4 @@
 pub mod RowsSoFar
 pub mod LaneLemmas
 pub mod PathLemmas
+pub mod TakeLemmas

@@ -1,5 +1,5 @@
 -- What a path that moved on, or that a row entered, is.
-use Rattle.std.proofs.Common.{◌≡◌, ℕ, ◌≤◌, ◌<◌, ◌+◌, List, [], ◌∷◌, ◌++◌, length, ap, sym, subst, refl, arith}
+use Rattle.std.proofs.Common.{◌≡◌, ℕ, ◌≤◌, ◌<◌, ◌+◌, List, [], ◌∷◌, ◌++◌, length, ap, sym, subst, refl, arith, ◌∙◌}
 use Rattle.std.proofs.lemmas.List.{append-nil, length-append}
 use Rattle.packet_record.specs.declared.packet.Direction.{Direction}
 use Rattle.packet_record.specs.declared.packet.Direction.TheVariants.{Up, Down}
@@ -10,7 +10,7 @@ use Rattle.live_relay.specs.Lines.{IsFront}
 use Rattle.relay_flows.specs.declared.entry.Entry.{Entry}
 use Rattle.relay_flows.specs.declared.lane.Lane.{Lane}
 use Rattle.relay_flows.specs.inside.Lanes.{EnterOne, GoesOn, IsLane}
-use Rattle.relay_flows.specs.inside.Paths.{IsPath, PathParts, TakesNone}
+use Rattle.relay_flows.specs.inside.Paths.{Enters, IsPath, PathParts, TakesNone}
 use Rattle.relay_flows.proofs.LaneLemmas.{lane_enters, lane_moves, lane_stays, taken_same}
 use Rattle.relay_flows.proofs.RowsSoFar.{order_snoc, within_later, within_snoc}
 
@@ -122,3 +122,46 @@ enters_none p entry r up down is at one =
       down_taken = taken_same p.nest Down p.rows rows p.moment p.moment p.down down is.down_is both.down_is
           (omega arith) is.before both.down_front both.down_taken;
     }
+
+-- the same, where the lists are those after two pushes
+abbrev pub pushed : PathParts → List Row → List Entry → Lane → Lane → PathParts
+pushed p rows entries up down = record {
+  nest = p.nest;
+  rows = rows;
+  entries = entries;
+  up = up;
+  down = down;
+  moment = p.moment;
+}
+
+pushed_is : (p : PathParts) (entry : Entry) (r : Row) (up down : Lane) (rows : List Row) (entries : List Entry)
+    → rows ≡ p.rows ++ r ∷ [] → entries ≡ p.entries ++ entry ∷ []
+    → grown p entry r up down ≡ pushed p rows entries up down
+pushed_is p entry r up down rows entries e f =
+    ap (λ (l : List Row). pushed p l (p.entries ++ entry ∷ []) up down) (sym e)
+    ∙ ap (λ (l : List Entry). pushed p rows l up down) (sym f)
+
+pub pushed_path : (p : PathParts) (entry : Entry) (r : Row) (up down : Lane) (rows : List Row) (entries : List Entry)
+    → rows ≡ p.rows ++ r ∷ [] → entries ≡ p.entries ++ entry ∷ [] → IsPath p → length p.rows < 1000000
+    → r.timed.moment ≡ p.moment → r.timed.packet.id ≡ length p.rows + 1
+    → EnterOne r.direction r.timed p.up p.down up down → IsPath (pushed p rows entries up down)
+pushed_path p entry r up down rows entries e f is room at number one =
+    subst IsPath (pushed_is p entry r up down rows entries e f) (path_enters p entry r up down is room at number one)
+
+pub pushed_enters : (p : PathParts) (entry : Entry) (r : Row) (d : Direction) (size : ℕ) (up down : Lane)
+    (rows : List Row) (entries : List Entry)
+    → rows ≡ p.rows ++ r ∷ [] → entries ≡ p.entries ++ entry ∷ [] → IsPath p → r.direction ≡ d
+    → r.timed.moment ≡ p.moment → r.timed.packet.id ≡ length p.rows + 1 → r.timed.packet.size ≡ size
+    → EnterOne r.direction r.timed p.up p.down up down → Enters entry d size p (pushed p rows entries up down)
+pushed_enters p entry r d size up down rows entries e f is way at number size_is one = record {
+  keeps = subst (TakesNone p) (pushed_is p entry r up down rows entries e f)
+      (enters_none p entry r up down is at one);
+  row = r;
+  rows_are = e;
+  entries_are = f;
+  moment_is = refl;
+  goes = way;
+  at = at;
+  number = number;
+  size_is = size_is;
+}

@@ -1,7 +1,7 @@
 // One direction of the nest, and what came of its packets so far.
-ghost use Rattle.std.specs.Prelude.{◌≡◌, ◌≤◌, ◌∷◌, [], IfOk};
+ghost use Rattle.std.specs.Prelude.{◌≡◌, ◌≤◌, ◌<◌, ◌+◌, ◌↔◌, ◌∷◌, [], IfOk, IsTrue, length};
 ghost use Rattle.packet_record.specs.declared.item.FlowEnd.TheVariants.{Open};
-ghost use Rattle.relay_flows.specs.inside.Lanes.{EnterOne, GoesOn, IsLane};
+ghost use Rattle.relay_flows.specs.inside.Lanes.{EnterOne, GoesOn, IsLane, Precedes, first_departure};
 
 use live_relay::Line;
 use nest_spec::Nest;
@@ -18,7 +18,9 @@ pub(crate) struct Lane {
 }
 
 // Returns whether the first packet comes before the second: by their moments, then by their rows.
-pub(crate) fn is_before(first: Timed, second: Timed) -> bool {
+pub(crate) fn is_before(first: Timed, second: Timed) -> bool
+    ensures { IsTrue result ↔ Precedes first second }
+{
     first.moment < second.moment
         || first.moment == second.moment && first.packet.id < second.packet.id
 }
@@ -84,18 +86,20 @@ impl Lane {
     }
 
     // Returns the first departure that wasn't taken.
-    pub fn next_departure(&self) -> Option<Timed> {
-        match self.line.departed().get(self.departed) {
-            Some(packet) => Some(*packet),
-            None => None,
-        }
+    pub fn next_departure(&self) -> Option<Timed>
+        ensures { result ≡ first_departure self.now }
+    {
+        self.line.departed().get(self.departed).copied()
     }
 
-    // Takes the first departure.
+    // Takes the first departure, if there is one.
     pub fn take_departure(&mut self)
-        ensures { self.new.line ≡ self.old.line }
+        ensures line { self.new.line ≡ self.old.line }
+        ensures taken { self.old.departed < length self.old.line.departed → self.new.departed ≡ self.old.departed + 1 }
     {
-        self.departed = self.departed.saturating_add(1);
+        if self.departed < self.line.departed().len() {
+            self.departed += 1;
+        }
     }
 
     // Returns the first loss that wasn't taken, by moments, then rows, and its shell.
@@ -111,7 +115,8 @@ impl Lane {
 
     // Takes the first loss of a shell.
     pub fn take_loss(&mut self, shell: usize)
-        ensures { self.new.line ≡ self.old.line }
+        ensures line { self.new.line ≡ self.old.line }
+        ensures taken { self.new.departed ≡ self.old.departed }
     {
         if let Some(taken) = self.lost.get_mut(shell) {
             *taken = taken.saturating_add(1);

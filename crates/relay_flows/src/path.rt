@@ -1,6 +1,11 @@
 // What entered the nest, and what came of it so far.
-ghost use Rattle.std.specs.Prelude.{◌≡◌, ◌≤◌, ◌+◌, ◌<◌, ◌↔◌, length, IfOk, IsTrue};
-ghost use Rattle.relay_flows.specs.inside.Paths.{Enters, IsFresh, IsPath, MovesTo};
+ghost use Rattle.std.specs.Prelude.{◌≡◌, ◌≤◌, ◌+◌, ◌-◌, ◌<◌, ◌↔◌, length, None, Some, IfNone, IfOk, IfSome, IsTrue};
+ghost use Rattle.std.specs.List.{slice_get};
+ghost use Rattle.packet_record.specs.declared.packet.Direction.TheVariants.{Up, Down};
+ghost use Rattle.live_relay.specs.Lines.{up_to};
+ghost use Rattle.relay_flows.specs.inside.Lanes.{ComesFirst};
+ghost use Rattle.relay_flows.specs.inside.Paths.{AllTaken, Enters, IsFresh, IsPath, IsSameButTaken, IsTaken, MovesTo};
+ghost use Rattle.relay_flows.specs.inside.Paths.{TakesDeparture, first_in, lane_of, opposite};
 
 use crate::entry::Entry;
 use crate::lane::{Lane, enter_one, is_before};
@@ -119,7 +124,7 @@ impl Path {
     pub fn advance(self, moment: u64) -> Result<Path, OutOfMemory>
         ensures { IfOk result (MovesTo moment self) }
     {
-        let moment = moment.max(self.moment).min(self.horizon());
+        let moment = moment.max(self.moment).min(self.nest.horizon());
         let Path {
             nest,
             rows,
@@ -214,20 +219,20 @@ impl Path {
         self.datagrams.remove(&row)
     }
 
-    // Notes that a row has departed or was lost.
-    fn pass(&mut self, direction: Direction, packet: Timed) -> Option<Passed> {
-        self.taken = self.taken.saturating_add(1);
-        let place = (packet.packet.id as usize).checked_sub(1)?;
-        let entry = *self.entries.get(place)?;
-        Some(Passed {
-            direction,
-            packet,
-            entry,
-        })
+    // Returns what the row of a packet is.
+    fn entry_of(&self, packet: Timed) -> Entry
+        requires { packet.packet.id - 1 < length self.now.entries }
+        ensures { slice_get self.now.entries (packet.packet.id - 1) ≡ Some result }
+    {
+        self.entries[(packet.packet.id as usize).saturating_sub(1)]
     }
 
     // Returns the next departure, by moments, then rows, and its direction.
-    fn next_departure(&self) -> Option<(Direction, Timed)> {
+    fn next_departure(&self) -> Option<(Direction, Timed)>
+        ensures some { IfSome result (λ r. first_in r.0 self.now ≡ Some r.1) }
+        ensures first { IfSome result (λ r. ComesFirst r.1 (first_in (opposite r.0) self.now)) }
+        ensures none { IfNone result ((first_in Up self.now ≡ None) × (first_in Down self.now ≡ None)) }
+    {
         match (self.up.next_departure(), self.down.next_departure()) {
             (Some(up), Some(down)) if is_before(down, up) => Some((Direction::Down, down)),
             (Some(up), _) => Some((Direction::Up, up)),
@@ -236,34 +241,70 @@ impl Path {
         }
     }
 
-    // Takes the next departure up to the path's moment.
-    pub fn take_departure(&mut self) -> Option<Passed> {
-        let (direction, packet) = self.next_departure()?;
-        if packet.moment > self.moment {
-            return None;
-        }
+    // Takes the first departure of a direction, which is up to the path's moment.
+    fn take_first(&mut self, direction: Direction)
+        requires { (lane_of direction self.old).departed
+            < length (up_to self.old.moment (lane_of direction self.old).line.departed) }
+        ensures { IsTaken direction self.old self.new }
+    {
+        self.taken = self.taken.saturating_add(1);
         match direction {
             Direction::Up => self.up.take_departure(),
             Direction::Down => self.down.take_departure(),
         }
-        self.pass(direction, packet)
+    }
+
+    // Takes the next departure up to the path's moment: of both directions the first by its moment, then by its row.
+    // None means that all were taken.
+    pub fn take_departure(&mut self) -> Option<Passed>
+        ensures same { IsSameButTaken self.old self.new }
+        ensures some { IfSome result (TakesDeparture self.old self.new) }
+        ensures none { IfNone result (AllTaken self.old × (self.new ≡ self.old)) }
+    {
+        let (direction, packet) = self.next_departure()?;
+        if packet.moment > self.moment {
+            return None;
+        }
+        let entry = self.entry_of(packet);
+        self.take_first(direction);
+        Some(Passed {
+            direction,
+            packet,
+            entry,
+        })
     }
 
     // Takes the next loss of a direction, by moments, then rows.
-    pub fn take_loss(&mut self, direction: Direction) -> Option<Passed> {
-        let packet = match direction {
-            Direction::Up => {
-                let (shell, packet) = self.up.next_loss()?;
-                self.up.take_loss(shell);
-                packet
-            }
-            Direction::Down => {
-                let (shell, packet) = self.down.next_loss()?;
-                self.down.take_loss(shell);
-                packet
-            }
-        };
-        self.pass(direction, packet)
+    pub fn take_loss(&mut self, direction: Direction) -> Option<Passed>
+        ensures same { IsSameButTaken self.old self.new }
+    {
+        let (shell, packet) = self.next_loss(direction)?;
+        let entry = self.entry_of(packet);
+        self.lose(direction, shell);
+        Some(Passed {
+            direction,
+            packet,
+            entry,
+        })
+    }
+
+    // Returns the next loss of a direction, and its shell.
+    fn next_loss(&self, direction: Direction) -> Option<(usize, Timed)> {
+        match direction {
+            Direction::Up => self.up.next_loss(),
+            Direction::Down => self.down.next_loss(),
+        }
+    }
+
+    // Takes the first loss of a shell in a direction.
+    fn lose(&mut self, direction: Direction, shell: usize)
+        ensures { IsSameButTaken self.old self.new }
+    {
+        self.taken = self.taken.saturating_add(1);
+        match direction {
+            Direction::Up => self.up.take_loss(shell),
+            Direction::Down => self.down.take_loss(shell),
+        }
     }
 
     // Returns the next moment at which the nest may move, if anything is inside.

@@ -1,5 +1,6 @@
 -- Directions of a nest as a relay lets packets pass them.
-use Rattle.std.specs.Prelude.{ℕ, ◌≡◌, ◌≤◌, ◌++◌, List, [], ◌∷◌, length}
+use Rattle.std.specs.Prelude.{ℕ, ◌≡◌, ◌≤◌, ◌<◌, ◌⊎◌, ◌++◌, List, [], ◌∷◌, Option, Some, None, length}
+use Rattle.std.specs.List.{slice_get}
 use Rattle.packet_record.specs.declared.item.FlowEnd.TheVariants.{Open}
 use Rattle.packet_record.specs.declared.packet.Direction.{Direction}
 use Rattle.packet_record.specs.declared.packet.Direction.TheVariants.{Up, Down}
@@ -36,3 +37,16 @@ pub record GoesOn (moment : ℕ) (more : List Timed) (old new : Lane) : Type 0 w
 abbrev pub EnterOne : Direction → Timed → Lane → Lane → Lane → Lane → Type 0
 EnterOne Up t up down up' down' = GoesOn t.moment (t ∷ []) up up' × (down' ≡ down)
 EnterOne Down t up down up' down' = (up' ≡ up) × GoesOn t.moment (t ∷ []) down down'
+
+-- the first packet comes before the second: by their moments, then by their rows
+abbrev pub Precedes : Timed → Timed → Type 0
+Precedes t u = (t.moment < u.moment) ⊎ ((t.moment ≡ u.moment) × (t.packet.id < u.packet.id))
+
+-- none comes before this packet
+abbrev pub ComesFirst : Timed → Option Timed → Type 0
+ComesFirst t None = Unit {0}
+ComesFirst t (Some u) = Precedes u t → ⊥
+
+-- the first departure that wasn't taken
+abbrev pub first_departure : Lane → Option Timed
+first_departure lane = slice_get lane.line.departed lane.departed

@@ -1,5 +1,6 @@
 -- What entered a nest, as a relay keeps it, and what departs.
-use Rattle.std.specs.Prelude.{ℕ, ◌≡◌, ◌≤◌, ◌<◌, ◌+◌, ◌++◌, List, [], ◌∷◌, length, take, drop}
+use Rattle.std.specs.Prelude.{ℕ, ◌≡◌, ◌≤◌, ◌<◌, ◌+◌, ◌-◌, ◌++◌, List, [], ◌∷◌, Option, Some, length, take, drop}
+use Rattle.std.specs.List.{slice_get}
 use Rattle.packet_record.specs.declared.packet.Direction.{Direction}
 use Rattle.packet_record.specs.declared.packet.Direction.TheVariants.{Up, Down}
 use Rattle.packet_record.specs.declared.packet.Row.{Row}
@@ -11,7 +12,8 @@ use Rattle.nest_spec.specs.Walk.{last_list}
 use Rattle.live_relay.specs.Lines.{up_to}
 use Rattle.relay_flows.specs.declared.entry.Entry.{Entry}
 use Rattle.relay_flows.specs.declared.lane.Lane.{Lane}
-use Rattle.relay_flows.specs.inside.Lanes.{IsLane}
+use Rattle.relay_flows.specs.declared.path.Passed.{Passed}
+use Rattle.relay_flows.specs.inside.Lanes.{ComesFirst, IsLane, first_departure}
 
 pub record PathParts : Type 0 where
   pub nest : NestParts
@@ -84,3 +86,39 @@ pub record Enters (entry : Entry) (d : Direction) (size : ℕ) (old new : PathPa
   pub at : row.timed.moment ≡ old.moment
   pub number : row.timed.packet.id ≡ length old.rows + 1
   pub size_is : row.timed.packet.size ≡ size
+
+abbrev pub opposite : Direction → Direction
+opposite Up = Down
+opposite Down = Up
+
+abbrev pub first_in : Direction → PathParts → Option Timed
+first_in d p = first_departure (lane_of d p)
+
+-- nothing but what was taken is changed
+pub record IsSameButTaken (old new : PathParts) : Type 0 where
+  pub nest_is : new.nest ≡ old.nest
+  pub rows_are : new.rows ≡ old.rows
+  pub entries_are : new.entries ≡ old.entries
+  pub moment_is : new.moment ≡ old.moment
+  pub up_is : new.up.line ≡ old.up.line
+  pub down_is : new.down.line ≡ old.down.line
+
+-- one more departure of this direction was taken, and none of the other
+pub record IsTaken (d : Direction) (old new : PathParts) : Type 0 where
+  pub same : IsSameButTaken old new
+  pub here : (lane_of d new).departed ≡ (lane_of d old).departed + 1
+  pub there : lane_of (opposite d) new ≡ lane_of (opposite d) old
+
+-- The first of the departures that weren't taken was: no first of the other direction comes before it. It is given with
+-- what its row is.
+pub record TakesDeparture (old new : PathParts) (p : Passed) : Type 0 where
+  pub waited : waiting_in p.direction old ≡ p.packet ∷ waiting_in p.direction new
+  pub taken : taken_in p.direction new ≡ taken_in p.direction old ++ p.packet ∷ []
+  pub there : waiting_in (opposite p.direction) new ≡ waiting_in (opposite p.direction) old
+  pub first : ComesFirst p.packet (slice_get (waiting_in (opposite p.direction) old) 0)
+  pub entry_is : slice_get old.entries (p.packet.packet.id - 1) ≡ Some p.entry
+
+-- all departures up to the moment were taken
+pub record AllTaken (p : PathParts) : Type 0 where
+  pub up_none : waiting_in Up p ≡ []
+  pub down_none : waiting_in Down p ≡ []
