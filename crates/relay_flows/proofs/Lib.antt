@@ -2,3 +2,4 @@ pub mod RowsSoFar
 pub mod LaneLemmas
 pub mod PathLemmas
 pub mod TakeLemmas
+pub mod TakingLemmas

@@ -1,3 +1,4 @@
 pub mod Streams
+pub mod Passed
 pub mod inside
 pub mod views

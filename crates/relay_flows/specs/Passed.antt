@@ -1,5 +1,6 @@
 -- What a relay of flows leaves of the nest and of its clock.
 use Rattle.std.specs.Prelude.{ℕ, ◌≡◌, ◌<◌, ◌≤◌, List, [], ◌∷◌, length, true}
+use Rattle.nest_spec.specs.Walk.{last_of}
 use Rattle.packet_record.specs.Orders.{IsSchedule, AreWithin}
 use Rattle.packet_record.specs.Rows.{AreApart, Rises}
 use Rattle.nest_spec.specs.Nests.{NestParts, result_of, until}
@@ -31,7 +32,7 @@ NeverFall low (m ∷ moments) = (low ≤ m) × NeverFall m moments
 pub record ReadsOf (moments : List ℕ) (old new : ClockView) : Type 0 where
   pub read : Reads moments old.moments new.moments
   pub rises : NeverFall old.latest moments
-  pub latest : 1 ≤ length moments → new.latest ≡ get_or moments (length moments - 1) 0
+  pub latest : new.latest ≡ last_of old.latest moments
 
 -- Moments were read of the clock, some of them if the relay is done.
 pub record ReadsClock (old new : ClockView) : Type 0 where

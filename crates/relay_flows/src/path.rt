@@ -83,6 +83,12 @@ impl Path {
         self.moment
     }
 
+    // Does nothing. It is called for what holds of every path.
+    pub fn stands(&self)
+        ensures { IsPath self.now }
+    {
+    }
+
     // Returns the nest's horizon.
     pub fn horizon(&self) -> u64
         ensures { result ≡ self.now.nest.horizon }

@@ -60,7 +60,7 @@ impl RelayState {
     // Makes a relay before its first turn.
     pub fn new(
         alloc: Global,
-        nest: &Nest,
+        nest: Nest,
         flows: &[Flow],
         settings: Settings,
     ) -> Result<RelayState, OutOfMemory> {

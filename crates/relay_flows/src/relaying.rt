@@ -1,7 +1,10 @@
 // The relay of flows.
-ghost use Rattle.std.specs.Prelude.{◌≤◌, length};
+ghost use Rattle.std.specs.Prelude.{◌≡◌, ◌≤◌, length, IfOk};
+ghost use Rattle.relay_flows.specs.declared.outcome.FlowsEnd.TheVariants.{Horizon};
+ghost use Rattle.relay_flows.specs.Passed.{HasPassed};
 
-use crate::relay_state::RelayState;
+use crate::path::Path;
+use crate::relay_state::{Counts, RelayState};
 use crate::{FlowSettings, FlowsEnd, FlowsError, FlowsResult};
 use flow_list::Flow;
 use flow_sockets::Sockets;
@@ -41,18 +44,34 @@ fn end_of(is_past: bool, has_ended: bool, has_room: bool) -> Option<FlowsEnd> {
     }
 }
 
+// Returns the horizon of the result: the nest's at the end `Horizon`, else the moment up to which the path moved on.
+fn horizon_of(path: &Path, end: FlowsEnd) -> u64
+    ensures later { path.now.moment ≤ result }
+    ensures within { result ≤ path.now.nest.horizon }
+    ensures whole { end ≡ Horizon → result ≡ path.now.nest.horizon }
+    ensures stopped { (end ≡ Horizon → ⊥) → result ≡ path.now.moment }
+{
+    path.stands(); // fact: the moment is within the nest's horizon
+    match end {
+        FlowsEnd::Horizon => path.horizon(),
+        FlowsEnd::User | FlowsEnd::Full => path.moment(),
+    }
+}
+
 // Returns what has passed.
 fn result_of(
     alloc: Global,
-    nest: Nest,
-    state: RelayState,
+    path: Path,
+    counts: Counts,
     end: FlowsEnd,
-) -> Result<FlowsResult, FlowsError> {
-    let horizon = state.path.moment();
+) -> Result<FlowsResult, OutOfMemory>
+    ensures passed { IfOk result (HasPassed path.nest) }
+    ensures end { IfOk result (λ r. r.end ≡ end) }
+    ensures stopped { IfOk result (λ r. (end ≡ Horizon → ⊥) → r.horizon ≡ path.moment) }
+{
+    let horizon = horizon_of(&path, end);
+    let (nest, rows, entries) = path.into_parts();
     let nest = nest.until(horizon);
-    let counts = state.counts;
-    let RelayState { path, .. } = state;
-    let (rows, entries) = path.into_rows();
     let run = run_over(alloc, &nest, rows.as_slice())?;
     Ok(FlowsResult {
         rows: RelayRows::from_vec(rows),
@@ -84,7 +103,7 @@ pub fn relay_flows<K: Wait, C: Clock, S: Sockets>(
         delay: delay_of(&nest)?,
         again: settings.again,
     };
-    let mut state = RelayState::new(alloc, &nest, flows, settings)?;
+    let mut state = RelayState::new(alloc, nest, flows, settings)?;
     let mut buf = [0u8; ROOM];
     for _ in rt.forever() {
         let moment = clock.now();
@@ -92,7 +111,8 @@ pub fn relay_flows<K: Wait, C: Clock, S: Sockets>(
         let end = end_of(moment > horizon, clock.has_ended(), state.path.has_room());
         if let Some(end) = end {
             state.close(sockets);
-            return result_of(alloc, nest, state, end);
+            let RelayState { path, counts, .. } = state;
+            return Ok(result_of(alloc, path, counts, end)?);
         }
         state = state.take(sockets, flows, &mut buf)?;
         state.rest(sockets, horizon);
