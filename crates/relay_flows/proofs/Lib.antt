@@ -3,3 +3,4 @@ pub mod LaneLemmas
 pub mod PathLemmas
 pub mod TakeLemmas
 pub mod TakingLemmas
+pub mod PassedLemmas

@@ -2,6 +2,7 @@
 ghost use Rattle.std.specs.Prelude.{◌≡◌, ◌≤◌, ◌+◌, ◌-◌, ◌<◌, ◌↔◌, length, None, Some, IfNone, IfOk, IfSome, IsTrue};
 ghost use Rattle.std.specs.List.{slice_get};
 ghost use Rattle.packet_record.specs.declared.packet.Direction.TheVariants.{Up, Down};
+ghost use Rattle.text_base.specs.declared.limits.TheConstants.{HOUR};
 ghost use Rattle.live_relay.specs.Lines.{up_to};
 ghost use Rattle.relay_flows.specs.inside.Lanes.{ComesFirst};
 ghost use Rattle.relay_flows.specs.inside.Paths.{AllTaken, Enters, IsFresh, IsPath, IsSameButTaken, IsTaken, MovesTo};
@@ -85,8 +86,10 @@ impl Path {
 
     // Does nothing. It is called for what holds of every path.
     pub fn stands(&self)
-        ensures { IsPath self.now }
+        ensures path { IsPath self.now }
+        ensures hour { self.now.nest.horizon ≤ HOUR }
     {
+        self.nest.horizon(); // fact: the horizon is at most an hour
     }
 
     // Returns the nest's horizon.

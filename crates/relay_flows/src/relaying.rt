@@ -1,5 +1,6 @@
 // The relay of flows.
 ghost use Rattle.std.specs.Prelude.{◌≡◌, ◌≤◌, length, IfOk};
+ghost use Rattle.text_base.specs.declared.limits.TheConstants.{HOUR};
 ghost use Rattle.relay_flows.specs.declared.outcome.FlowsEnd.TheVariants.{Horizon};
 ghost use Rattle.relay_flows.specs.Passed.{HasPassed};
 
@@ -48,6 +49,7 @@ fn end_of(is_past: bool, has_ended: bool, has_room: bool) -> Option<FlowsEnd> {
 fn horizon_of(path: &Path, end: FlowsEnd) -> u64
     ensures later { path.now.moment ≤ result }
     ensures within { result ≤ path.now.nest.horizon }
+    ensures hour { result ≤ HOUR }
     ensures whole { end ≡ Horizon → result ≡ path.now.nest.horizon }
     ensures stopped { (end ≡ Horizon → ⊥) → result ≡ path.now.moment }
 {
