@@ -4,3 +4,4 @@ pub mod PathLemmas
 pub mod TakeLemmas
 pub mod TakingLemmas
 pub mod PassedLemmas
+pub mod ReadingLemmas

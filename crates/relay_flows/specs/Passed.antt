@@ -39,8 +39,9 @@ pub record ReadsClock (old new : ClockView) : Type 0 where
   pub moments : List ℕ
   pub reads : ReadsOf moments old new
 
--- what the clock says at each end: it is past the horizon, or its user has ended
-abbrev pub IsEndOf : FlowsEnd → ℕ → ClockView → Type 0
-IsEndOf Horizon horizon clock = horizon < clock.latest
-IsEndOf User horizon clock = (clock.latest ≤ horizon) × (clock.ended ≡ true)
-IsEndOf Full horizon clock = clock.latest ≤ horizon
+-- What holds at each end. `Horizon`: the clock is past the nest's horizon. `User` and `Full`: the clock's last moment is
+-- the horizon of the result; at `User` its user has ended, at `Full` a million rows are there.
+abbrev pub IsEndOf : FlowsEnd → NestParts → ClockView → FlowsResult → Type 0
+IsEndOf Horizon nest clock r = nest.horizon < clock.latest
+IsEndOf User nest clock r = (r.horizon ≡ clock.latest) × (clock.ended ≡ true)
+IsEndOf Full nest clock r = (r.horizon ≡ clock.latest) × (length r.rows ≡ 1000000)

@@ -201,7 +201,7 @@ impl Connection {
         row: u32,
         buf: &mut [u8],
     ) -> Result<Option<Entering>, OutOfMemory>
-        requires { length buf.old ≡ 1473 }
+        requires { length buf.old ≡ 1460 }
     {
         match side {
             Side::Client if self.is_open => {

@@ -1,5 +1,8 @@
 // A relay of flows between its turns.
-ghost use Rattle.std.specs.Prelude.{◌≡◌, ◌≤◌, ◌<◌, length, IfOk};
+ghost use Rattle.std.specs.Prelude.{◌≡◌, ◌≤◌, ◌<◌, length, IfOk, IsErrOf};
+ghost use Rattle.mm_base.specs.Counts.{Rose};
+ghost use Rattle.flow_sockets.specs.SocketViews.{CountsSocketFaults};
+ghost use Rattle.relay_flows.specs.inside.Paths.{IsAt, IsFresh, StaysAt};
 
 use crate::FlowsError;
 use crate::connection::{Connection, direction_of, side_after};
@@ -63,7 +66,9 @@ impl RelayState {
         nest: Nest,
         flows: &[Flow],
         settings: Settings,
-    ) -> Result<RelayState, OutOfMemory> {
+    ) -> Result<RelayState, OutOfMemory>
+        ensures path { IfOk result (λ state. IsFresh nest state.path) }
+    {
         let mut first_read = Vec::new(alloc);
         for _ in flows {
             first_read.push(0)?;
@@ -282,7 +287,13 @@ impl RelayState {
         self,
         sockets: &mut S,
         moment: u64,
-    ) -> Result<RelayState, FlowsError> {
+    ) -> Result<RelayState, FlowsError>
+        ensures path { IfOk result (λ state. IsAt moment self.path state.path) }
+        ensures opened { (S.view sockets.new).opened ≡ (S.view sockets.old).opened }
+        ensures counts { CountsSocketFaults (S.view sockets.old) (S.view sockets.new) }
+        ensures failed_cause { IsErrOf result FlowsError.SocketFault
+            → Rose (S.view sockets.old).faults (S.view sockets.new).faults }
+    {
         let mut state = self.advance(moment)?;
         state.take_departures(sockets)?;
         state.take_losses(Direction::Up);
@@ -447,7 +458,7 @@ impl RelayState {
         side: Side,
         buf: &mut [u8],
     ) -> Result<RelayState, OutOfMemory>
-        requires { length buf.old ≡ 1473 }
+        requires { length buf.old ≡ 1460 }
     {
         let mut state = self;
         if !state.path.has_room() {
@@ -469,7 +480,7 @@ impl RelayState {
         flow: u32,
         buf: &mut [u8],
     ) -> Result<RelayState, OutOfMemory>
-        requires { length buf.old ≡ 1473 }
+        requires { length buf.old ≡ 1460 }
     {
         let mut state = self;
         let places = state.places_of(flow)?;
@@ -506,20 +517,22 @@ impl RelayState {
         sockets: &mut S,
         place: usize,
         kind: FlowKind,
-        buf: &mut [u8],
+        datagram: &mut [u8],
+        piece: &mut [u8],
     ) -> Result<RelayState, FlowsError>
         requires few { place < 16 }
-        requires room { length buf.old ≡ 1473 }
+        requires datagram { length datagram.old ≡ 1473 }
+        requires piece { length piece.old ≡ 1460 }
     {
         let flow = place as u32 + 1;
         match kind {
             FlowKind::Udp => {
-                let state = self.take_datagram(sockets, flow, Side::Client, buf)?;
-                state.take_datagram(sockets, flow, Side::Server, buf)
+                let state = self.take_datagram(sockets, flow, Side::Client, datagram)?;
+                state.take_datagram(sockets, flow, Side::Server, datagram)
             }
             FlowKind::Tcp => {
                 let state = self.accept(sockets, flow)?;
-                Ok(state.read_all(sockets, place, flow, buf)?)
+                Ok(state.read_all(sockets, place, flow, piece)?)
             }
         }
     }
@@ -529,16 +542,23 @@ impl RelayState {
         self,
         sockets: &mut S,
         flows: &[Flow],
-        buf: &mut [u8],
+        datagram: &mut [u8],
+        piece: &mut [u8],
     ) -> Result<RelayState, FlowsError>
         requires few { length flows.now ≤ 16 }
-        requires room { length buf.old ≡ 1473 }
+        requires datagram { length datagram.old ≡ 1473 }
+        requires piece { length piece.old ≡ 1460 }
+        ensures path { IfOk result (λ state. StaysAt self.path state.path) }
+        ensures opened { (S.view sockets.new).opened ≡ (S.view sockets.old).opened }
+        ensures counts { CountsSocketFaults (S.view sockets.old) (S.view sockets.new) }
+        ensures failed_cause { IsErrOf result FlowsError.SocketFault
+            → Rose (S.view sockets.old).faults (S.view sockets.new).faults }
     {
         let mut state = self.retry()?;
         let first = state.first_flow;
         for index in 0..flows.len() {
             let place = place_after(first, index, flows.len());
-            state = state.take_flow(sockets, place, flows[place].kind, buf)?;
+            state = state.take_flow(sockets, place, flows[place].kind, datagram, piece)?;
         }
         let next = first.saturating_add(1);
         state.first_flow = if next < flows.len() { next } else { 0 };
@@ -546,7 +566,9 @@ impl RelayState {
     }
 
     // Rests, unless the turn took or gave anything.
-    pub fn rest<S: Sockets>(&self, sockets: &mut S, horizon: u64) {
+    pub fn rest<S: Sockets>(&self, sockets: &mut S, horizon: u64)
+        ensures view { S.view sockets.new ≡ S.view sockets.old }
+    {
         if self.is_active {
             return;
         }
@@ -564,7 +586,10 @@ impl RelayState {
     }
 
     // Closes the sockets of connections that stand, which are reset.
-    pub fn close<S: Sockets>(&self, sockets: &mut S) {
+    pub fn close<S: Sockets>(&self, sockets: &mut S)
+        ensures opened { (S.view sockets.new).opened ≡ (S.view sockets.old).opened }
+        ensures counts { CountsSocketFaults (S.view sockets.old) (S.view sockets.new) }
+    {
         for connection in self.connections.iter() {
             sockets.reset(connection.number(), Side::Client);
             sockets.reset(connection.number(), Side::Server);

@@ -1,14 +1,17 @@
 // The relay of flows.
-ghost use Rattle.std.specs.Prelude.{◌≡◌, ◌≤◌, length, IfOk};
+ghost use Rattle.std.specs.Prelude.{◌≡◌, ◌≤◌, length, IfOk, IfSome, IsErrOf};
+ghost use Rattle.mm_base.specs.Counts.{Rose};
+ghost use Rattle.flow_sockets.specs.SocketViews.{CountsSocketFaults};
 ghost use Rattle.text_base.specs.declared.limits.TheConstants.{HOUR};
 ghost use Rattle.relay_flows.specs.declared.outcome.FlowsEnd.TheVariants.{Horizon};
-ghost use Rattle.relay_flows.specs.Passed.{HasPassed};
+ghost use Rattle.relay_flows.specs.Passed.{HasPassed, IsEndOf, ReadsClock};
+ghost use Rattle.relay_flows.specs.inside.Ends.{EndsBy};
 
 use crate::path::Path;
 use crate::relay_state::{Counts, RelayState};
 use crate::{FlowSettings, FlowsEnd, FlowsError, FlowsResult};
 use flow_list::Flow;
-use flow_sockets::Sockets;
+use flow_sockets::{LONGEST_DATAGRAM, LONGEST_PIECE, Sockets};
 use live_relay::{Clock, RelayRows, run_over};
 use nest_spec::Nest;
 use packet_record::Direction;
@@ -18,8 +21,8 @@ use std::sync::Wait;
 use stream_core::Settings;
 use text_base::OutOfMemory;
 
-// The room for a read: one byte more than the longest datagram has, so that a longer one shows.
-const ROOM: usize = 1_473;
+// The room for a datagram: one byte more than the longest has, so that a longer one shows.
+const DATAGRAM_ROOM: usize = LONGEST_DATAGRAM + 1;
 
 // Returns the delay of a nest: the sum of its delays in a direction, which both have.
 fn delay_of(nest: &Nest) -> Result<u32, OutOfMemory> {
@@ -33,7 +36,9 @@ fn delay_of(nest: &Nest) -> Result<u32, OutOfMemory> {
 }
 
 // Returns what ends the relay in a turn: the clock is past the horizon, the user ended, or a million rows are there.
-fn end_of(is_past: bool, has_ended: bool, has_room: bool) -> Option<FlowsEnd> {
+fn end_of(is_past: bool, has_ended: bool, has_room: bool) -> Option<FlowsEnd>
+    ensures { IfSome result (λ end. EndsBy end is_past has_ended has_room) }
+{
     if is_past {
         Some(FlowsEnd::Horizon)
     } else if has_ended {
@@ -68,7 +73,7 @@ fn result_of(
     end: FlowsEnd,
 ) -> Result<FlowsResult, OutOfMemory>
     ensures passed { IfOk result (HasPassed path.nest) }
-    ensures end { IfOk result (λ r. r.end ≡ end) }
+    ensures end { IfOk result (λ r. (r.end ≡ end) × (r.rows ≡ path.rows)) }
     ensures stopped { IfOk result (λ r. (end ≡ Horizon → ⊥) → r.horizon ≡ path.moment) }
 {
     let horizon = horizon_of(&path, end);
@@ -88,6 +93,8 @@ fn result_of(
 }
 
 /// Lets 1 to 16 flows pass a nest, until the clock is past its horizon, the user ends, or a million packets entered.
+///
+/// `SocketFault` comes only if a fault of the sockets was counted, and `OutOfMemory` means that an allocation failed.
 pub fn relay_flows<K: Wait, C: Clock, S: Sockets>(
     rt: &K,
     alloc: Global,
@@ -98,6 +105,13 @@ pub fn relay_flows<K: Wait, C: Clock, S: Sockets>(
     sockets: &mut S,
 ) -> Result<FlowsResult, FlowsError>
     requires { length flows.now ≤ 16 }
+    ensures passed { IfOk result (HasPassed nest) }
+    ensures ended { IfOk result (λ r. IsEndOf r.end nest (C.view clock.new) r) }
+    ensures clock { ReadsClock (C.view clock.old) (C.view clock.new) }
+    ensures opened { (S.view sockets.new).opened ≡ (S.view sockets.old).opened }
+    ensures counts { CountsSocketFaults (S.view sockets.old) (S.view sockets.new) }
+    ensures failed_cause { IsErrOf result FlowsError.SocketFault
+        → Rose (S.view sockets.old).faults (S.view sockets.new).faults }
 {
     let horizon = nest.horizon();
     let settings = Settings {
@@ -106,8 +120,9 @@ pub fn relay_flows<K: Wait, C: Clock, S: Sockets>(
         again: settings.again,
     };
     let mut state = RelayState::new(alloc, nest, flows, settings)?;
-    let mut buf = [0u8; ROOM];
-    for _ in rt.forever() {
+    let mut datagram = [0u8; DATAGRAM_ROOM];
+    let mut piece = [0u8; LONGEST_PIECE];
+    'turns: for _ in rt.forever() {
         let moment = clock.now();
         state = state.settle(sockets, moment)?;
         let end = end_of(moment > horizon, clock.has_ended(), state.path.has_room());
@@ -116,7 +131,7 @@ pub fn relay_flows<K: Wait, C: Clock, S: Sockets>(
             let RelayState { path, counts, .. } = state;
             return Ok(result_of(alloc, path, counts, end)?);
         }
-        state = state.take(sockets, flows, &mut buf)?;
+        state = state.take(sockets, flows, &mut datagram, &mut piece)?;
         state.rest(sockets, horizon);
     }
     unreachable!()

@@ -1,5 +1,5 @@
 -- What entered a nest, as a relay keeps it, and what departs.
-use Rattle.std.specs.Prelude.{ℕ, ◌≡◌, ◌≤◌, ◌<◌, ◌+◌, ◌-◌, ◌++◌, List, [], ◌∷◌, Option, Some, length, take, drop}
+use Rattle.std.specs.Prelude.{ℕ, ◌≡◌, ◌≤◌, ◌<◌, ◌+◌, ◌-◌, ◌++◌, List, [], ◌∷◌, Option, Some, length, take, drop, max, min}
 use Rattle.std.specs.List.{slice_get}
 use Rattle.packet_record.specs.declared.packet.Direction.{Direction}
 use Rattle.packet_record.specs.declared.packet.Direction.TheVariants.{Up, Down}
@@ -70,10 +70,7 @@ pub record MovesTo (moment : ℕ) (old new : PathParts) : Type 0 where
   pub keeps : TakesNone old new
   pub rows_are : new.rows ≡ old.rows
   pub entries_are : new.entries ≡ old.entries
-  pub later : old.moment ≤ new.moment
-  pub reached : moment ≤ old.nest.horizon → moment ≤ new.moment
-  pub over : old.nest.horizon ≤ moment → new.moment ≡ old.nest.horizon
-  pub no_further : old.moment ≤ moment → new.moment ≤ moment
+  pub moment_is : new.moment ≡ min (max moment old.moment) old.nest.horizon
 
 -- One more row entered, at the path's moment, in this direction and with this size.
 pub record Enters (entry : Entry) (d : Direction) (size : ℕ) (old new : PathParts) : Type 0 where
@@ -122,3 +119,13 @@ pub record TakesDeparture (old new : PathParts) (p : Passed) : Type 0 where
 pub record AllTaken (p : PathParts) : Type 0 where
   pub up_none : waiting_in Up p ≡ []
   pub down_none : waiting_in Down p ≡ []
+
+-- the path is at the moment that a clock shows, or at the horizon if that is sooner, and never before where it was
+pub record IsAt (moment : ℕ) (old new : PathParts) : Type 0 where
+  pub nest_is : new.nest ≡ old.nest
+  pub moment_is : new.moment ≡ min (max moment old.moment) old.nest.horizon
+
+-- the path is where it was
+pub record StaysAt (old new : PathParts) : Type 0 where
+  pub nest_is : new.nest ≡ old.nest
+  pub moment_is : new.moment ≡ old.moment

@@ -1,4 +1,4 @@
-use Rattle.std.proofs.Common.{◌≡◌, ◌≤◌, refl, arith, ap, sym, subst}
+use Rattle.std.proofs.Common.{◌≤◌, ◌∙◌, refl, arith, ap, max, min, subst}
 use Rattle.relay_flows.specs.inside.Paths.{MovesTo, PathParts}
 use Rattle.relay_flows.specs.views.Path.{path_view}
 use Rattle.relay_flows.proofs.PathLemmas.{moved, moves_none, path_moves}
@@ -28,8 +28,5 @@ returns c =
           c.self.invariant later within c.in_ok-up.ensures c.in_ok-down.ensures;
       rows_are = refl;
       entries_are = refl;
-      later = later;
-      reached = λ le. omega arith;
-      over = λ le. omega arith;
-      no_further = λ le. omega arith;
+      moment_is = is ∙ ap (min (max c.args.moment c.self.inside.moment)) most.value;
     })
