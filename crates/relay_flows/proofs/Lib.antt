@@ -5,3 +5,4 @@ pub mod TakeLemmas
 pub mod TakingLemmas
 pub mod PassedLemmas
 pub mod ReadingLemmas
+pub mod EndLemmas

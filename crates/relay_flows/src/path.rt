@@ -236,6 +236,12 @@ impl Path {
         self.entries[(packet.packet.id as usize).saturating_sub(1)]
     }
 
+    // Returns what the row of a packet is, if there is a row of its number.
+    fn entry_at(&self, packet: Timed) -> Option<Entry> {
+        let place = (packet.packet.id as usize).saturating_sub(1);
+        self.entries.get(place).copied()
+    }
+
     // Returns the next departure, by moments, then rows, and its direction.
     fn next_departure(&self) -> Option<(Direction, Timed)>
         ensures some { IfSome result (λ r. first_in r.0 self.now ≡ Some r.1) }
@@ -288,7 +294,7 @@ impl Path {
         ensures same { IsSameButTaken self.old self.new }
     {
         let (shell, packet) = self.next_loss(direction)?;
-        let entry = self.entry_of(packet);
+        let entry = self.entry_at(packet)?;
         self.lose(direction, shell);
         Some(Passed {
             direction,
