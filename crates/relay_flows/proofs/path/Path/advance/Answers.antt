@@ -28,5 +28,6 @@ returns c =
           c.self.invariant later within c.in_ok-up.ensures c.in_ok-down.ensures;
       rows_are = refl;
       entries_are = refl;
-      moment_is = is ∙ ap (min (max c.args.moment c.self.inside.moment)) most.value;
+      moment_is = is ∙ ap (λ n. min n c.horizon.result) c.max.ensures
+          ∙ ap (min (max c.args.moment c.self.inside.moment)) most.value;
     })
