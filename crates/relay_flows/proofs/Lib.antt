@@ -2,3 +2,11 @@ pub mod Histories
 pub mod Telling
 pub mod Ways
 pub mod States
+pub mod RowsSoFar
+pub mod LaneLemmas
+pub mod PathLemmas
+pub mod TakeLemmas
+pub mod TakingLemmas
+pub mod PassedLemmas
+pub mod ReadingLemmas
+pub mod EndLemmas

@@ -1,3 +1,4 @@
 pub mod Lanes
 pub mod Paths
 pub mod Carrying
+pub mod Ends

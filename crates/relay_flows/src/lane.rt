@@ -1,7 +1,7 @@
 // One direction of the nest, and what came of its packets so far.
-ghost use Rattle.std.specs.Prelude.{◌≡◌, ◌≤◌, IfOk};
+ghost use Rattle.std.specs.Prelude.{◌≡◌, ◌≤◌, ◌<◌, ◌+◌, ◌↔◌, ◌∷◌, [], IfOk, IsTrue, length};
 ghost use Rattle.packet_record.specs.declared.item.FlowEnd.TheVariants.{Open};
-ghost use Rattle.relay_flows.specs.inside.Lanes.{MayGoOn, GoesOn};
+ghost use Rattle.relay_flows.specs.inside.Lanes.{EnterOne, GoesOn, IsLane, Precedes, first_departure};
 
 use live_relay::Line;
 use nest_spec::Nest;
@@ -18,7 +18,9 @@ pub(crate) struct Lane {
 }
 
 // Returns whether the first packet comes before the second: by their moments, then by their rows.
-pub(crate) fn is_before(first: Timed, second: Timed) -> bool {
+pub(crate) fn is_before(first: Timed, second: Timed) -> bool
+    ensures { IsTrue result ↔ Precedes first second }
+{
     first.moment < second.moment
         || first.moment == second.moment && first.packet.id < second.packet.id
 }
@@ -26,9 +28,10 @@ pub(crate) fn is_before(first: Timed, second: Timed) -> bool {
 impl Lane {
     // Makes a direction of a nest before anything entered.
     pub fn new(alloc: Global, nest: &Nest, direction: Direction) -> Result<Lane, OutOfMemory>
-        ensures { IfOk result (λ lane. MayGoOn nest.now.horizon 0 lane) }
+        ensures { IfOk result (λ lane. IsLane nest.now direction [] 0 lane) }
     {
         let line = Line::new(alloc, nest, direction)?;
+        line.departed(); // fact: a line is settled
         let mut lost = Vec::new(alloc);
         for _ in 0..nest.shells() {
             lost.push(0)?;
@@ -45,7 +48,7 @@ impl Lane {
         requires going { self.line.fed.end ≡ Open }
         requires later { self.line.fed.bound ≤ moment }
         requires within { moment ≤ self.line.horizon }
-        ensures { IfOk result (GoesOn moment self) }
+        ensures { IfOk result (GoesOn moment [] self) }
     {
         let Lane {
             line,
@@ -53,6 +56,7 @@ impl Lane {
             lost,
         } = self;
         let line = line.feed(Item::Mark(moment))?;
+        line.departed(); // fact: a line is settled
         Ok(Lane {
             line,
             departed,
@@ -65,7 +69,7 @@ impl Lane {
         requires going { self.line.fed.end ≡ Open }
         requires later { self.line.fed.bound ≤ packet.moment }
         requires within { packet.moment ≤ self.line.horizon }
-        ensures { IfOk result (GoesOn packet.moment self) }
+        ensures { IfOk result (GoesOn packet.moment (packet ∷ []) self) }
     {
         let Lane {
             line,
@@ -73,6 +77,7 @@ impl Lane {
             lost,
         } = self;
         let line = line.feed(Item::Packet(packet))?;
+        line.departed(); // fact: a line is settled
         Ok(Lane {
             line,
             departed,
@@ -81,18 +86,20 @@ impl Lane {
     }
 
     // Returns the first departure that wasn't taken.
-    pub fn next_departure(&self) -> Option<Timed> {
-        match self.line.departed().get(self.departed) {
-            Some(packet) => Some(*packet),
-            None => None,
-        }
+    pub fn next_departure(&self) -> Option<Timed>
+        ensures { result ≡ first_departure self.now }
+    {
+        self.line.departed().get(self.departed).copied()
     }
 
-    // Takes the first departure.
+    // Takes the first departure, if there is one.
     pub fn take_departure(&mut self)
-        ensures { self.new.line ≡ self.old.line }
+        ensures line { self.new.line ≡ self.old.line }
+        ensures taken { self.old.departed < length self.old.line.departed → self.new.departed ≡ self.old.departed + 1 }
     {
-        self.departed = self.departed.saturating_add(1);
+        if self.departed < self.line.departed().len() {
+            self.departed += 1;
+        }
     }
 
     // Returns the first loss that wasn't taken, by moments, then rows, and its shell.
@@ -108,11 +115,30 @@ impl Lane {
 
     // Takes the first loss of a shell.
     pub fn take_loss(&mut self, shell: usize)
-        ensures { self.new.line ≡ self.old.line }
+        ensures line { self.new.line ≡ self.old.line }
+        ensures taken { self.new.departed ≡ self.old.departed }
     {
         if let Some(taken) = self.lost.get_mut(shell) {
             *taken = taken.saturating_add(1);
         }
+    }
+}
+
+// Lets a packet enter one of two directions.
+pub(crate) fn enter_one(
+    direction: Direction,
+    up: Lane,
+    down: Lane,
+    packet: Timed,
+) -> Result<(Lane, Lane), OutOfMemory>
+    requires going { (up.line.fed.end ≡ Open) × (down.line.fed.end ≡ Open) }
+    requires later { (up.line.fed.bound ≤ packet.moment) × (down.line.fed.bound ≤ packet.moment) }
+    requires within { (packet.moment ≤ up.line.horizon) × (packet.moment ≤ down.line.horizon) }
+    ensures { IfOk result (λ r. EnterOne direction packet up down r.0 r.1) }
+{
+    match direction {
+        Direction::Up => Ok((up.enter(packet)?, down)),
+        Direction::Down => Ok((up, down.enter(packet)?)),
     }
 }
 

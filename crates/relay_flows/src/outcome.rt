@@ -1,4 +1,8 @@
 // What a relay of flows answers.
+ghost use Rattle.std.specs.Prelude.{◌≡◌};
+ghost use Rattle.relay_flows.specs.declared.outcome.FlowsError.TheVariants as errors;
+ghost use Rattle.relay_flows.specs.Errors.{flows_error};
+
 use crate::Entry;
 use live_relay::RelayRows;
 use mm_base::EndError;
@@ -47,12 +51,16 @@ pub struct FlowsResult {
 }
 
 impl From<OutOfMemory> for FlowsError {
+    ghost from_gives = { λ _ e. e ≡ errors.OutOfMemory };
+
     fn from(_error: OutOfMemory) -> FlowsError {
         FlowsError::OutOfMemory
     }
 }
 
 impl From<EndError> for FlowsError {
+    ghost from_gives = { λ d e. e ≡ flows_error d };
+
     fn from(error: EndError) -> FlowsError {
         match error {
             EndError::Failed => FlowsError::SocketFault,

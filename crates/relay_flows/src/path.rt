@@ -1,8 +1,15 @@
 // What entered the nest, and what came of it so far.
-ghost use Rattle.std.specs.Prelude.{◌≡◌, ◌≤◌, ◌+◌, ◌<◌, ◌↔◌, length, IfOk, IsTrue};
+ghost use Rattle.std.specs.Prelude.{◌≡◌, ◌≤◌, ◌+◌, ◌-◌, ◌<◌, ◌↔◌, length, None, Some, IfNone, IfOk, IfSome, IsTrue};
+ghost use Rattle.std.specs.List.{slice_get};
+ghost use Rattle.packet_record.specs.declared.packet.Direction.TheVariants.{Up, Down};
+ghost use Rattle.text_base.specs.declared.limits.TheConstants.{HOUR};
+ghost use Rattle.live_relay.specs.Lines.{up_to};
+ghost use Rattle.relay_flows.specs.inside.Lanes.{ComesFirst};
+ghost use Rattle.relay_flows.specs.inside.Paths.{AllTaken, Enters, IsFresh, IsPath, IsSameButTaken, IsTaken, MovesTo};
+ghost use Rattle.relay_flows.specs.inside.Paths.{TakesDeparture, first_in, lane_of, opposite};
 
 use crate::entry::Entry;
-use crate::lane::{Lane, is_before};
+use crate::lane::{Lane, enter_one, is_before};
 use nest_spec::Nest;
 use packet_record::{Direction, Packet, Row, Timed};
 use std::alloc::Global;
@@ -16,17 +23,17 @@ pub(crate) const MOST_ROWS: usize = 1_000_000;
 // How many bytes the headers of a datagram have: 20 of IP, 8 of UDP, 4 of the device.
 const DATAGRAM_HEADERS: usize = 32;
 
-// The rows, what each is, the bytes of the datagrams that may still depart, both directions of the nest, the moment up
-// to which they moved on, the horizon, and how many rows have departed or were lost.
+// The nest, the rows, what each is, the bytes of the datagrams that may still depart, both directions, the moment up to
+// which they moved on, and how many rows have departed or were lost.
 #[derive(Drop)]
 pub(crate) struct Path {
+    nest: Nest,
     rows: Vec<Row>,
     entries: Vec<Entry>,
     datagrams: HashMap<u32, Bytes>,
     up: Lane,
     down: Lane,
     moment: u64,
-    horizon: u64,
     taken: usize,
 }
 
@@ -53,24 +60,43 @@ impl Model for Path {
 
 impl Path {
     // Makes a path that nothing entered.
-    pub fn new(alloc: Global, nest: &Nest) -> Result<Path, OutOfMemory> {
-        let up = Lane::new(alloc, nest, Direction::Up)?;
-        let down = Lane::new(alloc, nest, Direction::Down)?;
+    pub fn new(alloc: Global, nest: Nest) -> Result<Path, OutOfMemory>
+        ensures { IfOk result (IsFresh nest) }
+    {
+        let up = Lane::new(alloc, &nest, Direction::Up)?;
+        let down = Lane::new(alloc, &nest, Direction::Down)?;
         Ok(Path {
+            nest,
             rows: Vec::new(alloc),
             entries: Vec::new(alloc),
             datagrams: HashMap::new(alloc),
             up,
             down,
             moment: 0,
-            horizon: nest.horizon(),
             taken: 0,
         })
     }
 
     // Returns the moment up to which it moved on.
-    pub fn moment(&self) -> u64 {
+    pub fn moment(&self) -> u64
+        ensures { result ≡ self.now.moment }
+    {
         self.moment
+    }
+
+    // Does nothing. It is called for what holds of every path.
+    pub fn stands(&self)
+        ensures path { IsPath self.now }
+        ensures hour { self.now.nest.horizon ≤ HOUR }
+    {
+        self.nest.horizon(); // fact: the horizon is at most an hour
+    }
+
+    // Returns the nest's horizon.
+    pub fn horizon(&self) -> u64
+        ensures { result ≡ self.now.nest.horizon }
+    {
+        self.nest.horizon()
     }
 
     // Returns whether a further row may enter.
@@ -81,39 +107,53 @@ impl Path {
     }
 
     // Returns the number of the next row.
-    pub fn next_row(&self) -> u32 {
+    pub fn next_row(&self) -> u32
+        ensures { result ≡ length self.now.rows + 1 }
+    {
         self.rows.len() as u32 + 1
     }
 
-    // Returns the rows, and what each is.
-    pub fn into_rows(self) -> (Vec<Row>, Vec<Entry>) {
-        let Path { rows, entries, .. } = self;
-        (rows, entries)
+    // Returns the nest, the rows, and what each is.
+    pub fn into_parts(self) -> (Nest, Vec<Row>, Vec<Entry>)
+        ensures path { IsPath self }
+        ensures nest { result.0 ≡ self.nest }
+        ensures rows { result.1.items ≡ self.rows }
+        ensures entries { result.2.items ≡ self.entries }
+    {
+        let Path {
+            nest,
+            rows,
+            entries,
+            ..
+        } = self;
+        (nest, rows, entries)
     }
 
     // Lets the nest move on to the moment that a clock shows, or to the horizon if that is sooner.
-    pub fn advance(self, moment: u64) -> Result<Path, OutOfMemory> {
-        let moment = moment.max(self.moment).min(self.horizon);
+    pub fn advance(self, moment: u64) -> Result<Path, OutOfMemory>
+        ensures { IfOk result (MovesTo moment self) }
+    {
+        let moment = moment.max(self.moment).min(self.nest.horizon());
         let Path {
+            nest,
             rows,
             entries,
             datagrams,
             up,
             down,
-            horizon,
             taken,
             ..
         } = self;
         let up = up.advance(moment)?;
         let down = down.advance(moment)?;
         Ok(Path {
+            nest,
             rows,
             entries,
             datagrams,
             up,
             down,
             moment,
-            horizon,
             taken,
         })
     }
@@ -128,15 +168,16 @@ impl Path {
         requires room { length self.rows < 1000000 }
         requires some { 1 ≤ size }
         requires most { size ≤ 1504 }
+        ensures { IfOk result (Enters entry direction size self) }
     {
         let Path {
+            nest,
             mut rows,
             mut entries,
             datagrams,
             up,
             down,
             moment,
-            horizon,
             taken,
         } = self;
         let packet = Packet {
@@ -146,18 +187,15 @@ impl Path {
         let timed = Timed { moment, packet };
         rows.push(Row { direction, timed })?;
         entries.push(entry)?;
-        let (up, down) = match direction {
-            Direction::Up => (up.enter(timed)?, down),
-            Direction::Down => (up, down.enter(timed)?),
-        };
+        let (up, down) = enter_one(direction, up, down, timed)?;
         Ok(Path {
+            nest,
             rows,
             entries,
             datagrams,
             up,
             down,
             moment,
-            horizon,
             taken,
         })
     }
@@ -172,6 +210,7 @@ impl Path {
         requires room { length self.rows < 1000000 }
         requires some { 1 ≤ length bytes.now }
         requires most { length bytes.now ≤ 1472 }
+        ensures { IfOk result (Enters entry direction (length bytes.now + 32) self) }
     {
         let alloc = *self.rows.allocator();
         let kept = Bytes::from_slice(alloc, bytes)?;
@@ -189,20 +228,26 @@ impl Path {
         self.datagrams.remove(&row)
     }
 
-    // Notes that a row has departed or was lost.
-    fn pass(&mut self, direction: Direction, packet: Timed) -> Option<Passed> {
-        self.taken = self.taken.saturating_add(1);
-        let place = (packet.packet.id as usize).checked_sub(1)?;
-        let entry = *self.entries.get(place)?;
-        Some(Passed {
-            direction,
-            packet,
-            entry,
-        })
+    // Returns what the row of a packet is.
+    fn entry_of(&self, packet: Timed) -> Entry
+        requires { packet.packet.id - 1 < length self.now.entries }
+        ensures { slice_get self.now.entries (packet.packet.id - 1) ≡ Some result }
+    {
+        self.entries[(packet.packet.id as usize).saturating_sub(1)]
+    }
+
+    // Returns what the row of a packet is, if there is a row of its number.
+    fn entry_at(&self, packet: Timed) -> Option<Entry> {
+        let place = (packet.packet.id as usize).saturating_sub(1);
+        self.entries.get(place).copied()
     }
 
     // Returns the next departure, by moments, then rows, and its direction.
-    fn next_departure(&self) -> Option<(Direction, Timed)> {
+    fn next_departure(&self) -> Option<(Direction, Timed)>
+        ensures some { IfSome result (λ r. first_in r.0 self.now ≡ Some r.1) }
+        ensures first { IfSome result (λ r. ComesFirst r.1 (first_in (opposite r.0) self.now)) }
+        ensures none { IfNone result ((first_in Up self.now ≡ None) × (first_in Down self.now ≡ None)) }
+    {
         match (self.up.next_departure(), self.down.next_departure()) {
             (Some(up), Some(down)) if is_before(down, up) => Some((Direction::Down, down)),
             (Some(up), _) => Some((Direction::Up, up)),
@@ -211,34 +256,70 @@ impl Path {
         }
     }
 
-    // Takes the next departure up to the path's moment.
-    pub fn take_departure(&mut self) -> Option<Passed> {
-        let (direction, packet) = self.next_departure()?;
-        if packet.moment > self.moment {
-            return None;
-        }
+    // Takes the first departure of a direction, which is up to the path's moment.
+    fn take_first(&mut self, direction: Direction)
+        requires { (lane_of direction self.old).departed
+            < length (up_to self.old.moment (lane_of direction self.old).line.departed) }
+        ensures { IsTaken direction self.old self.new }
+    {
+        self.taken = self.taken.saturating_add(1);
         match direction {
             Direction::Up => self.up.take_departure(),
             Direction::Down => self.down.take_departure(),
         }
-        self.pass(direction, packet)
+    }
+
+    // Takes the next departure up to the path's moment: of both directions the first by its moment, then by its row.
+    // None means that all were taken.
+    pub fn take_departure(&mut self) -> Option<Passed>
+        ensures same { IsSameButTaken self.old self.new }
+        ensures some { IfSome result (TakesDeparture self.old self.new) }
+        ensures none { IfNone result (AllTaken self.old × (self.new ≡ self.old)) }
+    {
+        let (direction, packet) = self.next_departure()?;
+        if packet.moment > self.moment {
+            return None;
+        }
+        let entry = self.entry_of(packet);
+        self.take_first(direction);
+        Some(Passed {
+            direction,
+            packet,
+            entry,
+        })
     }
 
     // Takes the next loss of a direction, by moments, then rows.
-    pub fn take_loss(&mut self, direction: Direction) -> Option<Passed> {
-        let packet = match direction {
-            Direction::Up => {
-                let (shell, packet) = self.up.next_loss()?;
-                self.up.take_loss(shell);
-                packet
-            }
-            Direction::Down => {
-                let (shell, packet) = self.down.next_loss()?;
-                self.down.take_loss(shell);
-                packet
-            }
-        };
-        self.pass(direction, packet)
+    pub fn take_loss(&mut self, direction: Direction) -> Option<Passed>
+        ensures same { IsSameButTaken self.old self.new }
+    {
+        let (shell, packet) = self.next_loss(direction)?;
+        let entry = self.entry_at(packet)?;
+        self.lose(direction, shell);
+        Some(Passed {
+            direction,
+            packet,
+            entry,
+        })
+    }
+
+    // Returns the next loss of a direction, and its shell.
+    fn next_loss(&self, direction: Direction) -> Option<(usize, Timed)> {
+        match direction {
+            Direction::Up => self.up.next_loss(),
+            Direction::Down => self.down.next_loss(),
+        }
+    }
+
+    // Takes the first loss of a shell in a direction.
+    fn lose(&mut self, direction: Direction, shell: usize)
+        ensures { IsSameButTaken self.old self.new }
+    {
+        self.taken = self.taken.saturating_add(1);
+        match direction {
+            Direction::Up => self.up.take_loss(shell),
+            Direction::Down => self.down.take_loss(shell),
+        }
     }
 
     // Returns the next moment at which the nest may move, if anything is inside.

@@ -1,7 +1,10 @@
 // A relay of flows between its turns.
-ghost use Rattle.std.specs.Prelude.{◌≡◌, ◌≤◌, ◌<◌, [], length, IfOk, IfSome, OnOk, OnErr};
+ghost use Rattle.std.specs.Prelude.{◌≡◌, ◌≤◌, ◌<◌, [], length, IfOk, IfSome, IsErrOf, OnOk, OnErr};
 ghost use Rattle.relay_flows.specs.inside.Carrying.{WhileTold, StaysInOrder, IsQuiet, IsOrdered, MovesState, LeavesState};
 ghost use Rattle.relay_flows.specs.inside.Carrying.{KeepsState};
+ghost use Rattle.mm_base.specs.Counts.{Rose};
+ghost use Rattle.flow_sockets.specs.SocketViews.{CountsSocketFaults};
+ghost use Rattle.relay_flows.specs.inside.Paths.{IsAt, IsFresh, StaysAt};
 
 use crate::FlowsError;
 use crate::connection::{Connection, direction_of, side_after};
@@ -62,11 +65,12 @@ impl RelayState {
     // Makes a relay before its first turn.
     pub fn new(
         alloc: Global,
-        nest: &Nest,
+        nest: Nest,
         flows: &[Flow],
         settings: Settings,
     ) -> Result<RelayState, OutOfMemory>
-        ensures { IfOk result (λ state. IsOrdered state []) }
+        ensures ordered { IfOk result (λ state. IsOrdered state []) }
+        ensures path { IfOk result (λ state. IsFresh nest state.path) }
     {
         let mut first_read = Vec::new(alloc);
         for _ in flows {
@@ -366,6 +370,11 @@ impl RelayState {
             (S.view sockets.old).told (S.view sockets.new).told) }
         ensures err { OnErr result (WhileTold (LeavesState self)
             (S.view sockets.old).told (S.view sockets.new).told) }
+        ensures path { IfOk result (λ state. IsAt moment self.path state.path) }
+        ensures opened { (S.view sockets.new).opened ≡ (S.view sockets.old).opened }
+        ensures counts { CountsSocketFaults (S.view sockets.old) (S.view sockets.new) }
+        ensures failed_cause { IsErrOf result FlowsError.SocketFault
+            → Rose (S.view sockets.old).faults (S.view sockets.new).faults }
     {
         let mut state = self.advance(moment)?;
         state.take_departures(sockets)?;
@@ -680,6 +689,11 @@ impl RelayState {
             (S.view sockets.old).told (S.view sockets.new).told) }
         ensures err { OnErr result (WhileTold (LeavesState self)
             (S.view sockets.old).told (S.view sockets.new).told) }
+        ensures path { IfOk result (λ state. StaysAt self.path state.path) }
+        ensures opened { (S.view sockets.new).opened ≡ (S.view sockets.old).opened }
+        ensures counts { CountsSocketFaults (S.view sockets.old) (S.view sockets.new) }
+        ensures failed_cause { IsErrOf result FlowsError.SocketFault
+            → Rose (S.view sockets.old).faults (S.view sockets.new).faults }
     {
         let mut state = self.retry()?;
         let first = state.first_flow;
@@ -693,7 +707,9 @@ impl RelayState {
     }
 
     // Rests, unless the turn took or gave anything.
-    pub fn rest<S: Sockets>(&self, sockets: &mut S, horizon: u64) {
+    pub fn rest<S: Sockets>(&self, sockets: &mut S, horizon: u64)
+        ensures view { S.view sockets.new ≡ S.view sockets.old }
+    {
         if self.is_active {
             return;
         }
@@ -712,7 +728,9 @@ impl RelayState {
 
     // Closes the sockets of connections that stand, which are reset.
     pub fn close<S: Sockets>(&self, sockets: &mut S)
-        ensures { WhileTold StaysInOrder (S.view sockets.old).told (S.view sockets.new).told }
+        ensures told { WhileTold StaysInOrder (S.view sockets.old).told (S.view sockets.new).told }
+        ensures opened { (S.view sockets.new).opened ≡ (S.view sockets.old).opened }
+        ensures counts { CountsSocketFaults (S.view sockets.old) (S.view sockets.new) }
     {
         for connection in self.connections.iter() {
             close_connection(sockets, connection.number());

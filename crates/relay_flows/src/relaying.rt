@@ -1,10 +1,17 @@
 // The relay of flows.
-ghost use Rattle.std.specs.Prelude.{◌≤◌, length};
+ghost use Rattle.std.specs.Prelude.{◌≡◌, ◌≤◌, length, IfOk, IfSome, IsErrOf};
+ghost use Rattle.mm_base.specs.Counts.{Rose};
+ghost use Rattle.flow_sockets.specs.SocketViews.{CountsSocketFaults};
+ghost use Rattle.text_base.specs.declared.limits.TheConstants.{HOUR};
+ghost use Rattle.relay_flows.specs.declared.outcome.FlowsEnd.TheVariants.{Horizon};
+ghost use Rattle.relay_flows.specs.Passed.{HasPassed, IsEndOf, ReadsClock};
+ghost use Rattle.relay_flows.specs.inside.Ends.{EndsBy};
 
-use crate::relay_state::RelayState;
+use crate::path::Path;
+use crate::relay_state::{Counts, RelayState};
 use crate::{FlowSettings, FlowsEnd, FlowsError, FlowsResult};
 use flow_list::Flow;
-use flow_sockets::Sockets;
+use flow_sockets::{LONGEST_DATAGRAM, LONGEST_PIECE, Sockets};
 use live_relay::{Clock, RelayRows, run_over};
 use nest_spec::Nest;
 use packet_record::Direction;
@@ -14,11 +21,8 @@ use std::sync::Wait;
 use stream_core::Settings;
 use text_base::OutOfMemory;
 
-// The room for a read: one byte more than the longest datagram has, so that a longer one shows.
-const ROOM: usize = 1_473;
-
-// The longest piece of a connection's bytes that is read at once.
-const PIECE: usize = 1_460;
+// The room for a datagram: one byte more than the longest has, so that a longer one shows.
+const DATAGRAM_ROOM: usize = LONGEST_DATAGRAM + 1;
 
 // Returns the delay of a nest: the sum of its delays in a direction, which both have.
 fn delay_of(nest: &Nest) -> Result<u32, OutOfMemory> {
@@ -32,7 +36,9 @@ fn delay_of(nest: &Nest) -> Result<u32, OutOfMemory> {
 }
 
 // Returns what ends the relay in a turn: the clock is past the horizon, the user ended, or a million rows are there.
-fn end_of(is_past: bool, has_ended: bool, has_room: bool) -> Option<FlowsEnd> {
+fn end_of(is_past: bool, has_ended: bool, has_room: bool) -> Option<FlowsEnd>
+    ensures { IfSome result (λ end. EndsBy end is_past has_ended has_room) }
+{
     if is_past {
         Some(FlowsEnd::Horizon)
     } else if has_ended {
@@ -44,18 +50,35 @@ fn end_of(is_past: bool, has_ended: bool, has_room: bool) -> Option<FlowsEnd> {
     }
 }
 
+// Returns the horizon of the result: the nest's at the end `Horizon`, else the moment up to which the path moved on.
+fn horizon_of(path: &Path, end: FlowsEnd) -> u64
+    ensures later { path.now.moment ≤ result }
+    ensures within { result ≤ path.now.nest.horizon }
+    ensures hour { result ≤ HOUR }
+    ensures whole { end ≡ Horizon → result ≡ path.now.nest.horizon }
+    ensures stopped { (end ≡ Horizon → ⊥) → result ≡ path.now.moment }
+{
+    path.stands(); // fact: the moment is within the nest's horizon
+    match end {
+        FlowsEnd::Horizon => path.horizon(),
+        FlowsEnd::User | FlowsEnd::Full => path.moment(),
+    }
+}
+
 // Returns what has passed.
 fn result_of(
     alloc: Global,
-    nest: Nest,
-    state: RelayState,
+    path: Path,
+    counts: Counts,
     end: FlowsEnd,
-) -> Result<FlowsResult, FlowsError> {
-    let horizon = state.path.moment();
+) -> Result<FlowsResult, OutOfMemory>
+    ensures passed { IfOk result (HasPassed path.nest) }
+    ensures end { IfOk result (λ r. (r.end ≡ end) × (r.rows ≡ path.rows)) }
+    ensures stopped { IfOk result (λ r. (end ≡ Horizon → ⊥) → r.horizon ≡ path.moment) }
+{
+    let horizon = horizon_of(&path, end);
+    let (nest, rows, entries) = path.into_parts();
     let nest = nest.until(horizon);
-    let counts = state.counts;
-    let RelayState { path, .. } = state;
-    let (rows, entries) = path.into_rows();
     let run = run_over(alloc, &nest, rows.as_slice())?;
     Ok(FlowsResult {
         rows: RelayRows::from_vec(rows),
@@ -70,6 +93,8 @@ fn result_of(
 }
 
 /// Lets 1 to 16 flows pass a nest, until the clock is past its horizon, the user ends, or a million packets entered.
+///
+/// `SocketFault` comes only if a fault of the sockets was counted, and `OutOfMemory` means that an allocation failed.
 pub fn relay_flows<K: Wait, C: Clock, S: Sockets>(
     rt: &K,
     alloc: Global,
@@ -80,6 +105,13 @@ pub fn relay_flows<K: Wait, C: Clock, S: Sockets>(
     sockets: &mut S,
 ) -> Result<FlowsResult, FlowsError>
     requires { length flows.now ≤ 16 }
+    ensures passed { IfOk result (HasPassed nest) }
+    ensures ended { IfOk result (λ r. IsEndOf r.end nest (C.view clock.new) r) }
+    ensures clock { ReadsClock (C.view clock.old) (C.view clock.new) }
+    ensures opened { (S.view sockets.new).opened ≡ (S.view sockets.old).opened }
+    ensures counts { CountsSocketFaults (S.view sockets.old) (S.view sockets.new) }
+    ensures failed_cause { IsErrOf result FlowsError.SocketFault
+        → Rose (S.view sockets.old).faults (S.view sockets.new).faults }
 {
     let horizon = nest.horizon();
     let settings = Settings {
@@ -87,16 +119,17 @@ pub fn relay_flows<K: Wait, C: Clock, S: Sockets>(
         delay: delay_of(&nest)?,
         again: settings.again,
     };
-    let mut state = RelayState::new(alloc, &nest, flows, settings)?;
-    let mut datagram = [0u8; ROOM];
-    let mut piece = [0u8; PIECE];
-    for _ in rt.forever() {
+    let mut state = RelayState::new(alloc, nest, flows, settings)?;
+    let mut datagram = [0u8; DATAGRAM_ROOM];
+    let mut piece = [0u8; LONGEST_PIECE];
+    'turns: for _ in rt.forever() {
         let moment = clock.now();
         state = state.settle(sockets, moment)?;
         let end = end_of(moment > horizon, clock.has_ended(), state.path.has_room());
         if let Some(end) = end {
             state.close(sockets);
-            return result_of(alloc, nest, state, end);
+            let RelayState { path, counts, .. } = state;
+            return Ok(result_of(alloc, path, counts, end)?);
         }
         state = state.take(sockets, flows, &mut datagram, &mut piece)?;
         state.rest(sockets, horizon);

@@ -4,10 +4,10 @@ use Rattle.relay_flows.specs.inside.Paths.{PathParts}
 
 abbrev pub path_view : Inside → PathParts
 path_view p = record {
+  nest = p.nest;
   rows = p.rows.items;
   entries = p.entries.items;
   up = p.up;
   down = p.down;
   moment = p.moment;
-  horizon = p.horizon;
 }
