@@ -2,8 +2,8 @@
 use live_relay::Side;
 use text_base::Bytes;
 
-/// What sockets did in one call, as those in memory tell it. Flows and connections have numbers from 1, and clients of a
-/// flow too, in the order in which they came.
+/// What sockets did in one call, as those in memory tell it. Flows, connections and clients have numbers
+/// from 1; clients have theirs in the order in which they came, whatever their flow.
 #[derive(Drop)]
 pub enum SocketEvent {
     /// A connection to a flow was accepted.

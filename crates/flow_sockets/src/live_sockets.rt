@@ -4,7 +4,8 @@ ghost use Rattle.flow_sockets.specs.SocketViews.{IsArrival, IsInput};
 
 use crate::live_connection::LiveConnection;
 use crate::tcp_port::TcpPort;
-use crate::udp_port::{MOST_CLIENTS, UdpPort};
+use crate::udp_client::UdpClient;
+use crate::udp_port::{Heard, MOST_CLIENTS, UdpPort, arrival_of};
 use crate::{Arrival, DialState, Input};
 use flow_list::{Flow, FlowKind};
 use libc::types::pollfd;
@@ -12,7 +13,7 @@ use live_relay::Side;
 use std::alloc::Global;
 use std::collections::HashMap;
 use std::io::{self, ErrorKind};
-use std::net::Net;
+use std::net::{Net, SocketAddr, UdpSocket};
 
 // For how many connections there is room from the start.
 const CONNECTIONS: usize = 256;
@@ -27,12 +28,16 @@ enum LiveFlow {
     Tcp(TcpPort),
 }
 
-// The ports that are open, by the order of their flows, and the connections by their numbers.
+// The ports that are open, by the order of their flows, and the connections by their numbers. Clients of all flows are
+// counted together.
 #[derive(Drop)]
 pub(crate) struct LiveSockets {
     alloc: Global,
     flows: Vec<LiveFlow>,
     connections: HashMap<u32, LiveConnection>,
+    // How many clients there were, and how many datagrams of clients passed.
+    made: u32,
+    heard: u64,
     // What the next `poll` asks, and what the last one answered.
     asked: Vec<pollfd>,
 }
@@ -76,14 +81,15 @@ impl LiveSockets {
             alloc,
             flows: Vec::new(alloc),
             connections: HashMap::new(alloc),
+            made: 0,
+            heard: 0,
             asked: Vec::new(alloc),
         }
     }
 
     // Reserves the memory that rests and connections need.
     fn reserve(&mut self, flows: usize) -> io::Result<()> {
-        let clients = flows.saturating_mul(MOST_CLIENTS + 1);
-        let sockets = clients.saturating_add(CONNECTIONS * SOCKETS + 1);
+        let sockets = flows.saturating_add(MOST_CLIENTS + CONNECTIONS * SOCKETS + 1);
         let is_reserved = self.asked.reserve(sockets).is_ok()
             && self.connections.reserve(CONNECTIONS).is_ok();
         if is_reserved {
@@ -196,6 +202,107 @@ impl LiveSockets {
         let _ = self.connections.remove(&connection);
     }
 
+    // Takes a datagram of a client of the flow at this place.
+    fn receive_up<R: Net>(&mut self, rt: &R, place: usize, buf: &mut [u8]) -> io::Result<Arrival>
+        ensures { IfOk result IsArrival }
+    {
+        let Some(LiveFlow::Udp(port)) = self.flows.get_mut(place) else {
+            return Ok(Arrival::Nothing);
+        };
+        let (address, size) = match port.hear(buf)? {
+            Heard::Nothing => return Ok(Arrival::Nothing),
+            Heard::Refused => return Ok(Arrival::Refused),
+            Heard::From { address, size } => (address, size),
+        };
+        self.heard = self.heard.saturating_add(1);
+        match port.note(address, self.heard) {
+            Some(number) => Ok(arrival_of(number, size, None)),
+            None => self.meet(rt, place, address, size),
+        }
+    }
+
+    // Makes a client of whoever sent a datagram from a new address. Without a descriptor for it the datagram is lost.
+    fn meet<R: Net>(
+        &mut self,
+        rt: &R,
+        place: usize,
+        address: SocketAddr,
+        size: usize,
+    ) -> io::Result<Arrival>
+        ensures { IfOk result IsArrival }
+    {
+        let Some(number) = self.made.checked_add(1) else {
+            return Err(io::Error::from(ErrorKind::Unsupported));
+        };
+        let Some(socket) = self.open_for_client(rt, place)? else {
+            return Ok(Arrival::Nothing);
+        };
+        let gone = self.give_way();
+        let client = UdpClient::new(number, address, self.heard, socket);
+        if let Some(LiveFlow::Udp(port)) = self.flows.get_mut(place) {
+            port.add(client)?;
+        }
+        self.made = number;
+        Ok(arrival_of(number, size, gone))
+    }
+
+    // Makes a socket towards the server of the flow at this place.
+    fn open_for_client<R: Net>(&mut self, rt: &R, place: usize) -> io::Result<Option<UdpSocket>> {
+        match self.flows.get_mut(place) {
+            Some(LiveFlow::Udp(port)) => port.open_for_client(rt),
+            _ => Ok(None),
+        }
+    }
+
+    // Returns how many clients there are.
+    fn clients(&self) -> usize {
+        let mut clients = 0usize;
+        for flow in self.flows.iter() {
+            if let LiveFlow::Udp(port) = flow {
+                clients = clients.saturating_add(port.clients());
+            }
+        }
+        clients
+    }
+
+    // Returns the place of the flow with the client that has sent nothing for the longest.
+    fn stalest(&self) -> usize {
+        let mut place = usize::MAX;
+        let mut latest = u64::MAX;
+        for i in 0..self.flows.len() {
+            if let LiveFlow::Udp(port) = &self.flows[i]
+                && let Some(moment) = port.stalest_moment()
+                && moment < latest
+            {
+                place = i;
+                latest = moment;
+            }
+        }
+        place
+    }
+
+    // Lets a client go if there are as many as there may be, and returns its number.
+    fn give_way(&mut self) -> Option<u32> {
+        if self.clients() < MOST_CLIENTS {
+            return None;
+        }
+        let place = self.stalest();
+        match self.flows.get_mut(place) {
+            Some(LiveFlow::Udp(port)) => port.give_way(),
+            _ => None,
+        }
+    }
+
+    // Takes a datagram of the server of the flow at this place.
+    fn receive_down(&mut self, place: usize, buf: &mut [u8]) -> io::Result<Arrival>
+        ensures { IfOk result IsArrival }
+    {
+        match self.flows.get_mut(place) {
+            Some(LiveFlow::Udp(port)) => port.receive_down(buf),
+            _ => Ok(Arrival::Nothing),
+        }
+    }
+
     /// Takes a datagram of a flow.
     pub fn receive<R: Net>(
         &mut self,
@@ -206,9 +313,9 @@ impl LiveSockets {
     ) -> io::Result<Arrival>
         ensures { IfOk result IsArrival }
     {
-        match self.flows.get_mut(place_of(flow)) {
-            Some(LiveFlow::Udp(port)) => port.receive(rt, side, buf),
-            _ => Ok(Arrival::Nothing),
+        match side {
+            Side::Client => self.receive_up(rt, place_of(flow), buf),
+            Side::Server => self.receive_down(place_of(flow), buf),
         }
     }
 

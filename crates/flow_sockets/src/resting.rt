@@ -29,7 +29,7 @@ const LOOKS: u64 = u64::MAX;
 // What a rest counts by: the instant of moment 0, and the descriptor by whose end the user ends.
 #[derive(Drop)]
 pub(crate) struct Resting {
-    start: Instant,
+    start: Option<Instant>,
     end: Option<RawFd>,
     watch: EndWatch,
     // Whether the last rest that waited for the descriptor saw something there.
@@ -54,7 +54,7 @@ fn sleep_within<R: Clock>(rt: &R, left: u64) {
 
 impl Resting {
     /// Moments are counted from `start`. If a descriptor is named, its end is that of the user.
-    pub fn new(start: Instant, end: Option<RawFd>) -> Self {
+    pub fn new(start: Option<Instant>, end: Option<RawFd>) -> Self {
         Resting {
             start,
             end,
@@ -65,7 +65,7 @@ impl Resting {
 
     // How many microseconds have passed since moment 0. None if the system doesn't tell the time.
     fn elapsed<R: Clock>(&self, rt: &R) -> Option<u64> {
-        u64::try_from(self.start.elapsed(rt).ok()?.as_micros()).ok()
+        u64::try_from(self.start.as_ref()?.elapsed(rt).ok()?.as_micros()).ok()
     }
 
     // How many microseconds are left until a time. None if there are none, or if the system doesn't tell the time.

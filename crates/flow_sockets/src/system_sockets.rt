@@ -22,7 +22,7 @@ use std::time::{Clock as Time, Instant};
 /// delayed. A connection isn't accepted while the system has no descriptor or no memory for it, and a dial that gets
 /// none fails.
 ///
-/// A flow of UDP has a socket for each of its clients towards the server, at most 64: the client that has sent nothing
+/// Flows of UDP have a socket for each client towards the server, at most 64 in all: the client that has sent nothing
 /// for the longest gives way to a new one. A datagram is lost, and counted, if its socket has no room for it; if the
 /// system says that nobody listens where it was sent, that it isn't permitted, or that it has no buffer for it; or if
 /// it comes from a new client, and the system has no descriptor for it.
@@ -44,9 +44,9 @@ pub struct SystemSockets<R: Net + Eprint + Time + Drop> {
 }
 
 impl<R: Net + Eprint + Time + Drop> SystemSockets<R> {
-    /// Sockets over the runtime's network, none of which is open. A moment is counted in milliseconds from `start`. If
-    /// a descriptor is named, its end is that of the user.
-    pub fn new(alloc: Global, rt: R, start: Instant, end: Option<RawFd>) -> Self
+    /// Sockets over the runtime's network, none of which is open. A moment is counted in milliseconds from `start`; a
+    /// rest waits for nothing without it. If a descriptor is named, its end is that of the user.
+    pub fn new(alloc: Global, rt: R, start: Option<Instant>, end: Option<RawFd>) -> Self
         ensures begun { (result.opened ≡ None) × (result.faults ≡ 0) }
     {
         SystemSockets {

@@ -12,7 +12,7 @@ use std::os::fd::AsRawFd;
 pub(crate) struct UdpClient {
     pub number: u32,
     pub address: SocketAddr,
-    // How many datagrams of clients the flow had when this one sent its latest.
+    // How many datagrams of clients there were in all when this one sent its latest.
     pub latest: u64,
     socket: UdpSocket,
     readiness: Readiness,

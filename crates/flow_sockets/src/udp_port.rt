@@ -15,8 +15,19 @@ use std::io::{self, ErrorKind};
 use std::net::{Net, SocketAddr, UdpSocket};
 use std::os::fd::AsRawFd;
 
-/// The most clients of a flow.
+/// The most clients of all flows.
 pub(crate) const MOST_CLIENTS: usize = 64;
+
+/// What a port heard.
+#[derive(Clone, Copy)]
+pub(crate) enum Heard {
+    /// Nothing.
+    Nothing,
+    /// A datagram of a length that no packet has.
+    Refused,
+    /// A datagram of `size` bytes from an address.
+    From { address: SocketAddr, size: usize },
+}
 
 // The port at which a flow listens, the server's port, and the clients.
 #[derive(Drop)]
@@ -25,10 +36,6 @@ pub(crate) struct UdpPort {
     to: u16,
     readiness: Readiness,
     clients: Vec<UdpClient>,
-    // How many clients there were.
-    made: u32,
-    // How many datagrams of clients passed.
-    heard: u64,
     // The place of the client whose socket towards the server is looked at next.
     turn: usize,
     // How many datagrams were lost.
@@ -40,8 +47,8 @@ fn passes(size: usize) -> bool {
     size != 0 && size <= LONGEST_DATAGRAM
 }
 
-// What a datagram of this size is.
-fn arrival_of(client: u32, size: usize, gone: Option<u32>) -> Arrival
+/// Returns what a datagram of this size is.
+pub(crate) fn arrival_of(client: u32, size: usize, gone: Option<u32>) -> Arrival
     ensures { IsArrival result }
 {
     if size == 0 || size > LONGEST_DATAGRAM {
@@ -61,29 +68,32 @@ impl UdpPort {
             to,
             readiness: Readiness::unknown(),
             clients,
-            made: 0,
-            heard: 0,
             turn: 0,
             lost: 0,
         })
     }
 
-    /// How many datagrams were lost.
+    /// Returns how many datagrams were lost.
     pub fn lost(&self) -> u64 {
         self.lost
     }
 
-    // The place of the client at this address.
+    /// Returns how many clients there are.
+    pub fn clients(&self) -> usize {
+        self.clients.len()
+    }
+
+    // Returns the place of the client at this address.
     fn place_at(&self, address: SocketAddr) -> Option<usize> {
         self.clients.iter().position(|c| c.address == address)
     }
 
-    // The place of the client of this number.
+    // Returns the place of the client of this number.
     fn place_of(&self, number: u32) -> Option<usize> {
         self.clients.iter().position(|c| c.number == number)
     }
 
-    // The place of the client that has sent nothing for the longest.
+    // Returns the place of the client that has sent nothing for the longest.
     fn stalest(&self) -> usize {
         let mut place = 0usize;
         let mut latest = u64::MAX;
@@ -96,11 +106,16 @@ impl UdpPort {
         place
     }
 
-    // Lets a client go if there are as many as there may be, and returns its number.
-    fn give_way(&mut self) -> Option<u32> {
-        if self.clients.len() < MOST_CLIENTS {
-            return None;
+    /// Returns how many datagrams there had been when its stalest client sent its latest, if it has a client.
+    pub fn stalest_moment(&self) -> Option<u64> {
+        match self.clients.get(self.stalest()) {
+            Some(client) => Some(client.latest),
+            None => None,
         }
+    }
+
+    /// Lets the client go that has sent nothing for the longest, and returns its number.
+    pub fn give_way(&mut self) -> Option<u32> {
         let place = self.stalest();
         if place >= self.clients.len() {
             return None;
@@ -108,62 +123,52 @@ impl UdpPort {
         Some(self.clients.remove(place).number)
     }
 
-    // Makes a client of whoever sent a datagram from a new address.
-    fn meet(&mut self, socket: UdpSocket, address: SocketAddr, size: usize) -> io::Result<Arrival>
-        ensures { IfOk result IsArrival }
-    {
-        let Some(number) = self.made.checked_add(1) else {
-            return Err(io::Error::from(ErrorKind::Unsupported));
-        };
-        let gone = self.give_way();
-        let client = UdpClient::new(number, address, self.heard, socket);
-        if self.clients.push(client).is_err() {
-            return Err(io::Error::from(ErrorKind::OutOfMemory));
+    /// Takes a datagram of a client.
+    pub fn hear(&mut self, buf: &mut [u8]) -> io::Result<Heard> {
+        if self.readiness.take_unready(POLLIN) {
+            return Ok(Heard::Nothing);
         }
-        self.made = number;
-        Ok(arrival_of(number, size, gone))
+        match take_from(&self.socket, buf)? {
+            Some((size, address)) if passes(size) => Ok(Heard::From { address, size }),
+            Some(_) => Ok(Heard::Refused),
+            None => {
+                self.readiness.want(POLLIN);
+                Ok(Heard::Nothing)
+            }
+        }
     }
 
-    // Finds the client at an address, or makes it. Without a descriptor for it the datagram is lost.
-    fn hear<R: Net>(&mut self, rt: &R, address: SocketAddr, size: usize) -> io::Result<Arrival>
-        ensures { IfOk result IsArrival }
-    {
-        self.heard = self.heard.saturating_add(1);
-        let known = self.place_at(address).unwrap_or(usize::MAX);
-        if let Some(client) = self.clients.get_mut(known) {
-            client.latest = self.heard;
-            return Ok(arrival_of(client.number, size, None));
-        }
+    /// Returns the number of the client at this address, if there is one, whose latest datagram is this one.
+    pub fn note(&mut self, address: SocketAddr, heard: u64) -> Option<u32> {
+        let place = self.place_at(address)?;
+        let client = self.clients.get_mut(place)?;
+        client.latest = heard;
+        Some(client.number)
+    }
+
+    /// Makes a socket towards the server. Without a descriptor for it the datagram is lost, and `None` is returned.
+    pub fn open_for_client<R: Net>(&mut self, rt: &R) -> io::Result<Option<UdpSocket>> {
         match open_towards(rt, self.to) {
-            Ok(socket) => self.meet(socket, address, size),
+            Ok(socket) => Ok(Some(socket)),
             Err(error) if is_shortage(&error) => {
                 self.lost = self.lost.saturating_add(1);
                 self.readiness.want(POLLIN);
-                Ok(Arrival::Nothing)
+                Ok(None)
             }
             Err(error) => Err(error),
         }
     }
 
-    // Takes a datagram of a client.
-    fn receive_up<R: Net>(&mut self, rt: &R, buf: &mut [u8]) -> io::Result<Arrival>
-        ensures { IfOk result IsArrival }
-    {
-        if self.readiness.take_unready(POLLIN) {
-            return Ok(Arrival::Nothing);
+    /// Adds a client.
+    pub fn add(&mut self, client: UdpClient) -> io::Result<()> {
+        if self.clients.push(client).is_err() {
+            return Err(io::Error::from(ErrorKind::OutOfMemory));
         }
-        match take_from(&self.socket, buf)? {
-            Some((size, from)) if passes(size) => self.hear(rt, from, size),
-            Some(_) => Ok(Arrival::Refused),
-            None => {
-                self.readiness.want(POLLIN);
-                Ok(Arrival::Nothing)
-            }
-        }
+        Ok(())
     }
 
-    // Takes a datagram of the server for a client. The clients take their turns.
-    fn receive_down(&mut self, buf: &mut [u8]) -> io::Result<Arrival>
+    /// Takes a datagram of the server for a client. The clients take their turns.
+    pub fn receive_down(&mut self, buf: &mut [u8]) -> io::Result<Arrival>
         ensures { IfOk result IsArrival }
     {
         for _ in 0..self.clients.len() {
@@ -179,16 +184,6 @@ impl UdpPort {
             }
         }
         Ok(Arrival::Nothing)
-    }
-
-    /// Takes a datagram of a side.
-    pub fn receive<R: Net>(&mut self, rt: &R, side: Side, buf: &mut [u8]) -> io::Result<Arrival>
-        ensures { IfOk result IsArrival }
-    {
-        match side {
-            Side::Client => self.receive_up(rt, buf),
-            Side::Server => self.receive_down(buf),
-        }
     }
 
     /// Hands a datagram on to a client, or for it to the server. One for a client that gave way goes nowhere.
