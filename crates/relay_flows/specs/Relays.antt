@@ -12,7 +12,7 @@ use Rattle.relay_flows.specs.declared.outcome.FlowsResult.{FlowsResult}
 pub record HasPassed (nest : NestParts) (r : FlowsResult) : Type 0 where
   pub schedule : IsSchedule r.rows
   pub within : AreWithin r.horizon r.rows
-  pub known : length r.entries ≡ length r.rows
+  pub known : length r.entries.items ≡ length r.rows
   pub up_to : r.horizon ≤ nest.horizon
   pub end : r.end ≡ Horizon → r.horizon ≡ nest.horizon
   pub run : r.run ≡ result_of (until r.horizon nest) r.rows
