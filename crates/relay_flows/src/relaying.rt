@@ -14,12 +14,12 @@ use std::sync::Wait;
 
 /// Lets 1 to 16 flows pass a nest, until the clock is past its horizon, the user ends, or a million packets entered.
 pub fn relay_flows<K: Wait, C: Clock, S: Sockets>(
-    rt: &K,
-    alloc: Global,
+    _rt: &K,
+    _alloc: Global,
     nest: Nest,
     flows: &[Flow],
-    settings: FlowSettings,
-    clock: &mut C,
+    _settings: FlowSettings,
+    _clock: &mut C,
     sockets: &mut S,
 ) -> Result<FlowsResult, FlowsError>
     requires { length flows.now ≤ 16 }
@@ -29,6 +29,5 @@ pub fn relay_flows<K: Wait, C: Clock, S: Sockets>(
     ensures failed_cause { IsErrOf result FlowsError.SocketFault
         → Rose (S.view sockets.old).faults (S.view sockets.new).faults }
 {
-    let _ = (rt, alloc, &nest, flows, settings, clock, sockets);
     Err(FlowsError::OutOfMemory)
 }
