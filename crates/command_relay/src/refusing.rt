@@ -4,13 +4,15 @@ ghost use Rattle.mm_base.specs.Disk.{OnlyReads};
 ghost use Rattle.command_ends.specs.Answers.{Concludes, cause_in};
 ghost use Rattle.command_ends.specs.declared.cause.Cause.TheVariants as causes;
 ghost use Rattle.command_relay.specs.Outputs.{IsRefusedAt, outputs_named, outputs_of};
+ghost use Rattle.command_relay.specs.inside.Refusing.{IsJobRefusedAt};
 ghost use Rattle.command_relay.specs.inside.Values.{relay_values};
 
 use crate::inputs::{load_nest, read_words};
-use crate::job::RelayJob;
+use crate::job::{Asked, RelayJob};
 use crate::outputs::packet_names;
-use crate::words::read_relay;
+use crate::words::read_asked;
 use command_ends::{Cause, Ending, conclude};
+use command_flows::{flows_outputs, refuse_flows};
 use mm_base::{Disk, Sink};
 use nest_spec::{NestError, read_nest};
 use std::alloc::Global;
@@ -46,14 +48,32 @@ fn outputs_in(alloc: Global, job: &RelayJob<'_>) -> Result<Vec<Text>, OutOfMemor
 
 /// Returns the names of the files that a relay with these words, those after the program's name, writes: the logs, the
 /// table and the schedule if they are asked for, and then the fates. There are none if the words have no job, or its
-/// shells are no nest.
+/// shells are no nest. Returns `OutOfMemory` if an allocation fails.
 pub fn output_names(alloc: Global, words: &[String]) -> Result<Vec<Text>, OutOfMemory>
     ensures { IfOk result (λ names. names.items ≡ outputs_named (map string_bytes words.now)) }
 {
-    match read_relay(alloc, words)? {
-        Ok(job) => outputs_in(alloc, &job),
+    match read_asked(alloc, words)? {
+        Ok(Asked::Relay(job)) => outputs_in(alloc, &job),
+        Ok(Asked::Flows(job)) => flows_outputs(alloc, &job),
         Err(_) => Ok(Vec::new(alloc)),
     }
+}
+
+// Refuses what the words and the inputs of a relay between a client and a server are refused for, and else the output of
+// this name.
+fn refuse_relay<D: Disk>(
+    alloc: Global,
+    job: &RelayJob<'_>,
+    name: &str,
+    disk: &mut D,
+) -> Result<(), Cause>
+    ensures refused { IsJobRefusedAt (relay_values job.now) name.now (D.view disk.old) (D.view disk.new)
+        (cause_in result) }
+    ensures only_reads { OnlyReads (D.view disk.old) (D.view disk.new) }
+{
+    let nest = read_words(alloc, job)?;
+    load_nest(alloc, job, nest, disk)?;
+    Err(Cause::WriteFault(Text::from_text(alloc, name)?))
 }
 
 // Refuses what the words and the inputs are refused for, and else the output of this name.
@@ -62,12 +82,9 @@ fn refusal<D: Disk>(alloc: Global, words: &[String], name: &str, disk: &mut D) -
         (cause_in result) }
     ensures only_reads { OnlyReads (D.view disk.old) (D.view disk.new) }
 {
-    match read_relay(alloc, words)? {
-        Ok(job) => {
-            let nest = read_words(alloc, &job)?;
-            load_nest(alloc, &job, nest, disk)?;
-            Err(Cause::WriteFault(Text::from_text(alloc, name)?))
-        }
+    match read_asked(alloc, words)? {
+        Ok(Asked::Relay(job)) => refuse_relay(alloc, &job, name, disk),
+        Ok(Asked::Flows(job)) => refuse_flows(alloc, &job, name, disk),
         Err(fault) => Err(Cause::usage(fault)),
     }
 }
