@@ -3,6 +3,7 @@ ghost use Rattle.std.specs.Prelude.{◌≡◌, ◌-◌, ◌++◌, IfOk, map, sli
 ghost use Rattle.command_flows.specs.FateLines.{flow_fate_text, flow_of};
 ghost use Rattle.command_flows.specs.inside.Fates.{with_flow};
 
+use itoa::Buffer;
 use nest_spec::{FateRow, put_fate};
 use relay_flows::Entry;
 use std::alloc::Global;
@@ -26,7 +27,8 @@ impl PrintLine for FlowFate {
         out.put(self.row.direction.between_spaces());
         out.put_decimal(u64::from(self.row.id));
         out.put_byte(b' ');
-        out.put_decimal(u64::from(self.flow));
+        let mut digits = Buffer::new();
+        out.put(digits.format(self.flow).as_bytes());
     }
 }
 

@@ -9,7 +9,7 @@ ghost use Rattle.command_ends.specs.Ends.{Ends, outside};
 ghost use Rattle.command_ends.specs.TopCalls.{RefusesByWords, TopCall};
 ghost use Rattle.command_relay.specs.Relaying.{net as relay_net, relay_reading, relay_work};
 ghost use Rattle.command_relay.specs.Tasks.{net, net_counts, relay_words, work};
-ghost use Rattle.command_relay.specs.inside.Values.{relay_values};
+ghost use Rattle.command_relay.specs.inside.Values.{asked_reading, relay_values};
 
 use crate::files::write_relayed;
 use crate::inputs::{load_nest, read_words};
@@ -50,6 +50,32 @@ fn run<D: Disk, O: Sink, C: Clock, W: Wire>(
     print_relayed(alloc, &relayed, out)
 }
 
+// Does what the words ask for.
+fn answer_asked<R: Wait, D: Disk, O: Sink, C: Clock, W: Wire, S: Sockets>(
+    rt: &R,
+    alloc: Global,
+    asked: Asked<'_>,
+    disk: &mut D,
+    out: &mut O,
+    clock: &mut C,
+    wire: &mut W,
+    sockets: &mut S,
+) -> Result<(), Cause>
+    ensures ends { Ends work (asked_reading asked)
+        (outside (D.view disk.old) (O.view out.old) (net (C.view clock.old) (W.view wire.old) (S.view sockets.old)))
+        (outside (D.view disk.new) (O.view out.new) (net (C.view clock.new) (W.view wire.new) (S.view sockets.new))) (cause_in result) }
+    ensures wire_counts { CountsWireFaults (W.view wire.old) (W.view wire.new) }
+    ensures socket_counts { CountsSocketFaults (S.view sockets.old) (S.view sockets.new) }
+    ensures counts { CountsDisk (D.view disk.old) (D.view disk.new) }
+    ensures out_counts { CountsSinkFaults (O.view out.old) (O.view out.new) }
+    ensures alone { IsLeftAlone (asked_reading asked) (D.view disk.old) (D.view disk.new) }
+{
+    match asked {
+        Asked::Relay(job) => run(alloc, &job, disk, out, clock, wire),
+        Asked::Flows(job) => answer_flows(rt, alloc, &job, disk, out, clock, sockets),
+    }
+}
+
 // Does what the words say.
 fn answer<R: Wait, D: Disk, O: Sink, C: Clock, W: Wire, S: Sockets>(
     rt: &R,
@@ -71,8 +97,7 @@ fn answer<R: Wait, D: Disk, O: Sink, C: Clock, W: Wire, S: Sockets>(
     ensures alone { IsLeftAlone (relay_words (map string_bytes words.now)) (D.view disk.old) (D.view disk.new) }
 {
     match read_asked(alloc, words)? {
-        Ok(Asked::Relay(job)) => run(alloc, &job, disk, out, clock, wire),
-        Ok(Asked::Flows(job)) => answer_flows(rt, alloc, &job, disk, out, clock, sockets),
+        Ok(asked) => answer_asked(rt, alloc, asked, disk, out, clock, wire, sockets),
         Err(fault) => Err(Cause::usage(fault)),
     }
 }

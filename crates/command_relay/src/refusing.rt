@@ -4,8 +4,9 @@ ghost use Rattle.mm_base.specs.Disk.{OnlyReads};
 ghost use Rattle.command_ends.specs.Answers.{Concludes, cause_in};
 ghost use Rattle.command_ends.specs.declared.cause.Cause.TheVariants as causes;
 ghost use Rattle.command_relay.specs.Outputs.{IsRefusedAt, outputs_named, outputs_of};
-ghost use Rattle.command_relay.specs.inside.Refusing.{IsJobRefusedAt};
-ghost use Rattle.command_relay.specs.inside.Values.{relay_values};
+ghost use Rattle.command_relay.specs.inside.Refusing.{IsReadingRefusedAt};
+ghost use Rattle.command_relay.specs.Relaying.{relay_reading};
+ghost use Rattle.command_relay.specs.inside.Values.{asked_outputs, asked_reading, relay_values};
 
 use crate::inputs::{load_nest, read_words};
 use crate::job::{Asked, RelayJob};
@@ -32,8 +33,8 @@ fn with_others(alloc: Global, names: &[Text], others: &[&str]) -> Result<Vec<Tex
     Ok(all)
 }
 
-// Returns the names of a job's outputs.
-fn outputs_in(alloc: Global, job: &RelayJob<'_>) -> Result<Vec<Text>, OutOfMemory>
+// Returns the names of the outputs of a relay between a client and a server.
+fn relay_outputs(alloc: Global, job: &RelayJob<'_>) -> Result<Vec<Text>, OutOfMemory>
     ensures { IfOk result (λ names. names.items ≡ outputs_of (relay_values job.now)) }
 {
     match read_nest(alloc, job.shells) {
@@ -46,6 +47,16 @@ fn outputs_in(alloc: Global, job: &RelayJob<'_>) -> Result<Vec<Text>, OutOfMemor
     }
 }
 
+// Returns the names of the outputs of what the words ask for.
+fn outputs_in(alloc: Global, asked: Asked<'_>) -> Result<Vec<Text>, OutOfMemory>
+    ensures { IfOk result (λ names. names.items ≡ asked_outputs asked) }
+{
+    match asked {
+        Asked::Relay(job) => relay_outputs(alloc, &job),
+        Asked::Flows(job) => flows_outputs(alloc, &job),
+    }
+}
+
 /// Returns the names of the files that a relay with these words, those after the program's name, writes: the logs, the
 /// table and the schedule if they are asked for, and then the fates. There are none if the words have no job, or its
 /// shells are no nest. Returns `OutOfMemory` if an allocation fails.
@@ -53,8 +64,7 @@ pub fn output_names(alloc: Global, words: &[String]) -> Result<Vec<Text>, OutOfM
     ensures { IfOk result (λ names. names.items ≡ outputs_named (map string_bytes words.now)) }
 {
     match read_asked(alloc, words)? {
-        Ok(Asked::Relay(job)) => outputs_in(alloc, &job),
-        Ok(Asked::Flows(job)) => flows_outputs(alloc, &job),
+        Ok(asked) => outputs_in(alloc, asked),
         Err(_) => Ok(Vec::new(alloc)),
     }
 }
@@ -67,13 +77,30 @@ fn refuse_relay<D: Disk>(
     name: &str,
     disk: &mut D,
 ) -> Result<(), Cause>
-    ensures refused { IsJobRefusedAt (relay_values job.now) name.now (D.view disk.old) (D.view disk.new)
+    ensures refused { IsReadingRefusedAt (relay_reading (relay_values job.now)) name.now (D.view disk.old) (D.view disk.new)
         (cause_in result) }
     ensures only_reads { OnlyReads (D.view disk.old) (D.view disk.new) }
 {
     let nest = read_words(alloc, job)?;
     load_nest(alloc, job, nest, disk)?;
     Err(Cause::WriteFault(Text::from_text(alloc, name)?))
+}
+
+// Refuses what the words and the inputs of what is asked for are refused for, and else the output of this name.
+fn refuse_asked<D: Disk>(
+    alloc: Global,
+    asked: Asked<'_>,
+    name: &str,
+    disk: &mut D,
+) -> Result<(), Cause>
+    ensures refused { IsReadingRefusedAt (asked_reading asked) name.now (D.view disk.old) (D.view disk.new)
+        (cause_in result) }
+    ensures only_reads { OnlyReads (D.view disk.old) (D.view disk.new) }
+{
+    match asked {
+        Asked::Relay(job) => refuse_relay(alloc, &job, name, disk),
+        Asked::Flows(job) => refuse_flows(alloc, &job, name, disk),
+    }
 }
 
 // Refuses what the words and the inputs are refused for, and else the output of this name.
@@ -83,8 +110,7 @@ fn refusal<D: Disk>(alloc: Global, words: &[String], name: &str, disk: &mut D) -
     ensures only_reads { OnlyReads (D.view disk.old) (D.view disk.new) }
 {
     match read_asked(alloc, words)? {
-        Ok(Asked::Relay(job)) => refuse_relay(alloc, &job, name, disk),
-        Ok(Asked::Flows(job)) => refuse_flows(alloc, &job, name, disk),
+        Ok(asked) => refuse_asked(alloc, asked, name, disk),
         Err(fault) => Err(Cause::usage(fault)),
     }
 }

@@ -2,8 +2,7 @@
 ghost use Rattle.std.specs.Prelude.{◌≡◌, IfOk, map, string_bytes, option_map};
 ghost use Rattle.std.specs.Result.{result_ok};
 ghost use Rattle.command_relay.specs.Jobs.{relay_from, relay_of};
-ghost use Rattle.command_relay.specs.Tasks.{relay_words};
-ghost use Rattle.command_relay.specs.inside.Values.{asked_reading, relay_values};
+ghost use Rattle.command_relay.specs.inside.Values.{IsAsked, relay_values};
 
 use crate::job::{Asked, RelayJob};
 use command_flows::read_flows_job;
@@ -67,7 +66,7 @@ pub(crate) fn read_asked<'a>(
     alloc: Global,
     words: &'a [String],
 ) -> Result<Result<Asked<'a>, WordFault>, AllocError>
-    ensures { IfOk result (λ read. asked_reading (result_ok read) ≡ relay_words (map string_bytes words.now)) }
+    ensures { IfOk result (λ read. IsAsked (map string_bytes words.now) (result_ok read)) }
 {
     if let Some(job) = find_relay(alloc, words)? {
         return Ok(Ok(Asked::Relay(job)));
