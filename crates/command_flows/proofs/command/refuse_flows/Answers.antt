@@ -22,8 +22,8 @@ returns-in_err-load_inputs-clause-refused g c =
     (stops_later (flows_reading job) (flows_inputs job c.in_ok-words.words) disk disk new _
     (c.in_ok-words.ensures.read disk) (reads_none disk) c.in_err-load_inputs.ensures.stopped)
 
-pub returns-in_ok-from_text-clause-refused : goal.returns-in_ok-from_text-clause-refused
-returns-in_ok-from_text-clause-refused g c =
+pub returns-clause-refused : goal.returns-clause-refused
+returns-clause-refused g c =
     let job = flows_values c.args.job.now in
     let disk = g.D.Disk.view c.args.disk.now in
     let inputs = c.in_ok-load_inputs.field-0 in

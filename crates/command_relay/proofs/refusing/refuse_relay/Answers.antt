@@ -22,8 +22,8 @@ returns-in_err-load_nest-clause-refused g c =
     (stops_later (relay_reading job) (relay_inputs job c.in_ok-nest.nest) disk disk new _
     (c.in_ok-nest.ensures.read disk) (reads_none disk) c.in_err-load_nest.ensures.stopped)
 
-pub returns-in_ok-from_text-clause-refused : goal.returns-in_ok-from_text-clause-refused
-returns-in_ok-from_text-clause-refused g c =
+pub returns-clause-refused : goal.returns-clause-refused
+returns-clause-refused g c =
     let job = relay_values c.args.job.now in
     let disk = g.D.Disk.view c.args.disk.now in
     let has = c.in_ok-load_nest.ensures.found in
