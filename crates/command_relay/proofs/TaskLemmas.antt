@@ -72,17 +72,19 @@ no_relay words found none of_words = sym of_words ∙ ap (λ (o : Option RelayJo
 pub asks_flows : (words : List Text) (found : Option RelayJob) (other : Option FlowsJob) (job : FlowsJob)
     → found ≡ None → option_map relay_values found ≡ jobs.relay_of words → other ≡ Some job
     → option_map flows_values other ≡ flows.flows_of words → IsAsked words (Some (Flows job))
-asks_flows words found other job none of_words is flows_are =
-    (no_relay words found none of_words,
-    sym flows_are ∙ ap (λ (o : Option FlowsJob). option_map flows_values o) is)
+asks_flows words found other job none of_words is flows_are = (
+  no_relay words found none of_words,
+  sym flows_are ∙ ap (λ (o : Option FlowsJob). option_map flows_values o) is,
+)
 
 -- or none
 pub asks_none : (words : List Text) (found : Option RelayJob) (other : Option FlowsJob) → found ≡ None
     → option_map relay_values found ≡ jobs.relay_of words → other ≡ None
     → option_map flows_values other ≡ flows.flows_of words → IsAsked words None
-asks_none words found other none of_words is flows_are =
-    (no_relay words found none of_words,
-    sym flows_are ∙ ap (λ (o : Option FlowsJob). option_map flows_values o) is)
+asks_none words found other none of_words is flows_are = (
+  no_relay words found none of_words,
+  sym flows_are ∙ ap (λ (o : Option FlowsJob). option_map flows_values o) is,
+)
 
 -- what is read for what the words ask for is what the words read
 pub asked_reads : (words : List Text) (asking : Asked) → IsAsked words (Some asking)

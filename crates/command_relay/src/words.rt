@@ -50,10 +50,9 @@ fn find_relay<'a>(alloc: Global, words: &'a [String]) -> Result<Option<RelayJob<
 // Returns which relay the words are to be explained as, since they ask for none: that of flows if an option word names a
 // list of flows.
 fn command_meant(words: &[String]) -> Command {
-    let names_flows = words
-        .iter()
-        .take_while(|word| word.as_str() != "--")
-        .any(|word| word.as_str() == "--flows" || word.as_str().starts_with("--flows="));
+    let names_flows = words.iter().take_while(|word| word.as_str() != "--").any(|word| word.as_str()
+        == "--flows"
+        || word.as_str().starts_with("--flows="));
     if names_flows {
         Command::Flows
     } else {

@@ -1,5 +1,5 @@
-use Rattle.std.proofs.Common.{Err, Some, ap, ◌∙◌}
-use Rattle.command_flows.proofs.PassLemmas.{stops_flowing, stops_opening}
+use Rattle.std.proofs.Common.{Err, ap}
+use Rattle.command_flows.proofs.PassLemmas.{stops_opening}
 use Rattle.command_flows.proofs.passing.pass_flows.Goals as goal
 
 pub returns-in-Err-clause-stopped : goal.returns-in-Err-clause-stopped

@@ -7,6 +7,6 @@ pub returns-clause-line : goal.returns-clause-line
 returns-clause-line c = grind (arith, common_steps)
 
 pub returns-clause-short : goal.returns-clause-short
-returns-clause-short c = 
+returns-clause-short c =
     let short = length-decimal-le 10 c.args.self.now.flow (omega arith) (omega arith) (omega arith) in
     grind (arith, common_steps)
