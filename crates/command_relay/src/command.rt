@@ -61,14 +61,14 @@ fn answer_asked<R: Wait, D: Disk, O: Sink, C: Clock, W: Wire, S: Sockets>(
     wire: &mut W,
     sockets: &mut S,
 ) -> Result<(), Cause>
-    ensures ends { Ends work (asked_reading asked)
+    ensures ends { Ends work (asked_reading asked.entry)
         (outside (D.view disk.old) (O.view out.old) (net (C.view clock.old) (W.view wire.old) (S.view sockets.old)))
         (outside (D.view disk.new) (O.view out.new) (net (C.view clock.new) (W.view wire.new) (S.view sockets.new))) (cause_in result) }
     ensures wire_counts { CountsWireFaults (W.view wire.old) (W.view wire.new) }
     ensures socket_counts { CountsSocketFaults (S.view sockets.old) (S.view sockets.new) }
     ensures counts { CountsDisk (D.view disk.old) (D.view disk.new) }
     ensures out_counts { CountsSinkFaults (O.view out.old) (O.view out.new) }
-    ensures alone { IsLeftAlone (asked_reading asked) (D.view disk.old) (D.view disk.new) }
+    ensures alone { IsLeftAlone (asked_reading asked.entry) (D.view disk.old) (D.view disk.new) }
 {
     match asked {
         Asked::Relay(job) => run(alloc, &job, disk, out, clock, wire),

@@ -49,7 +49,7 @@ fn relay_outputs(alloc: Global, job: &RelayJob<'_>) -> Result<Vec<Text>, OutOfMe
 
 // Returns the names of the outputs of what the words ask for.
 fn outputs_in(alloc: Global, asked: Asked<'_>) -> Result<Vec<Text>, OutOfMemory>
-    ensures { IfOk result (λ names. names.items ≡ asked_outputs asked) }
+    ensures { IfOk result (λ names. names.items ≡ asked_outputs asked.entry) }
 {
     match asked {
         Asked::Relay(job) => relay_outputs(alloc, &job),
@@ -93,7 +93,7 @@ fn refuse_asked<D: Disk>(
     name: &str,
     disk: &mut D,
 ) -> Result<(), Cause>
-    ensures refused { IsReadingRefusedAt (asked_reading asked) name.now (D.view disk.old) (D.view disk.new)
+    ensures refused { IsReadingRefusedAt (asked_reading asked.entry) name.now (D.view disk.old) (D.view disk.new)
         (cause_in result) }
     ensures only_reads { OnlyReads (D.view disk.old) (D.view disk.new) }
 {
