@@ -15,7 +15,7 @@ use Rattle.command_ends.specs.declared.cause.Refusal.TheVariants.{Words}
 use Rattle.command_ends.specs.declared.cause.WordsRefusal.{WordsRefusal}
 
 -- What is counted of the net that a program serves: of `mm` the port, of `mm-record` the port alone and not what it
--- dials, of `mm-relay` the wire alone and not the clock.
+-- dials, of `mm-relay` the wire and the sockets, of which a relay has one, and not the clock.
 pub record NetCounts (N : Type 0) : Type 1 where
   -- how many of its calls have failed
   pub faults : N → ℕ

@@ -13,14 +13,13 @@ use Rattle.nest_spec.specs.Nests.{NestParts}
 use Rattle.nest_spec.specs.TableText.{run_entry, table_text}
 use Rattle.nest_spec.specs.Words.{NestPlan, nest_of}
 use Rattle.live_relay.specs.declared.outcome.RelayResult.{RelayResult}
-use Rattle.command_ends.specs.Causes.{Text}
 use Rattle.command_ends.specs.Ends.{Ends, Finishes, IsStopped, Serving, outside}
 use Rattle.command_ends.specs.Readings.{Reading, Done, Reaches, AtTask, unless}
 use Rattle.command_ends.specs.inside.Readings.{Leads}
 use Rattle.command_ends.specs.declared.cause.Cause.{Cause}
 use Rattle.command_ends.specs.declared.cause.Cause.TheVariants.{NetFault, OutOfMemory}
 use Rattle.command_ends.proofs.EndLemmas.{keeps}
-use Rattle.command_ends.proofs.ReadingLemmas.{HasOneEnd, RefusesNoWords, RefusesWordsFirst, asked_first, first_one}
+use Rattle.command_ends.proofs.ReadingLemmas.{RefusesNoWords, RefusesWordsFirst}
 use Rattle.command_ends.proofs.ReadingLemmas.{leads_then, leads_unless}
 use Rattle.command_ends.proofs.ReadingLemmas.{unless_no_words}
 use Rattle.nest_command.specs.RunFiles.{file_if, log_file}
@@ -28,11 +27,11 @@ use Rattle.nest_command.specs.NestReading.{refused_count, refused_outputs}
 use Rattle.nest_command.proofs.InputLemmas.{have_said, have_texts, leads_traces}
 use Rattle.nest_command.proofs.NestLemmas.{count_text, count_within}
 use Rattle.nest_command.proofs.NestRefusals.{nest_first, traces_no_words}
-use Rattle.command_relay.specs.Jobs.{RelayJob, relay_of}
+use Rattle.command_relay.specs.Jobs.{RelayJob}
 use Rattle.command_relay.specs.Lines.{relay_line}
 use Rattle.command_relay.specs.inside.Loaded.{HasNest}
 use Rattle.command_relay.specs.Relaying.{HasRelayed, HasStopped, RelayNet, RelayTask}
-use Rattle.command_relay.specs.Relaying.{packet_names, relay_files, relay_inputs, relay_reading, relay_words}
+use Rattle.command_relay.specs.Relaying.{packet_names, relay_files, relay_inputs, relay_reading}
 use Rattle.command_relay.specs.Relaying.{nest_for, relay_work}
 use Rattle.command_relay.proofs.ScheduleLemmas.{relayed_schedule}
 
@@ -136,11 +135,7 @@ inputs_no_words job plan =
     unless_no_words (refused_count job.horizon plan.shells (map trace_in texts)) (done_with job plan texts)
     (λ refusal e. (count_text job.horizon plan.shells (map trace_in texts) refusal e).not_words) tt)
 
-pub relay_first : (words : List Text) → RefusesWordsFirst (relay_words words)
-relay_first words = asked_first (relay_of words) relay_reading (λ job.
+pub reading_first : (job : RelayJob) → RefusesWordsFirst (relay_reading job)
+reading_first job =
     nest_first (nest_of job.shells) (refused_outputs [] (packet_names job)) job.horizon
-    (relay_inputs job) (inputs_no_words job))
-
--- and the files lead to one end
-pub relay_one : (words : List Text) → HasOneEnd (relay_words words)
-relay_one words = first_one (relay_words words) (relay_first words)
+    (relay_inputs job) (inputs_no_words job)

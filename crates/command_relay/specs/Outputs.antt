@@ -9,7 +9,10 @@ use Rattle.command_ends.specs.Stops.{StopsReading}
 use Rattle.command_ends.specs.declared.cause.Cause.{Cause}
 use Rattle.command_ends.specs.declared.cause.Cause.TheVariants.{WriteFault}
 use Rattle.command_relay.specs.Jobs.{RelayJob, relay_of}
-use Rattle.command_relay.specs.Relaying.{RelayTask, packet_names, relay_words}
+use Rattle.command_flows.specs.Jobs.{FlowsJob, flows_of}
+use Rattle.command_flows.specs.Outputs as flows
+use Rattle.command_relay.specs.Relaying.{packet_names}
+use Rattle.command_relay.specs.Tasks.{Task, relay_words}
 
 -- the logs of the nest, and then the outputs after them; none if there is no nest
 abbrev pub outputs_with : Result NestPlan NestError → List Text → List Text
@@ -20,17 +23,18 @@ outputs_with (Err error) others = []
 abbrev pub outputs_of : RelayJob → List Text
 outputs_of job = outputs_with (nest_of job.shells) (packet_names job)
 
-abbrev pub outputs_if : Option RelayJob → List Text
-outputs_if None = []
-outputs_if (Some job) = outputs_of job
+abbrev pub outputs_if : Option RelayJob → Option FlowsJob → List Text
+outputs_if (Some job) other = outputs_of job
+outputs_if None (Some job) = flows.outputs_of job
+outputs_if None None = []
 
 -- the files that the relay of these words writes
 abbrev pub outputs_named : List Text → List Text
-outputs_named words = outputs_if (relay_of words)
+outputs_named words = outputs_if (relay_of words) (flows_of words)
 
 -- The words and the files lead to a relay.
 pub record LeadsToRelay (words : List Text) (disk : DiskView) : Type 0 where
-  pub task : RelayTask
+  pub task : Task
   pub read : Reaches disk.files (relay_words words) (AtTask task)
 
 -- Why a relay ends if the output of this name can't be written. The cause is the refusal of the words or inputs, out of

@@ -13,21 +13,20 @@ use Rattle.nest_spec.specs.Words.{NestPlan}
 use Rattle.live_relay.specs.Clocks.{ClockView}
 use Rattle.live_relay.specs.Opened.{opened_at, refused_at}
 use Rattle.live_relay.specs.Relays.{IsRelayed, IsStopped}
-use Rattle.live_relay.specs.Wires.{CountsWireFaults, WireView}
+use Rattle.live_relay.specs.Wires.{WireView}
 use Rattle.live_relay.specs.declared.outcome.RelayEnd.TheVariants.{Horizon}
 use Rattle.live_relay.specs.declared.outcome.RelayResult.{RelayResult}
 use Rattle.command_ends.specs.Causes.{Text}
 use Rattle.command_ends.specs.Kept.{KeepsFiles}
 use Rattle.command_ends.specs.Outputs.{NamedText, Output, named_text}
-use Rattle.command_ends.specs.Readings.{Reading, Done, asked, unless}
-use Rattle.command_ends.specs.TopCalls.{NetCounts}
+use Rattle.command_ends.specs.Readings.{Reading, Done, unless}
 use Rattle.command_ends.specs.Works.{Work}
 use Rattle.command_ends.specs.declared.cause.Cause.{Cause}
 use Rattle.command_ends.specs.declared.cause.Cause.TheVariants.{NetFault, OutOfMemory}
 use Rattle.nest_command.specs.Inputs.{AreTraceTexts, reading_traces}
 use Rattle.nest_command.specs.RunFiles.{file_if, log_file}
 use Rattle.nest_command.specs.NestReading.{plan_reading, refused_count}
-use Rattle.command_relay.specs.Jobs.{RelayJob, relay_of}
+use Rattle.command_relay.specs.Jobs.{RelayJob}
 use Rattle.command_relay.specs.Lines.{relay_line}
 
 -- a relay whose words ask for this nest, and the texts of its traces
@@ -49,10 +48,6 @@ packet_names job = option_to_list job.table ++ option_to_list job.schedule_out +
 
 abbrev pub relay_reading : RelayJob → Reading RelayTask
 relay_reading job = plan_reading job.shells [] (packet_names job) job.horizon (relay_inputs job)
-
--- the words after the program's name
-abbrev pub relay_words : List Text → Reading RelayTask
-relay_words words = asked (relay_of words) relay_reading
 
 -- the nest of the shells' words with these traces
 abbrev pub nest_for : RelayJob → NestPlan → List TraceView → NestParts
@@ -117,11 +112,4 @@ relay_work task = record {
   stops = StopsRelay task;
   leaves = KeepsFiles;
   faulted = λ old new. Rose old.wire.faults new.wire.faults;
-}
-
--- what is counted of the net is what the wire counts
-abbrev pub net_counts : NetCounts RelayNet
-net_counts = record {
-  faults = λ (n : RelayNet). n.wire.faults;
-  keeps = λ (old : RelayNet) (new : RelayNet). CountsWireFaults old.wire new.wire;
 }

@@ -4,13 +4,16 @@ ghost use Rattle.mm_base.specs.Disk.{OnlyReads};
 ghost use Rattle.command_ends.specs.Answers.{Concludes, cause_in};
 ghost use Rattle.command_ends.specs.declared.cause.Cause.TheVariants as causes;
 ghost use Rattle.command_relay.specs.Outputs.{IsRefusedAt, outputs_named, outputs_of};
-ghost use Rattle.command_relay.specs.inside.Values.{relay_values};
+ghost use Rattle.command_relay.specs.inside.Refusing.{IsReadingRefusedAt};
+ghost use Rattle.command_relay.specs.Relaying.{relay_reading};
+ghost use Rattle.command_relay.specs.inside.Values.{asked_outputs, asked_reading, relay_values};
 
 use crate::inputs::{load_nest, read_words};
-use crate::job::RelayJob;
+use crate::job::{Asked, RelayJob};
 use crate::outputs::packet_names;
-use crate::words::read_relay;
+use crate::words::read_asked;
 use command_ends::{Cause, Ending, conclude};
+use command_flows::{flows_outputs, refuse_flows};
 use mm_base::{Disk, Sink};
 use nest_spec::{NestError, read_nest};
 use std::alloc::Global;
@@ -30,8 +33,8 @@ fn with_others(alloc: Global, names: &[Text], others: &[&str]) -> Result<Vec<Tex
     Ok(all)
 }
 
-// Returns the names of a job's outputs.
-fn outputs_in(alloc: Global, job: &RelayJob<'_>) -> Result<Vec<Text>, OutOfMemory>
+// Returns the names of the outputs of a relay between a client and a server.
+fn relay_outputs(alloc: Global, job: &RelayJob<'_>) -> Result<Vec<Text>, OutOfMemory>
     ensures { IfOk result (λ names. names.items ≡ outputs_of (relay_values job.now)) }
 {
     match read_nest(alloc, job.shells) {
@@ -44,15 +47,59 @@ fn outputs_in(alloc: Global, job: &RelayJob<'_>) -> Result<Vec<Text>, OutOfMemor
     }
 }
 
+// Returns the names of the outputs of what the words ask for.
+fn outputs_in(alloc: Global, asked: Asked<'_>) -> Result<Vec<Text>, OutOfMemory>
+    ensures { IfOk result (λ names. names.items ≡ asked_outputs asked.entry) }
+{
+    match asked {
+        Asked::Relay(job) => relay_outputs(alloc, &job),
+        Asked::Flows(job) => flows_outputs(alloc, &job),
+    }
+}
+
 /// Returns the names of the files that a relay with these words, those after the program's name, writes: the logs, the
 /// table and the schedule if they are asked for, and then the fates. There are none if the words have no job, or its
-/// shells are no nest.
+/// shells are no nest. Returns `OutOfMemory` if an allocation fails.
 pub fn output_names(alloc: Global, words: &[String]) -> Result<Vec<Text>, OutOfMemory>
     ensures { IfOk result (λ names. names.items ≡ outputs_named (map string_bytes words.now)) }
 {
-    match read_relay(alloc, words)? {
-        Ok(job) => outputs_in(alloc, &job),
+    match read_asked(alloc, words)? {
+        Ok(asked) => outputs_in(alloc, asked),
         Err(_) => Ok(Vec::new(alloc)),
+    }
+}
+
+// Refuses what the words and the inputs of a relay between a client and a server are refused for, and else the output of
+// this name.
+fn refuse_relay<D: Disk>(
+    alloc: Global,
+    job: &RelayJob<'_>,
+    name: &str,
+    disk: &mut D,
+) -> Result<(), Cause>
+    ensures refused { IsReadingRefusedAt (relay_reading (relay_values job.now)) name.now (D.view disk.old) (D.view disk.new)
+        (cause_in result) }
+    ensures only_reads { OnlyReads (D.view disk.old) (D.view disk.new) }
+{
+    let nest = read_words(alloc, job)?;
+    load_nest(alloc, job, nest, disk)?;
+    Err(Cause::WriteFault(Text::from_text(alloc, name)?))
+}
+
+// Refuses what the words and the inputs of what is asked for are refused for, and else the output of this name.
+fn refuse_asked<D: Disk>(
+    alloc: Global,
+    asked: Asked<'_>,
+    name: &str,
+    disk: &mut D,
+) -> Result<(), Cause>
+    ensures refused { IsReadingRefusedAt (asked_reading asked.entry) name.now (D.view disk.old) (D.view disk.new)
+        (cause_in result) }
+    ensures only_reads { OnlyReads (D.view disk.old) (D.view disk.new) }
+{
+    match asked {
+        Asked::Relay(job) => refuse_relay(alloc, &job, name, disk),
+        Asked::Flows(job) => refuse_flows(alloc, &job, name, disk),
     }
 }
 
@@ -62,12 +109,8 @@ fn refusal<D: Disk>(alloc: Global, words: &[String], name: &str, disk: &mut D) -
         (cause_in result) }
     ensures only_reads { OnlyReads (D.view disk.old) (D.view disk.new) }
 {
-    match read_relay(alloc, words)? {
-        Ok(job) => {
-            let nest = read_words(alloc, &job)?;
-            load_nest(alloc, &job, nest, disk)?;
-            Err(Cause::WriteFault(Text::from_text(alloc, name)?))
-        }
+    match read_asked(alloc, words)? {
+        Ok(asked) => refuse_asked(alloc, asked, name, disk),
         Err(fault) => Err(Cause::usage(fault)),
     }
 }

@@ -2,12 +2,11 @@
 ghost use Rattle.std.specs.Prelude.{◌≡◌, IfOk, map, string_bytes, option_map};
 ghost use Rattle.std.specs.Result.{result_ok};
 ghost use Rattle.command_relay.specs.Jobs.{relay_from, relay_of};
-ghost use Rattle.command_relay.specs.inside.Values.{relay_values};
+ghost use Rattle.command_relay.specs.inside.Values.{IsAsked, relay_values};
 
-use crate::job::RelayJob;
-use option_words::{
-    Command, WordFault, job_or_fault, read_port, read_seed, read_split, read_within,
-};
+use crate::job::{Asked, RelayJob};
+use command_flows::read_flows_job;
+use option_words::{Command, WordFault, read_port, read_seed, read_split, read_within};
 use std::alloc::{AllocError, Global};
 use text_base::read_decimal;
 
@@ -48,13 +47,31 @@ fn find_relay<'a>(alloc: Global, words: &'a [String]) -> Result<Option<RelayJob<
     }
 }
 
-// Returns the job of `words`, the words after the program's name, or their first fault.
-pub(crate) fn read_relay<'a>(
+// Returns which relay the words are to be explained as, since they ask for none: that of flows if an option word names a
+// list of flows.
+fn command_meant(words: &[String]) -> Command {
+    let names_flows = words.iter().take_while(|word| word.as_str() != "--").any(|word| word.as_str()
+        == "--flows"
+        || word.as_str().starts_with("--flows="));
+    if names_flows {
+        Command::Flows
+    } else {
+        Command::Relay
+    }
+}
+
+// Returns the job of `words`, the words after the program's name, of either kind, or their first fault.
+pub(crate) fn read_asked<'a>(
     alloc: Global,
     words: &'a [String],
-) -> Result<Result<RelayJob<'a>, WordFault>, AllocError>
-    ensures { IfOk result (λ read. option_map relay_values (result_ok read) ≡ relay_of (map string_bytes words.now)) }
+) -> Result<Result<Asked<'a>, WordFault>, AllocError>
+    ensures { IfOk result (λ read. IsAsked (map string_bytes words.now) (result_ok read)) }
 {
-    let found = find_relay(alloc, words)?;
-    Ok(job_or_fault(found, Command::Relay, words))
+    if let Some(job) = find_relay(alloc, words)? {
+        return Ok(Ok(Asked::Relay(job)));
+    }
+    match read_flows_job(alloc, words)? {
+        Some(job) => Ok(Ok(Asked::Flows(job))),
+        None => Ok(Err(WordFault::of_words(command_meant(words), words))),
+    }
 }

@@ -68,6 +68,11 @@ impl<'a, R: Time + Drop> SysClock<'a, R> {
         self.moment
     }
 
+    /// When it was made, if the system told it: the moment 0.
+    pub fn start(&self) -> Option<Instant> {
+        self.start
+    }
+
     // The time since it was made, if the system tells it.
     fn elapsed(&self) -> Option<Duration> {
         self.start.as_ref()?.elapsed(&self.rt).ok()

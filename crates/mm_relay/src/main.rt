@@ -1,9 +1,10 @@
-//! The program `mm-relay`: its words, the files of the machine, the standard output and error, the machine's clock
-//! and its UDP ports, given to the top call.
+//! The program `mm-relay`: its words, the files of the machine, the standard output and error, the machine's clock,
+//! its UDP ports and the sockets of flows, given to the top call.
 #![tactic(auto)]
 
 use command_ends::{exit_code, read_end, read_words};
 use command_relay::{output_names, refuse_output, relay_ending};
+use flow_sockets::SystemSockets;
 use front_words::{Program, Reason, tell, warn_of_own_port};
 use live_relay::{Clock, Pulse, SysClock, UdpWire, drops_at};
 use mm_base::StdSink;
@@ -11,6 +12,7 @@ use option_words::{Command, read_split};
 use output_look::look_at;
 use piped_disk::PipedDisk;
 use std::process::ExitCode;
+use std::time::Instant;
 use std::{fs, io};
 use text_base::{Text, read_decimal};
 
@@ -73,9 +75,9 @@ fn drops_of(rt: &HostRuntime, port: Option<u16>) -> u64 {
     }
 }
 
-// The horizon that the words ask for.
-fn horizon_of(rt: &HostRuntime, words: &[String]) -> Option<u64> {
-    let split = read_split(rt.alloc(), Command::Relay, words).ok()??;
+// The horizon that the words ask for, as those of this command.
+fn horizon_of(rt: &HostRuntime, command: Command, words: &[String]) -> Option<u64> {
+    let split = read_split(rt.alloc(), command, words).ok()??;
     let until = *split.given.first()?;
     read_decimal(until?.as_bytes())
 }
@@ -87,10 +89,17 @@ fn say_how_far(
     clock: &SysClock<'_, HostRuntime>,
 ) -> io::Result<()> {
     let moment = clock.moment();
-    let is_early = horizon_of(rt, words).is_some_and(|horizon| moment <= horizon);
+    let flows = horizon_of(rt, Command::Flows, words);
+    let horizon = flows.or(horizon_of(rt, Command::Relay, words));
+    let is_early = horizon.is_some_and(|horizon| moment <= horizon);
     if is_early && clock.has_ended() {
         return eprintln!(rt;
             "mm-relay: ended at {moment} ms; the fates and the logs end there too"
+        );
+    }
+    if is_early && flows.is_some() {
+        return eprintln!(rt;
+            "mm-relay: a million packets had entered at {moment} ms; the fates and the logs end there too"
         );
     }
     if is_early {
@@ -126,14 +135,18 @@ fn say_refused(rt: &HostRuntime, wire: &UdpWire<'_, HostRuntime>) -> io::Result<
 }
 
 // Says on the standard error how many datagrams were lost outside the nest.
-fn say_lost(rt: &HostRuntime, wire: &UdpWire<'_, HostRuntime>) -> io::Result<()> {
+fn say_lost(
+    rt: &HostRuntime,
+    wire: &UdpWire<'_, HostRuntime>,
+    sockets: &SystemSockets<HostRuntime>,
+) -> io::Result<()> {
     let dropped = drops_of(rt, wire.number());
     if dropped > 0 {
         eprintln!(rt;
             "mm-relay: the system dropped {dropped} datagrams before the relay saw them"
         )?;
     }
-    let lost = wire.lost();
+    let lost = wire.lost().saturating_add(sockets.lost());
     if lost > 0 {
         let were = datagrams_were(lost);
         eprintln!(rt; "mm-relay: {lost} {were} lost as they were sent")?;
@@ -149,12 +162,13 @@ fn report(
     status: u8,
     clock: &SysClock<'_, HostRuntime>,
     wire: &UdpWire<'_, HostRuntime>,
+    sockets: &SystemSockets<HostRuntime>,
 ) {
     if status == 0 {
         let _ = say_how_far(rt, words, clock);
     }
     let _ = say_refused(rt, wire);
-    let _ = say_lost(rt, wire);
+    let _ = say_lost(rt, wire, sockets);
 }
 
 // What the words make of the machine's files, its clock and its ports. An error means out of memory before the top
@@ -179,16 +193,24 @@ fn pass(rt: &HostRuntime, words: &[String]) -> io::Result<u8> {
     let mut disk = PipedDisk::new(rt)?;
     let mut wire = UdpWire::new(rt.alloc(), rt.clone()?, &pulse);
     let mut clock = SysClock::new(rt.clone()?, &pulse, read_end(rt));
+    let start = match clock.start() {
+        Some(start) => start,
+        None => Instant::now(rt)?,
+    };
+    let mut sockets = SystemSockets::new(rt.alloc(), rt.clone()?, start, read_end(rt));
     let ending = relay_ending(
+        rt,
         rt.alloc(),
         words,
         &mut disk,
         &mut out,
         &mut clock,
         &mut wire,
+        &mut sockets,
     );
     wire.finish();
-    let reason = Reason::of_ending(&ending, &disk, wire.last_error());
+    let error = wire.last_error().or(sockets.last_error());
+    let reason = Reason::of_ending(&ending, &disk, error);
     let mut told = StdSink::new(rt.stderr());
     tell(
         rt,
@@ -199,7 +221,7 @@ fn pass(rt: &HostRuntime, words: &[String]) -> io::Result<u8> {
         disk.pipes(),
         &mut told,
     );
-    report(rt, words, ending.status, &clock, &wire);
+    report(rt, words, ending.status, &clock, &wire, &sockets);
     Ok(ending.status)
 }
 

@@ -5,7 +5,7 @@ use Rattle.option_words.specs.Givens.{flag, valued}
 use Rattle.option_words.specs.Options.{Opt, Text}
 use Rattle.option_words.specs.declared.command.Command.{Command}
 use Rattle.option_words.specs.declared.command.Command.TheVariants.{Run, Merge, Report, Make, Record, Match, Migrate}
-use Rattle.option_words.specs.declared.command.Command.TheVariants.{Replay, Proxy, Relay}
+use Rattle.option_words.specs.declared.command.Command.TheVariants.{Replay, Proxy, Relay, Flows}
 
 -- The command of `mm` that has this name.
 unfoldable pub command_named : Text → Option Command
@@ -32,6 +32,7 @@ has_shells Migrate = false
 has_shells Replay = false
 has_shells Proxy = false
 has_shells Relay = true
+has_shells Flows = true
 
 -- The options of each command. What is given of them comes in this order.
 abbrev pub table_of : Command → List Opt
@@ -56,3 +57,6 @@ table_of Proxy =
 table_of Relay =
     valued (codes "until") ∷ valued (codes "listen") ∷ valued (codes "to") ∷ valued (codes "turns")
     ∷ valued (codes "out") ∷ valued (codes "table") ∷ valued (codes "schedule-out") ∷ valued (codes "seed") ∷ []
+table_of Flows =
+    valued (codes "until") ∷ valued (codes "flows") ∷ valued (codes "window") ∷ valued (codes "again")
+    ∷ valued (codes "out") ∷ valued (codes "schedule-out") ∷ valued (codes "seed") ∷ []

@@ -15,8 +15,10 @@ pub enum Command {
     Replay,
     /// `mm-record`.
     Proxy,
-    /// `mm-relay`.
+    /// `mm-relay` between a client and a server.
     Relay,
+    /// `mm-relay` with a list of flows.
+    Flows,
 }
 
 impl Command {
@@ -50,7 +52,7 @@ impl Command {
             Command::Migrate => "migrate",
             Command::Replay => "replay",
             Command::Proxy => "mm-record",
-            Command::Relay => "mm-relay",
+            Command::Relay | Command::Flows => "mm-relay",
         }
     }
 
@@ -58,6 +60,9 @@ impl Command {
     pub fn has_shells(self) -> bool
         ensures { result ≡ has_shells self }
     {
-        matches!(self, Command::Run | Command::Merge | Command::Relay)
+        matches!(
+            self,
+            Command::Run | Command::Merge | Command::Relay | Command::Flows
+        )
     }
 }

@@ -108,7 +108,21 @@ const STEP: ValueSpec = ValueSpec::Number(NumberSpec {
     want: "a whole number of milliseconds, 1 to 3600000",
 });
 
-const SEED_HELP: &str = "the seed of losses, at most ten digits; 0 where none is given";
+const WINDOW: ValueSpec = ValueSpec::Number(NumberSpec {
+    least: 1,
+    most: 1_024,
+    word: "N",
+    want: "a number of segments, 1 to 1024",
+});
+
+const AGAIN: ValueSpec = ValueSpec::Number(NumberSpec {
+    least: 1,
+    most: 60_000,
+    word: "MS",
+    want: "a whole number of milliseconds, 1 to 60000",
+});
+
+const SEED_HELP: &str = "the seed of losses, at most ten digits; 0 if none is given";
 
 const TABLE_HELP: &str = "where a table of the packets is written, as comma-separated values";
 
@@ -249,7 +263,7 @@ const RECORD: &[OptionSpec] = &[
         name: "port",
         value: PORT,
         is_needed: false,
-        help: "the server's port, 1 to 65535; any where none is given",
+        help: "the server's port, 1 to 65535; any if none is given",
     },
 ];
 
@@ -270,7 +284,7 @@ const MATCH: &[OptionSpec] = &[
         name: "port",
         value: PORT,
         is_needed: false,
-        help: "the port that it is asked at, 1 to 65535; none where none is given",
+        help: "the port that it is asked at, 1 to 65535; none if none is given",
     },
 ];
 
@@ -318,7 +332,7 @@ const REPLAY: &[OptionSpec] = &[
         name: "site-port",
         value: PORT,
         is_needed: false,
-        help: "the port that is asked for, 1 to 65535; that of --port where none is given",
+        help: "the port that is asked for, 1 to 65535; that of --port if none is given",
     },
     OptionSpec {
         name: "until-ended",
@@ -412,6 +426,51 @@ const RELAY: &[OptionSpec] = &[
     },
 ];
 
+const FLOWS: &[OptionSpec] = &[
+    OptionSpec {
+        name: "until",
+        value: HORIZON,
+        is_needed: true,
+        help: "when it ends, 0 to 3600000 milliseconds after it began",
+    },
+    OptionSpec {
+        name: "flows",
+        value: ValueSpec::File,
+        is_needed: true,
+        help: "1 to 16 flows, a line 'udp LISTEN TO' or 'tcp LISTEN TO' each, ports of 127.0.0.1",
+    },
+    OptionSpec {
+        name: "window",
+        value: WINDOW,
+        is_needed: false,
+        help: "the most segments of a direction on their way, 1 to 1024; 256 if none is given",
+    },
+    OptionSpec {
+        name: "again",
+        value: AGAIN,
+        is_needed: false,
+        help: "how long after its loss a segment is sent again, 1 to 60000 milliseconds; twice the nest's delay and 20 if none is given",
+    },
+    OptionSpec {
+        name: "out",
+        value: ValueSpec::File,
+        is_needed: true,
+        help: "where the fates of the packets are written, each with its flow",
+    },
+    OptionSpec {
+        name: "schedule-out",
+        value: ValueSpec::File,
+        is_needed: false,
+        help: "where the packets are written as a schedule, which mm run --schedule reads",
+    },
+    OptionSpec {
+        name: "seed",
+        value: DECIMAL,
+        is_needed: false,
+        help: SEED_HELP,
+    },
+];
+
 impl Command {
     /// Returns the options of the command, in the order in which the usage lists them.
     pub fn options(self) -> &'static [OptionSpec]
@@ -428,6 +487,7 @@ impl Command {
             Command::Replay => REPLAY,
             Command::Proxy => PROXY,
             Command::Relay => RELAY,
+            Command::Flows => FLOWS,
         }
     }
 }

@@ -1,9 +1,11 @@
 // `mm-relay` over files, a clock and a wire in memory.
 use crate::clocks::{Times, clock_of};
 use command_relay::relay_main;
+use flow_sockets::MemSockets;
 use live_relay::{MemClock, MemWire, Opened, Side};
 use std::alloc::Global;
 use std::process::Abort;
+use std::sync::Wait;
 use test_outside::{ABSENT, TestOutside, words_of};
 use text_base::{Bytes, OutOfMemory};
 
@@ -23,20 +25,24 @@ fn wire_of(alloc: Global, sizes: &[usize], fails: u64) -> Result<MemWire, OutOfM
 }
 
 // The status of a program, without what the contract of `relay_main` says of it.
-fn status_of(
+fn status_of<R: Wait>(
+    rt: &R,
     alloc: Global,
     words: &[String],
     outside: &mut TestOutside,
     clock: &mut MemClock,
     wire: &mut MemWire,
 ) -> u8 {
+    let mut sockets = MemSockets::new(alloc, Vec::new(alloc), Vec::new(alloc), Vec::new(alloc));
     relay_main(
+        rt,
         alloc,
         words,
         &mut outside.disk,
         &mut outside.out,
         clock,
         wire,
+        &mut sockets,
     )
 }
 
@@ -88,18 +94,23 @@ fn is_used(wire: &MemWire, used: Option<Used>) -> bool {
 }
 
 // Whether a case's relay over this wire leaves what it is to leave.
-fn leaves(alloc: Global, case: &Case, wire: &mut MemWire) -> Result<bool, OutOfMemory> {
+fn leaves<R: Wait>(
+    rt: &R,
+    alloc: Global,
+    case: &Case,
+    wire: &mut MemWire,
+) -> Result<bool, OutOfMemory> {
     let words = words_of(alloc, case.words)?;
     let mut clock = clock_of(alloc, case.times)?;
     let mut outside = TestOutside::new(alloc, &[("t", "4\n")], &[case.fails.0], &[case.fails.1])?;
-    let status = status_of(alloc, &words, &mut outside, &mut clock, wire);
+    let status = status_of(rt, alloc, &words, &mut outside, &mut clock, wire);
     Ok(status == case.status && outside.is_left(case.printed, case.files))
 }
 
 // A case's relay, whose client sends datagrams of these sizes, leaves what it is to leave.
-fn passes(rt: &impl Abort, alloc: Global, case: &Case, sizes: &[usize]) {
+fn passes<R: Abort + Wait>(rt: &R, alloc: Global, case: &Case, sizes: &[usize]) {
     let mut wire = wire_of(alloc, sizes, case.fails.2).expect(rt, "memory");
-    let is_left = leaves(alloc, case, &mut wire).expect(rt, "memory");
+    let is_left = leaves(rt, alloc, case, &mut wire).expect(rt, "memory");
     assert!(rt;
         is_left && is_used(&wire, case.used),
         "at {}: {}",

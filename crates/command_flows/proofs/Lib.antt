@@ -1,0 +1,5 @@
+pub mod ListLemmas
+pub mod FileLemmas
+pub mod FlowLemmas
+pub mod PassLemmas
+pub mod RefusingLemmas
