@@ -28,7 +28,7 @@ use Rattle.mm_program.specs.Tasks.{ToMerge}
 use Rattle.option_words.specs.Commands.{command_named}
 use Rattle.option_words.specs.declared.command.Command.{Command}
 use Rattle.option_words.specs.declared.command.Command.TheVariants.{Run, Merge, Report, Make, Record, Match, Migrate}
-use Rattle.option_words.specs.declared.command.Command.TheVariants.{Replay, Proxy, Relay}
+use Rattle.option_words.specs.declared.command.Command.TheVariants.{Replay, Proxy, Relay, Flows}
 
 command_first : (command : Command) (words : List Text) → command ≢ Merge
     → RefusesWordsFirst (command_reading command words)
@@ -42,6 +42,7 @@ command_first Replay words other = first_mapped ToReplay (replay_words words) (r
 command_first Merge words other = absurd (other refl)
 command_first Proxy words other = tt
 command_first Relay words other = tt
+command_first Flows words other = tt
 
 named_first : (named : Option Command) (words : List Text) → named ≢ Some Merge
     → RefusesWordsFirst (named_reading named words)
@@ -64,6 +65,7 @@ command_one Replay words = first_one _ (command_first Replay words (λ is. cc is
 command_one Merge words = one_end_mapped ToMerge (merge_words words) (merge_one words)
 command_one Proxy words = tt
 command_one Relay words = tt
+command_one Flows words = tt
 
 named_one : (named : Option Command) (words : List Text) → HasOneEnd (named_reading named words)
 named_one None words = tt

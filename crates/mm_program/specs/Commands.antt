@@ -3,7 +3,7 @@ use Rattle.std.specs.Prelude.{List, [], ◌∷◌, Option, Some, None}
 use Rattle.option_words.specs.Commands.{command_named}
 use Rattle.option_words.specs.declared.command.Command.{Command}
 use Rattle.option_words.specs.declared.command.Command.TheVariants.{Run, Merge, Report, Make, Record, Match, Migrate}
-use Rattle.option_words.specs.declared.command.Command.TheVariants.{Replay, Proxy, Relay}
+use Rattle.option_words.specs.declared.command.Command.TheVariants.{Replay, Proxy, Relay, Flows}
 use Rattle.command_ends.specs.Causes.{Text}
 use Rattle.command_ends.specs.Readings.{Reading, map_reading, usage}
 use Rattle.command_report.specs.Make.{make_words}
@@ -22,7 +22,7 @@ abbrev pub named_command : List Text → Option Command
 named_command [] = None
 named_command (word ∷ words) = command_named word
 
--- what a command reads and refuses, by the words after it; two are programs of their own
+-- what a command reads and refuses, by the words after it; three are of programs of their own
 abbrev pub command_reading : Command → List Text → Reading Task
 command_reading Run words = map_reading ToRun (run_words words)
 command_reading Report words = map_reading ToReport (report_words words)
@@ -34,6 +34,7 @@ command_reading Migrate words = map_reading ToMigrate (migrate_words words)
 command_reading Merge words = map_reading ToMerge (merge_words words)
 command_reading Proxy words = usage
 command_reading Relay words = usage
+command_reading Flows words = usage
 
 abbrev pub named_reading : Option Command → List Text → Reading Task
 named_reading None words = usage

@@ -60,7 +60,7 @@ fn answer_command<R: Threads + Wait + Sync, D: Disk, O: Sink, P: Port + Send, Q:
         Command::Match => answer_match(host.alloc, words, disk, out),
         Command::Migrate => answer_migrate(host.alloc, words, disk),
         Command::Replay => answer_replay(host, words, disk, out, port, pace),
-        Command::Proxy | Command::Relay => Err(no_command()),
+        Command::Proxy | Command::Relay | Command::Flows => Err(no_command()),
     }
 }
 
