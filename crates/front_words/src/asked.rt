@@ -2,7 +2,7 @@
 use crate::Program;
 use crate::faults::{FaultText, NoCommand};
 use crate::pages::{Overview, Page};
-use option_words::{Command, Fault, option_words};
+use option_words::{Command, Fault, option_words, relay_command};
 use std::fmt;
 
 // The version of the programs, and the kit that they are proved with.
@@ -31,11 +31,19 @@ pub(crate) fn asks_version(words: &[String]) -> bool {
     words.len() == 1 && words[0].as_str() == "--version"
 }
 
+// Returns the command whose usage has this command.
+fn page_of(command: Command) -> Command {
+    match command {
+        Command::Flows => Command::Relay,
+        command => command,
+    }
+}
+
 // Returns what the words of a command ask for.
 fn asked_of(command: Command, words: &[String]) -> Asked<'_> {
     for word in option_words(command, words) {
         if is_help(word.as_str()) {
-            return Asked::Page(command);
+            return Asked::Page(page_of(command));
         }
     }
     Asked::Job(command, words)
@@ -45,7 +53,7 @@ fn asked_of(command: Command, words: &[String]) -> Asked<'_> {
 fn asked_alone(command: Command, words: &[String]) -> Asked<'_> {
     match words.split_first() {
         Some((word, _)) if word.as_str() != "help" => asked_of(command, words),
-        _ => Asked::Page(command),
+        _ => Asked::Page(page_of(command)),
     }
 }
 
@@ -83,7 +91,7 @@ fn read_asked(program: Program, words: &[String]) -> Asked<'_> {
     match program {
         Program::Mm => asked_of_mm(words),
         Program::Record => asked_alone(Command::Proxy, words),
-        Program::Relay => asked_alone(Command::Relay, words),
+        Program::Relay => asked_alone(relay_command(words), words),
     }
 }
 

@@ -120,6 +120,14 @@ impl Explanation<'_> {
 
     // Writes that the net refused a call.
     fn write_net_fault<W: fmt::Write>(&self, f: &mut fmt::Formatter<W>) -> fmt::Result {
+        if let Some(list) = option_value("--flows", self.words) {
+            return match self.reason {
+                Some(reason) if reason.is_permission() => {
+                    write!(f, "{list}: a port of a flow: {ROOT_PORT}")
+                }
+                _ => write!(f, "{list}: a port of a flow: {NET_FAULT}"),
+            };
+        }
         let port = listen_port(self.words);
         match self.reason {
             Some(reason) if reason.is_permission() => {

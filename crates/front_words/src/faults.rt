@@ -63,6 +63,14 @@ fn near_option(command: Command, typed: &str) -> Option<&'static OptionSpec> {
         .find(|option| is_near(option, typed))
 }
 
+// Returns whether a command has an option of this name, which begins with two hyphens.
+fn has_option(command: Command, name: &str) -> bool {
+    match name.strip_prefix("--") {
+        Some(name) => command.options().iter().any(|option| option.name == name),
+        None => false,
+    }
+}
+
 // The options that a command has, in words.
 #[derive(Drop)]
 struct KnownOptions(Command);
@@ -71,6 +79,7 @@ impl fmt::Display for KnownOptions {
     fn fmt<W: fmt::Write>(&self, f: &mut fmt::Formatter<W>) -> fmt::Result {
         match self.0 {
             Command::Proxy | Command::Relay => write!(f, "it has ")?,
+            Command::Flows => write!(f, "with --flows it has ")?,
             command => write!(f, "{} has ", command.name())?,
         }
         let options = self.0.options();
@@ -130,6 +139,12 @@ impl<'a> FaultText<'a> {
 
     // Writes that the command has no option of this name.
     fn write_unknown<W: fmt::Write>(&self, name: &str, f: &mut fmt::Formatter<W>) -> fmt::Result {
+        if has_option(Command::Relay, name) && self.command == Command::Flows {
+            return write!(f, "{name} can't stand with --flows");
+        }
+        if has_option(Command::Flows, name) && self.command == Command::Relay {
+            return write!(f, "{name} stands only with --flows");
+        }
         match near_option(self.command, name) {
             Some(option) => { write!(f, "unknown option {name}; did you mean --{}?", option.name) }
             None => write!(f, "unknown option {name}; {}", KnownOptions(self.command)),

@@ -9,7 +9,7 @@ use option_words::{Command, begins_with_hyphen, name_and_value};
 use std::fmt;
 
 // The commands among whose words are shells.
-const NESTED: &[Command] = &[Command::Run, Command::Merge, Command::Relay];
+const NESTED: &[Command] = &[Command::Run, Command::Merge, Command::Relay, Command::Flows];
 
 const SHELL_LIST: &str = "mm-delay, mm-loss, mm-link";
 

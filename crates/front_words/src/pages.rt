@@ -59,7 +59,7 @@ fn brief(command: Command) -> &'static str {
         Command::Migrate => "writes a store in its newest form",
         Command::Replay => "serves the responses of a store",
         Command::Proxy => "records what passes between clients and a site",
-        Command::Relay => "passes UDP datagrams through a nest of shells",
+        Command::Relay | Command::Flows => "passes live traffic through a nest of shells",
     }
 }
 
@@ -81,8 +81,8 @@ fn sentence(command: Command) -> &'static str {
             "Serves the responses of a store at a port of 127.0.0.1, and prints how the connections ended.",
         Command::Proxy =>
             "Stands between clients and a site on this machine, and stores what passes.",
-        Command::Relay =>
-            "Passes UDP datagrams between a client and a server of this machine through a nest of shells.",
+        Command::Relay | Command::Flows =>
+            "Passes live traffic on this machine through a nest of shells: the UDP datagrams of a client and a\nserver, or flows of UDP and TCP from clients to servers, all through one nest.",
     }
 }
 
@@ -128,9 +128,9 @@ fn examples(command: Command) -> &'static str {
   mm-record --port 8080 --to 8000 --connections 20 --out store
   mm-record --port 8080 --to 80 --connections 64 --out store --until-ended
 ",
-        Command::Relay =>
+        Command::Relay | Command::Flows =>
             "  mm-relay --until 5000 --listen 4434 --to 4433 --turns 1000000 --out fates -- mm-delay 50
-  mm-relay --until 5000 --listen 4434 --to 4433 --turns 1000000 --out fates -- mm-loss uplink 0.01
+  echo tcp 8081 8080 >flows; mm-relay --until 60000 --flows flows --out fates -- mm-delay 20
   mm-relay --until 5000 --listen 4434 --to 4433 --turns 1000000 --out fates -- mm-link t t --uplink-log=u
 ",
     }
@@ -173,6 +173,19 @@ impl fmt::Display for Typed<'_> {
 // The options of a command in one line, those that need not be there in brackets.
 #[derive(Drop)]
 struct Synopsis(Command);
+
+// Returns the other command of a program that has two kinds of words, and none of its own name.
+fn other_kind(command: Command) -> Option<Command> {
+    match command {
+        Command::Relay => Some(Command::Flows),
+        _ => None,
+    }
+}
+
+// Returns whether a command has an option of this name.
+fn has_option(command: Command, name: &str) -> bool {
+    command.options().iter().any(|option| option.name == name)
+}
 
 impl fmt::Display for Synopsis {
     fn fmt<W: fmt::Write>(&self, f: &mut fmt::Formatter<W>) -> fmt::Result {
@@ -219,9 +232,27 @@ impl Page {
     fn names(&self) -> (&'static str, &'static str) {
         match self.0 {
             Command::Proxy => ("", "mm-record"),
-            Command::Relay => ("", "mm-relay"),
+            Command::Relay | Command::Flows => ("", "mm-relay"),
             _ => ("mm ", "mm"),
         }
+    }
+}
+
+impl Page {
+    // Writes the lines of the options.
+    fn write_options<W: fmt::Write>(&self, f: &mut fmt::Formatter<W>) -> fmt::Result {
+        for option in self.0.options() {
+            write!(f, "{}", OptionLine(option))?;
+        }
+        let Some(other) = other_kind(self.0) else {
+            return Ok(());
+        };
+        for option in other.options() {
+            if !has_option(self.0, option.name) {
+                write!(f, "{}", OptionLine(option))?;
+            }
+        }
+        Ok(())
     }
 }
 
@@ -230,11 +261,12 @@ impl fmt::Display for Page {
         let command = self.0;
         let (front, manual) = self.names();
         let name = command.name();
-        writeln!(f, "usage: {front}{name} {}\n", Synopsis(command))?;
-        writeln!(f, "{}\n", sentence(command))?;
-        for option in command.options() {
-            write!(f, "{}", OptionLine(option))?;
+        writeln!(f, "usage: {front}{name} {}", Synopsis(command))?;
+        if let Some(other) = other_kind(command) {
+            writeln!(f, "       {front}{name} {}", Synopsis(other))?;
         }
+        writeln!(f, "\n{}\n", sentence(command))?;
+        self.write_options(f)?;
         if command.has_shells() {
             write!(f, "{SHELLS}")?;
         }

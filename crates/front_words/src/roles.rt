@@ -8,6 +8,7 @@ pub(crate) enum FileRole {
     Trace(TraceAt),
     Schedule,
     Senders,
+    Flows,
     Order,
     Log,
     Store,
@@ -24,6 +25,7 @@ pub(crate) enum FileRole {
 // The options that name an input of one role alone.
 const INPUTS: &[(&str, FileRole)] = &[
     ("--senders", FileRole::Senders),
+    ("--flows", FileRole::Flows),
     ("--log", FileRole::Log),
     ("--store", FileRole::Store),
     ("--client", FileRole::Client),
@@ -94,6 +96,7 @@ impl fmt::Display for FileRole {
             }
             FileRole::Schedule => "the schedule",
             FileRole::Senders => "the list of senders",
+            FileRole::Flows => "the list of flows",
             FileRole::Order => "the order",
             FileRole::Log => "the log",
             FileRole::Store => "the store",

@@ -23,6 +23,14 @@ const SENDERS: &[&str] = &[
     "the list names more than 16 schedules",
 ];
 
+const FLOWS: &[&str] = &[
+    "the list has no flow",
+    "want udp LISTEN TO or tcp LISTEN TO, with single spaces and ports of 1 to 65535",
+    "the list has more than 16 flows",
+    "a flow of the same kind above listens at this port",
+    "it would send to the port at which it listens",
+];
+
 const LOG: &[&str] = &[
     "a log begins with the line '# base timestamp: 0' alone",
     "this line is no entry of a log, as '5 + 1504', or it doesn't end",
@@ -62,6 +70,7 @@ fn rules(role: FileRole) -> &'static [&'static str] {
     match role {
         FileRole::Trace(_) => TRACE,
         FileRole::Senders => SENDERS,
+        FileRole::Flows => FLOWS,
         FileRole::Log => LOG,
         FileRole::Store => STORE,
         FileRole::Client | FileRole::Server => STREAM,
@@ -91,5 +100,5 @@ pub(crate) fn place_word(role: FileRole, number: u32) -> &'static str {
 
 /// Returns whether a line of such a file is refused since its moment is before that of the line above.
 pub(crate) fn is_behind(role: FileRole, number: u32) -> bool {
-    number == 3 && !matches!(role, FileRole::Senders)
+    number == 3 && !matches!(role, FileRole::Senders | FileRole::Flows)
 }

@@ -112,6 +112,16 @@ pub fn option_words(command: Command, words: &[String]) -> &[String] {
     words
 }
 
+/// Returns the command of `mm-relay` whose options these words are to be: that of flows if one gives `--flows`.
+pub fn relay_command(words: &[String]) -> Command {
+    let options = option_words(Command::Flows, words);
+    if is_given(Command::Flows, options, "--flows") {
+        Command::Flows
+    } else {
+        Command::Relay
+    }
+}
+
 /// Returns whether a word begins with a hyphen.
 pub fn begins_with_hyphen(word: &str) -> bool {
     match word.as_bytes() {

@@ -20,7 +20,7 @@ mod table;
 pub use command::Command;
 pub use fault::{
     Fault, WordFault, begins_with_hyphen, count_uses, job_or_fault, missing_option, name_and_value,
-    option_words,
+    option_words, relay_command,
 };
 pub use given::read_given;
 pub use numbers::{read_port, read_seed, read_within};
