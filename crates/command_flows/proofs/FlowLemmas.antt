@@ -113,7 +113,7 @@ module _ (job : FlowsJob) (plan : NestPlan) (nest : NestParts) (flows : List Flo
       result = r;
       flowed = subst (λ (n : NestParts). HasFlowed n flows old new r) has.nested.nest_is done;
       output_is = refl;
-      reads_back = printed r.rows done.passed.schedule;
+      reads_back = printed r.rows done.passed.rows;
     };
   }
 
@@ -135,7 +135,7 @@ module _ (job : FlowsJob) (plan : NestPlan) (nest : NestParts) (flows : List Flo
           flows_are = has.listed.flows_are;
           stopped = subst (HasStopped flows old new) is stopped;
         };
-        keeps = keeps reads;
+        leaves = keeps reads;
         silent = refl;
       }
 

@@ -12,9 +12,10 @@ use Rattle.live_relay.specs.Clocks.{ClockView}
 use Rattle.flow_list.specs.Flows.{IsFlowText}
 use Rattle.flow_list.specs.declared.flow.Flow.{Flow}
 use Rattle.flow_sockets.specs.SocketViews.{SocketsView}
-use Rattle.relay_flows.specs.Passed.{HasPassed}
+use Rattle.relay_flows.specs.Passed.{HasPassed, IsEndOf, ReadsClock}
 use Rattle.relay_flows.specs.declared.outcome.FlowsResult.{FlowsResult}
 use Rattle.command_ends.specs.Causes.{Text}
+use Rattle.command_ends.specs.Kept.{KeepsFiles}
 use Rattle.command_ends.specs.Outputs.{NamedText, Output, named_text}
 use Rattle.command_ends.specs.Readings.{Reading, Done, unless}
 use Rattle.command_ends.specs.Works.{Work}
@@ -64,10 +65,13 @@ pub record FlowsNet : Type 0 where
 abbrev pub net : ClockView → SocketsView → FlowsNet
 net clock sockets = record { clock = clock; sockets = sockets }
 
--- The sockets were opened once, at the ports of these flows, and the flows passed this nest.
+-- The sockets were opened once, at the ports of these flows, and the flows passed this nest. Moments were read of the
+-- clock, and of the last one what its end says of it holds.
 pub record HasFlowed (nest : NestParts) (flows : List Flow) (old new : FlowsNet) (r : FlowsResult) : Type 0 where
   pub opened : new.sockets.opened ≡ Some flows
   pub passed : HasPassed nest r
+  pub ended : IsEndOf r.end nest new.clock r
+  pub clock : ReadsClock old.clock new.clock
 
 -- The sockets were opened at the ports of these flows, or stand as before, since that was refused.
 abbrev pub OpensAt : List Flow → SocketsView → SocketsView → Type 0
@@ -111,5 +115,6 @@ abbrev pub flows_work : FlowsTask → Work FlowsNet
 flows_work task = record {
   gives = GivesFlows task;
   stops = StopsFlows task;
+  leaves = KeepsFiles;
   faulted = λ old new. Rose old.sockets.faults new.sockets.faults;
 }

@@ -9,6 +9,7 @@ use Rattle.live_relay.specs.Clocks.{ClockView}
 use Rattle.live_relay.specs.Wires.{WireView}
 use Rattle.command_ends.specs.Causes.{Text}
 use Rattle.command_ends.specs.Ends.{Ends, outside}
+use Rattle.command_ends.specs.Kept.{KeepsFiles}
 use Rattle.command_ends.specs.Readings.{Reading, asked, map_reading, usage}
 use Rattle.command_ends.specs.declared.cause.Cause.{Cause}
 use Rattle.command_ends.proofs.MapLemmas.{ends_widened, first_mapped}
@@ -41,6 +42,11 @@ words_first words = either_first (jobs.relay_of words) (flows.flows_of words)
 -- and the files lead to one end
 pub words_one : (words : List Text) → HasOneEnd (relay_words words)
 words_one words = first_one (relay_words words) (words_first words)
+
+-- what stops by itself leaves the files
+pub task_kept : (task : Task) (old new : DiskView) → (work task).leaves old new → KeepsFiles old new
+task_kept (ToRelay task) old new kept = kept
+task_kept (ToFlows task) old new kept = kept
 
 -- a fault of the wire or of the sockets is one of the net
 pub net_rose : (task : Task) (old new : Net) → KeepsNet old new → (work task).faulted old new
@@ -121,6 +127,7 @@ relay_ends job reading disk disk' out out' clock clock' wire wire' sockets answe
     (relay_net clock' wire') (net clock wire sockets) (net clock' wire' sockets) (record {
       gives = λ task output gives. (gives, refl);
       stops = λ task cause stops. (stops, refl);
+      leaves = λ task before after leaves. leaves;
       faulted = λ task faulted. faulted;
       kept = λ kept. ap (λ (n : RelayNet). net n.clock n.wire sockets) kept;
     }) answer ends)
@@ -140,6 +147,7 @@ flows_end job reading disk disk' out out' clock clock' wire sockets sockets' ans
     (flows_net clock' sockets') (net clock wire sockets) (net clock' wire sockets') (record {
       gives = λ task output gives. (gives, refl);
       stops = λ task cause stops. (stops, refl);
+      leaves = λ task before after leaves. leaves;
       faulted = λ task faulted. faulted;
       kept = λ kept. ap (λ (n : FlowsNet). net n.clock wire n.sockets) kept;
     }) answer ends)

@@ -51,11 +51,13 @@ abbrev pub work : Task → Work Net
 work (ToRelay task) = record {
   gives = λ old new output. (relay_work task).gives (wired old) (wired new) output × (new.sockets ≡ old.sockets);
   stops = λ old new cause. (relay_work task).stops (wired old) (wired new) cause × (new.sockets ≡ old.sockets);
+  leaves = (relay_work task).leaves;
   faulted = λ old new. (relay_work task).faulted (wired old) (wired new);
 }
 work (ToFlows task) = record {
   gives = λ old new output. (flows_work task).gives (socketed old) (socketed new) output × (new.wire ≡ old.wire);
   stops = λ old new cause. (flows_work task).stops (socketed old) (socketed new) cause × (new.wire ≡ old.wire);
+  leaves = (flows_work task).leaves;
   faulted = λ old new. (flows_work task).faulted (socketed old) (socketed new);
 }
 

@@ -64,7 +64,8 @@ fn answer_asked<R: Wait, D: Disk, O: Sink, C: Clock, W: Wire, S: Sockets>(
 ) -> Result<(), Cause>
     ensures ends { Ends work (asked_reading asked.entry)
         (outside (D.view disk.old) (O.view out.old) (net (C.view clock.old) (W.view wire.old) (S.view sockets.old)))
-        (outside (D.view disk.new) (O.view out.new) (net (C.view clock.new) (W.view wire.new) (S.view sockets.new))) (cause_in result) }
+        (outside (D.view disk.new) (O.view out.new) (net (C.view clock.new) (W.view wire.new) (S.view sockets.new)))
+        (cause_in result) }
     ensures wire_counts { CountsWireFaults (W.view wire.old) (W.view wire.new) }
     ensures socket_counts { CountsSocketFaults (S.view sockets.old) (S.view sockets.new) }
     ensures counts { CountsDisk (D.view disk.old) (D.view disk.new) }
@@ -90,7 +91,8 @@ fn answer<R: Wait, D: Disk, O: Sink, C: Clock, W: Wire, S: Sockets>(
 ) -> Result<(), Cause>
     ensures ends { Ends work (relay_words (map string_bytes words.now))
         (outside (D.view disk.old) (O.view out.old) (net (C.view clock.old) (W.view wire.old) (S.view sockets.old)))
-        (outside (D.view disk.new) (O.view out.new) (net (C.view clock.new) (W.view wire.new) (S.view sockets.new))) (cause_in result) }
+        (outside (D.view disk.new) (O.view out.new) (net (C.view clock.new) (W.view wire.new) (S.view sockets.new)))
+        (cause_in result) }
     ensures wire_counts { CountsWireFaults (W.view wire.old) (W.view wire.new) }
     ensures socket_counts { CountsSocketFaults (S.view sockets.old) (S.view sockets.new) }
     ensures counts { CountsDisk (D.view disk.old) (D.view disk.new) }
@@ -119,9 +121,10 @@ fn answer<R: Wait, D: Disk, O: Sink, C: Clock, W: Wire, S: Sockets>(
 /// or `end full M`. The wire is left as it was.
 ///
 /// 0: it is done. 2: the words have no job, or are refused. 3: a trace or the list isn't there. 4: a trace or the list
-/// isn't one. 5: a limit is passed. 6: a trace or the list couldn't be read. 7: writing a file failed; or printing on `out`, and then the files are whole.
-/// 8: the wire or the sockets can't be opened, or a call of them failed. 9: memory was wanting. At 2 to 6 and at 8 no file is changed. A
-/// status other than 0 is explained by one line on `out`, but for a fault of `out` itself.
+/// isn't one. 5: a limit is passed. 6: a trace or the list couldn't be read. 7: writing a file failed; or printing on
+/// `out`, and then the files are whole. 8: the wire or the sockets can't be opened, or a call of them failed. 9: memory
+/// was wanting. At 2 to 6 and at 8 no file is changed. A status other than 0 is explained by one line on `out`, but for a
+/// fault of `out` itself.
 pub fn relay_main<R: Wait, D: Disk, O: Sink, C: Clock, W: Wire, S: Sockets>(
     rt: &R,
     alloc: Global,
@@ -134,7 +137,8 @@ pub fn relay_main<R: Wait, D: Disk, O: Sink, C: Clock, W: Wire, S: Sockets>(
 ) -> u8
     ensures top { TopCall net_counts work (relay_words (map string_bytes words.now))
         (outside (D.view disk.old) (O.view out.old) (net (C.view clock.old) (W.view wire.old) (S.view sockets.old)))
-        (outside (D.view disk.new) (O.view out.new) (net (C.view clock.new) (W.view wire.new) (S.view sockets.new))) result }
+        (outside (D.view disk.new) (O.view out.new) (net (C.view clock.new) (W.view wire.new) (S.view sockets.new)))
+        result }
 
     // Files are changed at 0, 7 and 9 alone, and no fault of writing is counted at another status.
     ensures keeps { result ≢ 0 → result ≢ 7 → result ≢ 9 → KeepsFiles (D.view disk.old) (D.view disk.new) }
@@ -159,12 +163,14 @@ pub fn relay_ending<R: Wait, D: Disk, O: Sink, C: Clock, W: Wire, S: Sockets>(
 ) -> Ending
     ensures ending { IsEnding work (relay_words (map string_bytes words.now))
         (outside (D.view disk.old) (O.view out.old) (net (C.view clock.old) (W.view wire.old) (S.view sockets.old)))
-        (outside (D.view disk.new) (O.view out.new) (net (C.view clock.new) (W.view wire.new) (S.view sockets.new))) result }
+        (outside (D.view disk.new) (O.view out.new) (net (C.view clock.new) (W.view wire.new) (S.view sockets.new)))
+        result }
 
     // What `relay_main` leaves.
     ensures top { TopCall net_counts work (relay_words (map string_bytes words.now))
         (outside (D.view disk.old) (O.view out.old) (net (C.view clock.old) (W.view wire.old) (S.view sockets.old)))
-        (outside (D.view disk.new) (O.view out.new) (net (C.view clock.new) (W.view wire.new) (S.view sockets.new))) result.status }
+        (outside (D.view disk.new) (O.view out.new) (net (C.view clock.new) (W.view wire.new) (S.view sockets.new)))
+        result.status }
 
     // Files are changed at 0, 7 and 9 alone, and no fault of writing is counted at another status.
     ensures keeps { result.status ≢ 0 → result.status ≢ 7 → result.status ≢ 9

@@ -6,7 +6,9 @@ ghost use Rattle.command_relay.specs.inside.Values.{IsAsked, relay_values};
 
 use crate::job::{Asked, RelayJob};
 use command_flows::read_flows_job;
-use option_words::{Command, WordFault, read_port, read_seed, read_split, read_within};
+use option_words::{
+    Command, WordFault, read_port, read_seed, read_split, read_within, relay_command,
+};
 use std::alloc::{AllocError, Global};
 use text_base::read_decimal;
 
@@ -47,19 +49,6 @@ fn find_relay<'a>(alloc: Global, words: &'a [String]) -> Result<Option<RelayJob<
     }
 }
 
-// Returns which relay the words are to be explained as, since they ask for none: that of flows if an option word names a
-// list of flows.
-fn command_meant(words: &[String]) -> Command {
-    let names_flows = words.iter().take_while(|word| word.as_str() != "--").any(|word| word.as_str()
-        == "--flows"
-        || word.as_str().starts_with("--flows="));
-    if names_flows {
-        Command::Flows
-    } else {
-        Command::Relay
-    }
-}
-
 // Returns the job of `words`, the words after the program's name, of either kind, or their first fault.
 pub(crate) fn read_asked<'a>(
     alloc: Global,
@@ -72,6 +61,6 @@ pub(crate) fn read_asked<'a>(
     }
     match read_flows_job(alloc, words)? {
         Some(job) => Ok(Ok(Asked::Flows(job))),
-        None => Ok(Err(WordFault::of_words(command_meant(words), words))),
+        None => Ok(Err(WordFault::of_words(relay_command(words), words))),
     }
 }

@@ -35,6 +35,17 @@ fn delay_of(nest: &Nest) -> Result<u32, OutOfMemory> {
     Ok(delay)
 }
 
+// Returns how many milliseconds after its loss a try is noticed: what is given, but at least 1, or else twice the nest's
+// delay and 20.
+fn noticed_after(again: Option<u32>, delay: u32) -> u32
+    ensures { 1 ≤ result }
+{
+    match again {
+        Some(again) => again.max(1),
+        None => delay.saturating_mul(2).saturating_add(20),
+    }
+}
+
 // Returns what ends the relay in a turn: the clock is past the horizon, the user ended, or a million rows are there.
 fn end_of(is_past: bool, has_ended: bool, has_room: bool) -> Option<FlowsEnd>
     ensures { IfSome result (λ end. EndsBy end is_past has_ended has_room) }
@@ -114,10 +125,11 @@ pub fn relay_flows<K: Wait, C: Clock, S: Sockets>(
         → Rose (S.view sockets.old).faults (S.view sockets.new).faults }
 {
     let horizon = nest.horizon();
+    let delay = delay_of(&nest)?;
     let settings = Settings {
         window: settings.window,
-        delay: delay_of(&nest)?,
-        again: settings.again,
+        delay,
+        again: noticed_after(settings.again, delay),
     };
     let mut state = RelayState::new(alloc, nest, flows, settings)?;
     let mut datagram = [0u8; DATAGRAM_ROOM];

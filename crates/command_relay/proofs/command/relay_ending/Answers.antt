@@ -2,7 +2,7 @@ use Rattle.std.proofs.Common.{map, string_bytes}
 use Rattle.command_ends.specs.Answers.{cause_in}
 use Rattle.command_ends.proofs.TopLemmas.{keeps_files, refuses_by_words, top_call}
 use Rattle.command_relay.specs.Tasks.{KeepsNet, net, net_counts, work}
-use Rattle.command_relay.proofs.TaskLemmas.{net_rose, words_first, words_one}
+use Rattle.command_relay.proofs.TaskLemmas.{net_rose, task_kept, words_first, words_one}
 use Rattle.command_relay.proofs.command.relay_ending.Goals as goal
 
 pub returns-clause-top : goal.returns-clause-top
@@ -21,7 +21,7 @@ returns-clause-top g c =
 
 pub returns-clause-keeps : goal.returns-clause-keeps
 returns-clause-keeps g c =
-    keeps_files net_counts relay_work _ _ _ c.conclude-status.result (λ task kept. kept) (returns-clause-top g c)
+    keeps_files net_counts work _ _ _ c.conclude-status.result (λ task. task_kept task _ _) (returns-clause-top g c)
 
 pub returns-clause-usage : goal.returns-clause-usage
 returns-clause-usage g c =
