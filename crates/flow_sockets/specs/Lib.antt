@@ -1,2 +1,0 @@
-pub mod SocketViews
-pub mod MemSockets

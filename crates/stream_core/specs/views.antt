@@ -1,2 +1,0 @@
--- What the value of a type means.
-pub mod Stream
