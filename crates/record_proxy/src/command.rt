@@ -94,7 +94,7 @@ fn answer<
 ///
 /// 0: it is done. 2: the words have no job. 7: writing the store failed; or printing on `out`, and then the store is
 /// whole. 8: the port can't be listened at, or a client can't be accepted or finished. 9: memory was wanting. At 2
-/// no file is changed, and neither at 8, but that until ended the store has the records that came before. A status
+/// no file is changed, and neither at 8, but that until ended the store has some records by then. A status
 /// other than 0 is explained by one line on `out`, but for a fault of `out` itself.
 pub fn proxy_main<
     D: Disk + Send,
