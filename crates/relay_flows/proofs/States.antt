@@ -13,8 +13,8 @@ use Rattle.relay_flows.specs.inside.Carrying.{IsQuiet, CarriesStream, Carries, S
 use Rattle.relay_flows.specs.inside.Carrying.{AllCarry, Ordered, IsOrdered, KeepsState, LeavesState, MovesState}
 use Rattle.relay_flows.specs.inside.Carrying.{StaysInOrder, WhileTold}
 use Rattle.relay_flows.specs.declared.relay_state.RelayState.{RelayState}
-use Rattle.relay_flows.proofs.Telling.{none-in-order, quiet-same, while-map, while-then}
-use Rattle.relay_flows.proofs.Ways.{carries-same, moves-quiet, same-then, stream-same}
+use Rattle.relay_flows.proofs.Telling.{none-in-order, quiet-same, quiet-then, while-map, while-then}
+use Rattle.relay_flows.proofs.Ways.{carries-same, moves-quiet, moves-then, same-then, stream-same}
 
 abbrev Events : Type 0
 Events = List SocketEvent
@@ -135,6 +135,31 @@ ordered-none = record {
   carry = omega arith;
   later = λ c side above. record { taken = refl; given = refl };
 }
+
+-- a connection that was found at its place
+
+pub kept-at : (accepted : ℕ) (cs : List Connection) (i : ℕ) (old new : Connection) → i < length cs → old ≡ get_or cs i old
+    → KeepsConnection old new → (told : Events) → Ordered accepted cs told → Ordered accepted (set cs i new) told
+kept-at accepted cs i old new within at keeps told o =
+    ordered-kept accepted cs i old new within (subst (λ (c : Connection). KeepsConnection c new) at keeps) told o
+
+abbrev pub MovesAt : ℕ → List Connection → List Connection → Events → Events → Type 0
+MovesAt accepted cs ds before all = Ordered accepted cs before → Ordered accepted ds all
+
+pub moved-at : (accepted : ℕ) (cs : List Connection) (i : ℕ) (old new : Connection) (a b : Option Events) → i < length cs
+    → old ≡ get_or cs i old → WhileTold (MovesConnection old new) a b → WhileTold (MovesAt accepted cs (set cs i new)) a b
+moved-at accepted cs i old new a b within at moved =
+    while-map (MovesConnection old new) (MovesAt accepted cs (set cs i new)) a b
+    (λ before all m o. ordered-set accepted cs i old new within before all
+        (subst (λ (c : Connection). MovesConnection c new before all) at m) o) moved
+
+pub told-after : (x y z : Connection) (a b : Option Events) → KeepsConnection x y → WhileTold (MovesConnection y z) a b
+    → WhileTold (MovesConnection x z) a b
+told-after x y z a b keeps moved = while-map (MovesConnection y z) (MovesConnection x z) a b
+    (λ before all m. moves-then x y z before before all (moves-quiet x y keeps before before (quiet-same before)) m) moved
+
+pub quiet-after : (a b c : Option Events) → WhileTold IsQuiet a b → WhileTold IsQuiet b c → WhileTold IsQuiet a c
+quiet-after a b c first second = while-then IsQuiet IsQuiet IsQuiet a b c quiet-then first second
 
 -- whole states
 
