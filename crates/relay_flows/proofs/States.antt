@@ -3,7 +3,7 @@ use Rattle.std.proofs.Common.{◌≡◌, ℕ, suc, ◌<◌, ◌≤◌, Bool, tru
 use Rattle.std.proofs.Common.{refl, subst, sym, ◌∙◌, ap, arith}
 use Prim.Native.Nat.{zero}
 use Rattle.std.proofs.Math.ListN.{set}
-use Rattle.core.specs.List.{items_where_true}
+use Rattle.std.specs.List.{items_where_true}
 use Rattle.live_relay.specs.declared.side.Side.{Side}
 use Rattle.live_relay.specs.declared.side.Side.TheVariants.{Client, Server}
 use Rattle.flow_sockets.specs.declared.event.SocketEvent.{SocketEvent}
