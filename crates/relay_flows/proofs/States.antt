@@ -7,6 +7,8 @@ use Rattle.std.specs.List.{items_where_true}
 use Rattle.live_relay.specs.declared.side.Side.{Side}
 use Rattle.live_relay.specs.declared.side.Side.TheVariants.{Client, Server}
 use Rattle.flow_sockets.specs.declared.event.SocketEvent.{SocketEvent}
+use Rattle.std.specs.Prelude.{Result, IfOk}
+use Rattle.std.proofs.Common.{Ok, Err}
 use Rattle.relay_flows.specs.Streams.{other_side, AlwaysInOrder}
 use Rattle.relay_flows.specs.declared.connection.Connection.{Connection}
 use Rattle.relay_flows.specs.inside.Carrying.{IsQuiet, CarriesStream, Carries, SameWay, MovesConnection, KeepsConnection}
@@ -160,6 +162,23 @@ told-after x y z a b keeps moved = while-map (MovesConnection y z) (MovesConnect
 
 pub quiet-after : (a b c : Option Events) → WhileTold IsQuiet a b → WhileTold IsQuiet b c → WhileTold IsQuiet a c
 quiet-after a b c first second = while-then IsQuiet IsQuiet IsQuiet a b c quiet-then first second
+
+pub begun-keeps : (accepted number : ℕ) (cs ds : List Connection) (c : Connection) → accepted < number → c.number ≡ number
+    → CarriesStream [] [] c.up → CarriesStream [] [] c.down → ds ≡ cs ++ c ∷ [] → (told : Events) → Ordered accepted cs told
+    → Ordered number ds told
+begun-keeps accepted number cs ds c above is up down pushed told o =
+    subst (λ (xs : List Connection). Ordered number xs told) (sym pushed)
+    (subst (λ (n : ℕ). Ordered n (cs ++ c ∷ []) told) is
+    (ordered-push accepted cs c (subst (λ (n : ℕ). accepted < n) (sym is) above) up down told o))
+
+pub quiet-moves : (accepted : ℕ) (cs : List Connection) (a b : Option Events) → WhileTold IsQuiet a b
+    → WhileTold (MovesAt accepted cs cs) a b
+quiet-moves accepted cs a b quiet = while-map IsQuiet (MovesAt accepted cs cs) a b
+    (λ before all q o. ordered-quiet accepted cs before all q o) quiet
+
+pub if-ok-both : {A E : Type 0} (r : Result A E) (P Q R : A → Type 0) → ((a : A) → P a → Q a → R a) → IfOk r P → IfOk r Q → IfOk r R
+if-ok-both (Ok a) P Q R both p q = both a p q
+if-ok-both (Err e) P Q R both p q = tt
 
 -- whole states
 
