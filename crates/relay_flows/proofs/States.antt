@@ -7,7 +7,7 @@ use Rattle.std.specs.List.{items_where_true}
 use Rattle.live_relay.specs.declared.side.Side.{Side}
 use Rattle.live_relay.specs.declared.side.Side.TheVariants.{Client, Server}
 use Rattle.flow_sockets.specs.declared.event.SocketEvent.{SocketEvent}
-use Rattle.std.specs.Prelude.{Result, IfOk}
+use Rattle.std.specs.Prelude.{Result, IfOk, OnOk}
 use Rattle.std.proofs.Common.{Ok, Err}
 use Rattle.relay_flows.specs.Streams.{other_side, AlwaysInOrder}
 use Rattle.relay_flows.specs.declared.connection.Connection.{Connection}
@@ -179,6 +179,11 @@ quiet-moves accepted cs a b quiet = while-map IsQuiet (MovesAt accepted cs cs) a
 pub if-ok-both : {A E : Type 0} (r : Result A E) (P Q R : A → Type 0) → ((a : A) → P a → Q a → R a) → IfOk r P → IfOk r Q → IfOk r R
 if-ok-both (Ok a) P Q R both p q = both a p q
 if-ok-both (Err e) P Q R both p q = tt
+
+-- what is so at all is so at an Ok
+pub on-ok : {A E : Type 0} (r : Result A E) (P : Type 0) → P → OnOk r P
+on-ok (Ok value) P p = p
+on-ok (Err error) P p = tt
 
 -- whole states
 
