@@ -3,18 +3,20 @@ use Rattle.std.proofs.Common.{◌≡◌, ℕ, suc, ◌<◌, ◌≤◌, Bool, tru
 use Rattle.std.proofs.Common.{refl, subst, sym, ◌∙◌, ap, arith}
 use Prim.Native.Nat.{zero}
 use Rattle.std.proofs.Math.ListN.{set}
-use Rattle.core.specs.List.{items_where_true}
+use Rattle.std.specs.List.{items_where_true}
 use Rattle.live_relay.specs.declared.side.Side.{Side}
 use Rattle.live_relay.specs.declared.side.Side.TheVariants.{Client, Server}
 use Rattle.flow_sockets.specs.declared.event.SocketEvent.{SocketEvent}
+use Rattle.std.specs.Prelude.{Result, IfOk, OnOk}
+use Rattle.std.proofs.Common.{Ok, Err}
 use Rattle.relay_flows.specs.Streams.{other_side, AlwaysInOrder}
 use Rattle.relay_flows.specs.declared.connection.Connection.{Connection}
 use Rattle.relay_flows.specs.inside.Carrying.{IsQuiet, CarriesStream, Carries, SameWay, MovesConnection, KeepsConnection}
 use Rattle.relay_flows.specs.inside.Carrying.{AllCarry, Ordered, IsOrdered, KeepsState, LeavesState, MovesState}
 use Rattle.relay_flows.specs.inside.Carrying.{StaysInOrder, WhileTold}
 use Rattle.relay_flows.specs.declared.relay_state.RelayState.{RelayState}
-use Rattle.relay_flows.proofs.Telling.{none-in-order, quiet-same, while-map, while-then}
-use Rattle.relay_flows.proofs.Ways.{carries-same, moves-quiet, same-then, stream-same}
+use Rattle.relay_flows.proofs.Telling.{none-in-order, quiet-same, quiet-then, while-map, while-then}
+use Rattle.relay_flows.proofs.Ways.{carries-same, moves-quiet, moves-then, same-then, stream-same}
 
 abbrev Events : Type 0
 Events = List SocketEvent
@@ -135,6 +137,53 @@ ordered-none = record {
   carry = omega arith;
   later = λ c side above. record { taken = refl; given = refl };
 }
+
+-- a connection that was found at its place
+
+pub kept-at : (accepted : ℕ) (cs : List Connection) (i : ℕ) (old new : Connection) → i < length cs → old ≡ get_or cs i old
+    → KeepsConnection old new → (told : Events) → Ordered accepted cs told → Ordered accepted (set cs i new) told
+kept-at accepted cs i old new within at keeps told o =
+    ordered-kept accepted cs i old new within (subst (λ (c : Connection). KeepsConnection c new) at keeps) told o
+
+abbrev pub MovesAt : ℕ → List Connection → List Connection → Events → Events → Type 0
+MovesAt accepted cs ds before all = Ordered accepted cs before → Ordered accepted ds all
+
+pub moved-at : (accepted : ℕ) (cs : List Connection) (i : ℕ) (old new : Connection) (a b : Option Events) → i < length cs
+    → old ≡ get_or cs i old → WhileTold (MovesConnection old new) a b → WhileTold (MovesAt accepted cs (set cs i new)) a b
+moved-at accepted cs i old new a b within at moved =
+    while-map (MovesConnection old new) (MovesAt accepted cs (set cs i new)) a b
+    (λ before all m o. ordered-set accepted cs i old new within before all
+        (subst (λ (c : Connection). MovesConnection c new before all) at m) o) moved
+
+pub told-after : (x y z : Connection) (a b : Option Events) → KeepsConnection x y → WhileTold (MovesConnection y z) a b
+    → WhileTold (MovesConnection x z) a b
+told-after x y z a b keeps moved = while-map (MovesConnection y z) (MovesConnection x z) a b
+    (λ before all m. moves-then x y z before before all (moves-quiet x y keeps before before (quiet-same before)) m) moved
+
+pub quiet-after : (a b c : Option Events) → WhileTold IsQuiet a b → WhileTold IsQuiet b c → WhileTold IsQuiet a c
+quiet-after a b c first second = while-then IsQuiet IsQuiet IsQuiet a b c quiet-then first second
+
+pub begun-keeps : (accepted number : ℕ) (cs ds : List Connection) (c : Connection) → accepted < number → c.number ≡ number
+    → CarriesStream [] [] c.up → CarriesStream [] [] c.down → ds ≡ cs ++ c ∷ [] → (told : Events) → Ordered accepted cs told
+    → Ordered number ds told
+begun-keeps accepted number cs ds c above is up down pushed told o =
+    subst (λ (xs : List Connection). Ordered number xs told) (sym pushed)
+    (subst (λ (n : ℕ). Ordered n (cs ++ c ∷ []) told) is
+    (ordered-push accepted cs c (subst (λ (n : ℕ). accepted < n) (sym is) above) up down told o))
+
+pub quiet-moves : (accepted : ℕ) (cs : List Connection) (a b : Option Events) → WhileTold IsQuiet a b
+    → WhileTold (MovesAt accepted cs cs) a b
+quiet-moves accepted cs a b quiet = while-map IsQuiet (MovesAt accepted cs cs) a b
+    (λ before all q o. ordered-quiet accepted cs before all q o) quiet
+
+pub if-ok-both : {A E : Type 0} (r : Result A E) (P Q R : A → Type 0) → ((a : A) → P a → Q a → R a) → IfOk r P → IfOk r Q → IfOk r R
+if-ok-both (Ok a) P Q R both p q = both a p q
+if-ok-both (Err e) P Q R both p q = tt
+
+-- what is so at all is so at an Ok
+pub on-ok : {A E : Type 0} (r : Result A E) (P : Type 0) → P → OnOk r P
+on-ok (Ok value) P p = p
+on-ok (Err error) P p = tt
 
 -- whole states
 

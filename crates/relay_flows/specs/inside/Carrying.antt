@@ -102,7 +102,7 @@ pub record KeepsConnection (old new : Connection) : Type 0 where
 -- Connections with rising numbers, above the first and up to the second, carry what their sides said.
 abbrev pub AllCarry : List SocketEvent → ℕ → ℕ → List Connection → Type 0
 AllCarry told low high [] = low ≤ high
-AllCarry told low high (c ∷ cs) = (low < c.number) × (Carries told c × AllCarry told c.number high cs)
+AllCarry told low high (c ∷ cs) = (low < c.number) × Carries told c × AllCarry told c.number high cs
 
 -- Connections were numbered up to `accepted`. All that was given was always in order, and those that stand carry what
 -- their sides said.
